@@ -1,0 +1,53 @@
+-- Our profile: what files hold, as a finite map from names to bytes.
+use Rattle.std.specs.Prelude.{ℕ, List, [], ◌++◌, Option, None, Some, unwrap_or}
+use Rattle.std.specs.Option.{option_map, option_and_then}
+use Rattle.std.specs.Ordering.{nat_cmp}
+use Rattle.std.specs.Cmp.Lexicographic.{slice_cmp}
+use Rattle.std.specs.FinMap.{FinMap, get, insert, remove}
+
+-- a finite map from names, as bytes
+abbrev pub Named : Type 0 → Type 0
+Named X = FinMap (slice_cmp nat_cmp) X
+
+-- what each file holds, by its name
+abbrev pub Held : Type 0
+Held = Named (List ℕ)
+
+-- the map with this value at the name, or with none
+abbrev pub put : {X : Type 0} → Option X → List ℕ → Named X → Named X
+put None name m = remove m name
+put (Some x) name m = insert m name x
+
+-- the bytes of the file, if it is held
+abbrev pub file_of : List ℕ → Held → Option (List ℕ)
+file_of name m = get m name
+
+-- the file holds these bytes, and all others stay
+abbrev pub with_file : List ℕ → List ℕ → Held → Held
+with_file name bytes m = insert m name bytes
+
+-- the file is not held, and all others stay
+abbrev pub without_file : List ℕ → Held → Held
+without_file name m = remove m name
+
+-- the file is there and empty, and all others stay
+abbrev pub emptied : List ℕ → Held → Held
+emptied name m = insert m name []
+
+-- the piece stands at the file's end, and all others stay
+abbrev pub extended : List ℕ → List ℕ → Held → Held
+extended name piece m = insert m name (unwrap_or (get m name) [] ++ piece)
+
+-- the bytes of the file, where files are told and it is held
+abbrev pub bytes_of : List ℕ → Option Held → Option (List ℕ)
+bytes_of name files = option_and_then (file_of name) files
+
+-- what lies beside the bytes of a sink: the name of its file, the count that is not its own, and all other files
+pub record Beside : Type 0 where
+  pub name : List ℕ
+  pub count : ℕ
+  pub files : Option Held
+
+-- beside the bytes of a file lie its name, the other count and the files without it
+abbrev pub beside_of : List ℕ → ℕ → Option Held → Beside
+beside_of name count files = record { name = name; count = count; files = option_map (without_file name) files }

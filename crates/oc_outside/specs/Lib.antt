@@ -1,0 +1,4 @@
+pub mod Held
+pub mod Causes
+pub mod Texts
+pub mod Reading
