@@ -3,10 +3,12 @@
 
 mod console;
 mod failed;
+mod file_sink;
 mod files;
 mod sink;
 
 pub use console::Console;
 pub use failed::Failed;
+pub use file_sink::FileSink;
 pub use files::Files;
 pub use sink::Sink;

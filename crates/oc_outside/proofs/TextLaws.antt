@@ -1,0 +1,57 @@
+-- Laws of texts that grow.
+use Rattle.std.proofs.Common.{◌≡◌, refl, sym, ap, ◌∙◌, ℕ, ◌+◌, ◌≤◌, List, [], ◌++◌, length, take, drop, append_assoc, append-nil, length-append, take-take, arith, Option, None, Some}
+use Rattle.std.proofs.lemmas.List.{take-append-le}
+use Rattle.std.proofs.Math.Seq.{take-add, take-append-add}
+use Rattle.oc_outside.specs.Texts.{grown, TakesPrefix}
+
+pub grown_nothing : (text : Option (List ℕ)) → grown [] text ≡ text
+unfolding grown
+grown_nothing None = refl
+grown_nothing (Some b) = ap Some (append-nil b)
+
+pub grown_told : (piece bytes : List ℕ) → grown piece (Some bytes) ≡ Some (bytes ++ piece)
+unfolding grown
+grown_told piece bytes = refl
+
+pub grown_untold : (piece : List ℕ) → grown piece None ≡ None
+unfolding grown
+grown_untold piece = refl
+
+-- one part after the other
+pub grown_twice : (p q : List ℕ) (text : Option (List ℕ)) → grown q (grown p text) ≡ grown (p ++ q) text
+unfolding grown
+grown_twice p q None = refl
+grown_twice p q (Some b) = ap Some (append_assoc b p q)
+
+-- the text has `at` bytes of these, and takes n more of a piece that begins there
+pub grown_more :
+    (text : Option (List ℕ)) (bytes : List ℕ) (at len n : ℕ)
+    → n ≤ len
+    → grown (take n (take len (drop at bytes))) (grown (take at bytes) text) ≡ grown (take (at + n) bytes) text
+grown_more text bytes at len n h =
+    grown_twice (take at bytes) (take n (take len (drop at bytes))) text
+    ∙ ap (λ p. grown (take at bytes ++ p) text) (take-take n len (drop at bytes) h)
+    ∙ ap (λ p. grown p text) (sym (take-add at n bytes))
+
+-- some front of the first part is a front of both
+pub prefix_left : (p q : List ℕ) (text now : Option (List ℕ)) → TakesPrefix p text now → TakesPrefix (p ++ q) text now
+prefix_left p q text now h = (
+  h.0,
+  omega (arith, h.1, length-append p q),
+  h.2 ∙ ap (λ x. grown x text) (sym (take-append-le h.0 p q h.1)),
+)
+
+-- the first part and some front of the second are a front of both
+pub prefix_right :
+    (p q : List ℕ) (text between now : Option (List ℕ))
+    → between ≡ grown p text
+    → TakesPrefix q between now
+    → TakesPrefix (p ++ q) text now
+prefix_right p q text between now e h = (
+  length p + h.0,
+  omega (arith, h.1, length-append p q),
+  h.2
+      ∙ ap (grown (take h.0 q)) e
+      ∙ grown_twice p (take h.0 q) text
+      ∙ ap (λ x. grown x text) (sym (take-append-add p q h.0)),
+)
