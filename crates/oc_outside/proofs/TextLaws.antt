@@ -1,5 +1,5 @@
 -- Laws of texts that grow.
-use Rattle.std.proofs.Common.{◌≡◌, refl, sym, ap, ◌∙◌, ℕ, ◌+◌, ◌≤◌, List, [], ◌++◌, length, take, drop, append_assoc, append-nil, length-append, take-take, arith, Option, None, Some}
+use Rattle.std.proofs.Common.{◌≡◌, refl, sym, ap, ◌∙◌, ℕ, ◌+◌, ◌-◌, ◌≤◌, List, [], ◌++◌, length, take, drop, append_assoc, append-nil, length-append, length-take, take-take, arith, Option, None, Some}
 use Rattle.std.proofs.lemmas.List.{take-append-le}
 use Rattle.std.proofs.Math.Seq.{take-add, take-append-add}
 use Rattle.oc_outside.specs.Texts.{grown, TakesPrefix}
@@ -32,6 +32,18 @@ grown_more text bytes at len n h =
     grown_twice (take at bytes) (take n (take len (drop at bytes))) text
     ∙ ap (λ p. grown (take at bytes ++ p) text) (take-take n len (drop at bytes) h)
     ∙ ap (λ p. grown p text) (sym (take-add at n bytes))
+
+-- a turn of a loop over pieces: the sink has `at` bytes, was given the piece up to `end` and took n of it
+pub turn :
+    (text between now : Option (List ℕ)) (bytes : List ℕ) (at end n : ℕ)
+    → n ≤ length (take (end - at) (drop at bytes))
+    → between ≡ grown (take at bytes) text
+    → now ≡ grown (take n (take (end - at) (drop at bytes))) between
+    → now ≡ grown (take (at + n) bytes) text
+turn text between now bytes at end n within had took =
+    took
+    ∙ ap (grown (take n (take (end - at) (drop at bytes)))) had
+    ∙ grown_more text bytes at (end - at) n (omega (arith, within, length-take (end - at) (drop at bytes)))
 
 -- some front of the first part is a front of both
 pub prefix_left : (p q : List ℕ) (text now : Option (List ℕ)) → TakesPrefix p text now → TakesPrefix (p ++ q) text now

@@ -1,5 +1,5 @@
 -- Our profile: what files hold, as a finite map from names to bytes.
-use Rattle.std.specs.Prelude.{ℕ, List, [], ◌++◌, Option, None, Some, unwrap_or}
+use Rattle.std.specs.Prelude.{◌≡◌, ℕ, ◌≤◌, ◌⊎◌, List, [], ◌++◌, length, take, Option, None, Some, unwrap_or}
 use Rattle.std.specs.Option.{option_map, option_and_then}
 use Rattle.std.specs.Ordering.{nat_cmp}
 use Rattle.std.specs.Cmp.Lexicographic.{slice_cmp}
@@ -51,3 +51,9 @@ pub record Beside : Type 0 where
 -- beside the bytes of a file lie its name, the other count and the files without it
 abbrev pub beside_of : List ℕ → ℕ → Option Held → Beside
 beside_of name count files = record { name = name; count = count; files = option_map (without_file name) files }
+
+-- the files are as they were, or the file holds some front of these bytes and all others stay
+abbrev pub HasPart : List ℕ → List ℕ → Option Held → Option Held → Type 0
+HasPart name bytes before now =
+    (now ≡ before)
+    ⊎ ((k : ℕ) × (k ≤ length bytes) × (now ≡ option_map (with_file name (take k bytes)) before))

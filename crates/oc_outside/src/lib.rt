@@ -6,9 +6,13 @@ mod failed;
 mod file_sink;
 mod files;
 mod sink;
+mod telling;
+mod writing;
 
 pub use console::Console;
 pub use failed::Failed;
 pub use file_sink::FileSink;
 pub use files::Files;
 pub use sink::Sink;
+pub use telling::{show_all, tell_all};
+pub use writing::{PIECE, put_all, write_file};
