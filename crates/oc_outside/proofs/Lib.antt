@@ -2,3 +2,4 @@ pub mod NameLaws
 pub mod TextLaws
 pub mod FileLaws
 pub mod WriteLaws
+pub mod ReadLaws

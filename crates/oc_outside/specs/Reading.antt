@@ -11,3 +11,8 @@ pub record Reads (file : List ℕ) (at : ℕ) (buffer : List ℕ) (n : ℕ) : Ty
 -- files are told, and this one is not held
 abbrev pub IsAbsent : List ℕ → Option Held → Type 0
 IsAbsent name files = IsSomeAnd files (λ m. file_of name m ≡ None)
+
+-- the bytes are a front of the file, and the whole of it where they are not longer than the limit
+pub record IsWholeOrLonger (limit : ℕ) (bytes file : List ℕ) : Type 0 where
+  pub front : bytes ≡ take (length bytes) file
+  pub whole : length bytes ≤ limit → bytes ≡ file
