@@ -6,9 +6,9 @@ use crate::failed::Failed;
 
 /// The two texts that a program writes: standard output and standard error.
 ///
-/// What was written may be told, as of texts in memory, or not, as of real streams. Failed calls are counted,
-/// one count for each text. No count falls, and a call leaves the other call's text and count. A count that stands at
-/// its last value, 2^64 - 1, is said to rise as well.
+/// What was written may be told, as of texts in memory, or not, as of real streams. Failed calls
+/// are counted, one count for each text. No count falls, and a call leaves the other call's text
+/// and count. A count that stands at its last value, 2^64 - 1, is said to rise as well.
 pub trait Console {
     /// What standard output was given so far, where that is told.
     ghost shown: { Self → Option (List ℕ) };
@@ -22,7 +22,8 @@ pub trait Console {
     /// How many calls of `err` failed.
     ghost err_faults: { Self → ℕ };
 
-    /// Writes the front of `piece` to standard output, and gives the number of bytes taken, which is at least 1.
+    /// Writes the front of `piece` to standard output, and gives the number of bytes taken, which
+    /// is at least 1.
     ///
     /// After Failed nothing was written, and the count of `out` rose.
     fn out(&mut self, piece: &[u8]) -> Result<usize, Failed>
@@ -32,9 +33,11 @@ pub trait Console {
         ensures err { OnErr result (shown self.new ≡ shown self.old) }
         ensures counts { out_faults self.old ≤ out_faults self.new }
         ensures cause { OnErr result (Rose (out_faults self.old) (out_faults self.new)) }
-        ensures other { LeavesOther (told self.old) (told self.new) (err_faults self.old) (err_faults self.new) };
+        ensures other { LeavesOther (told self.old) (told self.new)
+            (err_faults self.old) (err_faults self.new) };
 
-    /// Writes the front of `piece` to standard error, and gives the number of bytes taken, which is at least 1.
+    /// Writes the front of `piece` to standard error, and gives the number of bytes taken, which is
+    /// at least 1.
     ///
     /// After Failed nothing was written, and the count of `err` rose.
     fn err(&mut self, piece: &[u8]) -> Result<usize, Failed>
@@ -44,5 +47,6 @@ pub trait Console {
         ensures err { OnErr result (told self.new ≡ told self.old) }
         ensures counts { err_faults self.old ≤ err_faults self.new }
         ensures cause { OnErr result (Rose (err_faults self.old) (err_faults self.new)) }
-        ensures other { LeavesOther (shown self.old) (shown self.new) (out_faults self.old) (out_faults self.new) };
+        ensures other { LeavesOther (shown self.old) (shown self.new)
+            (out_faults self.old) (out_faults self.new) };
 }

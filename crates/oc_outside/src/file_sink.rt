@@ -8,8 +8,8 @@ use crate::sink::Sink;
 
 /// A file that is there, as a sink: what it takes is appended to the file.
 ///
-/// Its bytes are the file's, its count is that of failed writes, and beside them lie the name, the count of failed
-/// reads and all other files.
+/// Its bytes are the file's, its count is that of failed writes, and beside them lie the name, the
+/// count of failed reads and all other files.
 pub struct FileSink<'f, F: Files> {
     files: &'f mut F,
     name: &'f str,

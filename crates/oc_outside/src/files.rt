@@ -8,9 +8,10 @@ use crate::failed::Failed;
 
 /// Files by name, of which a program reads parts, which it creates and to which it appends.
 ///
-/// What the files hold may be told, as of files in memory, or not, as of those of an operating system.
-/// Failed calls are counted, reading and writing apart. No count falls, and a call leaves the count
-/// that is not its own. A count that stands at its last value, 2^64 - 1, is said to rise as well.
+/// What the files hold may be told, as of files in memory, or not, as of those of an operating
+/// system. Failed calls are counted, reading and writing apart. No count falls, and a call leaves
+/// the count that is not its own. A count that stands at its last value, 2^64 - 1, is said to rise
+/// as well.
 pub trait Files {
     /// What each file holds, by its name, where that is told.
     ghost held: { Self → Option Held };
@@ -21,17 +22,19 @@ pub trait Files {
     /// How many calls of `create` and `append` failed.
     ghost write_faults: { Self → ℕ };
 
-    /// Reads from the file `name`, from its byte `at` on, into the front of `to`, and gives the number of bytes read.
+    /// Reads from the file `name`, from its byte `at` on, into the front of `to`, and gives the
+    /// number of bytes read.
     ///
-    /// No more than `to` has room for. Ok(0) into a buffer that is not empty is the end of the file.
-    /// What stands in `to` past the bytes read is not said. Failed comes only where the count of reads rose, or
-    /// where the files are told and `name` is not among them.
+    /// No more than `to` has room for. Ok(0) into a buffer that is not empty is the end of the
+    /// file. What stands in `to` past the bytes read is not said. Failed comes only where the count
+    /// of reads rose, or where the files are told and `name` is not among them.
     fn read_at(&mut self, name: &str, at: u64, to: &mut [u8]) -> Result<usize, Failed>
         ensures bound { IfOk result (λ n. n ≤ length to.new) }
         ensures bytes { ForSome (held self.old) (λ m.
             IfOk result (λ n. IsSomeAnd (file_of name.now m) (λ file. Reads file at to.new n))) }
         ensures same { held self.new ≡ held self.old }
-        ensures counts { Counts (read_faults self.old) (read_faults self.new) (write_faults self.old) (write_faults self.new) }
+        ensures counts { Counts (read_faults self.old) (read_faults self.new)
+            (write_faults self.old) (write_faults self.new) }
         ensures cause { OnErr result
             (Rose (read_faults self.old) (read_faults self.new) ⊎ IsAbsent name.now (held self.old)) };
 
@@ -42,10 +45,12 @@ pub trait Files {
         ensures ok { OnOk result (held self.new ≡ option_map (emptied name.now) (held self.old)) }
         ensures err { OnErr result
             ((held self.new ≡ held self.old) ⊎ (held self.new ≡ option_map (emptied name.now) (held self.old))) }
-        ensures counts { Counts (write_faults self.old) (write_faults self.new) (read_faults self.old) (read_faults self.new) }
+        ensures counts { Counts (write_faults self.old) (write_faults self.new)
+            (read_faults self.old) (read_faults self.new) }
         ensures cause { OnErr result (Rose (write_faults self.old) (write_faults self.new)) };
 
-    /// Appends the front of `piece` to the file `name`, and gives the number of bytes taken, which is at least 1.
+    /// Appends the front of `piece` to the file `name`, and gives the number of bytes taken, which
+    /// is at least 1.
     ///
     /// All other files stay. After Failed nothing was appended, and the count of writes rose.
     fn append(&mut self, name: &str, piece: &[u8]) -> Result<usize, Failed>
@@ -54,6 +59,7 @@ pub trait Files {
         ensures taken { IfOk result (λ n. (0 < n) × (n ≤ length piece.now)) }
         ensures ok { IfOk result (λ n. held self.new ≡ option_map (extended name.now (take n piece.now)) (held self.old)) }
         ensures err { OnErr result (held self.new ≡ held self.old) }
-        ensures counts { Counts (write_faults self.old) (write_faults self.new) (read_faults self.old) (read_faults self.new) }
+        ensures counts { Counts (write_faults self.old) (write_faults self.new)
+            (read_faults self.old) (read_faults self.new) }
         ensures cause { OnErr result (Rose (write_faults self.old) (write_faults self.new)) };
 }

@@ -10,6 +10,8 @@ mod real_console;
 mod real_files;
 mod sink;
 mod telling;
+#[cfg(test)]
+mod tests;
 mod writing;
 
 pub use console::Console;

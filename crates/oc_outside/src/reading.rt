@@ -53,11 +53,12 @@ fn zeros(alloc: Global, len: usize) -> Result<Vec<u8>, AllocError>
     vec![in alloc; 0u8; len]
 }
 
-/// The bytes of the file `name`, or a front of them that is longer than `limit`, at which it stops.
+/// The bytes of the file `name`: all of them or, where there are more than `limit`, a front of them
+/// that is longer than `limit`.
 ///
-/// It reads `BUFFER` bytes at a time, and nothing once more than `limit` are there. `Input` comes only where the count
-/// of reads rose, or where the files are told and `name` is not among them. The memory grows with the file, by
-/// doubling, so each byte is copied a few times at most.
+/// It reads `BUFFER` bytes at a time, and nothing once more than `limit` are there. `Input` comes
+/// only where the count of reads rose, or where the files are told and `name` is not among them.
+/// `NoMemory` may come at any time. The memory grows by doubling, so a byte is copied a few times.
 pub fn read_file<F: Files>(
     alloc: Global,
     files: &mut F,

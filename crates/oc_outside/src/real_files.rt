@@ -8,8 +8,9 @@ use std::rt;
 
 /// The files of the operating system. What they hold is not told.
 ///
-/// Each call opens its file, so the files are those that have these names at that moment. A file that is not there is a
-/// fault of the call. Names are paths. What cannot be read from a place on, as a pipe, is not read.
+/// Each call opens its file, so the files are those that have these names at that moment. A file
+/// that is not there is a fault of the call. Names are paths. What cannot be read from a place on,
+/// as a pipe, is not read.
 #[derive(Drop)]
 pub struct RealFiles<'r, R: rt::Files> {
     rt: &'r R,
@@ -83,5 +84,38 @@ impl<R: rt::Files> Files for RealFiles<'_, R> {
                 Err(Failed)
             }
         }
+    }
+}
+
+#[cfg(test)]
+mod tests {
+    use super::*;
+    use crate::reading::{LIMIT, ReadFault, read_file};
+    use crate::writing::write_file;
+    use std::process;
+    use std::test::Fail;
+
+    /// 10,000 bytes are three pieces. A file that is not there is a fault of each kind.
+    #[test]
+    fn real_file_there_and_back(rt: HostRuntime) -> Result<(), Fail> {
+        let id = process::id(rt.process());
+        let path = format!(in rt.alloc(); "/tmp/oc_outside-{id}")?;
+        let name = path.as_str();
+        let sent = vec![in rt.alloc(); 7u8; 10_000]?;
+        let mut files = RealFiles::new(&rt);
+        let written = write_file(&mut files, name, sent.as_slice());
+        let read = read_file(rt.alloc(), &mut files, name, LIMIT);
+        fs::remove_file(&rt, name)?;
+        written?;
+        let got = read?;
+        assert!(rt; got.as_slice() == sent.as_slice(), "the bytes come back");
+        assert_eq!(rt; (files.read_faults, files.write_faults), (0, 0));
+
+        let absent = read_file(rt.alloc(), &mut files, name, LIMIT).err();
+        assert_eq!(rt; absent, Some(ReadFault::Input));
+        assert_eq!(rt; files.append(name, b"a"), Err(Failed));
+        assert_eq!(rt; files.create("/tmp/oc_outside/no/such/folder"), Err(Failed));
+        assert_eq!(rt; (files.read_faults, files.write_faults), (1, 2));
+        Ok(())
     }
 }

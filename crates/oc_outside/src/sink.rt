@@ -8,8 +8,8 @@ use crate::failed::Failed;
 
 /// Something that takes bytes in order: a file that grows.
 ///
-/// What it took may be told or not. Failed calls are counted, and the count never falls. A count that stands at its
-/// last value, 2^64 - 1, is said to rise as well.
+/// What it took may be told or not. Failed calls are counted, and the count never falls. A count
+/// that stands at its last value, 2^64 - 1, is said to rise as well.
 pub trait Sink {
     /// The bytes that it took so far, where they are told.
     ghost taken: { Self → Option (List ℕ) };
