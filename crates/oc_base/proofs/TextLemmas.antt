@@ -1,5 +1,5 @@
 -- A search from a place on that finds no NUL.
-use Rattle.std.proofs.Common.{◌≡◌, ℕ, ◌+◌, ◌-◌, ◌<◌, ◌≤◌, true, List, length, get_or, take, drop, ap, sym, ◌∙◌, arith, length-drop, eq-eqb}
+use Rattle.std.proofs.Common.{◌≡◌, ℕ, ◌-◌, ◌<◌, ◌≤◌, true, List, length, get_or, take, drop, ap, ◌∙◌, arith, length-drop, eq-eqb}
 use Rattle.std.proofs.lemmas.List.{take_rest, get_or-drop}
 use Rattle.memchr.specs.Find.{is_byte}
 use Rattle.oc_base.specs.Texts.{HasNoTextAt}

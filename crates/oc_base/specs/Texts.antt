@@ -1,5 +1,5 @@
 -- Texts in files: the bytes from a place up to the first NUL.
-use Rattle.std.specs.Prelude.{◌≡◌, ◌≢◌, ℕ, ◌+◌, ◌<◌, ◌≤◌, List, ◌++◌, length, slice_index, slice_range}
+use Rattle.std.specs.Prelude.{◌≡◌, ◌≢◌, ℕ, ◌+◌, ◌<◌, ◌≤◌, List, length, slice_index, slice_range}
 
 -- no NUL stands at or after the place
 abbrev pub HasNoTextAt : List ℕ → ℕ → Type 0

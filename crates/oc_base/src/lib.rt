@@ -10,6 +10,8 @@ mod fault;
 mod format;
 mod messages;
 mod numbers;
+#[cfg(test)]
+mod tests;
 mod view;
 mod words;
 

@@ -1,5 +1,5 @@
 //! Numbers and texts at places of a file.
-ghost use Rattle.std.specs.Prelude.{◌≡◌, ◌+◌, ◌≤◌, length, slice_range, eqb, MatchResult};
+ghost use Rattle.std.specs.Prelude.{◌≡◌, ◌+◌, ◌≤◌, length, slice_range, MatchResult, IsTrue, ◌↔◌};
 ghost use Rattle.std.specs.Result.{OkIff};
 ghost use Rattle.oc_base.specs.Numbers.{number_at};
 ghost use Rattle.oc_base.specs.Texts.{IsTextAt, HasNoTextAt};
@@ -41,7 +41,7 @@ impl<'a> View<'a> {
 
     /// Whether there is no byte. Constant time.
     pub fn is_empty(&self) -> bool
-        ensures { result ≡ eqb (length self.now) 0 }
+        ensures { IsTrue result ↔ (length self.now ≡ 0) }
     {
         self.bytes.is_empty()
     }
