@@ -5,6 +5,15 @@ ghost use Rattle.oc_base.specs.Numbers.{number_at, bytes_of_number};
 use crate::answers::NoMemory;
 use byteorder::{ByteOrder, LittleEndian};
 
+/// The byte at `at`, an offset in bytes. Constant time.
+#[tactic(auto, unfolding(crate::specs::Numbers::number_at))]
+pub fn u8_in(bytes: &[u8], at: usize) -> u8
+    requires { at + 1 ≤ length bytes.now }
+    ensures { result ≡ number_at bytes.now at 1 }
+{
+    bytes[at]
+}
+
 /// The number of the two bytes from `at`, an offset in bytes. Constant time.
 #[tactic(auto, unfolding(crate::specs::Numbers::number_at))]
 pub fn u16_in(bytes: &[u8], at: usize) -> u16

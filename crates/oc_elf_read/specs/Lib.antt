@@ -1,0 +1,4 @@
+pub mod Ehdr
+pub mod Rel
+pub mod Shdr
+pub mod Sym
