@@ -1,0 +1,7 @@
+pub mod Codes
+pub mod Faults
+pub mod Formats
+pub mod Messages
+pub mod Numbers
+pub mod Strings
+pub mod Texts

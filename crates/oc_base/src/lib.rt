@@ -1,6 +1,24 @@
-//! What every crate of objconv stands on: bytes, views of a file, faults and their messages.
+//! What every crate of objconv stands on: bytes and texts, views of a file, the formats, and
+//! faults with their messages.
 #![tactic(auto)]
 
 mod answers;
+mod bytes;
+mod classes;
+mod code;
+mod fault;
+mod format;
+mod messages;
+mod numbers;
+mod view;
+mod words;
 
 pub use answers::{NoMemory, OutOfView};
+pub use bytes::{Bytes, Text};
+pub use classes::class;
+pub use code::Code;
+pub use fault::{Class, Fault, Phase, Spot};
+pub use format::{Format, Word, word_of};
+pub use messages::message;
+pub use numbers::{push_u16, push_u32, push_u64, u16_in, u32_in, u64_in};
+pub use view::View;

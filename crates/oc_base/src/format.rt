@@ -1,0 +1,41 @@
+//! The formats, and the word of each.
+ghost use Rattle.std.specs.Prelude.{◌≡◌};
+ghost use Rattle.oc_base.specs.Formats.{word_for};
+
+/// An object format.
+#[derive(Clone, Copy, Debug, PartialEq, Eq)]
+pub enum Format {
+    /// ELF for i386.
+    Elf32,
+    /// ELF for x86-64.
+    Elf64,
+    /// COFF for i386.
+    Coff32,
+    /// COFF for x86-64.
+    Coff64,
+    /// Mach-O for i386.
+    Mac32,
+    /// Mach-O for x86-64.
+    Mac64,
+    /// OMF with 32-bit segments.
+    Omf,
+}
+
+/// The size of an address, in which all values of an object are taken.
+#[derive(Clone, Copy, Debug, PartialEq, Eq)]
+pub enum Word {
+    /// 32 bits.
+    W32,
+    /// 64 bits.
+    W64,
+}
+
+/// The word of a format. Constant time, no memory.
+pub fn word_of(format: Format) -> Word
+    ensures { result ≡ word_for format }
+{
+    match format {
+        Format::Elf32 | Format::Coff32 | Format::Mac32 | Format::Omf => Word::W32,
+        Format::Elf64 | Format::Coff64 | Format::Mac64 => Word::W64,
+    }
+}
