@@ -1,0 +1,11 @@
+//! What linking an object means: the terms and definitions that all formats share, and a plain
+//! program that links by them.
+#![tactic(auto)]
+
+mod checks;
+mod terms;
+
+pub use checks::{fits, fits_signed, fits_unsigned};
+pub use terms::{
+    Binding, Check, Fallback, Hint, Keep, Kind, Mark, Patch, Value, Visibility, Width,
+};
