@@ -74,3 +74,7 @@ spread_sites (false ∷ flags) site (suc k) = spread_sites flags site k
 -- a placement of the kept sections, as one of the carried ones
 abbrev pub spread : List Bool → Placement → Placement
 spread flags p = record { site = spread_sites flags p.site; image_base = p.image_base; got_base = p.got_base }
+
+-- the placement whose numbers are all 0
+abbrev pub zeros : Placement
+zeros = record { site = λ k. nowhere; image_base = 0; got_base = 0 }
