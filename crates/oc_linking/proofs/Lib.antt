@@ -1,4 +1,5 @@
 pub mod Alike
+pub mod Bytes
 pub mod Dropping
 pub mod Folding
 pub mod Naming

@@ -7,6 +7,7 @@ pub mod Naming
 pub mod Numbers
 pub mod Parts
 pub mod Placing
+pub mod Plain
 pub mod Raising
 pub mod Rules
 pub mod Shows
