@@ -1,0 +1,11 @@
+pub mod Alike
+pub mod Bytes
+pub mod Dropping
+pub mod Folding
+pub mod Naming
+pub mod Overlay
+pub mod Truth
+pub mod Upto
+pub mod Valid
+pub mod Whole
+mod Worked

@@ -1,0 +1,14 @@
+pub mod Faithful
+pub mod Fits
+pub mod Images
+pub mod Keeping
+pub mod Linking
+pub mod Naming
+pub mod Numbers
+pub mod Parts
+pub mod Placing
+pub mod Plain
+pub mod Raising
+pub mod Rules
+pub mod Shows
+pub mod Values

@@ -1,0 +1,22 @@
+-- What the plain program links, and what its answer says (our profile).
+use Rattle.std.specs.Prelude.{ℕ, ◌&&◌, eqb, if◌then◌else◌, List, [], ◌∷◌, Option, Some, None, map}
+use Rattle.oc_linking.specs.declared.terms.Patch.{Patch}
+use Rattle.oc_linking.specs.declared.plain.PlacedPatch.{PlacedPatch}
+use Rattle.oc_linking.specs.declared.plain.Outcome.{Outcome}
+use Rattle.oc_linking.specs.declared.plain.Outcome.TheVariants as outcome
+use Rattle.oc_linking.specs.Images.{Patches}
+use Rattle.oc_linking.specs.Linking.{Exports, Linked, Overflow, Image}
+
+-- the first field of the list at a place
+abbrev pub patch_at : List PlacedPatch → ℕ → ℕ → Option Patch
+patch_at [] s at = None
+patch_at (f ∷ fields) s at = if eqb f.section s && eqb f.offset at then Some f.patch else patch_at fields s at
+
+-- the list as a map from places
+abbrev pub patches_at : List PlacedPatch → Patches
+patches_at fields s at = patch_at fields s at
+
+-- the answer, with the exports beside it
+abbrev pub linked_as : Outcome → Exports → Linked
+linked_as (outcome.Overflow s at) exports = Overflow s at
+linked_as (outcome.Image images) exports = Image (map (λ x. x.items) images.items) exports
