@@ -1,4 +1,5 @@
 pub mod Ehdr
+pub mod Names
 pub mod Rel
 pub mod Shdr
 pub mod Sym

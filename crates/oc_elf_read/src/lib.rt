@@ -4,6 +4,7 @@
 
 mod constants;
 mod ehdr;
+mod names;
 mod rel;
 mod shdr;
 mod sym;
@@ -14,6 +15,7 @@ pub use constants::{
     STT_SECTION,
 };
 pub use ehdr::{EHDR_SIZE, Ehdr, ehdr_of};
+pub use names::{short_name, table_of};
 pub use rel::{REL_SIZE, Rel, rel_at};
 pub use shdr::{SHDR_SIZE, Shdr, shdr_at};
 pub use sym::{SYM_SIZE, Sym, sym_at};
