@@ -1,0 +1,3 @@
+pub mod BelowLemmas
+pub mod PlainLemmas
+pub mod SeenLemmas

@@ -1,0 +1,53 @@
+-- What the conditions of a plain object say.
+use Rattle.std.proofs.Common.{◌≡◌, ℕ, ◌+◌, ◌*◌, ◌/◌, ◌%◌, ◌<◌, ◌≤◌, Bool, true, false, List, length, refl, arith}
+use Rattle.std.specs.Prelude.{◌&&◌}
+use Rattle.std.proofs.Math.Nat.{div-add-mod}
+use Rattle.std.proofs.lemmas.Bool.{leb-true, eqb-true}
+use Rattle.objconv.specs.declared.headers.Headers.{Headers}
+use Rattle.objconv.specs.Plain.{are_plain, AreLaid}
+
+-- two tests that hold together hold each
+pub both : (x y : Bool) → (x && y) ≡ true → (x ≡ true) × (y ≡ true)
+both true true e = (refl, refl)
+both true false e = absurd (cc)
+both false true e = absurd (cc)
+both false false e = absurd (cc)
+
+-- a remainder of 0 leaves whole entries
+whole : (n w : ℕ) → n % w ≡ 0 → n ≡ w * (n / w)
+whole n w e = omega (arith, e, div-add-mod n w)
+
+pub are_laid : (b : List ℕ) (h : Headers) → are_plain b h ≡ true → AreLaid b h
+unfolding are_plain
+are_laid b h e =
+    let names2 = both _ _ e in
+    let symbols = both _ _ names2.0 in
+    let rels = both _ _ symbols.0 in
+    let text = both _ _ rels.0 in
+    let text_align = both _ _ text.1 in
+    let text_name = both _ _ text_align.0 in
+    let text_lies = both _ _ text_name.0 in
+    let rels_few = both _ _ rels.1 in
+    let rels_whole = both _ _ rels_few.0 in
+    let rels_size = both _ _ rels_whole.0 in
+    let rels_info = both _ _ rels_size.0 in
+    let rels_link = both _ _ rels_info.0 in
+    let rels_name = both _ _ rels_link.0 in
+    let rels_lies = both _ _ rels_name.0 in
+    let symbols_two = both _ _ symbols.1 in
+    let symbols_whole = both _ _ symbols_two.0 in
+    let symbols_size = both _ _ symbols_whole.0 in
+    let symbols_info = both _ _ symbols_size.0 in
+    let symbols_link = both _ _ symbols_info.0 in
+    let symbols_lies = both _ _ symbols_link.0 in
+    record {
+      text = leb-true _ _ text_lies.1;
+      rels = leb-true _ _ rels_lies.1;
+      symbols = leb-true _ _ symbols_lies.1;
+      names = leb-true _ _ (both _ _ names2.1).1;
+      rel_table = whole h.rels.sh_size 8 (eqb-true _ _ rels_whole.1);
+      symbol_table = whole h.symbols.sh_size 16 (eqb-true _ _ symbols_whole.1);
+      two_symbols = leb-true _ _ symbols_two.1;
+      few_rels = leb-true _ _ rels_few.1;
+      aligned = text_align.1;
+    }

@@ -1,0 +1,6 @@
+//! The conversion of one object file, from the command's words to the files written.
+#![tactic(auto)]
+
+mod headers;
+mod plain;
+mod symbols;
