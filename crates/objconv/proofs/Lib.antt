@@ -1,3 +1,4 @@
 pub mod BelowLemmas
+pub mod FieldLemmas
 pub mod PlainLemmas
 pub mod SeenLemmas

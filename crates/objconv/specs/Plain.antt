@@ -178,11 +178,29 @@ is_plain_rel h r =
 abbrev pub meets : Rel → Rel → Bool
 meets x y = nat_lt x.r_offset (y.r_offset + 4) && nat_lt y.r_offset (x.r_offset + 4)
 
+-- the field of relocation i meets that of an earlier one
+abbrev pub meets_earlier : List ℕ → Headers → ℕ → Bool
+meets_earlier b h i = any_below i (λ j. meets (entry_in b h j) (entry_in b h i))
+
+-- all relocations are plain
+unfoldable pub are_plain_rels : List ℕ → Headers → Bool
+are_plain_rels b h = all_below (rel_count h) (λ i. is_plain_rel h (entry_in b h i))
+
+-- no two fields meet
+unfoldable pub are_apart : List ℕ → Headers → Bool
+are_apart b h = all_below (rel_count h) (λ i. not (meets_earlier b h i))
+
 -- all relocations are plain, and no two of their fields meet
 unfoldable pub has_rels : List ℕ → Headers → Bool
-has_rels b h =
-    all_below (rel_count h) (λ i. is_plain_rel h (entry_in b h i))
-    && all_below (rel_count h) (λ i. not (any_below i (λ j. meets (entry_in b h j) (entry_in b h i))))
+has_rels b h = are_plain_rels b h && are_apart b h
+
+-- the first of n relocations whose field begins at an offset
+abbrev pub field_below : List ℕ → Headers → ℕ → ℕ → Option Rel
+field_below b h n at = first_upto (λ i. if eqb (entry_in b h i).r_offset at then Some (entry_in b h i) else None) n
+
+-- the relocation whose field begins at an offset
+unfoldable pub field_at : List ℕ → Headers → ℕ → Option Rel
+field_at b h at = field_below b h (rel_count h) at
 
 -- the file is a plain object
 unfoldable pub is_plain : List ℕ → Bool

@@ -1,6 +1,7 @@
 //! The conversion of one object file, from the command's words to the files written.
 #![tactic(auto)]
 
+mod fields;
 mod headers;
 mod plain;
 mod symbols;
