@@ -9,7 +9,8 @@ pub(crate) fn next_call(calls: u64) -> u64
     calls.saturating_add(1)
 }
 
-/// Whether the call with the number `call` fails whatever it asks: its number is the last, or is among `failing`.
+/// Whether the call with the number `call` fails whatever it asks: its number is the last, or is
+/// among `failing`.
 pub(crate) fn is_due(call: u64, failing: &[u64]) -> bool
     ensures { result ≡ calls_of.is_due call failing.now }
 {

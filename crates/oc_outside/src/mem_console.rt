@@ -14,10 +14,12 @@ use std::marker::Model;
 #[cfg(test)]
 mod tests;
 
-/// The two standard streams in memory, for tests: each text may grow to its room, and calls can be set to fail.
+/// The two standard streams in memory, for tests: each text may grow to its room, and calls can be
+/// set to fail.
 ///
-/// The rooms are reserved by `room`, so that the calls of the trait take no memory. They are numbered together from
-/// 1 on. The number stops at 2^64 - 1: the call that reaches it and every later one fail.
+/// The rooms are reserved by `room`, so that the calls of the trait take no memory. They are
+/// numbered together from 1 on. The number stops at 2^64 - 1: the call that reaches it and every
+/// later one fail.
 #[derive(Debug, Drop)]
 pub struct MemConsole {
     out: Page,
@@ -60,7 +62,8 @@ impl MemConsole {
         }
     }
 
-    /// The rooms of standard output and standard error are raised to `out` and `err` bytes, each where it is lower.
+    /// The rooms of standard output and standard error are raised to `out` and `err` bytes, each
+    /// where it is lower.
     ///
     /// Linear in the lengths of the two texts. After an error neither room is raised.
     pub fn room(&mut self, out: u64, err: u64) -> Result<(), NoMemory>
@@ -119,8 +122,9 @@ impl Console for MemConsole {
 
     /// Appends the whole piece to standard output.
     ///
-    /// Failed comes exactly where the call is set to fail or has the last number, or the piece would pass the room of
-    /// standard output. Then nothing was appended, and the count of `out` rises. Linear in the length of the piece.
+    /// Failed comes exactly where the call is set to fail or has the last number, or the piece
+    /// would pass the room of standard output. Then nothing was appended, and the count of `out`
+    /// rises. Linear in the length of the piece.
     #[tactic(auto, unfolding(crate::specs::Texts::grown))]
     fn out(&mut self, piece: &[u8]) -> Result<usize, Failed>
         requires { 0 < length piece.now }
@@ -141,8 +145,9 @@ impl Console for MemConsole {
 
     /// Appends the whole piece to standard error.
     ///
-    /// Failed comes exactly where the call is set to fail or has the last number, or the piece would pass the room of
-    /// standard error. Then nothing was appended, and the count of `err` rises. Linear in the length of the piece.
+    /// Failed comes exactly where the call is set to fail or has the last number, or the piece
+    /// would pass the room of standard error. Then nothing was appended, and the count of `err`
+    /// rises. Linear in the length of the piece.
     #[tactic(auto, unfolding(crate::specs::Texts::grown))]
     fn err(&mut self, piece: &[u8]) -> Result<usize, Failed>
         requires { 0 < length piece.now }

@@ -17,10 +17,12 @@ use std::marker::Model;
 #[cfg(test)]
 mod tests;
 
-/// Files in memory, for tests: each file may grow to the room of its name, and calls can be set to fail.
+/// Files in memory, for tests: each file may grow to the room of its name, and calls can be set to
+/// fail.
 ///
-/// The room of a name is reserved by `set` and `room`, so that the calls of the trait take no memory. They are
-/// numbered together from 1 on. The number stops at 2^64 - 1: the call that reaches it and every later one fail.
+/// The room of a name is reserved by `set` and `room`, so that the calls of the trait take no
+/// memory. They are numbered together from 1 on. The number stops at 2^64 - 1: the call that
+/// reaches it and every later one fail.
 #[derive(Debug, Drop)]
 pub struct MemFiles {
     alloc: Global,
@@ -64,7 +66,8 @@ impl MemFiles {
         }
     }
 
-    /// The file `name` holds `bytes`, and the room of the name is raised to their number where it is lower.
+    /// The file `name` holds `bytes`, and the room of the name is raised to their number where it
+    /// is lower.
     ///
     /// Linear in the number of names, the length of `name` and that of `bytes`.
     pub fn set(&mut self, name: &str, bytes: &[u8]) -> Result<(), NoMemory>
@@ -79,7 +82,8 @@ impl MemFiles {
         set_in(self.alloc, &mut self.slots, name, bytes)
     }
 
-    /// The room of `name`, whether that file is held or not, is raised to `bytes` bytes where it is lower.
+    /// The room of `name`, whether that file is held or not, is raised to `bytes` bytes where it is
+    /// lower.
     ///
     /// Linear in the number of names, the length of `name` and that of the file.
     pub fn room(&mut self, name: &str, bytes: u64) -> Result<(), NoMemory>
@@ -124,11 +128,12 @@ impl Files for MemFiles {
 
     ghost write_faults = { λ f. f.write_faults };
 
-    /// Reads as many bytes as the file has from `at` on and `to` has place for; the rest of `to` stays.
+    /// Reads as many bytes as the file has from `at` on and `to` has place for; the rest of `to`
+    /// stays.
     ///
-    /// Failed comes exactly where the call is set to fail or has the last number, and then the count of reads rises,
-    /// or where `name` is not held, and then no count rises for that. Linear in the number of names and of the bytes
-    /// read.
+    /// Failed comes exactly where the call is set to fail or has the last number, and then the
+    /// count of reads rises, or where `name` is not held, and then no count rises for that. Linear
+    /// in the number of names and of the bytes read.
     fn read_at(&mut self, name: &str, at: u64, to: &mut [u8]) -> Result<usize, Failed>
         ensures fails { is_err result ≡ refuses_read self.old name.now }
         ensures state { self.new ≡ (if fails_next self.old then read_failed self.old else called self.old) }
@@ -150,8 +155,9 @@ impl Files for MemFiles {
 
     /// Makes the file `name` there and empty.
     ///
-    /// Failed comes exactly where the call is set to fail or has the last number, or `name` has no room. Then the
-    /// file is as it was, and the count of writes rises. Linear in the number of names.
+    /// Failed comes exactly where the call is set to fail or has the last number, or `name` has no
+    /// room. Then the file is as it was, and the count of writes rises. Linear in the number of
+    /// names.
     fn create(&mut self, name: &str) -> Result<(), Failed>
         ensures fails { is_err result ≡ refuses_create self.old name.now }
         ensures ok { OnOk result (self.new ≡ record (called self.old) { held = emptied name.now self.old.held }) }
@@ -168,9 +174,9 @@ impl Files for MemFiles {
 
     /// Appends the whole piece.
     ///
-    /// Failed comes exactly where the call is set to fail or has the last number, or the piece would pass the room of
-    /// `name`. Then the file is as it was, and the count of writes rises. Linear in the number of names and in the
-    /// length of the piece.
+    /// Failed comes exactly where the call is set to fail or has the last number, or the piece
+    /// would pass the room of `name`. Then the file is as it was, and the count of writes rises.
+    /// Linear in the number of names and in the length of the piece.
     fn append(&mut self, name: &str, piece: &[u8]) -> Result<usize, Failed>
         requires some { 0 < length piece.now }
         requires there { IsSome (file_of name.now self.old.held) }
@@ -189,7 +195,8 @@ impl Files for MemFiles {
     }
 }
 
-/// Copies the bytes of `file` from `at` on into the front of `to`, as many as it has place for, and gives their number.
+/// Copies the bytes of `file` from `at` on into the front of `to`, as many as it has place for, and
+/// gives their number.
 fn copy_front(file: &[u8], at: u64, to: &mut [u8]) -> usize
     ensures { ReadsAll file.now at to.old to.new result }
 {

@@ -54,7 +54,8 @@ pub(crate) fn append_in(slots: &mut [Slot], name: &str, piece: &[u8]) -> Result<
     slots[place].append(piece)
 }
 
-/// The file of that name holds these bytes, and the room of the name is raised to their number where it is lower.
+/// The file of that name holds these bytes, and the room of the name is raised to their number
+/// where it is lower.
 pub(crate) fn set_in(
     alloc: Global,
     slots: &mut Vec<Slot>,

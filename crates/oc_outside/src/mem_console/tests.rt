@@ -78,7 +78,8 @@ fn calls_fail_by_their_number(rt: HostRuntime) -> Result<(), Fail> {
     Ok(())
 }
 
-/// Tells a text by the call for all kinds of streams. At streams in memory its clauses say what they hold.
+/// Tells a text by the call for all kinds of streams. At streams in memory its clauses say what
+/// they hold.
 #[tactic(auto, unfolding(crate::specs::Texts::grown))]
 fn tell(console: &mut MemConsole, text: &[u8]) -> Result<(), Failed>
     ensures told { OnOk result (console.new.told ≡ console.old.told ++ text.now) }

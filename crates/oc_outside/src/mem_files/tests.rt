@@ -175,14 +175,16 @@ fn calls_fail_by_their_number(rt: HostRuntime) -> Result<(), Fail> {
     Ok(())
 }
 
-/// Writes a file by the call for all kinds of files. At files in memory its clause says what they hold.
+/// Writes a file by the call for all kinds of files. At files in memory its clause says what they
+/// hold.
 fn write(files: &mut MemFiles, name: &str, bytes: &[u8]) -> Result<(), Failed>
     ensures { OnOk result (files.new.held ≡ with_file name.now bytes.now files.old.held) }
 {
     write_file(files, name, bytes)
 }
 
-/// Reads a file by the call for all kinds of files, and gives it if it is not longer than the limit.
+/// Reads a file by the call for all kinds of files, and gives it if it is not longer than the
+/// limit.
 fn read(alloc: Global, files: &mut MemFiles, name: &str) -> Result<Option<Vec<u8>>, ReadFault>
     ensures { IfOk result (λ read. IfSome read (λ bytes. file_of name.now files.old.held ≡ Some bytes.items)) }
 {
@@ -203,7 +205,8 @@ fn counted(alloc: Global, len: usize) -> Result<Vec<u8>, AllocError> {
     Ok(bytes)
 }
 
-/// The create is call 1 and the fifth append is call 6: the four pieces of 4,096 bytes before it are there.
+/// The create is call 1 and the fifth append is call 6: the four pieces of 4,096 bytes before it
+/// are there.
 #[test]
 fn fifth_append_fails(rt: HostRuntime) -> Result<(), Fail> {
     let bytes = counted(rt.alloc(), 980_128)?;
