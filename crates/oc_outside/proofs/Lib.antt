@@ -3,3 +3,4 @@ pub mod TextLaws
 pub mod FileLaws
 pub mod WriteLaws
 pub mod ReadLaws
+pub mod SlotLaws

@@ -2,3 +2,8 @@ pub mod Held
 pub mod Causes
 pub mod Texts
 pub mod Reading
+pub mod Calls
+pub mod Pages
+pub mod Slots
+pub mod MemFiles
+pub mod MemConsole

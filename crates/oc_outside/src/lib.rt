@@ -1,14 +1,20 @@
 //! The outside world as traits: files, the two standard streams and sinks, with the loops over them.
 #![tactic(auto)]
 
+mod calls;
 mod console;
 mod failed;
 mod file_sink;
 mod files;
+mod mem_console;
+mod mem_files;
+mod page;
 mod reading;
 mod real_console;
 mod real_files;
 mod sink;
+mod slot;
+mod slots;
 mod telling;
 #[cfg(test)]
 mod tests;
@@ -18,6 +24,8 @@ pub use console::Console;
 pub use failed::Failed;
 pub use file_sink::FileSink;
 pub use files::Files;
+pub use mem_console::MemConsole;
+pub use mem_files::MemFiles;
 pub use reading::{BUFFER, LIMIT, ReadFault, read_file};
 pub use real_console::RealConsole;
 pub use real_files::RealFiles;

@@ -36,7 +36,8 @@ impl Sink for Slow {
     }
 }
 
-/// What is left after 3,000, 6,000 and 9,000 of 10,000 bytes is put again, never more than 4,096 at once.
+/// What is left after 3,000, 6,000 and 9,000 of 10,000 bytes is put again, never more than 4,096 at
+/// once.
 #[test]
 fn pieces_of_4096_bytes(rt: HostRuntime) -> Result<(), Fail> {
     let bytes = vec![in rt.alloc(); 7u8; 10_000]?;
@@ -92,7 +93,8 @@ fn reading_stops_past_the_limit(rt: HostRuntime) -> Result<(), Fail> {
     Ok(())
 }
 
-/// Copies a file of up to `limit` bytes, and says whether it did. Its clause follows from those of the two loops.
+/// Copies a file of up to `limit` bytes, and says whether it did. Its clause follows from those of
+/// the two loops.
 fn copies<F: Files>(alloc: Global, files: &mut F, from: &str, to: &str, limit: u64) -> bool
     ensures { result ≡ true → ForSome (F.held files.old) (λ m.
         IsSomeAnd (file_of from.now m) (λ file. F.held files.new ≡ Some (with_file to.now file m))) }
