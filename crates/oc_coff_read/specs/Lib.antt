@@ -1,0 +1,5 @@
+pub mod FileHeader
+pub mod Relocation
+pub mod SectionAux
+pub mod SectionHeader
+pub mod SymbolEntry

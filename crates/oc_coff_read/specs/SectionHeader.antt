@@ -1,0 +1,19 @@
+-- Section headers (PE/COFF, "Section Table").
+use Rattle.std.specs.Prelude.{ℕ, ◌+◌, List, take, drop}
+use Rattle.oc_base.specs.Numbers.{number_at}
+use Rattle.oc_coff_read.specs.declared.section_header.SectionHeader.{SectionHeader}
+
+-- the section header at a place of the file
+unfoldable pub section_header_in : List ℕ → ℕ → SectionHeader
+section_header_in file at = record {
+  Name = take 8 (drop at file);
+  VirtualSize = number_at file (at + 8) 4;
+  VirtualAddress = number_at file (at + 12) 4;
+  SizeOfRawData = number_at file (at + 16) 4;
+  PointerToRawData = number_at file (at + 20) 4;
+  PointerToRelocations = number_at file (at + 24) 4;
+  PointerToLinenumbers = number_at file (at + 28) 4;
+  NumberOfRelocations = number_at file (at + 32) 2;
+  NumberOfLinenumbers = number_at file (at + 34) 2;
+  Characteristics = number_at file (at + 36) 4;
+}

@@ -1,0 +1,15 @@
+-- Symbol table entries (PE/COFF, "COFF Symbol Table").
+use Rattle.std.specs.Prelude.{ℕ, ◌+◌, List, take, drop}
+use Rattle.oc_base.specs.Numbers.{number_at}
+use Rattle.oc_coff_read.specs.declared.symbol.SymbolEntry.{SymbolEntry}
+
+-- the symbol table entry at a place of the file
+unfoldable pub symbol_in : List ℕ → ℕ → SymbolEntry
+symbol_in file at = record {
+  Name = take 8 (drop at file);
+  Value = number_at file (at + 8) 4;
+  SectionNumber = number_at file (at + 12) 2;
+  «Type» = number_at file (at + 14) 2;
+  StorageClass = number_at file (at + 16) 1;
+  NumberOfAuxSymbols = number_at file (at + 17) 1;
+}
