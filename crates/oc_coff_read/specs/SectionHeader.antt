@@ -1,7 +1,8 @@
 -- Section headers (PE/COFF, "Section Table").
-use Rattle.std.specs.Prelude.{ℕ, ◌+◌, List, take, drop}
+use Rattle.std.specs.Prelude.{ℕ, ◌+◌, List, [], ◌∷◌, ◌++◌, take, drop}
 use Rattle.oc_base.specs.Numbers.{number_at}
 use Rattle.oc_coff_read.specs.declared.section_header.SectionHeader.{SectionHeader}
+use Rattle.oc_coff_read.specs.Packed.{packed}
 
 -- the section header at a place of the file
 unfoldable pub section_header_in : List ℕ → ℕ → SectionHeader
@@ -17,3 +18,8 @@ section_header_in file at = record {
   NumberOfLinenumbers = number_at file (at + 34) 2;
   Characteristics = number_at file (at + 36) 4;
 }
+
+-- its bytes
+unfoldable pub section_header_bytes : SectionHeader → List ℕ
+section_header_bytes h = h.Name ++ packed ((4, h.VirtualSize) ∷ (4, h.VirtualAddress) ∷ (4, h.SizeOfRawData) ∷ (4, h.PointerToRawData)
+    ∷ (4, h.PointerToRelocations) ∷ (4, h.PointerToLinenumbers) ∷ (2, h.NumberOfRelocations) ∷ (2, h.NumberOfLinenumbers) ∷ (4, h.Characteristics) ∷ [])

@@ -7,6 +7,8 @@ pub const IMAGE_FILE_MACHINE_I386: u16 = 0x14C;
 pub const IMAGE_SCN_CNT_CODE: u32 = 0x20;
 /// A section of which a linker keeps one copy (PE/COFF, "Section Flags").
 pub const IMAGE_SCN_LNK_COMDAT: u32 = 0x1000;
+/// The bits of the alignment (PE/COFF, "Section Flags").
+pub const IMAGE_SCN_ALIGN_MASK: u32 = 0x00F0_0000;
 /// A section with more relocations than its header can count (PE/COFF, "Section Flags").
 pub const IMAGE_SCN_LNK_NRELOC_OVFL: u32 = 0x0100_0000;
 /// A section whose bytes can be executed (PE/COFF, "Section Flags").
@@ -18,6 +20,8 @@ pub const IMAGE_SCN_MEM_READ: u32 = 0x4000_0000;
 pub const IMAGE_SYM_UNDEFINED: u16 = 0;
 /// The section number -1 of a symbol that is a number (PE/COFF, "Section Number Values").
 pub const IMAGE_SYM_ABSOLUTE: u16 = 0xFFFF;
+/// The greatest section number that a symbol can have (PE/COFF, "Section Number Values").
+pub const IMAGE_SYM_SECTION_MAX: u16 = 0xFEFF;
 /// The type of a function (PE/COFF, "Type Representation").
 pub const IMAGE_SYM_TYPE_FUNCTION: u16 = 0x20;
 /// A symbol that is seen by all files (PE/COFF, "Storage Class").
