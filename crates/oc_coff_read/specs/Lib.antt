@@ -10,5 +10,6 @@ pub mod Relocation
 pub mod SectionAux
 pub mod SectionHeader
 pub mod Sections
+pub mod Seen
 pub mod SymbolEntry
 pub mod Symbols
