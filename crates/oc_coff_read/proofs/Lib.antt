@@ -1,3 +1,5 @@
+pub mod FlagLaws
 pub mod PackedLaws
+pub mod PlaceLaws
 pub mod StructureLaws
 mod Rows
