@@ -34,21 +34,46 @@ code_flags_say =
     let r : (exponent : ℕ) → has (code_flags exponent) IMAGE_SCN_LNK_NRELOC_OVFL ≡ false → kind_of (code_flags exponent) ≡ Some Code
     → align_of (code_flags exponent) ≡ 2 ^ exponent → tag_of (code_flags exponent) ≡ 0x60000020 → Says exponent
     = λ exponent plain kind align tag. record { plain = plain; kind = kind; align = align; tag = tag } in
-    upto Says 13 (((((((((((((
-      r 0 refl refl refl refl,
-      r 1 refl refl refl refl),
-      r 2 refl refl refl refl),
-      r 3 refl refl refl refl),
-      r 4 refl refl refl refl),
-      r 5 refl refl refl refl),
-      r 6 refl refl refl refl),
-      r 7 refl refl refl refl),
-      r 8 refl refl refl refl),
-      r 9 refl refl refl refl),
-      r 10 refl refl refl refl),
-      r 11 refl refl refl refl),
-      r 12 refl refl refl refl),
-      r 13 refl refl refl refl)
+    upto Says 13 (
+      (
+        (
+          (
+            (
+              (
+                (
+                  (
+                    (
+                      (
+                        (
+                          (
+                            (
+                              r 0 refl refl refl refl,
+                              r 1 refl refl refl refl,
+                            ),
+                            r 2 refl refl refl refl,
+                          ),
+                          r 3 refl refl refl refl,
+                        ),
+                        r 4 refl refl refl refl,
+                      ),
+                      r 5 refl refl refl refl,
+                    ),
+                    r 6 refl refl refl refl,
+                  ),
+                  r 7 refl refl refl refl,
+                ),
+                r 8 refl refl refl refl,
+              ),
+              r 9 refl refl refl refl,
+            ),
+            r 10 refl refl refl refl,
+          ),
+          r 11 refl refl refl refl,
+        ),
+        r 12 refl refl refl refl,
+      ),
+      r 13 refl refl refl refl,
+    )
 
 -- COFF has each of these alignments
 pub output_align-power : (exponent : ℕ) → exponent ≤ 13 → output_align (2 ^ exponent) ≡ 2 ^ exponent

@@ -3,4 +3,5 @@ pub mod PackedLaws
 pub mod PlaceLaws
 pub mod SeenLaws
 pub mod StructureLaws
+pub mod TargetLaws
 mod Rows

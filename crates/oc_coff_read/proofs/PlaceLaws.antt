@@ -193,7 +193,7 @@ entry_of-section o is =
     let e : (file_header_in (code_file o)).PointerToSymbolTable + 0 ≡ symbols_place o + 0 = rw (symbols_begin o is) refl in
     symbol_in-code o ((file_header_in (code_file o)).PointerToSymbolTable + 0) 0 e
     ∙ symbol_in-bytes code_symbol (section_aux_bytes (code_aux o) ++ (flat_map external_bytes o.symbols ++ bytes_of_number 4 4)) refl
-      (omega arith, (omega arith, (omega arith, (omega arith, (omega arith, tt)))))
+    (omega arith, (omega arith, (omega arith, (omega arith, (omega arith, tt)))))
 
 -- external symbol i
 pub entry_of-external : (o : CodeObject) (i j : ℕ) (d : External) → IsCodeObject o → i < length o.symbols → j ≡ 2 + i → entry_of (code_file o) j ≡ external_entry (get_or o.symbols i d)

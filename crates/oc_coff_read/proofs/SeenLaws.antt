@@ -18,10 +18,10 @@ use Rattle.oc_coff_read.specs.Sections.{section_of, first_sections, sections_of,
 use Rattle.oc_coff_read.specs.Symbols.{mark_of, entry_of, numbers_from, numbers_of, value_of, binding_of, symbol_with, symbol_of, symbols_of, section_symbol_of, section_symbols_of}
 use Rattle.oc_coff_read.specs.Fields.{target_among, field_among, fields_of}
 use Rattle.oc_coff_read.specs.Canonical.{External, CodeObject, IsCodeObject, IsExternal, code_header, code_section, code_symbol, external_entry, code_file}
-use Rattle.oc_coff_read.specs.Seen.{seen_section, seen_binding, seen_symbol, externals_from, seen_symbols, seen_section_symbol, seen_fields}
+use Rattle.oc_coff_read.specs.Seen.{seen_section, seen_binding, seen_symbol, externals_from, seen_symbols, seen_section_symbol, seen_fields, ReadsBack}
 use Rattle.oc_coff_read.proofs.PackedLaws.{until_nul-padded, padded-long}
 use Rattle.oc_coff_read.proofs.FlagLaws.{code_flags_say}
-use Rattle.oc_coff_read.proofs.PlaceLaws.{file_header_in-code, header_of-code, contents_of-code, relocations_of-code, entry_of-section, entry_of-external}
+use Rattle.oc_coff_read.proofs.PlaceLaws.{length-code_file, file_header_in-code, header_of-code, contents_of-code, relocations_of-code, entry_of-section, entry_of-external}
 
 -- the section
 pub section_of-code : (o : CodeObject) → IsCodeObject o → section_of (code_file o) 1 ≡ Some (seen_section o)
@@ -150,7 +150,16 @@ pub fields_of-code : (o : CodeObject) (keep : Keep) → IsCodeObject o → (s at
 unfolding fields_of
 fields_of-code o keep is zero at =
     rw (sections_of-code o is, header_of-code o is, relocations_of-code o is) (
-      ap (λ own. field_among (target_among own (symbols_of (code_file o) keep)) 0 o.contents o.relocs at) (section_symbols_of-code o is)
-      ∙ ap (λ carried. field_among (target_among (seen_section_symbol ∷ []) carried) 0 o.contents o.relocs at) (symbols_of-code o keep is)
+    ap (λ own. field_among (target_among own (symbols_of (code_file o) keep)) 0 o.contents o.relocs at) (section_symbols_of-code o is)
+    ∙ ap (λ carried. field_among (target_among (seen_section_symbol ∷ []) carried) 0 o.contents o.relocs at) (symbols_of-code o keep is)
     )
 fields_of-code o keep is (suc s) at = rw (sections_of-code o is) refl
+
+-- the object reads back
+pub reads_back : (o : CodeObject) → IsCodeObject o → ReadsBack o
+reads_back o is = record {
+  sections = sections_of-code o is;
+  symbols = λ keep. symbols_of-code o keep is;
+  fields = λ keep s at. fields_of-code o keep is s at;
+  length = length-code_file o;
+}

@@ -1,5 +1,6 @@
 -- What the canonical file of an object of one section of code says by the rules of COFF for i386 (our profile).
-use Rattle.std.specs.Prelude.{ℕ, zero, suc, ◌+◌, ◌^◌, Bool, true, false, nat_eq, if◌then◌else◌, List, [], ◌∷◌, length, codes, Option, None}
+use Rattle.std.specs.Prelude.{◌≡◌, ℕ, zero, suc, ◌+◌, ◌^◌, Bool, true, false, nat_eq, if◌then◌else◌, List, [], ◌∷◌, length, codes, Option, None}
+use Rattle.oc_linking.specs.declared.terms.Keep.{Keep}
 use Rattle.oc_linking.specs.declared.terms.Kind.TheVariants.{Code}
 use Rattle.oc_linking.specs.declared.terms.Mark.TheVariants.{NoType, Function}
 use Rattle.oc_linking.specs.declared.terms.Visibility.TheVariants.{Default}
@@ -8,8 +9,10 @@ use Rattle.oc_linking.specs.declared.terms.Binding.{Binding}
 use Rattle.oc_linking.specs.declared.terms.Binding.TheVariants.{Local, Global, Undefined}
 use Rattle.oc_linking.specs.Parts.{Section, Symbol}
 use Rattle.oc_linking.specs.Rules.{Field, Fields}
-use Rattle.oc_coff_read.specs.Fields.{Target, target_among, field_among}
-use Rattle.oc_coff_read.specs.Canonical.{External, CodeObject}
+use Rattle.oc_coff_read.specs.Sections.{sections_of}
+use Rattle.oc_coff_read.specs.Symbols.{symbols_of}
+use Rattle.oc_coff_read.specs.Fields.{Target, target_among, field_among, fields_of}
+use Rattle.oc_coff_read.specs.Canonical.{External, CodeObject, IsCodeObject, code_length, code_file}
 
 -- its section
 abbrev pub seen_section : CodeObject → Section
@@ -60,3 +63,14 @@ seen_target o j = target_among (seen_section_symbol ∷ []) (seen_symbols o) j
 abbrev pub seen_fields : CodeObject → Fields
 seen_fields o zero at = field_among (seen_target o) 0 o.contents o.relocs at
 seen_fields o (suc s) at = None
+
+-- the canonical file of o says by the rules what o says, and has this length
+pub record ReadsBack (o : CodeObject) : Type 0 where
+  pub sections : sections_of (code_file o) ≡ seen_section o ∷ []
+  pub symbols : (keep : Keep) → symbols_of (code_file o) keep ≡ seen_symbols o
+  pub fields : (keep : Keep) (s at : ℕ) → fields_of (code_file o) keep s at ≡ seen_fields o s at
+  pub length : length (code_file o) ≡ code_length o
+
+-- each object that has a canonical file reads back from it
+abbrev pub CanonicalReadsBack : Type 0
+CanonicalReadsBack = (o : CodeObject) → IsCodeObject o → ReadsBack o
