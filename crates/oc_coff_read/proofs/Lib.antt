@@ -1,0 +1,7 @@
+pub mod FlagLaws
+pub mod PackedLaws
+pub mod PlaceLaws
+pub mod SeenLaws
+pub mod StructureLaws
+pub mod TargetLaws
+mod Rows

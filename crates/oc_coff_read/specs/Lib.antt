@@ -1,0 +1,15 @@
+pub mod Alignments
+pub mod Canonical
+pub mod Coff32
+pub mod Fields
+pub mod FileHeader
+pub mod Flags
+pub mod Names
+pub mod Packed
+pub mod Relocation
+pub mod SectionAux
+pub mod SectionHeader
+pub mod Sections
+pub mod Seen
+pub mod SymbolEntry
+pub mod Symbols
