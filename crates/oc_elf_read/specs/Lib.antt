@@ -1,5 +1,9 @@
 pub mod Ehdr
+pub mod Elf32
+pub mod Fields
 pub mod Names
 pub mod Rel
+pub mod Sections
 pub mod Shdr
 pub mod Sym
+pub mod Symbols

@@ -37,6 +37,8 @@ pub const STT_FUNC: u8 = 2;
 /// A section's own symbol (gABI, "Symbol Table").
 pub const STT_SECTION: u8 = 3;
 
+/// A relocation that says nothing (i386 psABI, "Relocation Types").
+pub const R_386_NONE: u8 = 0;
 /// S + A in a word (i386 psABI, "Relocation Types").
 pub const R_386_32: u8 = 1;
 /// S + A - P in a word (i386 psABI, "Relocation Types").

@@ -11,4 +11,5 @@ pub mod Plain
 pub mod Raising
 pub mod Rules
 pub mod Shows
+pub mod Targets
 pub mod Values
