@@ -23,9 +23,9 @@ pub fn rel_count(headers: &Headers) -> usize
     headers.rels.sh_size as usize / REL_SIZE
 }
 
-// relocation i
+/// Relocation `i`. Constant time.
 #[tactic(auto, unfolding(crate::specs::Plain::entry_in))]
-fn entry(file: &[u8], headers: &Headers, i: usize) -> Rel
+pub fn entry(file: &[u8], headers: &Headers, i: usize) -> Rel
     requires laid { plain.AreLaid file.now headers.now }
     requires there { i < plain.rel_count headers.now }
     ensures { result ≡ plain.entry_in file.now headers.now i }

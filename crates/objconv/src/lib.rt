@@ -4,4 +4,5 @@
 mod fields;
 mod headers;
 mod plain;
+mod raising;
 mod symbols;
