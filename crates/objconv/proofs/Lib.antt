@@ -1,5 +1,6 @@
 pub mod BelowLemmas
 pub mod FieldLemmas
+pub mod PaddingLemmas
 pub mod PlainLemmas
 pub mod RaisingLemmas
 pub mod RelsLemmas
