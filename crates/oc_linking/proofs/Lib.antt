@@ -1,9 +1,12 @@
 pub mod Alike
+pub mod Apart
 pub mod Bytes
 pub mod Dropping
 pub mod Folding
 pub mod Naming
 pub mod Overlay
+pub mod Searching
+pub mod Storing
 pub mod Truth
 pub mod Upto
 pub mod Valid

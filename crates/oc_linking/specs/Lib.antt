@@ -2,6 +2,7 @@ pub mod Faithful
 pub mod Fits
 pub mod Images
 pub mod Keeping
+pub mod Laws
 pub mod Linking
 pub mod Naming
 pub mod Numbers
