@@ -1,8 +1,10 @@
 pub mod Alike
 pub mod Apart
 pub mod Bytes
+pub mod CheckProofs
 pub mod Dropping
 pub mod Folding
+pub mod LawProofs
 pub mod Naming
 pub mod Overlay
 pub mod Searching

@@ -1,15 +1,19 @@
 -- Laws that show that the definitions say what is meant (our profile).
-use Rattle.std.specs.Prelude.{◌≡◌, ℕ, ◌+◌, ◌%◌, ◌<◌, ◌≤◌, ◌⊎◌, false, List, length, map, slice_get, get_or, Option, Some}
+use Rattle.std.specs.Prelude.{◌≡◌, ℕ, ◌+◌, ◌%◌, ◌<◌, ◌≤◌, ◌⊎◌, Bool, false, List, length, map, slice_get, get_or, Option, Some}
 use Rattle.oc_base.specs.declared.format.Word.{Word}
 use Rattle.oc_base.specs.Numbers.{number_at}
+use Rattle.oc_linking.specs.declared.terms.Keep.{Keep}
 use Rattle.oc_linking.specs.declared.terms.Patch.{Patch}
 use Rattle.oc_linking.specs.Numbers.{modulus}
 use Rattle.oc_linking.specs.Fits.{bytes_of, span, fits}
-use Rattle.oc_linking.specs.Parts.{Section}
-use Rattle.oc_linking.specs.Placing.{IsPlacement, zeros}
+use Rattle.oc_linking.specs.Parts.{Section, Symbol}
+use Rattle.oc_linking.specs.Keeping.{all}
+use Rattle.oc_linking.specs.Placing.{Placement, Outside, IsPlacement, zeros}
+use Rattle.oc_linking.specs.Rules.{Rules}
 use Rattle.oc_linking.specs.Images.{Patches, overlay}
-use Rattle.oc_linking.specs.Linking.{Exports, Overflow, Image, link_of}
-use Rattle.oc_linking.specs.Shows.{Apart}
+use Rattle.oc_linking.specs.Linking.{Exports, Overflow, Image, link_of, link}
+use Rattle.oc_linking.specs.Faithful.{SameOutline, Faithful}
+use Rattle.oc_linking.specs.Shows.{Object, object_link, Apart, Shows}
 
 -- one place stands before another: its section does, or it has the lower offset in the same section
 abbrev pub Before : ℕ → ℕ → ℕ → ℕ → Type 0
@@ -58,3 +62,13 @@ OtherBytesStay = (patches : ℕ → Option Patch) (bytes : List ℕ) (i : ℕ) �
 -- the placement whose numbers are all 0 meets any alignments
 abbrev pub ZerosPlaceAll : Type 0
 ZerosPlaceAll = (w : Word) (sections : List Section) → ((k : ℕ) (s : Section) → slice_get sections k ≡ Some s → s.size ≤ modulus w) → IsPlacement w sections zeros
+
+-- linking a file is linking the object that shows it
+abbrev pub FileLinksAsItsObject : Type 0
+FileLinksAsItsObject = (f : Rules) (b : List ℕ) (keep : Keep) (edited : List Symbol) (folded : ℕ → ℕ → Bool) (n : Object)
+    → Shows f b keep edited folded n → (p : Placement) (e : Outside) → object_link n p e ≡ link f b keep edited p e
+
+-- an output that one object shows with the edited input is faithful, where it has the outline
+abbrev pub ShownOutputIsFaithful : Type 0
+ShownOutputIsFaithful = (f : Rules) (b : List ℕ) (keep : Keep) (edited : List Symbol) (g : Rules) (c : List ℕ) (m k : ℕ → ℕ → Bool) (n : Object)
+    → Shows f b keep edited m n → Shows g c all (g.symbols c all) k n → SameOutline f b keep edited g c → Faithful f b keep edited g c

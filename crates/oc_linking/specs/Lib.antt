@@ -1,3 +1,4 @@
+pub mod Borders
 pub mod Faithful
 pub mod Fits
 pub mod Images

@@ -3,10 +3,16 @@
 #![tactic(auto)]
 
 mod checks;
+mod laws;
 mod plain;
 mod terms;
 
 pub use checks::{fits, fits_signed, fits_unsigned};
+pub use laws::{
+    checks_at_borders, fields_hold_residues, file_links_as_its_object, image_is_whole,
+    other_bytes_stay, overflow_is_least, shown_output_is_faithful, signed_fits_its_type,
+    zeros_place_all,
+};
 pub use plain::{Outcome, PlacedPatch, image, link, patch_of};
 pub use terms::{
     Binding, Check, Fallback, Hint, Keep, Kind, Mark, Patch, Value, Visibility, Width,
