@@ -7,6 +7,7 @@ pub mod Folding
 pub mod LawProofs
 pub mod Naming
 pub mod Overlay
+pub mod ResidueLaws
 pub mod Searching
 pub mod Storing
 pub mod Truth
@@ -14,3 +15,4 @@ pub mod Upto
 pub mod Valid
 pub mod Whole
 mod Worked
+pub mod Worth

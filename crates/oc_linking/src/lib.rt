@@ -5,6 +5,7 @@
 mod checks;
 mod laws;
 mod plain;
+mod residues;
 mod terms;
 
 pub use checks::{fits, fits_signed, fits_unsigned};
@@ -14,6 +15,7 @@ pub use laws::{
     zeros_place_all,
 };
 pub use plain::{Outcome, PlacedPatch, image, link, patch_of};
+pub use residues::{minus, modulus, reduced};
 pub use terms::{
     Binding, Check, Fallback, Hint, Keep, Kind, Mark, Patch, Value, Visibility, Width,
 };
