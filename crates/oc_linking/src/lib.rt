@@ -7,6 +7,8 @@ mod laws;
 mod plain;
 mod residues;
 mod terms;
+#[cfg(test)]
+mod tests;
 
 pub use checks::{fits, fits_signed, fits_unsigned};
 pub use laws::{

@@ -23,7 +23,7 @@ pub struct PlacedPatch {
 }
 
 /// What linking gives, but for the exports.
-#[derive(Debug, Drop)]
+#[derive(Debug, Drop, PartialEq, Eq)]
 pub enum Outcome {
     /// The residue of this field is the first that does not fit.
     Overflow {
