@@ -3,6 +3,7 @@ pub mod Apart
 pub mod Bytes
 pub mod CheckProofs
 pub mod Dropping
+pub mod FirstFaultLaws
 pub mod Folding
 pub mod LawProofs
 pub mod Naming

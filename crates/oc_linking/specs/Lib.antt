@@ -1,5 +1,6 @@
 pub mod Borders
 pub mod Faithful
+pub mod FirstFault
 pub mod Fits
 pub mod Images
 pub mod Keeping

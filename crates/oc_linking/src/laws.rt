@@ -1,5 +1,6 @@
 //! Laws of the definitions, each the contract of a function that does nothing.
 ghost use Rattle.oc_linking.specs.Borders.{ChecksAtBorders, SignedFitsItsType};
+ghost use Rattle.oc_linking.specs.FirstFault.{FirstFaultIsFirst, NoFaultNoneBroken};
 ghost use Rattle.oc_linking.specs.Laws.{OverflowIsLeast, ImageIsWhole, FieldsHoldResidues, OtherBytesStay, ZerosPlaceAll, FileLinksAsItsObject, ShownOutputIsFaithful};
 
 /// At the borders of every check the residues that fit are those of the table, in both words.
@@ -46,4 +47,14 @@ pub fn file_links_as_its_object()
 /// An output that one object shows together with the edited input is faithful.
 pub fn shown_output_is_faithful()
     ensures { ShownOutputIsFaithful }
+{}
+
+/// The first fault that is computed is of a broken condition, before which none is broken.
+pub fn first_fault_is_first()
+    ensures { FirstFaultIsFirst }
+{}
+
+/// Where no first fault is computed, no condition is broken.
+pub fn no_fault_none_broken()
+    ensures { NoFaultNoneBroken }
 {}
