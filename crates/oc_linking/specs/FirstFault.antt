@@ -1,4 +1,4 @@
--- The first fault of a file, from tables of conditions (our profile): stage by stage, structure by structure, condition by condition.
+-- The first fault of a file, from tables of conditions: by stage, then by structure, then by condition (our profile).
 use Rattle.std.specs.Prelude.{◌≡◌, ℕ, ◌<◌, ◌⊎◌, Bool, true, if◌then◌else◌, List, [], ◌∷◌, slice_get, Option, Some, None}
 use Rattle.oc_base.specs.declared.fault.Fault.{Fault}
 use Rattle.oc_linking.specs.Numbers.{or_else, first_upto}

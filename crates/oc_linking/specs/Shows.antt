@@ -51,12 +51,16 @@ lives folded patches s at = live_of (folded s at) (patches s at)
 abbrev pub unders : (ℕ → ℕ → Bool) → Patches → Patches
 unders folded patches s at = under_of (folded s at) (patches s at)
 
--- at every placement and outside map the object has the contents of the file, with the constants of the folded fields and zeros under the others,
--- the other fields with the file's widths, checks and residues, and the file's exports
+-- the object shows what linking sees of the file b under the edited symbols, where the fields in `folded` are folded into the bytes
 pub record Shows (f : Rules) (b : List ℕ) (keep : Keep) (edited : List Symbol) (folded : ℕ → ℕ → Bool) (n : Object) : Type 0 where
   pub word : n.word ≡ f.word
+  -- no two fields meet
   pub apart : (p : Placement) (e : Outside) (s : ℕ) → Apart (patches_in f b keep edited p e s)
+  -- what is folded fits
   pub fit : (p : Placement) (e : Outside) (s at : ℕ) (q : Patch) → folded s at ≡ true → patches_in f b keep edited p e s at ≡ Some q → overflows f.word q ≡ false
+  -- its contents are the file's, with constants in the folded fields, and zeros under the others
   pub contents : (p : Placement) (e : Outside) → n.contents ≡ overlays (unders folded (patches_in f b keep edited p e)) 0 (contents_in f b keep)
+  -- its fields are the others, with the file's widths, checks and residues
   pub patches : (p : Placement) (e : Outside) (s at : ℕ) → object_patches n p e s at ≡ lives folded (patches_in f b keep edited p e) s at
+  -- its exports are the file's
   pub exports : (p : Placement) (e : Outside) (name : List ℕ) → exports n.word p e n.symbols name ≡ exports_in f b keep edited p e name

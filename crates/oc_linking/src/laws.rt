@@ -1,7 +1,9 @@
 //! Laws of the definitions, each the contract of a function that does nothing.
 ghost use Rattle.oc_linking.specs.Borders.{ChecksAtBorders, SignedFitsItsType};
 ghost use Rattle.oc_linking.specs.FirstFault.{FirstFaultIsFirst, NoFaultNoneBroken};
-ghost use Rattle.oc_linking.specs.Laws.{OverflowIsLeast, ImageIsWhole, FieldsHoldResidues, OtherBytesStay, ZerosPlaceAll, FileLinksAsItsObject, ShownOutputIsFaithful};
+ghost use Rattle.oc_linking.specs.Laws.{OverflowIsLeast, ImageIsWhole, ZerosPlaceAll};
+ghost use Rattle.oc_linking.specs.Laws.{FieldsHoldResidues, OtherBytesStay};
+ghost use Rattle.oc_linking.specs.Laws.{FileLinksAsItsObject, ShownOutputIsFaithful};
 
 /// At the borders of every check the residues that fit are those of the table, in both words.
 pub fn checks_at_borders()
