@@ -9,6 +9,7 @@ pub mod LawProofs
 pub mod Naming
 pub mod Overlay
 pub mod ResidueLaws
+pub mod Same
 pub mod Searching
 pub mod Storing
 pub mod Truth

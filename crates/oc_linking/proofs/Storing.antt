@@ -48,18 +48,18 @@ get_or-overlay o i (suc j) (x ∷ xs) l =
     get_or-overlay o (i + 1) j xs (omega arith) ∙ ap (λ k. unwrap_or (byte_upto o k 8) (get_or xs j 0)) e
 
 -- from the first byte on
-byte_of_image : (o : ℕ → Option Patch) (i : ℕ) (xs : List ℕ) → i < length xs → get_or (overlay o 0 xs) i 0 ≡ unwrap_or (byte_upto o i 8) (get_or xs i 0)
+pub byte_of_image : (o : ℕ → Option Patch) (i : ℕ) (xs : List ℕ) → i < length xs → get_or (overlay o 0 xs) i 0 ≡ unwrap_or (byte_upto o i 8) (get_or xs i 0)
 byte_of_image o i xs l = let e : 0 + i ≡ i = omega arith in get_or-overlay o 0 i xs l ∙ ap (λ k. unwrap_or (byte_upto o k 8) (get_or xs i 0)) e
 
 -- a field has 8 bytes at most
-few : (width : Width) → bytes_of width ≤ 8
+pub few : (width : Width) → bytes_of width ≤ 8
 few One = omega arith
 few Two = omega arith
 few Four = omega arith
 few Eight = omega arith
 
 -- what a field gives at one of its bytes
-byte_of_field : (o : ℕ → Option Patch) (at back : ℕ) (q : Patch) → o at ≡ Some q → back < bytes_of q.width → byte_by o (at + back) back ≡ Some (q.residue / 256 ^ back % 256)
+pub byte_of_field : (o : ℕ → Option Patch) (at back : ℕ) (q : Patch) → o at ≡ Some q → back < bytes_of q.width → byte_by o (at + back) back ≡ Some (q.residue / 256 ^ back % 256)
 byte_of_field o at back q here l =
     let e : at + back - back ≡ at = omega arith in
     let into : nat_le back (at + back) ≡ true = le-leb back (at + back) (omega arith) in

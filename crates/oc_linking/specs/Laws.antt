@@ -8,10 +8,11 @@ use Rattle.oc_linking.specs.Numbers.{modulus}
 use Rattle.oc_linking.specs.Fits.{bytes_of, span, fits}
 use Rattle.oc_linking.specs.Parts.{Section, Symbol}
 use Rattle.oc_linking.specs.Keeping.{all}
-use Rattle.oc_linking.specs.Placing.{Placement, Outside, IsPlacement, zeros}
+use Rattle.oc_linking.specs.Placing.{Placement, Outside, IsPlacement, IsOutside, zeros}
 use Rattle.oc_linking.specs.Rules.{Rules}
 use Rattle.oc_linking.specs.Images.{Patches, overlay}
-use Rattle.oc_linking.specs.Linking.{Exports, Overflow, Image, link_of, link}
+use Rattle.oc_linking.specs.Linking.{Exports, Overflow, Image, link_of, link, sections_in, spread_in}
+use Rattle.oc_linking.specs.Alike.{LinkAlike}
 use Rattle.oc_linking.specs.Faithful.{SameOutline, Faithful}
 use Rattle.oc_linking.specs.Shows.{Object, object_link, Apart, Shows}
 
@@ -72,3 +73,10 @@ FileLinksAsItsObject = (f : Rules) (b : List ℕ) (keep : Keep) (edited : List S
 abbrev pub ShownOutputIsFaithful : Type 0
 ShownOutputIsFaithful = (f : Rules) (b : List ℕ) (keep : Keep) (edited : List Symbol) (g : Rules) (c : List ℕ) (m k : ℕ → ℕ → Bool) (n : Object)
     → Shows f b keep edited m n → Shows g c all (g.symbols c all) k n → SameOutline f b keep edited g c → Faithful f b keep edited g c
+
+-- an output that has the fields of the edited input, and its bytes outside these, is faithful, where it has the outline
+abbrev pub AlikeOutputIsFaithful : Type 0
+AlikeOutputIsFaithful = (f : Rules) (b : List ℕ) (keep : Keep) (edited : List Symbol) (g : Rules) (c : List ℕ) → SameOutline f b keep edited g c
+    → ((p : Placement) (e : Outside) → IsPlacement f.word (sections_in f b keep) p → IsPlacement g.word (g.sections c) p
+    → IsOutside f.word (spread_in f b keep p) edited e → IsOutside g.word p (g.symbols c all) e → LinkAlike f b keep edited g c p e)
+    → Faithful f b keep edited g c

@@ -1,3 +1,4 @@
+pub mod Alike
 pub mod Borders
 pub mod Faithful
 pub mod FirstFault

@@ -4,6 +4,7 @@ ghost use Rattle.oc_linking.specs.FirstFault.{FirstFaultIsFirst, NoFaultNoneBrok
 ghost use Rattle.oc_linking.specs.Laws.{OverflowIsLeast, ImageIsWhole, ZerosPlaceAll};
 ghost use Rattle.oc_linking.specs.Laws.{FieldsHoldResidues, OtherBytesStay};
 ghost use Rattle.oc_linking.specs.Laws.{FileLinksAsItsObject, ShownOutputIsFaithful};
+ghost use Rattle.oc_linking.specs.Laws.{AlikeOutputIsFaithful};
 
 /// At the borders of every check the residues that fit are those of the table, in both words.
 pub fn checks_at_borders()
@@ -59,4 +60,9 @@ pub fn first_fault_is_first()
 /// Where no first fault is computed, no condition is broken.
 pub fn no_fault_none_broken()
     ensures { NoFaultNoneBroken }
+{}
+
+/// An output that has the fields of the edited input, and its bytes outside these, is faithful.
+pub fn alike_output_is_faithful()
+    ensures { AlikeOutputIsFaithful }
 {}

@@ -12,9 +12,9 @@ mod tests;
 
 pub use checks::{fits, fits_signed, fits_unsigned};
 pub use laws::{
-    checks_at_borders, fields_hold_residues, file_links_as_its_object, first_fault_is_first,
-    image_is_whole, no_fault_none_broken, other_bytes_stay, overflow_is_least,
-    shown_output_is_faithful, signed_fits_its_type, zeros_place_all,
+    alike_output_is_faithful, checks_at_borders, fields_hold_residues, file_links_as_its_object,
+    first_fault_is_first, image_is_whole, no_fault_none_broken, other_bytes_stay,
+    overflow_is_least, shown_output_is_faithful, signed_fits_its_type, zeros_place_all,
 };
 pub use plain::{Outcome, PlacedPatch, image, link, patch_of};
 pub use residues::{minus, modulus, reduced};
