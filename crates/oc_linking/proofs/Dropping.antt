@@ -11,10 +11,10 @@ use Rattle.oc_linking.specs.declared.terms.Fallback.TheVariants as fallback
 use Rattle.oc_linking.specs.declared.terms.Binding.{Binding}
 use Rattle.oc_linking.specs.declared.terms.Binding.TheVariants.{Local, Global, Undefined, Common, Weak}
 use Rattle.oc_linking.specs.Numbers.{reduced, or_else}
-use Rattle.oc_linking.specs.Parts.{by_name, Symbol}
+use Rattle.oc_linking.specs.Parts.{Symbol, by_name, is_local}
 use Rattle.oc_linking.specs.Keeping.{carried_of}
 use Rattle.oc_linking.specs.Placing.{Site, Placement, Outside, nowhere, spread, spread_sites}
-use Rattle.oc_linking.specs.Values.{numbered, own_site, strong_site, fallback_site, site_of}
+use Rattle.oc_linking.specs.Values.{Valued, numbered, own_site, strong_site, fallback_site, site_of, value_of}
 use Rattle.oc_linking.specs.Linking.{export_at, export_of, exports, Address}
 use Rattle.oc_linking.specs.Raising.{raised_value, raised_fallback, raised_binding, raised}
 
@@ -53,7 +53,7 @@ module _ (w : Word) (flags : List Bool) (p : Placement) (e : Outside) where
   strong x (Weak f) = refl
 
   -- a number finds the same symbol
-  numbered-raised : (symbols : List Symbol) (k : ℕ) → numbered (map (raised flags) symbols) k ≡ option_map (raised flags) (numbered symbols k)
+  pub numbered-raised : (symbols : List Symbol) (k : ℕ) → numbered (map (raised flags) symbols) k ≡ option_map (raised flags) (numbered symbols k)
   numbered-raised [] k = refl
   numbered-raised (s ∷ symbols) k = elim (eqb s.number k) as (λ b. cond b (Some (raised flags s)) (numbered (map (raised flags) symbols) k)
       ≡ option_map (raised flags) (cond b (Some s) (numbered symbols k))) [ true ↦ refl | false ↦ numbered-raised symbols k ]
@@ -78,6 +78,23 @@ module _ (w : Word) (flags : List Bool) (p : Placement) (e : Outside) where
   site-raised symbols name Undefined = refl
   site-raised symbols name (Common size align) = refl
   site-raised symbols name (Weak f) = ap (unwrap_or (e.site name)) (fall symbols f)
+
+  -- a symbol stays Local, or not
+  local-raised : (b : Binding) → is_local (raised_binding flags b) ≡ is_local b
+  local-raised (Local v) = refl
+  local-raised (Global v) = refl
+  local-raised Undefined = refl
+  local-raised (Common size align) = refl
+  local-raised (Weak f) = refl
+
+  -- every symbol keeps its worth
+  pub value_of-raised : (symbols : List Symbol) (s : Symbol) → value_of w (spread flags p) e (map (raised flags) symbols) (raised flags s) ≡ value_of w p e symbols s
+  value_of-raised symbols s =
+      ap (λ (site : Site). worth site (is_local (raised_binding flags s.binding))) (site-raised symbols s.name s.binding)
+      ∙ ap (λ b. worth (site_of w p e symbols s.name s.binding) b) (local-raised s.binding)
+    where
+      worth : Site → Bool → Valued
+      worth site local = record { site = site; slot = cond local 0 (e.slot s.name) }
 
   -- what a symbol exports stays
   export-raised : (symbols : List Symbol) (name : List ℕ) (b : Binding) → export_at w (spread flags p) e (map (raised flags) symbols) name (raised_binding flags b) ≡ export_at w p e symbols name b

@@ -9,6 +9,7 @@ use Rattle.oc_linking.specs.Fits.{bytes_of, stored}
 use Rattle.oc_linking.specs.Images.{Patches, byte_by, byte_upto, overlay, overlays, first_at, first_field}
 use Rattle.oc_linking.specs.Shows.{blank, Apart, live_of, under_of, lives, unders}
 use Rattle.oc_linking.proofs.Upto.{first_upto_from}
+use Rattle.oc_linking.proofs.Apart.{same_start}
 
 -- of one byte: what all fields, the ones that are not folded, and what stands under them give
 pub data One : Option ℕ → Option ℕ → Option ℕ → Type 0 where
@@ -46,7 +47,7 @@ module _ (o : ℕ → Option Patch) (folded : ℕ → Bool) where
   upto apart i zero = Nothing
   upto apart i (suc n) = joined _ _ _ _ _ _ (upto apart i n) (one i n) (λ j k before here.
       let m = first_upto_from (byte_by o i) n j before in
-      let same : m.0 ≡ n = apart i m.0 n j k m.2 here in absurd (omega (arith, same, m.1)))
+      let same : m.0 ≡ n = same_start o apart i m.0 n j k m.2 here in absurd (omega (arith, same, m.1)))
 
   -- over what stands under it
   over : (a b c : Option ℕ) (x : ℕ) → One a b c → unwrap_or b (unwrap_or c x) ≡ unwrap_or a x

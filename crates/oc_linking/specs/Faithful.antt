@@ -32,16 +32,20 @@ names_of common symbols = by_name (λ s. sort_of common s.binding) symbols
 abbrev pub shape_of : (ℕ → ℕ) → Section → ℕ × ℕ
 shape_of align s = (s.size, align s.align)
 
--- the output c, read by the rules g, is well formed; it has the kept sections of the input in their order, with their sizes and the target's
--- alignments for theirs; and it has the edited names, each Global, Weak, Undefined or Common as before, a common with its size and the target's alignment for it
+-- what the output c, read by the rules g, has in common with the input b, read by the rules f and edited
 pub record SameOutline (f : Rules) (b : List ℕ) (keep : Keep) (edited : List Symbol) (g : Rules) (c : List ℕ) : Type 0 where
+  -- the output is well formed
   pub well_formed : g.fault c all ≡ None
+  -- its sections are the kept ones of the input in their order, with their sizes, and with the target's alignments for theirs
   pub sections : map (shape_of (λ align. align)) (g.sections c) ≡ map (shape_of g.output_align) (sections_in f b keep)
+  -- each Global, Weak, Undefined and Common name is one of the edited names, and as before; a common has its size, and the target's alignment
   pub names : (name : List ℕ) → names_of (λ size align. align) (g.symbols c all) name ≡ names_of g.common_align edited name
 
--- and for every placement and outside map that meet the alignments of both, linking the output by its rules gives what linking the edited input by its own gives
+-- the output links as the edited input does
 pub record Faithful (f : Rules) (b : List ℕ) (keep : Keep) (edited : List Symbol) (g : Rules) (c : List ℕ) : Type 0 where
   pub outline : SameOutline f b keep edited g c
+  -- for every placement and outside map that meet the alignments of both, linking the output by its format's rules gives what linking
+  -- the edited input by its own gives: the same bytes and exports, or the same first overflow
   pub links : (p : Placement) (e : Outside)
       → IsPlacement f.word (sections_in f b keep) p → IsPlacement g.word (g.sections c) p
       → IsOutside f.word (spread_in f b keep p) edited e → IsOutside g.word p (g.symbols c all) e

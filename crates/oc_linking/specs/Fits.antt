@@ -1,4 +1,4 @@
--- What fits a field, and what is stored in it (our profile, after i386 and x86-64 psABI, "Relocation Types", and PE/COFF, "Type Indicators").
+-- What fits a field, and what is stored in it (i386 and x86-64 psABI, "Relocation Types"; PE/COFF, "Type Indicators"; else our profile).
 use Rattle.std.specs.Prelude.{ℕ, ◌+◌, ◌/◌, ◌%◌, ◌^◌, Bool, true, ◌||◌, nat_lt, nat_le, if◌then◌else◌, Option, Some, None}
 use Rattle.oc_base.specs.declared.format.Word.{Word}
 use Rattle.oc_linking.specs.declared.terms.Width.{Width}

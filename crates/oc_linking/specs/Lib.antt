@@ -1,7 +1,11 @@
+pub mod Alike
+pub mod Borders
 pub mod Faithful
+pub mod FirstFault
 pub mod Fits
 pub mod Images
 pub mod Keeping
+pub mod Laws
 pub mod Linking
 pub mod Naming
 pub mod Numbers

@@ -88,7 +88,7 @@ patches_in f b keep edited p e = patches_of (flags_in f b keep) (f.fields b keep
 abbrev pub exports_in : Rules → List ℕ → Keep → List Symbol → Placement → Outside → Exports
 exports_in f b keep edited p e = exports f.word (spread_in f b keep p) e edited
 
--- linking the bytes b by the rules f, where `keep` says what is kept and `edited` are the symbols after the edits; p places the kept sections
+-- linking the bytes b by the rules f: `keep` says what is kept, `edited` are the symbols after the edits, and p places the kept sections
 abbrev pub link : Rules → List ℕ → Keep → List Symbol → Placement → Outside → Linked
 link f b keep edited p e = link_of f.word (contents_in f b keep) (patches_in f b keep edited p e) (exports_in f b keep edited p e)
 

@@ -7,24 +7,30 @@ use Rattle.oc_linking.specs.declared.terms.Binding.{Binding}
 use Rattle.oc_linking.specs.declared.terms.Binding.TheVariants.{Local, Global, Undefined, Common, Weak}
 use Rattle.oc_linking.specs.Numbers.{or_else}
 
--- a section that a reader carries: its contents are `size` bytes, also of a section of zeros; the tag is the format's own type and flags
+-- a section that a reader carries
 pub record Section : Type 0 where
   pub name : List ℕ
   pub kind : Kind
   pub align : ℕ
   pub size : ℕ
+  -- its `size` bytes; of a section of zeros, those zeros
   pub contents : List ℕ
+  -- the format's own type and flags
   pub tag : ℕ
+  -- its number in the file
   pub number : ℕ
 
--- a symbol that a reader carries: its binding names sections by their positions among the carried ones, and a fallback Name by its number
+-- a symbol that a reader carries
 pub record Symbol : Type 0 where
   pub name : List ℕ
+  -- it names sections by their positions among the carried ones, and a fallback Name by its number
   pub binding : Binding
   pub mark : Mark
   pub vis : Visibility
   pub size : ℕ
+  -- a field of a kept section subtracts its address (a Mach-O difference)
   pub pinned : Bool
+  -- its number in the file; an alias has that of its original
   pub number : ℕ
 
 -- the binding is Local

@@ -4,7 +4,7 @@ use Rattle.oc_base.specs.declared.format.Word.{Word}
 use Rattle.oc_linking.specs.declared.terms.Binding.{Binding}
 use Rattle.oc_linking.specs.declared.terms.Binding.TheVariants.{Local, Global, Undefined, Common, Weak}
 use Rattle.oc_linking.specs.Numbers.{modulus}
-use Rattle.oc_linking.specs.Parts.{Section, Symbol}
+use Rattle.oc_linking.specs.Parts.{Section, Symbol, is_local}
 
 -- where a thing lies: its address, and the start and the number of the section of the image in which it lies
 pub record Site : Type 0 where
@@ -16,13 +16,13 @@ pub record Site : Type 0 where
 abbrev pub nowhere : Site
 nowhere = record { address = 0; home = 0; home_number = 0 }
 
--- a placement: the site of each section by its position, the base of the image, and that of the table of slots (GOT)
+-- a placement: the site of each section by its position, and the bases of the image and of the GOT
 pub record Placement : Type 0 where
   pub site : ℕ → Site
   pub image_base : ℕ
   pub got_base : ℕ
 
--- an outside map: the site that it gives a name, where it gives one, and the address of the name's slot (its entry in the GOT)
+-- an outside map: the site of a name, where it gives one, and the address of the name's slot, its entry in the GOT
 pub record Outside : Type 0 where
   pub site : List ℕ → Option Site
   pub slot : List ℕ → ℕ
@@ -50,7 +50,7 @@ pub record IsSite (w : Word) (x : Site) : Type 0 where
   pub home : x.home < modulus w
   pub home_number : x.home_number < modulus w
 
--- what the outside may give to a name of that binding: nothing to a Global, a site to an Undefined and, aligned, to a Common; a Weak may have one
+-- what the outside gives to a name by its binding: none to a Global, a site to an Undefined and, aligned, to a Common; a Weak may have one
 abbrev pub Gives : Word → Binding → Option Site → Type 0
 Gives w (Local v) x = Unit {0}
 Gives w (Global v) x = x ≡ None
@@ -61,7 +61,7 @@ Gives w (Weak f) x = (y : Site) → x ≡ Some y → IsSite w y
 -- e is an outside map for these symbols where their sections lie at p
 pub record IsOutside (w : Word) (p : Placement) (symbols : List Symbol) (e : Outside) : Type 0 where
   pub gives : (k : ℕ) (s : Symbol) → slice_get symbols k ≡ Some s → Gives w s.binding (e.site s.name)
-  pub slots : (k : ℕ) (s : Symbol) → slice_get symbols k ≡ Some s → e.slot s.name < modulus w
+  pub slots : (k : ℕ) (s : Symbol) → slice_get symbols k ≡ Some s → is_local s.binding ≡ false → e.slot s.name < modulus w
 
 -- the sites of the kept sections, as sites of the carried ones: one that is not kept has zeros
 abbrev pub spread_sites : List Bool → (ℕ → Site) → ℕ → Site

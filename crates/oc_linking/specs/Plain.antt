@@ -1,5 +1,6 @@
 -- What the plain program links, and what its answer says (our profile).
 use Rattle.std.specs.Prelude.{ℕ, ◌&&◌, eqb, if◌then◌else◌, List, [], ◌∷◌, Option, Some, None, map}
+use Rattle.std.specs.Global.{Vec}
 use Rattle.oc_linking.specs.declared.terms.Patch.{Patch}
 use Rattle.oc_linking.specs.declared.plain.PlacedPatch.{PlacedPatch}
 use Rattle.oc_linking.specs.declared.plain.Outcome.{Outcome}
@@ -16,7 +17,11 @@ patch_at (f ∷ fields) s at = if eqb f.section s && eqb f.offset at then Some f
 abbrev pub patches_at : List PlacedPatch → Patches
 patches_at fields s at = patch_at fields s at
 
+-- the bytes of vectors
+abbrev pub bytes_in : List (Vec ℕ) → List (List ℕ)
+bytes_in contents = map (λ x. x.items) contents
+
 -- the answer, with the exports beside it
 abbrev pub linked_as : Outcome → Exports → Linked
 linked_as (outcome.Overflow s at) exports = Overflow s at
-linked_as (outcome.Image images) exports = Image (map (λ x. x.items) images.items) exports
+linked_as (outcome.Image images) exports = Image (bytes_in images.items) exports

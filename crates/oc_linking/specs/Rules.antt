@@ -1,4 +1,4 @@
--- A format, as one record of functions of a file's bytes. What linking means is said of such records alone (our profile).
+-- A format: one record of functions of a file's bytes. What linking means is said of such records alone (our profile).
 use Rattle.std.specs.Prelude.{ℕ, List, Option}
 use Rattle.oc_base.specs.declared.format.Word.{Word}
 use Rattle.oc_base.specs.declared.fault.Fault.{Fault}
@@ -27,12 +27,19 @@ pub record Field : Type 0 where
 abbrev pub Fields : Type 0
 Fields = ℕ → ℕ → Option Field
 
--- the rules of a format: the size of its addresses; the first fault of a file; what a file carries; its alignments, given the ones of an input (and the size of a common)
+-- the rules of a format
 pub record Rules : Type 0 where
+  -- the size of an address
   pub word : Word
+  -- the first fault of a file that is read under a Keep, or none: then the file is well formed
   pub fault : List ℕ → Keep → Option Fault
+  -- the sections that a file carries, kept or not
   pub sections : List ℕ → List Section
+  -- the symbols that it carries; only which are pinned depends on the Keep
   pub symbols : List ℕ → Keep → List Symbol
+  -- the relocated fields of its sections
   pub fields : List ℕ → Keep → Fields
+  -- the alignment that a section of that alignment gets, where this format is written
   pub output_align : ℕ → ℕ
+  -- and the one that a common of that size and alignment gets
   pub common_align : ℕ → ℕ → ℕ

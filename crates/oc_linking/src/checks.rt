@@ -2,6 +2,7 @@
 ghost use Rattle.std.specs.Prelude.{◌≡◌, ◌^◌, ◌<◌};
 ghost use Rattle.oc_linking.specs.Fits as fitting;
 
+use crate::residues::modulus;
 use crate::terms::{Check, Width};
 use oc_base::Word;
 
@@ -24,11 +25,7 @@ pub fn fits_signed(word: Word, width: Width, residue: u64) -> bool
     ensures { result ≡ fitting.fits_signed word width residue }
 {
     let half = half_of(width);
-    let modulus: u128 = match word {
-        Word::W32 => 1 << 32,
-        Word::W64 => 1 << 64,
-    };
-    residue < half || u128::from(residue) + u128::from(half) >= modulus
+    residue < half || u128::from(residue) + u128::from(half) >= modulus(word)
 }
 
 /// Whether a residue fits as an unsigned number. Constant time, no memory.

@@ -1,10 +1,10 @@
 //! Linking by the definitions: plain, slow, and right by its contract.
-ghost use Rattle.std.specs.Prelude.{◌≡◌, ◌+◌, ◌/◌, ◌%◌, ◌^◌, ◌<◌, IfOk, length, map};
+ghost use Rattle.std.specs.Prelude.{◌≡◌, ◌+◌, ◌/◌, ◌%◌, ◌^◌, ◌<◌, IfOk, length};
 ghost use Rattle.oc_linking.specs.Fits as fitting;
 ghost use Rattle.oc_linking.specs.Images as imaging;
 ghost use Rattle.oc_linking.specs.Linking as linking;
 ghost use Rattle.oc_linking.specs.Linking.{Exports};
-ghost use Rattle.oc_linking.specs.Plain.{patches_at, patch_at, linked_as};
+ghost use Rattle.oc_linking.specs.Plain.{patches_at, patch_at, bytes_in, linked_as};
 
 use crate::checks::fits;
 use crate::terms::Patch;
@@ -23,7 +23,7 @@ pub struct PlacedPatch {
 }
 
 /// What linking gives, but for the exports.
-#[derive(Debug, Drop)]
+#[derive(Debug, Drop, PartialEq, Eq)]
 pub enum Outcome {
     /// The residue of this field is the first that does not fit.
     Overflow {
@@ -98,7 +98,8 @@ pub fn image(
     fields: &[PlacedPatch],
     section: u32,
 ) -> Result<Vec<u8>, NoMemory>
-    ensures { IfOk result (λ out. out.items ≡ imaging.overlay (patches_at fields.now section) 0 contents.now) }
+    ensures { IfOk result (λ out.
+        out.items ≡ imaging.overlay (patches_at fields.now section) 0 contents.now) }
 {
     let mut out = Vec::new(alloc);
     for (i, byte) in contents.iter().enumerate() {
@@ -109,7 +110,8 @@ pub fn image(
 
 /// Whether a field begins there, and its residue does not fit it.
 fn overflows_at(word: Word, fields: &[PlacedPatch], section: u32, offset: u64) -> bool
-    ensures { result ≡ imaging.passes_at (imaging.overflows word) (patches_at fields.now section) offset }
+    ensures { result ≡ imaging.passes_at (imaging.overflows word)
+        (patches_at fields.now section) offset }
 {
     match patch_of(fields, section, offset) {
         None => false,
@@ -119,7 +121,8 @@ fn overflows_at(word: Word, fields: &[PlacedPatch], section: u32, offset: u64) -
 
 /// The least offset below `size` whose field overflows.
 fn first_offset(word: Word, fields: &[PlacedPatch], section: u32, size: u64) -> Option<u64>
-    ensures { result ≡ imaging.first_at (imaging.overflows word) (patches_at fields.now section) size }
+    ensures { result ≡ imaging.first_at (imaging.overflows word)
+        (patches_at fields.now section) size }
 {
     for offset in 0..size {
         if overflows_at(word, fields, section, offset) {
@@ -132,7 +135,8 @@ fn first_offset(word: Word, fields: &[PlacedPatch], section: u32, size: u64) -> 
 /// The first field that overflows: the least section, and in it the least offset.
 fn first_overflow(word: Word, fields: &[PlacedPatch], sections: &[Vec<u8>]) -> Option<(u32, u64)>
     requires { length sections.now < 2 ^ 32 }
-    ensures { result ≡ imaging.first_field (imaging.overflows word) (patches_at fields.now) 0 (map (λ x. x.items) sections.now) }
+    ensures { result ≡ imaging.first_field (imaging.overflows word) (patches_at fields.now) 0
+        (bytes_in sections.now) }
 {
     for (s, contents) in sections.iter().enumerate() {
         if let Some(offset) = first_offset(word, fields, s as u32, contents.len() as u64) {
@@ -149,7 +153,8 @@ fn images(
     sections: &[Vec<u8>],
 ) -> Result<Vec<Vec<u8>>, NoMemory>
     requires { length sections.now < 2 ^ 32 }
-    ensures { IfOk result (λ out. map (λ x. x.items) out.items ≡ imaging.overlays (patches_at fields.now) 0 (map (λ x. x.items) sections.now)) }
+    ensures { IfOk result (λ out.
+        bytes_in out.items ≡ imaging.overlays (patches_at fields.now) 0 (bytes_in sections.now)) }
 {
     let mut out = Vec::new(alloc);
     for (s, contents) in sections.iter().enumerate() {
@@ -160,9 +165,9 @@ fn images(
 
 /// Links the contents of sections, given their fields with their residues at one placement.
 ///
-/// Fields outside their sections, and a second field at one place, count for nothing. The answer
-/// is the first overflow, by section and offset, or the bytes of all sections; `NoMemory` where
-/// these cannot be had. Takes time in proportion to the bytes times the fields.
+/// A field that begins outside its section, and a second one at one place, count for nothing. The
+/// answer is the first overflow, by section and offset, or the bytes of all sections; `NoMemory`
+/// where these cannot be had. Takes time in proportion to the bytes times the fields.
 pub fn link(
     alloc: Global,
     word: Word,
@@ -170,7 +175,8 @@ pub fn link(
     sections: &[Vec<u8>],
 ) -> Result<Outcome, NoMemory>
     requires { length sections.now < 2 ^ 32 }
-    ensures { IfOk result (λ out. (exports : Exports) → linked_as out exports ≡ linking.link_of word (map (λ x. x.items) sections.now) (patches_at fields.now) exports) }
+    ensures { IfOk result (λ out. (exports : Exports) → linked_as out exports
+        ≡ linking.link_of word (bytes_in sections.now) (patches_at fields.now) exports) }
 {
     match first_overflow(word, fields, sections) {
         Some((section, offset)) => Ok(Outcome::Overflow { section, offset }),
