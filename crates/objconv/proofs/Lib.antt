@@ -1,7 +1,9 @@
 pub mod BelowLemmas
+pub mod EmitLemmas
 pub mod FieldLemmas
 pub mod PaddingLemmas
 pub mod PlainLemmas
 pub mod RaisingLemmas
 pub mod RelsLemmas
 pub mod SeenLemmas
+pub mod SymbolsLemmas

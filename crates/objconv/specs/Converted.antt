@@ -9,6 +9,7 @@ use Rattle.oc_elf_read.specs.Rel.{rel_sym, rel_type}
 use Rattle.oc_coff_read.specs.declared.relocation.Relocation.{Relocation}
 use Rattle.oc_coff_read.specs.declared.constants.TheConstants.{IMAGE_REL_I386_DIR32, IMAGE_REL_I386_REL32}
 use Rattle.oc_coff_read.specs.Canonical.{External, CodeObject, code_file}
+use Rattle.objconv.specs.declared.emit.Layout.{Layout}
 use Rattle.objconv.specs.declared.headers.Headers.{Headers}
 use Rattle.objconv.specs.Plain.{exponent_of, headers_in, name_of, rel_count, symbol_count, symbol_in}
 use Rattle.objconv.specs.Raising.{AreRaised}
@@ -43,3 +44,10 @@ object_for b h contents entries = record {
   relocs = map relocation_for entries;
   symbols = externals_for b h;
 }
+
+-- the numbers of a layout are those of the object
+pub record IsLayout (l : Layout) (o : CodeObject) : Type 0 where
+  pub exponent : o.exponent ≡ l.exponent
+  pub size : length o.contents ≡ l.size
+  pub relocs : length o.relocs ≡ l.relocs
+  pub symbols : length o.symbols ≡ l.symbols

@@ -1,8 +1,10 @@
 //! The conversion of one object file, from the command's words to the files written.
 #![tactic(auto)]
 
+mod emit;
 mod fields;
 mod headers;
 mod plain;
 mod raising;
+mod structures;
 mod symbols;

@@ -36,7 +36,8 @@ pub fn symbol(file: &[u8], headers: &Headers, k: usize) -> Sym
 #[tactic(auto, unfolding(crate::specs::Plain::name_of))]
 pub fn name_of<'a>(file: &'a [u8], headers: &Headers, symbol: Sym) -> &'a [u8]
     requires { plain.AreLaid file.now headers.now }
-    ensures { result.now ≡ plain.name_of file.now headers.now symbol }
+    ensures name { result.now ≡ plain.name_of file.now headers.now symbol }
+    ensures short { length result.now ≤ 8 }
 {
     match short_name(file, &headers.names, symbol.st_name, NAME_SIZE) {
         Some(name) => name,

@@ -25,7 +25,7 @@ returns-then-not-added c =
     let file : List ℕ = c.args.file.now in
     let j : ℕ = c.loop-j.j in
     let name : List ℕ = symbol_name file c.args.headers.now (j + 2) in
-    let named : c.name_of-name.result.now ≡ name = c.name_of-name.ensures ∙ ap (name_of file c.args.headers.now) c.symbol.ensures in
+    let named : c.name_of-name.result.now ≡ name = c.name_of-name.ensures.name ∙ ap (name_of file c.args.headers.now) c.symbol.ensures in
     let known : not (holds c.loop-j.seen c.name_of-name.result.now) ≡ false = sym c.in_ok-added.ensures.added ∙ c.if-not-added.true in
     let used : is_used file c.args.headers.now j name ≡ true
     = sym (c.loop-j.invariant.seen name) ∙ ap (holds c.loop-j.seen) (sym named) ∙ unnot (holds c.loop-j.seen c.name_of-name.result.now) known in
@@ -37,7 +37,7 @@ loop-j-preserved c =
     let file : List ℕ = c.args.file.now in
     let j : ℕ = c.loop-j.j in
     let name : List ℕ = symbol_name file c.args.headers.now (j + 2) in
-    let named : c.name_of-name.result.now ≡ name = c.name_of-name.ensures ∙ ap (name_of file c.args.headers.now) c.symbol.ensures in
+    let named : c.name_of-name.result.now ≡ name = c.name_of-name.ensures.name ∙ ap (name_of file c.args.headers.now) c.symbol.ensures in
     let fresh : not (holds c.loop-j.seen c.name_of-name.result.now) ≡ true = sym c.in_ok-added.ensures.added ∙ c.if-not-added.false in
     let unused : not (is_used file c.args.headers.now j name) ≡ true = ap not (sym (c.loop-j.invariant.seen name) ∙ ap (holds c.loop-j.seen) (sym named)) ∙ fresh in
     record {
