@@ -1,7 +1,12 @@
+pub mod AlikeLemmas
 pub mod BelowLemmas
 pub mod FieldLemmas
+pub mod HeaderLemmas
+pub mod OneSectionLemmas
 pub mod PaddingLemmas
 pub mod PlainLemmas
 pub mod RaisingLemmas
 pub mod RelsLemmas
+pub mod SectionLemmas
 pub mod SeenLemmas
+pub mod SymbolLemmas
