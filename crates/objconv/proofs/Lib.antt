@@ -1,9 +1,14 @@
+pub mod AlikeLemmas
 pub mod BelowLemmas
 pub mod EmitLemmas
 pub mod FieldLemmas
+pub mod HeaderLemmas
+pub mod OneSectionLemmas
 pub mod PaddingLemmas
 pub mod PlainLemmas
 pub mod RaisingLemmas
 pub mod RelsLemmas
+pub mod SectionLemmas
 pub mod SeenLemmas
+pub mod SymbolLemmas
 pub mod SymbolsLemmas

@@ -1,3 +1,4 @@
 pub mod Converted
+pub mod Links
 pub mod Plain
 pub mod Raising

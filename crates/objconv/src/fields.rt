@@ -1,7 +1,8 @@
 //! The relocated fields of a plain object, by their offsets in `.text`.
-ghost use Rattle.std.specs.Prelude.{◌≡◌, ℕ, ◌+◌, ◌-◌, ◌*◌, ◌≤◌, ◌<◌, ◌^◌, true, false, None, Some, IsSome, IfSome, IfNone, length, IfOk, MatchOption};
+ghost use Rattle.std.specs.Prelude.{◌≡◌, ℕ, ◌+◌, ◌-◌, ◌*◌, ◌≤◌, ◌<◌, ◌^◌, true, false, None, Some, IsSome, IfSome, IfNone, length, IfOk};
 ghost use Rattle.std.specs.Ordering.{nat_cmp};
 ghost use Rattle.std.specs.BTreeMap.{get};
+ghost use Rattle.objconv.specs.Links.{AreFields};
 ghost use Rattle.objconv.specs.Plain as plain;
 
 use std::alloc::Global;
@@ -64,7 +65,7 @@ pub fn fields_of(alloc: Global, file: &[u8], headers: &Headers) -> Result<Option
     requires small { length file.now < 2 ^ 32 }
     ensures none { IfOk result (λ fields. fields ≡ None → plain.has_rels file.now headers.now ≡ false) }
     ensures some { IfOk result (λ fields. IsSome fields → plain.has_rels file.now headers.now ≡ true) }
-    ensures fields { IfOk result (λ found. MatchOption found (Unit {0}) (λ fields. (at : ℕ) → get nat_cmp fields at ≡ plain.field_at file.now headers.now at)) }
+    ensures fields { IfOk result (λ found. IfSome found (λ fields. AreFields file.now headers.now fields.entries)) }
 {
     let mut fields = BTreeMap::new(alloc);
     let count = rel_count(headers);

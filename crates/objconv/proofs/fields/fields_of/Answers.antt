@@ -73,6 +73,8 @@ loop-i-preserved c =
       fields = λ at. field_more b h i at r (get nat_cmp c.loop-i.fields at) (get nat_cmp c.insert.new.self at) c.entry-rel.ensures (free r.r_offset (omega arith) (omega arith))
           (c.loop-i.invariant.fields at)
           (c.in_ok-insert.ensures.updates.0 at ∙ ap (λ t. cond t (Some r) (get nat_cmp c.loop-i.fields at)) (same_test r.r_offset at));
+      ordered = c.in_ok-insert.ensures.ordered;
+      count = ?;
     }
 
 pub returns-clause-some : goal.returns-clause-some
@@ -88,6 +90,10 @@ returns-clause-some c some =
 
 pub returns-clause-fields : goal.returns-clause-fields
 unfolding field_at
-returns-clause-fields c at =
+returns-clause-fields c =
     let end : c.loop-i.i ≡ rel_count c.args.headers.now = omega arith in
-    c.loop-i.invariant.fields at ∙ ap (λ n. field_below c.args.file.now c.args.headers.now n at) end
+    record {
+      at = λ at. c.loop-i.invariant.fields at ∙ ap (λ n. field_below c.args.file.now c.args.headers.now n at) end;
+      ordered = c.loop-i.invariant.ordered;
+      count = c.loop-i.invariant.count ∙ end;
+    }

@@ -1,0 +1,88 @@
+-- What a plain object says by the rules of ELF: its one section, its symbol table, and its relocations.
+use Rattle.std.proofs.Common.{◌≡◌, ℕ, zero, suc, ◌+◌, ◌-◌, ◌*◌, ◌/◌, true, false, List, [], ◌∷◌, map, Option, Some, None, refl, sym, ◌∙◌, ap, max, take, drop}
+use Rattle.std.specs.Prelude.{find, filter_map}
+use Rattle.std.specs.List.{range_with_len}
+use Rattle.std.specs.Option.{option_map}
+use Rattle.oc_linking.specs.declared.terms.Kind.TheVariants.{Code}
+use Rattle.oc_linking.specs.Parts.{Section}
+use Rattle.oc_elf_read.specs.declared.shdr.Shdr.{Shdr}
+use Rattle.oc_elf_read.specs.declared.rel.Rel.{Rel}
+use Rattle.oc_elf_read.specs.Ehdr.{ehdr_in}
+use Rattle.oc_elf_read.specs.Rel.{rel_in}
+use Rattle.oc_elf_read.specs.Sections.{header_of, headers_of, kind_of, section_name, tag_of, section_of, first_sections, sections_of, position_of, entries_of, relocations_of}
+use Rattle.oc_elf_read.specs.Symbols.{symtab_of}
+use Rattle.objconv.specs.declared.headers.Headers.{Headers}
+use Rattle.objconv.specs.Plain.{headers_in, rel_count, entry_in}
+use Rattle.objconv.specs.Links.{text_in}
+use Rattle.objconv.proofs.HeaderLemmas.{HaveTypes, IsPlain, header_of-text, header_of-rels, header_of-symbols, header_of-names, header_of-section_names}
+
+-- `.text` as the rules carry it
+abbrev pub text_section : List ℕ → Headers → Section
+text_section b h = record {
+  name = section_name b h.text;
+  kind = Code;
+  align = max 1 h.text.sh_addralign;
+  size = h.text.sh_size;
+  contents = text_in b h;
+  tag = tag_of h.text;
+  number = 1;
+}
+
+-- PROGBITS that is allocated and executed is code
+kind_of-code : (s : Shdr) → s.sh_type ≡ 1 → s.sh_flags ≡ 6 → kind_of s ≡ Some Code
+kind_of-code s type flags = rw (type, flags) refl
+
+-- and what has another type is not carried
+kind_of-rels : (s : Shdr) → s.sh_type ≡ 9 → kind_of s ≡ None
+kind_of-rels s type = rw type refl
+
+kind_of-symbols : (s : Shdr) → s.sh_type ≡ 2 → kind_of s ≡ None
+kind_of-symbols s type = rw type refl
+
+kind_of-names : (s : Shdr) → s.sh_type ≡ 3 → kind_of s ≡ None
+kind_of-names s type = rw type refl
+
+section_of-none : (b : List ℕ) (k : ℕ) (s : Shdr) → header_of b k ≡ s → kind_of s ≡ None → section_of b k ≡ None
+unfolding section_of
+section_of-none b k s here none = rw (here, none) refl
+
+section_of-text : (b : List ℕ) → kind_of (headers_in b).text ≡ Some Code → section_of b 1 ≡ Some (text_section b (headers_in b))
+unfolding section_of
+section_of-text b code = rw (header_of-text b, code) refl
+
+headers-listed : (b : List ℕ) → (ehdr_in b).e_shnum ≡ 6
+    → headers_of b ≡ (headers_in b).text ∷ (headers_in b).rels ∷ (headers_in b).symbols ∷ (headers_in b).names ∷ (headers_in b).section_names ∷ []
+unfolding headers_of
+headers-listed b count = rw (count, header_of-text b, header_of-rels b, header_of-symbols b, header_of-names b, header_of-section_names b) refl
+
+module _ (b : List ℕ) (is : IsPlain b) where
+  here : section_of b 1 ≡ Some (text_section b (headers_in b))
+  here = section_of-text b (kind_of-code (headers_in b).text is.types.text is.types.text_flags)
+
+  -- the one section
+  pub sections_of-plain : sections_of b ≡ text_section b (headers_in b) ∷ []
+  unfolding sections_of first_sections
+  sections_of-plain =
+      rw (
+        is.count,
+        here,
+        section_of-none b 2 (headers_in b).rels (header_of-rels b) (kind_of-rels (headers_in b).rels is.types.rels),
+        section_of-none b 3 (headers_in b).symbols (header_of-symbols b) (kind_of-symbols (headers_in b).symbols is.types.symbols),
+        section_of-none b 4 (headers_in b).names (header_of-names b) (kind_of-names (headers_in b).names is.types.names),
+        section_of-none b 5 (headers_in b).section_names (header_of-section_names b) (kind_of-names (headers_in b).section_names is.types.section_names),
+      ) refl
+
+  -- it is the first
+  pub position_of-text : position_of b 1 ≡ Some 0
+  unfolding position_of first_sections
+  position_of-text = rw (is.count, here) refl
+
+  -- the symbol table
+  pub symtab_of-plain : symtab_of b ≡ Some (headers_in b).symbols
+  unfolding symtab_of
+  symtab_of-plain = rw (headers-listed b is.count, is.types.text, is.types.rels, is.types.symbols) refl
+
+  -- the relocations of the section
+  pub relocations_of-text : relocations_of b 1 ≡ map (entry_in b (headers_in b)) (range_with_len 0 (rel_count (headers_in b)))
+  unfolding relocations_of entries_of entry_in
+  relocations_of-text = rw (headers-listed b is.count, is.types.text, is.types.rels, is.types.rels_info) refl
