@@ -1,6 +1,7 @@
 //! The conversion of one object file, from the command's words to the files written.
 #![tactic(auto)]
 
+mod convert;
 mod emit;
 mod fields;
 mod headers;

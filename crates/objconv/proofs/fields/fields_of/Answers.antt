@@ -3,7 +3,7 @@ use Rattle.std.proofs.Common.{◌≡◌, ℕ, ◌+◌, ◌<◌, ◌≤◌, Bool,
 use Rattle.std.specs.Prelude.{◌&&◌, not, IsSome, length}
 use Rattle.std.specs.Option.{is_some}
 use Rattle.std.specs.Ordering.{nat_cmp}
-use Rattle.std.specs.BTreeMap.{get}
+use Rattle.std.specs.BTreeMap.{get, btree_map_len}
 use Rattle.std.proofs.lemmas.Bool.{and_left, and_right, leb-true}
 use Rattle.oc_elf_read.specs.declared.rel.Rel.{Rel}
 use Rattle.objconv.specs.declared.headers.Headers.{Headers}
@@ -74,7 +74,10 @@ loop-i-preserved c =
           (c.loop-i.invariant.fields at)
           (c.in_ok-insert.ensures.updates.0 at ∙ ap (λ t. cond t (Some r) (get nat_cmp c.loop-i.fields at)) (same_test r.r_offset at));
       ordered = c.in_ok-insert.ensures.ordered;
-      count = ?;
+      count =
+          c.in_ok-insert.ensures.len
+          ∙ ap (λ (o : Option Rel). btree_map_len c.loop-i.fields + cond (is_some o) 0 1) (c.in_ok-insert.ensures.old ∙ c.loop-i.invariant.fields r.r_offset ∙ free r.r_offset (omega arith) (omega arith))
+          ∙ ap (λ (n : ℕ). n + 1) c.loop-i.invariant.count;
     }
 
 pub returns-clause-some : goal.returns-clause-some
