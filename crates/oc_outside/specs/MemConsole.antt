@@ -3,7 +3,7 @@ use Rattle.std.specs.Prelude.{ℕ, ◌||◌, Bool, List, []}
 use Rattle.oc_outside.specs.Calls.{next_call, is_due, risen}
 use Rattle.oc_outside.specs.Pages.{passes_room}
 
--- the two texts, their rooms, the number of calls so far, the numbers of those that are set to fail, and the two counts
+-- the two texts, their rooms, the number of calls so far, those set to fail, and the two counts
 pub record ConsoleState : Type 0 where
   pub shown : List ℕ
   pub told : List ℕ

@@ -6,7 +6,7 @@ use Rattle.oc_outside.specs.Held.{Held, Named, file_of}
 use Rattle.oc_outside.specs.Calls.{next_call, is_due, risen}
 use Rattle.oc_outside.specs.Slots.{room_of, lacks_room}
 
--- the files, the room of each name that has one, the number of calls so far, the numbers of those that are set to fail, and the two counts
+-- the files, the room of each name that has one, the number of calls so far, those set to fail, and the two counts
 pub record FilesState : Type 0 where
   pub held : Held
   pub rooms : Named ℕ
@@ -15,11 +15,16 @@ pub record FilesState : Type 0 where
   pub read_faults : ℕ
   pub write_faults : ℕ
 
+-- names, bytes and numbers of calls are stored as lists of numbers
+abbrev pub numbers_code : Coded (List ℕ)
+numbers_code = coded_list coded_ℕ
+
 -- a state is stored as the tuple of its fields
 abbrev pub files_code : Coded FilesState
 files_code =
     code_by (Held × (Named ℕ × (ℕ × (List ℕ × (ℕ × ℕ)))))
-    (coded× (map.code (coded_list coded_ℕ) (coded_list coded_ℕ)) (coded× (map.code (coded_list coded_ℕ) coded_ℕ) (coded× coded_ℕ (coded× (coded_list coded_ℕ) (coded× coded_ℕ coded_ℕ)))))
+    (coded× (map.code numbers_code numbers_code)
+    (coded× (map.code numbers_code coded_ℕ) (coded× coded_ℕ (coded× numbers_code (coded× coded_ℕ coded_ℕ)))))
     (λ s. (s.held, (s.rooms, (s.calls, (s.failing, (s.read_faults, s.write_faults))))))
     (λ p. record { held = p.0; rooms = p.1.0; calls = p.1.1.0; failing = p.1.1.1.0; read_faults = p.1.1.1.1.0; write_faults = p.1.1.1.1.1 })
     (λ _. refl)

@@ -130,10 +130,14 @@ impl Console for MemConsole {
         requires { 0 < length piece.now }
         ensures fails { is_err result ≡ refuses_out self.old (length piece.now) }
         ensures whole { IfOk result (λ n. n ≡ length piece.now) }
-        ensures ok { OnOk result (self.new ≡ record (called self.old) { shown = self.old.shown ++ piece.now }) }
+        ensures ok { OnOk result
+            (self.new ≡ record (called self.old) { shown = self.old.shown ++ piece.now }) }
         ensures err { OnErr result (self.new ≡ out_failed self.old) }
-        ensures grows { IfOk result (λ n. Some self.new.shown ≡ grown (take n piece.now) (Some self.old.shown)) }
-        ensures count { self.new.out_faults ≡ count_after (refuses_out self.old (length piece.now)) (next_call self.old.calls) self.old.out_faults }
+        ensures grows { IfOk result (λ n.
+            Some self.new.shown ≡ grown (take n piece.now) (Some self.old.shown)) }
+        ensures count { self.new.out_faults
+            ≡ count_after (refuses_out self.old (length piece.now))
+            (next_call self.old.calls) self.old.out_faults }
         ensures counts { self.old.out_faults ≤ self.new.out_faults }
     {
         if self.begin() || self.out.append(piece).is_err() {
@@ -153,10 +157,14 @@ impl Console for MemConsole {
         requires { 0 < length piece.now }
         ensures fails { is_err result ≡ refuses_err self.old (length piece.now) }
         ensures whole { IfOk result (λ n. n ≡ length piece.now) }
-        ensures ok { OnOk result (self.new ≡ record (called self.old) { told = self.old.told ++ piece.now }) }
+        ensures ok { OnOk result
+            (self.new ≡ record (called self.old) { told = self.old.told ++ piece.now }) }
         ensures err { OnErr result (self.new ≡ err_failed self.old) }
-        ensures grows { IfOk result (λ n. Some self.new.told ≡ grown (take n piece.now) (Some self.old.told)) }
-        ensures count { self.new.err_faults ≡ count_after (refuses_err self.old (length piece.now)) (next_call self.old.calls) self.old.err_faults }
+        ensures grows { IfOk result (λ n.
+            Some self.new.told ≡ grown (take n piece.now) (Some self.old.told)) }
+        ensures count { self.new.err_faults
+            ≡ count_after (refuses_err self.old (length piece.now))
+            (next_call self.old.calls) self.old.err_faults }
         ensures counts { self.old.err_faults ≤ self.new.err_faults }
     {
         if self.begin() || self.err.append(piece).is_err() {

@@ -69,7 +69,8 @@ impl MemFiles {
     /// The file `name` holds `bytes`, and the room of the name is raised to their number where it
     /// is lower.
     ///
-    /// Linear in the number of names, the length of `name` and that of `bytes`.
+    /// After an error nothing changed. Linear in the number of names, the length of `name` and that
+    /// of `bytes`.
     pub fn set(&mut self, name: &str, bytes: &[u8]) -> Result<(), NoMemory>
         ensures ok { OnOk result
             (self.new
@@ -85,9 +86,11 @@ impl MemFiles {
     /// The room of `name`, whether that file is held or not, is raised to `bytes` bytes where it is
     /// lower.
     ///
-    /// Linear in the number of names, the length of `name` and that of the file.
+    /// After an error nothing changed. Linear in the number of names, the length of `name` and that
+    /// of the file.
     pub fn room(&mut self, name: &str, bytes: u64) -> Result<(), NoMemory>
-        ensures ok { OnOk result (self.new ≡ record self.old { rooms = with_room name.now bytes self.old.rooms }) }
+        ensures ok { OnOk result
+            (self.new ≡ record self.old { rooms = with_room name.now bytes self.old.rooms }) }
         ensures err { OnErr result (self.new ≡ self.old) }
     {
         raise_in(self.alloc, &mut self.slots, name, bytes)
@@ -136,12 +139,15 @@ impl Files for MemFiles {
     /// in the number of names and of the bytes read.
     fn read_at(&mut self, name: &str, at: u64, to: &mut [u8]) -> Result<usize, Failed>
         ensures fails { is_err result ≡ refuses_read self.old name.now }
-        ensures state { self.new ≡ (if fails_next self.old then read_failed self.old else called self.old) }
+        ensures state { self.new
+            ≡ (if fails_next self.old then read_failed self.old else called self.old) }
         ensures whole { IfOk result (λ n.
             IsSomeAnd (file_of name.now self.old.held) (λ file. ReadsAll file at to.old to.new n)) }
         ensures kept { OnErr result (to.new ≡ to.old) }
-        ensures count { self.new.read_faults ≡ count_after (fails_next self.old) (next_call self.old.calls) self.old.read_faults }
-        ensures counts { Counts self.old.read_faults self.new.read_faults self.old.write_faults self.new.write_faults }
+        ensures count { self.new.read_faults
+            ≡ count_after (fails_next self.old) (next_call self.old.calls) self.old.read_faults }
+        ensures counts { Counts self.old.read_faults self.new.read_faults
+            self.old.write_faults self.new.write_faults }
     {
         if self.begin() {
             self.read_faults = risen(self.calls, self.read_faults);
@@ -160,10 +166,14 @@ impl Files for MemFiles {
     /// names.
     fn create(&mut self, name: &str) -> Result<(), Failed>
         ensures fails { is_err result ≡ refuses_create self.old name.now }
-        ensures ok { OnOk result (self.new ≡ record (called self.old) { held = emptied name.now self.old.held }) }
+        ensures ok { OnOk result
+            (self.new ≡ record (called self.old) { held = emptied name.now self.old.held }) }
         ensures err { OnErr result (self.new ≡ write_failed self.old) }
-        ensures count { self.new.write_faults ≡ count_after (refuses_create self.old name.now) (next_call self.old.calls) self.old.write_faults }
-        ensures counts { Counts self.old.write_faults self.new.write_faults self.old.read_faults self.new.read_faults }
+        ensures count { self.new.write_faults
+            ≡ count_after (refuses_create self.old name.now)
+            (next_call self.old.calls) self.old.write_faults }
+        ensures counts { Counts self.old.write_faults self.new.write_faults
+            self.old.read_faults self.new.read_faults }
     {
         if self.begin() || create_in(self.slots.as_mut_slice(), name).is_err() {
             self.write_faults = risen(self.calls, self.write_faults);
@@ -182,10 +192,14 @@ impl Files for MemFiles {
         requires there { IsSome (file_of name.now self.old.held) }
         ensures fails { is_err result ≡ refuses_append self.old name.now (length piece.now) }
         ensures whole { IfOk result (λ n. n ≡ length piece.now) }
-        ensures ok { OnOk result (self.new ≡ record (called self.old) { held = extended name.now piece.now self.old.held }) }
+        ensures ok { OnOk result
+            (self.new ≡ record (called self.old) { held = extended name.now piece.now self.old.held }) }
         ensures err { OnErr result (self.new ≡ write_failed self.old) }
-        ensures count { self.new.write_faults ≡ count_after (refuses_append self.old name.now (length piece.now)) (next_call self.old.calls) self.old.write_faults }
-        ensures counts { Counts self.old.write_faults self.new.write_faults self.old.read_faults self.new.read_faults }
+        ensures count { self.new.write_faults
+            ≡ count_after (refuses_append self.old name.now (length piece.now))
+            (next_call self.old.calls) self.old.write_faults }
+        ensures counts { Counts self.old.write_faults self.new.write_faults
+            self.old.read_faults self.new.read_faults }
     {
         if self.begin() || append_in(self.slots.as_mut_slice(), name, piece).is_err() {
             self.write_faults = risen(self.calls, self.write_faults);

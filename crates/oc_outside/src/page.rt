@@ -85,7 +85,8 @@ impl Page {
 
     /// Holds these bytes, and the room is raised to their number where it is lower.
     pub(crate) fn set(&mut self, bytes: &[u8]) -> Result<(), NoMemory>
-        ensures ok { OnOk result (self.new ≡ record { bytes = bytes.now; room = max self.old.room (length bytes.now) }) }
+        ensures ok { OnOk result
+            (self.new ≡ record { bytes = bytes.now; room = max self.old.room (length bytes.now) }) }
         ensures err { OnErr result (self.new ≡ self.old) }
     {
         reserve(&mut self.bytes, bytes.len() as u64)?;
@@ -102,8 +103,10 @@ pub(crate) fn raise_both(
     second: &mut Page,
     rooms: (u64, u64),
 ) -> Result<(), NoMemory>
-    ensures first { OnOk result (first.new ≡ record first.old { room = max first.old.room rooms.0 }) }
-    ensures second { OnOk result (second.new ≡ record second.old { room = max second.old.room rooms.1 }) }
+    ensures first { OnOk result
+        (first.new ≡ record first.old { room = max first.old.room rooms.0 }) }
+    ensures second { OnOk result
+        (second.new ≡ record second.old { room = max second.old.room rooms.1 }) }
     ensures err_first { OnErr result (first.new ≡ first.old) }
     ensures err_second { OnErr result (second.new ≡ second.old) }
 {

@@ -68,9 +68,11 @@ impl Slot {
     /// Appends the whole piece to the file, or nothing where it would pass the room.
     pub(crate) fn append(&mut self, piece: &[u8]) -> Result<usize, Failed>
         requires { IsSome self.old.file }
-        ensures fails { is_err result ≡ passes_room self.old.room (unwrap_or self.old.file []) (length piece.now) }
+        ensures fails { is_err result
+            ≡ passes_room self.old.room (unwrap_or self.old.file []) (length piece.now) }
         ensures whole { IfOk result (λ n. n ≡ length piece.now) }
-        ensures ok { OnOk result (self.new ≡ record self.old { file = Some (unwrap_or self.old.file [] ++ piece.now) }) }
+        ensures ok { OnOk result
+            (self.new ≡ record self.old { file = Some (unwrap_or self.old.file [] ++ piece.now) }) }
         ensures err { OnErr result (self.new ≡ self.old) }
     {
         self.page.append(piece)

@@ -1,4 +1,5 @@
-//! The files of a device in memory, one slot for each name: what is said of them is said of the maps that they give.
+//! The files of a device in memory, one slot for each name. The contracts speak of the maps by name
+//! that the slots give.
 ghost use Rattle.std.specs.Prelude.{◌≡◌, ℕ, [], length, IfOk, OnOk, OnErr, is_err, IsSome, Some, None, unwrap_or, MatchOption, is_none};
 ghost use Rattle.oc_outside.specs.Held.{file_of, with_file, emptied, extended};
 ghost use Rattle.oc_outside.specs.Slots.{held_of, rooms_of, place_of, room_of, with_room, lacks_room};
@@ -42,7 +43,8 @@ pub(crate) fn create_in(slots: &mut [Slot], name: &str) -> Result<(), Failed>
 /// Appends the whole piece to the file of that name, or nothing where it would pass the room.
 pub(crate) fn append_in(slots: &mut [Slot], name: &str, piece: &[u8]) -> Result<usize, Failed>
     requires { IsSome (file_of name.now (held_of slots.old)) }
-    ensures fails { is_err result ≡ lacks_room name.now (length piece.now) (held_of slots.old) (rooms_of slots.old) }
+    ensures fails { is_err result
+        ≡ lacks_room name.now (length piece.now) (held_of slots.old) (rooms_of slots.old) }
     ensures whole { IfOk result (λ n. n ≡ length piece.now) }
     ensures ok { OnOk result (held_of slots.new ≡ extended name.now piece.now (held_of slots.old)) }
     ensures err { OnErr result (held_of slots.new ≡ held_of slots.old) }
@@ -62,8 +64,10 @@ pub(crate) fn set_in(
     name: &str,
     bytes: &[u8],
 ) -> Result<(), NoMemory>
-    ensures held { OnOk result (held_of slots.new.items ≡ with_file name.now bytes.now (held_of slots.old.items)) }
-    ensures rooms { OnOk result (rooms_of slots.new.items ≡ with_room name.now (length bytes.now) (rooms_of slots.old.items)) }
+    ensures held { OnOk result
+        (held_of slots.new.items ≡ with_file name.now bytes.now (held_of slots.old.items)) }
+    ensures rooms { OnOk result
+        (rooms_of slots.new.items ≡ with_room name.now (length bytes.now) (rooms_of slots.old.items)) }
     ensures err_held { OnErr result (held_of slots.new.items ≡ held_of slots.old.items) }
     ensures err_rooms { OnErr result (rooms_of slots.new.items ≡ rooms_of slots.old.items) }
 {
@@ -85,7 +89,8 @@ pub(crate) fn raise_in(
     name: &str,
     room: u64,
 ) -> Result<(), NoMemory>
-    ensures rooms { OnOk result (rooms_of slots.new.items ≡ with_room name.now room (rooms_of slots.old.items)) }
+    ensures rooms { OnOk result
+        (rooms_of slots.new.items ≡ with_room name.now room (rooms_of slots.old.items)) }
     ensures err { OnErr result (rooms_of slots.new.items ≡ rooms_of slots.old.items) }
     ensures held { held_of slots.new.items ≡ held_of slots.old.items }
 {
