@@ -1,4 +1,5 @@
 pub mod Converted
+pub mod Jobs
 pub mod Links
 pub mod Plain
 pub mod Raising
