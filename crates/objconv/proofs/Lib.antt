@@ -7,6 +7,7 @@ pub mod OneSectionLemmas
 pub mod PaddingLemmas
 pub mod PlainLemmas
 pub mod RaisingLemmas
+pub mod RefusalLemmas
 pub mod RelsLemmas
 pub mod SectionLemmas
 pub mod SeenLemmas

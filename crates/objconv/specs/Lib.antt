@@ -4,3 +4,4 @@ pub mod Links
 pub mod Plain
 pub mod Raising
 pub mod Refusals
+pub mod Runs
