@@ -3,6 +3,7 @@ pub mod BelowLemmas
 pub mod EmitLemmas
 pub mod FieldLemmas
 pub mod HeaderLemmas
+pub mod ListedLemmas
 pub mod OneSectionLemmas
 pub mod PaddingLemmas
 pub mod PlainLemmas
@@ -12,3 +13,4 @@ pub mod SectionLemmas
 pub mod SeenLemmas
 pub mod SymbolLemmas
 pub mod SymbolsLemmas
+pub mod TargetLemmas
