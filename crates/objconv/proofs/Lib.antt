@@ -2,6 +2,7 @@ pub mod AlikeLemmas
 pub mod BelowLemmas
 pub mod EmitLemmas
 pub mod FieldLemmas
+pub mod FoundLemmas
 pub mod HeaderLemmas
 pub mod ListedLemmas
 pub mod OneSectionLemmas

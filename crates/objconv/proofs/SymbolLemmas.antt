@@ -13,7 +13,8 @@ use Rattle.objconv.specs.Plain.{symbol_count, symbol_in, name_of, is_named, is_s
 use Rattle.objconv.proofs.PlainLemmas.{both}
 use Rattle.objconv.proofs.BelowLemmas.{all_below_at}
 
-either : (x y : Bool) → (x || y) ≡ true → (x ≡ true) ⊎ (y ≡ true)
+-- one of two tests holds
+pub either : (x y : Bool) → (x || y) ≡ true → (x ≡ true) ⊎ (y ≡ true)
 either true y e = inl refl
 either false y e = inr e
 
