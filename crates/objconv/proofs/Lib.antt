@@ -1,12 +1,15 @@
 pub mod AlikeLemmas
 pub mod BelowLemmas
 pub mod EmitLemmas
+pub mod FaithfulLemmas
 pub mod FieldLemmas
 pub mod FoundLemmas
 pub mod HeaderLemmas
 pub mod ListedLemmas
+pub mod ObjectLemmas
 pub mod OneSectionLemmas
 pub mod PaddingLemmas
+pub mod PatchLemmas
 pub mod PlainLemmas
 pub mod RaisingLemmas
 pub mod RelsLemmas
