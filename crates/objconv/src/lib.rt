@@ -6,9 +6,12 @@ mod emit;
 mod fields;
 mod headers;
 mod job;
+mod laws;
 mod plain;
 mod raising;
 mod structures;
 mod symbols;
 mod words;
+
+pub use laws::{conversions_are_faithful, plain_objects_have_files};
 pub use words::Words;
