@@ -1,18 +1,18 @@
 -- What a plain object becomes links as the object does.
-use Rattle.std.proofs.Common.{◌≡◌, ℕ, zero, suc, ◌+◌, ◌^◌, ◌<◌, ◌≤◌, List, [], ◌∷◌, length, map, Option, Some, None, refl, sym, ◌∙◌, ap, subst, arith, max}
+use Rattle.std.proofs.Common.{◌≡◌, ℕ, zero, suc, ◌^◌, ◌<◌, ◌≤◌, List, [], ◌∷◌, length, map, Option, Some, refl, sym, ◌∙◌, ap, subst, arith, max}
 use mathlib.Core.Path.{fun_ext}
 use Rattle.std.specs.Prelude.{slice_get}
-use Rattle.std.specs.Option.{option_map, unwrap_or}
+use Rattle.std.specs.Option.{option_map}
 use Rattle.std.proofs.Math.Pow.{pow_pos}
 use Rattle.std.proofs.lemmas.Option.{none-some, same_Some}
 use Rattle.oc_base.specs.declared.format.Word.TheVariants.{W32}
 use Rattle.oc_linking.specs.declared.terms.Keep.{Keep}
 use Rattle.oc_linking.specs.declared.terms.Patch.{Patch}
-use Rattle.oc_linking.specs.Parts.{Section, Symbol}
+use Rattle.oc_linking.specs.Parts.{Symbol}
 use Rattle.oc_linking.specs.Keeping.{all}
 use Rattle.oc_linking.specs.Placing.{Placement, Outside}
 use Rattle.oc_linking.specs.Values.{Valuation, values}
-use Rattle.oc_linking.specs.Linking.{Exports, patch_of, contents_in, patches_in, exports_in}
+use Rattle.oc_linking.specs.Linking.{Exports, patch_of, contents_in, patches_in}
 use Rattle.oc_linking.specs.Faithful.{SameOutline, Faithful, shape_of}
 use Rattle.oc_linking.specs.Alike.{SameOutsideFields, LinkAlike}
 use Rattle.oc_linking.proofs.Same.{faithful_same}
@@ -26,10 +26,10 @@ use Rattle.oc_coff_read.specs.Seen.{seen_section, ReadsBack}
 use Rattle.oc_coff_read.proofs.FlagLaws.{output_align-power}
 use Rattle.oc_coff_read.proofs.SeenLaws.{reads_back}
 use Rattle.objconv.specs.declared.headers.Headers.{Headers}
-use Rattle.objconv.specs.Plain.{headers_in, rel_count, exponent_of}
+use Rattle.objconv.specs.Plain.{headers_in, rel_count}
 use Rattle.objconv.specs.Raising.{AreRaised}
 use Rattle.objconv.specs.Converted.{object_for}
-use Rattle.objconv.specs.Links.{text_in, AreFields, IsConverted, ConvertedIsFaithful}
+use Rattle.objconv.specs.Links.{text_in, AreFields, ConvertedIsFaithful}
 use Rattle.objconv.proofs.AlikeLemmas.{AreLike, names_of-like, values-like, exports-like}
 use Rattle.objconv.proofs.FoundLemmas.{fields_of-plain}
 use Rattle.objconv.proofs.HeaderLemmas.{IsPlain, plain_is}
@@ -64,12 +64,12 @@ module _ (b : List ℕ) (keep : Keep) (is : IsPlain b) (small : length b ≤ 671
   outline = record {
     well_formed = refl;
     sections =
-      let h : Headers = headers_in b in
-      let power = exponent_is h.text.sh_addralign is.laid.aligned in
-      ap (map (shape_of (λ align. align))) back.sections
-      ∙ ap (λ (n : ℕ). (n, 2 ^ made.exponent) ∷ []) (raised.length ∙ length-text b h is.laid)
-      ∙ ap (λ (n : ℕ). (h.text.sh_size, n) ∷ []) (sym (aligned h.text.sh_addralign made.exponent power.small power.power))
-      ∙ sym (ap (map (shape_of coff32_rules.output_align)) (one_section elf32_rules b keep (text_section b h) (sections_of-plain b is) refl));
+        let h : Headers = headers_in b in
+        let power = exponent_is h.text.sh_addralign is.laid.aligned in
+        ap (map (shape_of (λ align. align))) back.sections
+        ∙ ap (λ (n : ℕ). (n, 2 ^ made.exponent) ∷ []) (raised.length ∙ length-text b h is.laid)
+        ∙ ap (λ (n : ℕ). (h.text.sh_size, n) ∷ []) (sym (aligned h.text.sh_addralign made.exponent power.small power.power))
+        ∙ sym (ap (map (shape_of coff32_rules.output_align)) (one_section elf32_rules b keep (text_section b h) (sections_of-plain b is) refl));
     names = λ name. sym (names_of-like coff32_rules.common_align (λ size align. align) (symbols_of b keep) (coff32_rules.symbols output all) like name);
   }
 
@@ -114,12 +114,12 @@ module _ (b : List ℕ) (keep : Keep) (is : IsPlain b) (small : length b ≤ 671
       word = refl;
       count = ap (λ (xs : List (List ℕ)). length xs) contents-output ∙ sym (ap (λ (xs : List (List ℕ)). length xs) contents-input);
       contents = λ s xs ys here there.
-        contents s xs ys (subst (λ (zs : List (List ℕ)). slice_get zs s ≡ Some xs) contents-output here) (subst (λ (zs : List (List ℕ)). slice_get zs s ≡ Some ys) contents-input there);
+          contents s xs ys (subst (λ (zs : List (List ℕ)). slice_get zs s ≡ Some xs) contents-output here) (subst (λ (zs : List (List ℕ)). slice_get zs s ≡ Some ys) contents-input there);
       patches = patches;
       exports = λ name.
-        ap (λ (shown : Exports). shown name) (one_exports coff32_rules output all (seen_section made) back.sections refl (coff32_rules.symbols output all) p e)
-        ∙ sym (exports-like W32 p e (symbols_of b keep) (coff32_rules.symbols output all) like name)
-        ∙ sym (ap (λ (shown : Exports). shown name) (one_exports elf32_rules b keep (text_section b (headers_in b)) (sections_of-plain b is) refl (symbols_of b keep) p e));
+          ap (λ (shown : Exports). shown name) (one_exports coff32_rules output all (seen_section made) back.sections refl (coff32_rules.symbols output all) p e)
+          ∙ sym (exports-like W32 p e (symbols_of b keep) (coff32_rules.symbols output all) like name)
+          ∙ sym (ap (λ (shown : Exports). shown name) (one_exports elf32_rules b keep (text_section b (headers_in b)) (sections_of-plain b is) refl (symbols_of b keep) p e));
     }
 
   -- the file is faithful

@@ -1,6 +1,6 @@
 -- Relocations as they are found at an offset, in a plain object and in what it becomes.
-use Rattle.std.proofs.Common.{◌≡◌, ℕ, zero, suc, ◌+◌, ◌/◌, ◌%◌, ◌<◌, ◌≤◌, ◌⊎◌, inl, inr, Bool, true, false, cond, eqb, List, [], ◌∷◌, ◌++◌, length, map, Option, Some, None, refl, sym, ◌∙◌, ap, subst, arith}
-use Rattle.std.specs.Prelude.{◌&&◌, ◌||◌, not, find, slice_get}
+use Rattle.std.proofs.Common.{◌≡◌, ℕ, zero, suc, ◌+◌, ◌<◌, ◌≤◌, ◌⊎◌, inl, inr, Bool, true, false, cond, eqb, List, [], ◌∷◌, map, Option, Some, None, refl, sym, ◌∙◌, ap, subst, arith}
+use Rattle.std.specs.Prelude.{◌&&◌, not, find, slice_get}
 use Rattle.std.specs.List.{range_with_len}
 use Rattle.std.specs.Option.{option_map, option_and_then, option_or}
 use Rattle.std.specs.Ordering.{nat_cmp, is_eq}
@@ -28,7 +28,7 @@ use Rattle.objconv.proofs.PlainLemmas.{both}
 use Rattle.objconv.proofs.FieldLemmas.{at_offset, offset_found, none_before}
 use Rattle.objconv.proofs.RelsLemmas.{rel_plain}
 use Rattle.objconv.proofs.HeaderLemmas.{IsPlain}
-use Rattle.objconv.proofs.SectionLemmas.{text_section, sections_of-plain, relocations_of-text}
+use Rattle.objconv.proofs.SectionLemmas.{sections_of-plain, relocations_of-text}
 use Rattle.objconv.proofs.SymbolLemmas.{either}
 
 -- what a plain relocation is
@@ -79,12 +79,12 @@ is_found b h at r all e =
 pub finds_each : (b : List ℕ) (h : Headers) (j : ℕ) → j < rel_count h → (r : Rel) × (field_at b h (entry_in b h j).r_offset ≡ Some r)
 unfolding field_at
 finds_each b h j low = elim (field_at b h (entry_in b h j).r_offset) as (λ o. field_at b h (entry_in b h j).r_offset ≡ o → (r : Rel) × (o ≡ Some r)) [
-    | Some r ↦ λ e. (r, refl)
-    | None ↦ λ e.
+  | Some r ↦ λ e. (r, refl)
+  | None ↦ λ e.
       let own : at_offset b h (entry_in b h j).r_offset j ≡ Some (entry_in b h j)
       = ap (λ t. cond t (Some (entry_in b h j)) None) (eq-eqb (entry_in b h j).r_offset (entry_in b h j).r_offset refl) in
       absurd (none-some (entry_in b h j) (sym (none_before (at_offset b h (entry_in b h j).r_offset) (rel_count h) j e low) ∙ own))
-  ] refl
+] refl
 
 either-option : {X : Type 0} (x y : Option X) → option_or x y ≡ or_else x y
 either-option None y = refl
@@ -124,8 +124,8 @@ fields_of-plain b keep is at =
     ap (λ (xs : List Section). option_and_then (λ section. elf.field_among (elf.target_of b keep) 0 section.contents (relocations_of b section.number) at) (slice_get xs 0)) (sections_of-plain b is)
     ∙ ap (λ (rs : List Rel). option_and_then (elf.field_by (elf.target_of b keep) 0 (text_in b h)) (find (elf.relocates at) rs)) (relocations_of-text b is)
     ∙ ap (option_and_then (elf.field_by (elf.target_of b keep) 0 (text_in b h)))
-      (find-range (elf.relocates at) (entry_in b h) (at_offset b h at) (rel_count h)
-      (λ i low. ap (λ t. cond t (Some (entry_in b h i)) None) (relocates-elf h at (entry_in b h i) (each_rel b h i is.rels low))))
+    (find-range (elf.relocates at) (entry_in b h) (at_offset b h at) (rel_count h)
+    (λ i low. ap (λ t. cond t (Some (entry_in b h i)) None) (relocates-elf h at (entry_in b h i) (each_rel b h i is.rels low))))
 
 swapped : (x y : ℕ) → is_eq (nat_cmp x y) ≡ eqb y x
 swapped x y = grind (arith, nat_tests)
@@ -140,8 +140,8 @@ find-entries at [] = refl
 find-entries at (e ∷ entries) =
     ap (λ t. cond t (Some (relocation_for e)) (find (coff.relocates at) (map relocation_for entries))) (relocates-coff at e)
     ∙ (elim (eqb e.0 at) as (λ t. eqb e.0 at ≡ t → cond t (Some (relocation_for e)) (find (coff.relocates at) (map relocation_for entries))
-      ≡ option_map (λ (r : Rel). relocation_for (at, r)) (cond t (Some e.1) (lookup (is_at (nat_cmp at)) entries))) [
-        | true ↦ λ t. ap (λ (k : ℕ). Some (relocation_for (k, e.1))) (eqb-true e.0 at t)
-        | false ↦ λ t. find-entries at entries
-      ] refl)
+    ≡ option_map (λ (r : Rel). relocation_for (at, r)) (cond t (Some e.1) (lookup (is_at (nat_cmp at)) entries))) [
+      | true ↦ λ t. ap (λ (k : ℕ). Some (relocation_for (k, e.1))) (eqb-true e.0 at t)
+      | false ↦ λ t. find-entries at entries
+    ] refl)
     ∙ ap (λ t. option_map (λ (r : Rel). relocation_for (at, r)) (cond t (Some e.1) (lookup (is_at (nat_cmp at)) entries))) (sym (swapped at e.0))

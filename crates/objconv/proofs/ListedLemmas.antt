@@ -1,10 +1,9 @@
 -- The symbols of a plain object by the rules of ELF, and those of what it becomes.
-use Rattle.std.proofs.Common.{◌≡◌, ℕ, zero, suc, ◌+◌, ◌-◌, ◌*◌, ◌/◌, ◌%◌, ◌<◌, ◌≤◌, ◌⊎◌, inl, inr, true, false, cond, eqb, List, [], ◌∷◌, length, map, Option, Some, None, refl, sym, ◌∙◌, ap, subst, arith}
+use Rattle.std.proofs.Common.{◌≡◌, ℕ, zero, suc, ◌+◌, ◌-◌, ◌/◌, ◌<◌, inl, inr, true, false, cond, eqb, List, [], ◌∷◌, map, Option, Some, None, refl, sym, ◌∙◌, ap, subst, arith}
 use Rattle.std.specs.Prelude.{filter_map}
 use Rattle.std.specs.List.{range_with_len, cons_option}
 use Rattle.std.specs.Option.{option_map, unwrap_or}
 use Rattle.oc_linking.specs.declared.terms.Keep.{Keep}
-use Rattle.oc_linking.specs.declared.terms.Mark.TheVariants.{NoType}
 use Rattle.oc_linking.specs.declared.terms.Value.TheVariants.{Place}
 use Rattle.oc_linking.specs.declared.terms.Binding.{Binding}
 use Rattle.oc_linking.specs.declared.terms.Binding.TheVariants.{Local, Global, Undefined}
@@ -12,7 +11,7 @@ use Rattle.oc_linking.specs.Parts.{Symbol}
 use Rattle.oc_elf_read.specs.declared.shdr.Shdr.{Shdr}
 use Rattle.oc_elf_read.specs.declared.sym.Sym.{Sym}
 use Rattle.oc_elf_read.specs.Names.{name_in}
-use Rattle.oc_elf_read.specs.Sections.{header_of, position_of}
+use Rattle.oc_elf_read.specs.Sections.{header_of}
 use Rattle.oc_elf_read.specs.Symbols.{entry_of, symbol_name, binding_of, symbol_with, symbol_of, symbols_by, symbols_of, section_symbol_of, section_symbols_of}
 use Rattle.oc_coff_read.specs.Canonical.{External}
 use Rattle.oc_coff_read.specs.Seen.{seen_binding, seen_symbol, externals_from}
@@ -34,13 +33,13 @@ listed f g (suc n) a j each =
     let onto : j + 0 ≡ j = omega arith in
     let first : (s : Symbol) × (f a ≡ Some s) × IsLike s (seen_symbol a (g j))
     = subst (λ (k : ℕ). (s : Symbol) × (f k ≡ Some s) × IsLike s (seen_symbol k (g j))) from
-      (subst (λ (m : ℕ). (s : Symbol) × (f (a + 0) ≡ Some s) × IsLike s (seen_symbol (a + 0) (g m))) onto (each 0 (omega arith))) in
+    (subst (λ (m : ℕ). (s : Symbol) × (f (a + 0) ≡ Some s) × IsLike s (seen_symbol (a + 0) (g m))) onto (each 0 (omega arith))) in
     let later : (i : ℕ) → i < n → (s : Symbol) × (f (a + 1 + i) ≡ Some s) × IsLike s (seen_symbol (a + 1 + i) (g (j + 1 + i)))
     = λ i l.
-      let next : a + suc i ≡ a + 1 + i = omega arith in
-      let then : j + suc i ≡ j + 1 + i = omega arith in
-      subst (λ (k : ℕ). (s : Symbol) × (f k ≡ Some s) × IsLike s (seen_symbol k (g (j + 1 + i)))) next
-      (subst (λ (m : ℕ). (s : Symbol) × (f (a + suc i) ≡ Some s) × IsLike s (seen_symbol (a + suc i) (g m))) then (each (suc i) (omega arith))) in
+    let next : a + suc i ≡ a + 1 + i = omega arith in
+    let then : j + suc i ≡ j + 1 + i = omega arith in
+    subst (λ (k : ℕ). (s : Symbol) × (f k ≡ Some s) × IsLike s (seen_symbol k (g (j + 1 + i)))) next
+    (subst (λ (m : ℕ). (s : Symbol) × (f (a + suc i) ≡ Some s) × IsLike s (seen_symbol (a + suc i) (g m))) then (each (suc i) (omega arith))) in
     subst (λ (o : Option Symbol). AreLike (cons_option o (filter_map f (range_with_len (a + 1) n))) (externals_from a (map g (range_with_len j (suc n))))) (sym first.1)
     (Next first.0 (seen_symbol a (g j)) (filter_map f (range_with_len (a + 1) n)) (externals_from (a + 1) (map g (range_with_len (j + 1) n))) first.2 (listed f g n (a + 1) (j + 1) later))
 
@@ -135,14 +134,13 @@ symbols_of-plain b keep is =
     let f : ℕ → Option Symbol = symbol_of b h.symbols in
     let each : (i : ℕ) → i < n → (s : Symbol) × (f (2 + i) ≡ Some s) × IsLike s (seen_symbol (2 + i) (external_for b h (0 + i + 2)))
     = λ i low.
-      let e : i + 2 ≡ 2 + i = omega arith in
-      let z : 2 + i ≡ 0 + i + 2 = omega arith in
-      let symbol : IsSymbol b h (symbol_in b h (2 + i)) = subst (λ (k : ℕ). IsSymbol b h (symbol_in b h k)) e (plain_symbol b h is.symbols i low) in
-      (
-        symbol_with b h.symbols (2 + i) (binding_for (symbol_in b h (2 + i))),
-        symbol_of-plain b is (2 + i) symbol,
-        subst (λ (k : ℕ). IsLike (symbol_with b h.symbols (2 + i) (binding_for (symbol_in b h (2 + i)))) (seen_symbol (2 + i) (external_for b h k))) z (like b is (2 + i) symbol),
-      ) in
+    let e : i + 2 ≡ 2 + i = omega arith in
+    let z : 2 + i ≡ 0 + i + 2 = omega arith in
+    let symbol : IsSymbol b h (symbol_in b h (2 + i)) = subst (λ (k : ℕ). IsSymbol b h (symbol_in b h k)) e (plain_symbol b h is.symbols i low) in (
+      symbol_with b h.symbols (2 + i) (binding_for (symbol_in b h (2 + i))),
+      symbol_of-plain b is (2 + i) symbol,
+      subst (λ (k : ℕ). IsLike (symbol_with b h.symbols (2 + i) (binding_for (symbol_in b h (2 + i)))) (seen_symbol (2 + i) (external_for b h k))) z (like b is (2 + i) symbol),
+    ) in
     let list : symbols_by (symbol_of b) (Some h.symbols) ≡ filter_map f (range_with_len 2 n)
     = ap (λ (m : ℕ). filter_map f (range_with_len 1 m)) (count-split b is) ∙ ap (λ (o : Option Symbol). cons_option o (filter_map f (range_with_len 2 n))) (symbol_of-own b is) in
     subst (λ (xs : List Symbol). AreLike xs (externals_from 2 (externals_for b h))) (sym (ap (symbols_by (symbol_of b)) (symtab_of-plain b is) ∙ list))

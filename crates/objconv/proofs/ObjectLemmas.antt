@@ -1,7 +1,6 @@
 -- What a plain object becomes has a canonical file.
-use Rattle.std.proofs.Common.{◌≡◌, ℕ, ◌+◌, ◌-◌, ◌*◌, ◌/◌, ◌%◌, ◌^◌, ◌<◌, ◌≤◌, ◌≢◌, ◌⊎◌, inl, inr, true, false, cond, eqb, List, [], ◌∷◌, length, get_or, map, take, drop, Option, Some, None, refl, sym, ◌∙◌, ap, subst, arith, length-take, length-drop, min}
+use Rattle.std.proofs.Common.{◌≡◌, ℕ, ◌+◌, ◌-◌, ◌^◌, ◌<◌, ◌≤◌, ◌≢◌, inl, inr, true, false, cond, eqb, List, length, get_or, map, drop, Some, None, refl, sym, ◌∙◌, subst, arith, length-take, length-drop}
 use Rattle.std.specs.Prelude.{All, slice_get}
-use Rattle.std.specs.List.{range_with_len}
 use Rattle.std.specs.Option.{is_some, unwrap_or}
 use Rattle.std.specs.Ordering.{nat_cmp}
 use Rattle.std.specs.Map.{lookup}
@@ -16,16 +15,14 @@ use Rattle.std.proofs.lemmas.List.Elements.{All-map}
 use Rattle.std.proofs.lemmas.List.FromFn.{length-map-range_with_len, get_or-map-range_with_len}
 use Rattle.oc_linking.proofs.Upto.{first_upto_from}
 use Rattle.oc_elf_read.specs.declared.rel.Rel.{Rel}
-use Rattle.oc_elf_read.specs.declared.sym.Sym.{Sym}
 use Rattle.oc_elf_read.specs.Rel.{rel_sym, rel_type}
-use Rattle.oc_coff_read.specs.declared.relocation.Relocation.{Relocation}
-use Rattle.oc_coff_read.specs.Canonical.{External, IsExternal, FitsEntry, CodeObject, IsCodeObject, code_length}
+use Rattle.oc_coff_read.specs.Canonical.{IsExternal, FitsEntry, IsCodeObject}
 use Rattle.objconv.specs.declared.headers.Headers.{Headers}
-use Rattle.objconv.specs.Plain.{headers_in, rel_count, symbol_count, symbol_in, name_of, exponent_of, field_at, is_plain, AreLaid}
+use Rattle.objconv.specs.Plain.{headers_in, rel_count, symbol_count, symbol_in, name_of, exponent_of, AreLaid}
 use Rattle.objconv.specs.Raising.{AreRaised}
-use Rattle.objconv.specs.Converted.{index_of, relocation_for, external_for, externals_for, object_for}
+use Rattle.objconv.specs.Converted.{relocation_for, external_for, externals_for, object_for}
 use Rattle.objconv.specs.Links.{text_in, AreFields, PlainHasObject}
-use Rattle.objconv.proofs.FoundLemmas.{IsFound, is_found}
+use Rattle.objconv.proofs.FoundLemmas.{is_found}
 use Rattle.objconv.proofs.HeaderLemmas.{IsPlain, plain_is}
 use Rattle.objconv.proofs.SymbolLemmas.{IsSymbol, plain_symbol, name_of-plain, name-no_nul}
 
@@ -45,11 +42,11 @@ power_found align exponent k low here =
 pub exponent_is : (align : ℕ) → is_some (exponent_of align) ≡ true → IsPower align (unwrap_or (exponent_of align) 0)
 unfolding exponent_of
 exponent_is align some = elim (exponent_of align) as (λ o. exponent_of align ≡ o → is_some o ≡ true → IsPower align (unwrap_or o 0)) [
-    | None ↦ λ e s. absurd (cc)
-    | Some exponent ↦ λ e s.
+  | None ↦ λ e s. absurd (cc)
+  | Some exponent ↦ λ e s.
       let m = first_upto_from (λ k. cond (eqb align (2 ^ k)) (Some k) None) 14 exponent e in
       power_found align exponent m.0 m.1 m.2
-  ] refl some
+] refl some
 
 -- the contents are as long as the section says
 pub length-text : (b : List ℕ) (h : Headers) → AreLaid b h → length (text_in b h) ≡ h.text.sh_size

@@ -1,12 +1,7 @@
 -- The fields of a plain object and of what it becomes have the same residues.
-use Rattle.std.proofs.Common.{◌≡◌, ℕ, ◌+◌, ◌-◌, ◌/◌, ◌%◌, ◌^◌, ◌<◌, ◌≤◌, ◌⊎◌, inl, inr, true, false, cond, eqb, List, [], ◌∷◌, length, get_or, map, Option, Some, None, refl, sym, ◌∙◌, ap, subst, arith}
-use Rattle.std.specs.Prelude.{find}
+use Rattle.std.proofs.Common.{◌≡◌, ℕ, ◌+◌, ◌%◌, ◌^◌, ◌<◌, inl, inr, cond, eqb, List, Option, Some, None, refl, sym, ◌∙◌, ap, subst}
 use Rattle.std.specs.Option.{option_map, option_and_then}
-use Rattle.std.specs.Ordering.{nat_cmp}
-use Rattle.std.specs.Map.{lookup}
-use Rattle.std.specs.BTreeMap.{is_at}
 use Rattle.std.proofs.lemmas.Bool.{eq-eqb, cases_lt}
-use Rattle.std.proofs.lemmas.Option.{same_Some}
 use Rattle.oc_base.specs.declared.format.Word.TheVariants.{W32}
 use Rattle.oc_base.specs.Numbers.{number_at}
 use Rattle.oc_linking.specs.declared.terms.Keep.{Keep}
@@ -19,7 +14,6 @@ use Rattle.oc_linking.specs.Values.{Valuation}
 use Rattle.oc_linking.specs.Rules.{Named}
 use Rattle.oc_linking.specs.Targets.{Target}
 use Rattle.oc_linking.specs.Linking.{patch_of}
-use Rattle.oc_linking.specs.Fits.{bytes_of}
 use Rattle.oc_linking.specs.Alike.{IsFree, SameOutsideFields}
 use Rattle.oc_linking.proofs.ResidueLaws.{minus_shifted}
 use Rattle.oc_elf_read.specs.declared.rel.Rel.{Rel}
@@ -36,7 +30,7 @@ use Rattle.objconv.specs.Plain.{headers_in, rel_count, entry_in, field_at}
 use Rattle.objconv.specs.Raising.{raised_number, LiesBeside, AreRaised}
 use Rattle.objconv.specs.Converted.{relocation_for, object_for}
 use Rattle.objconv.specs.Links.{text_in, AreFields}
-use Rattle.objconv.proofs.FoundLemmas.{IsRel, IsFound, is_found, finds_each, find-entries}
+use Rattle.objconv.proofs.FoundLemmas.{IsRel, is_found, finds_each, find-entries}
 use Rattle.objconv.proofs.HeaderLemmas.{IsPlain}
 use Rattle.objconv.proofs.TargetLemmas.{SameTarget, same_target}
 
@@ -75,18 +69,18 @@ same_patch b keep h o contents r is target p v raised =
     let P : ℕ = (p.site 0).address + r.r_offset in
     elim is.type [
       | inl absolute ↦
-        let type : (relocation_for (r.r_offset, r)).Type ≡ IMAGE_REL_I386_DIR32 = ap (λ t. cond t IMAGE_REL_I386_DIR32 IMAGE_REL_I386_REL32) (eq-eqb (rel_type r) 1 absolute) in
-        let stays : number_at o.contents r.r_offset 4 ≡ F = raised ∙ ap (λ (t : ℕ). cond (eqb t 2) ((F + 4) % 2 ^ 32) F) absolute in
-        coff-absolute o (relocation_for (r.r_offset, r)) target.named target.address target.coff p v type
-        ∙ ap (λ (f : ℕ). Some (four (reduced W32 (S + f)))) stays
-        ∙ sym (elf-absolute (elf.target_of b keep) contents r (record { named = target.named; address = target.address }) target.elf p v absolute)
+          let type : (relocation_for (r.r_offset, r)).Type ≡ IMAGE_REL_I386_DIR32 = ap (λ t. cond t IMAGE_REL_I386_DIR32 IMAGE_REL_I386_REL32) (eq-eqb (rel_type r) 1 absolute) in
+          let stays : number_at o.contents r.r_offset 4 ≡ F = raised ∙ ap (λ (t : ℕ). cond (eqb t 2) ((F + 4) % 2 ^ 32) F) absolute in
+          coff-absolute o (relocation_for (r.r_offset, r)) target.named target.address target.coff p v type
+          ∙ ap (λ (f : ℕ). Some (four (reduced W32 (S + f)))) stays
+          ∙ sym (elf-absolute (elf.target_of b keep) contents r (record { named = target.named; address = target.address }) target.elf p v absolute)
       | inr relative ↦
-        let type : (relocation_for (r.r_offset, r)).Type ≡ IMAGE_REL_I386_REL32 = ap (λ (t : ℕ). cond (eqb t 1) IMAGE_REL_I386_DIR32 IMAGE_REL_I386_REL32) relative in
-        let more : number_at o.contents r.r_offset 4 ≡ reduced W32 (F + 4) = raised ∙ ap (λ t. cond t ((F + 4) % 2 ^ 32) F) (eq-eqb (rel_type r) 2 relative) in
-        coff-relative o (relocation_for (r.r_offset, r)) target.named target.address target.coff p v type
-        ∙ ap (λ (f : ℕ). Some (four (minus W32 (S + f) (P + 4)))) more
-        ∙ ap (λ (n : ℕ). Some (four n)) (minus_shifted W32 S F P 4)
-        ∙ sym (elf-relative (elf.target_of b keep) contents r (record { named = target.named; address = target.address }) target.elf p v relative)
+          let type : (relocation_for (r.r_offset, r)).Type ≡ IMAGE_REL_I386_REL32 = ap (λ (t : ℕ). cond (eqb t 1) IMAGE_REL_I386_DIR32 IMAGE_REL_I386_REL32) relative in
+          let more : number_at o.contents r.r_offset 4 ≡ reduced W32 (F + 4) = raised ∙ ap (λ t. cond t ((F + 4) % 2 ^ 32) F) (eq-eqb (rel_type r) 2 relative) in
+          coff-relative o (relocation_for (r.r_offset, r)) target.named target.address target.coff p v type
+          ∙ ap (λ (f : ℕ). Some (four (minus W32 (S + f) (P + 4)))) more
+          ∙ ap (λ (n : ℕ). Some (four n)) (minus_shifted W32 S F P 4)
+          ∙ sym (elf-relative (elf.target_of b keep) contents r (record { named = target.named; address = target.address }) target.elf p v relative)
     ]
 
 -- a plain relocation patches four bytes
@@ -120,11 +114,11 @@ module _ (b : List ℕ) (keep : Keep) (is : IsPlain b) (text : List ℕ) (entrie
       ∙ (elim (field_at b h at) as (λ q. field_at b h at ≡ q → coffs q ≡ elfs q) [
         | None ↦ λ e. refl
         | Some r ↦ λ e.
-          let found = is_found b h at r is.rels e in
-          let number : number_at text r.r_offset 4 ≡ raised_number r (number_at (text_in b h) r.r_offset 4)
-          = subst (λ (x : Rel). number_at text x.r_offset 4 ≡ raised_number x (number_at (text_in b h) x.r_offset 4)) found.entry (raised.raised found.index found.low) in
-          ap (λ (k : ℕ). option_map (patch_of p v) (coff.field_by (seen_target o) 0 text (relocation_for (k, r)))) (sym found.offset)
-          ∙ same_patch b keep h o (text_in b h) r found.plain (target_at r found.plain) p v number
+            let found = is_found b h at r is.rels e in
+            let number : number_at text r.r_offset 4 ≡ raised_number r (number_at (text_in b h) r.r_offset 4)
+            = subst (λ (x : Rel). number_at text x.r_offset 4 ≡ raised_number x (number_at (text_in b h) x.r_offset 4)) found.entry (raised.raised found.index found.low) in
+            ap (λ (k : ℕ). option_map (patch_of p v) (coff.field_by (seen_target o) 0 text (relocation_for (k, r)))) (sym found.offset)
+            ∙ same_patch b keep h o (text_in b h) r found.plain (target_at r found.plain) p v number
       ] refl)
 
   -- each relocation patches its four bytes
@@ -133,8 +127,7 @@ module _ (b : List ℕ) (keep : Keep) (is : IsPlain b) (text : List ℕ) (entrie
       let h : Headers = headers_in b in
       let here = finds_each b h j low in
       let found = is_found b h (entry_in b h j).r_offset here.0 is.rels here.1 in
-      let four = four_bytes b keep h (object_for b h text entries) (text_in b h) here.0 found.plain (target_at here.0 found.plain) p v in
-      (
+      let four = four_bytes b keep h (object_for b h text entries) (text_in b h) here.0 found.plain (target_at here.0 found.plain) p v in (
         four.0,
         ap (λ (q : Option Rel). option_map (patch_of p v) (option_and_then (elf.field_by (elf.target_of b keep) 0 (text_in b h)) q)) here.1 ∙ four.1,
       )

@@ -1,12 +1,10 @@
 -- What a symbol's number stands for in a plain object, and in what it becomes.
-use Rattle.std.proofs.Common.{◌≡◌, ℕ, ◌+◌, ◌-◌, ◌/◌, ◌<◌, ◌≤◌, ◌⊎◌, inl, inr, true, false, cond, eqb, List, [], ◌∷◌, length, get_or, map, Option, Some, None, refl, sym, ◌∙◌, ap, subst, arith}
-use Rattle.std.specs.List.{range_with_len}
+use Rattle.std.proofs.Common.{◌≡◌, ℕ, ◌+◌, ◌-◌, ◌<◌, ◌≤◌, inl, inr, false, cond, eqb, List, [], length, get_or, Option, Some, None, refl, sym, ◌∙◌, ap, subst, arith}
 use Rattle.std.specs.Option.{option_map, option_and_then}
 use Rattle.std.proofs.lemmas.Bool.{eq-eqb, ne_eqb, cases_eq}
 use Rattle.std.proofs.lemmas.List.FromFn.{length-map-range_with_len}
 use Rattle.oc_base.specs.declared.format.Word.TheVariants.{W32}
 use Rattle.oc_linking.specs.declared.terms.Keep.{Keep}
-use Rattle.oc_linking.specs.declared.terms.Value.{Value}
 use Rattle.oc_linking.specs.declared.terms.Value.TheVariants.{Place}
 use Rattle.oc_linking.specs.declared.terms.Binding.{Binding}
 use Rattle.oc_linking.specs.declared.terms.Binding.TheVariants.{Local, Global, Undefined, Common, Weak}
@@ -16,7 +14,7 @@ use Rattle.oc_linking.specs.Placing.{Placement}
 use Rattle.oc_linking.specs.Values.{Valuation, own_site, numbered}
 use Rattle.oc_linking.specs.Rules.{Named, Symbolic, Sectional}
 use Rattle.oc_linking.specs.Targets.{Target, named_by, section_target, symbol_target, target_among}
-use Rattle.oc_elf_read.specs.Symbols.{symbol_with, symbols_of, section_symbols_of}
+use Rattle.oc_elf_read.specs.Symbols.{symbol_with, symbols_of}
 use Rattle.oc_elf_read.specs.Fields.{target_of}
 use Rattle.oc_coff_read.specs.Canonical.{External, CodeObject}
 use Rattle.oc_coff_read.specs.Seen.{seen_symbol, externals_from, seen_target}
@@ -89,7 +87,7 @@ module _ (b : List ℕ) (keep : Keep) (is : IsPlain b) where
       let number = own-number b h in
       ap (λ (own : List Symbol). or_else (option_and_then (section_target W32) (numbered own k)) (option_and_then symbol_target (numbered (symbols_of b keep) k))) (section_symbols_of-plain b is)
       ∙ ap (λ t. or_else (option_and_then (section_target W32) (cond t (Some (own_local b h)) None)) (option_and_then symbol_target (numbered (symbols_of b keep) k)))
-        (ne_eqb (own_local b h).number k (λ same. absurd (omega (arith, same, number, high))))
+      (ne_eqb (own_local b h).number k (λ same. absurd (omega (arith, same, number, high))))
       ∙ found-like k (numbered (symbols_of b keep) k) t like refl
 
 -- what a symbol's number stands for in both
@@ -109,17 +107,17 @@ same_target b keep is o k externals high low = elim (cases_eq k 1) [
     coff = seen_target-section o;
   })
   | inr more ↦
-    let h : Headers = headers_in b in
-    let above : 2 ≤ k = omega (arith, high, more) in
-    let n : length (externals_for b h) ≡ symbol_count h - 2 = length-map-range_with_len (λ j. external_for b h (j + 2)) 0 (symbol_count h - 2) in
-    let count : length o.symbols ≡ symbol_count h - 2 = ap (λ (xs : List External). length xs) externals ∙ n in
-    let inside : k - 2 < length o.symbols = omega (arith, count, above, low) in
-    let at : k ≡ 2 + (k - 2) = omega arith in
-    let other : eqb k 1 ≡ false = ne_eqb k 1 more in
-    record {
-      named = Symbolic k;
-      address = λ p v. (v k).site.address;
-      elf = target_of-symbol b keep is k above low;
-      coff = ap (λ t. seen_target o (cond t 0 k)) other ∙ seen_target-external o (k - 2) k inside at;
-    }
+      let h : Headers = headers_in b in
+      let above : 2 ≤ k = omega (arith, high, more) in
+      let n : length (externals_for b h) ≡ symbol_count h - 2 = length-map-range_with_len (λ j. external_for b h (j + 2)) 0 (symbol_count h - 2) in
+      let count : length o.symbols ≡ symbol_count h - 2 = ap (λ (xs : List External). length xs) externals ∙ n in
+      let inside : k - 2 < length o.symbols = omega (arith, count, above, low) in
+      let at : k ≡ 2 + (k - 2) = omega arith in
+      let other : eqb k 1 ≡ false = ne_eqb k 1 more in
+      record {
+        named = Symbolic k;
+        address = λ p v. (v k).site.address;
+        elf = target_of-symbol b keep is k above low;
+        coff = ap (λ t. seen_target o (cond t 0 k)) other ∙ seen_target-external o (k - 2) k inside at;
+      }
 ]
