@@ -1,19 +1,18 @@
 -- Lists of symbols that differ in nothing that a link reads.
-use Rattle.std.proofs.Common.{◌≡◌, ℕ, Bool, true, false, cond, eqb, List, [], ◌∷◌, Option, Some, None, refl, sym, ◌∙◌, ap, subst}
+use Rattle.std.proofs.Common.{◌≡◌, ℕ, true, false, cond, eqb, List, [], ◌∷◌, Option, Some, None, refl, sym, ◌∙◌, ap, subst}
 use mathlib.Core.Path.{fun_ext}
 use Rattle.std.specs.Prelude.{bytes_eq}
 use Rattle.std.specs.Option.{option_map, unwrap_or}
 use Rattle.oc_base.specs.declared.format.Word.{Word}
 use Rattle.oc_linking.specs.declared.terms.Fallback.{Fallback}
-use Rattle.oc_linking.specs.declared.terms.Value.{Value}
 use Rattle.oc_linking.specs.declared.terms.Binding.{Binding}
 use Rattle.oc_linking.specs.declared.terms.Binding.TheVariants.{Local, Global, Undefined, Common, Weak}
 use Rattle.oc_linking.specs.Numbers.{or_else}
 use Rattle.oc_linking.specs.Parts.{Symbol, by_name}
 use Rattle.oc_linking.specs.Placing.{Placement, Outside}
 use Rattle.oc_linking.specs.Values.{worthless, numbered, value_of, values}
-use Rattle.oc_linking.specs.Linking.{Export, export_of, exports}
-use Rattle.oc_linking.specs.Faithful.{Sort, sort_of, names_of}
+use Rattle.oc_linking.specs.Linking.{export_of, exports}
+use Rattle.oc_linking.specs.Faithful.{sort_of, names_of}
 use Rattle.oc_linking.proofs.Worth.{BindingsAlike, Same, value_of-alike, export_at-alike}
 
 -- Undefined, or at a place or a number

@@ -73,12 +73,12 @@ module _ (b : List ℕ) (h : Headers) where
   -- where an earlier field begins close by, the fields meet
   pub meets_found : (i k : ℕ) → IsSome (field_below b h i k) → k < (entry_in b h i).r_offset + 4 → (entry_in b h i).r_offset < k + 4 → meets_earlier b h i ≡ true
   meets_found i k some low high = elim (field_below b h i k) as (λ o. field_below b h i k ≡ o → is_some o ≡ true → meets_earlier b h i ≡ true) [
-      | None ↦ λ e s. absurd (cc)
-      | Some r ↦ λ e s.
+    | None ↦ λ e s. absurd (cc)
+    | Some r ↦ λ e s.
         let j = first_upto_from (at_offset k) i r e in
         let there : (entry_in b h j.0).r_offset ≡ k = (offset_found k j.0 r j.2).0 in
         any_below_hit (λ n. meets (entry_in b h n) (entry_in b h i)) j.0 i (met i j.0 (omega (arith, there)) (omega (arith, there))) j.1
-    ] refl some
+  ] refl some
 
   -- where no earlier field begins close by, the fields do not meet
   pub meets_none : (i : ℕ) → ((k : ℕ) → k < (entry_in b h i).r_offset + 4 → (entry_in b h i).r_offset < k + 4 → field_below b h i k ≡ None) → meets_earlier b h i ≡ false

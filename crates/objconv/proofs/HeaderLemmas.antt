@@ -1,11 +1,10 @@
 -- What the section headers of a plain object say.
 use Rattle.std.proofs.Common.{◌≡◌, ℕ, true, List, refl}
-use Rattle.std.specs.Prelude.{◌&&◌}
 use Rattle.std.proofs.lemmas.Bool.{eqb-true}
 use Rattle.oc_elf_read.specs.Ehdr.{ehdr_in}
 use Rattle.oc_elf_read.specs.Sections.{header_of}
 use Rattle.objconv.specs.declared.headers.Headers.{Headers}
-use Rattle.objconv.specs.Plain.{is_plain_header, has_header, lies_in, headers_in, is_names, is_text, is_rels, is_symbols, are_plain, has_headers, AreLaid, has_symbols, has_rels, is_plain}
+use Rattle.objconv.specs.Plain.{has_header, headers_in, are_plain, has_headers, AreLaid, has_symbols, has_rels, is_plain}
 use Rattle.objconv.proofs.PlainLemmas.{both, are_laid}
 
 -- the types of the section headers, and what else is known of them

@@ -1,10 +1,15 @@
 pub mod AlikeLemmas
 pub mod BelowLemmas
 pub mod EmitLemmas
+pub mod FaithfulLemmas
 pub mod FieldLemmas
+pub mod FoundLemmas
 pub mod HeaderLemmas
+pub mod ListedLemmas
+pub mod ObjectLemmas
 pub mod OneSectionLemmas
 pub mod PaddingLemmas
+pub mod PatchLemmas
 pub mod PlainLemmas
 pub mod RaisingLemmas
 pub mod RefusalLemmas
@@ -13,3 +18,4 @@ pub mod SectionLemmas
 pub mod SeenLemmas
 pub mod SymbolLemmas
 pub mod SymbolsLemmas
+pub mod TargetLemmas

@@ -36,21 +36,21 @@ module _ (b : List ℕ) (h : Headers) where
   -- a byte of an earlier field lies beside a later one
   pub rels_apart : (i j k : ℕ) → has_rels b h ≡ true → i < rel_count h → j < i → (entry_in b h j).r_offset ≤ k → k < (entry_in b h j).r_offset + 4 → LiesBeside (entry_in b h i) k
   rels_apart i j k all low before above below = elim (nat_lt k (entry_in b h i).r_offset) as (λ t. nat_lt k (entry_in b h i).r_offset ≡ t → LiesBeside (entry_in b h i) k) [
-      | true ↦ λ t. inl (ltb-true k (entry_in b h i).r_offset t)
-      | false ↦ λ t. elim (nat_lt k ((entry_in b h i).r_offset + 4)) as (λ u. nat_lt k ((entry_in b h i).r_offset + 4) ≡ u → LiesBeside (entry_in b h i) k) [
-        | true ↦ λ u. absurd (rel_apart i j all low before (met i j (omega (arith, ltb-false k (entry_in b h i).r_offset t, ltb-true k ((entry_in b h i).r_offset + 4) u))
-            (omega (arith, ltb-false k (entry_in b h i).r_offset t, ltb-true k ((entry_in b h i).r_offset + 4) u))))
-        | false ↦ λ u. inr (ltb-false k ((entry_in b h i).r_offset + 4) u)
-      ] refl
+    | true ↦ λ t. inl (ltb-true k (entry_in b h i).r_offset t)
+    | false ↦ λ t. elim (nat_lt k ((entry_in b h i).r_offset + 4)) as (λ u. nat_lt k ((entry_in b h i).r_offset + 4) ≡ u → LiesBeside (entry_in b h i) k) [
+      | true ↦ λ u. absurd (rel_apart i j all low before (met i j (omega (arith, ltb-false k (entry_in b h i).r_offset t, ltb-true k ((entry_in b h i).r_offset + 4) u))
+          (omega (arith, ltb-false k (entry_in b h i).r_offset t, ltb-true k ((entry_in b h i).r_offset + 4) u))))
+      | false ↦ λ u. inr (ltb-false k ((entry_in b h i).r_offset + 4) u)
     ] refl
+  ] refl
 
   -- a byte of a later field lies beside an earlier one
   pub rels_apart_before : (i j k : ℕ) → has_rels b h ≡ true → i < rel_count h → j < i → (entry_in b h i).r_offset ≤ k → k < (entry_in b h i).r_offset + 4 → LiesBeside (entry_in b h j) k
   rels_apart_before i j k all low before above below = elim (nat_lt k (entry_in b h j).r_offset) as (λ t. nat_lt k (entry_in b h j).r_offset ≡ t → LiesBeside (entry_in b h j) k) [
-      | true ↦ λ t. inl (ltb-true k (entry_in b h j).r_offset t)
-      | false ↦ λ t. elim (nat_lt k ((entry_in b h j).r_offset + 4)) as (λ u. nat_lt k ((entry_in b h j).r_offset + 4) ≡ u → LiesBeside (entry_in b h j) k) [
-        | true ↦ λ u. absurd (rel_apart i j all low before (met i j (omega (arith, ltb-false k (entry_in b h j).r_offset t, ltb-true k ((entry_in b h j).r_offset + 4) u))
-            (omega (arith, ltb-false k (entry_in b h j).r_offset t, ltb-true k ((entry_in b h j).r_offset + 4) u))))
-        | false ↦ λ u. inr (ltb-false k ((entry_in b h j).r_offset + 4) u)
-      ] refl
+    | true ↦ λ t. inl (ltb-true k (entry_in b h j).r_offset t)
+    | false ↦ λ t. elim (nat_lt k ((entry_in b h j).r_offset + 4)) as (λ u. nat_lt k ((entry_in b h j).r_offset + 4) ≡ u → LiesBeside (entry_in b h j) k) [
+      | true ↦ λ u. absurd (rel_apart i j all low before (met i j (omega (arith, ltb-false k (entry_in b h j).r_offset t, ltb-true k ((entry_in b h j).r_offset + 4) u))
+          (omega (arith, ltb-false k (entry_in b h j).r_offset t, ltb-true k ((entry_in b h j).r_offset + 4) u))))
+      | false ↦ λ u. inr (ltb-false k ((entry_in b h j).r_offset + 4) u)
     ] refl
+  ] refl

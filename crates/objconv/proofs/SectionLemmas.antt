@@ -1,20 +1,16 @@
 -- What a plain object says by the rules of ELF: its one section, its symbol table, and its relocations.
-use Rattle.std.proofs.Common.{◌≡◌, ℕ, zero, suc, ◌+◌, ◌-◌, ◌*◌, ◌/◌, true, false, List, [], ◌∷◌, map, Option, Some, None, refl, sym, ◌∙◌, ap, max, take, drop}
-use Rattle.std.specs.Prelude.{find, filter_map}
+use Rattle.std.proofs.Common.{◌≡◌, ℕ, List, [], ◌∷◌, map, Some, None, refl, max}
 use Rattle.std.specs.List.{range_with_len}
-use Rattle.std.specs.Option.{option_map}
 use Rattle.oc_linking.specs.declared.terms.Kind.TheVariants.{Code}
 use Rattle.oc_linking.specs.Parts.{Section}
 use Rattle.oc_elf_read.specs.declared.shdr.Shdr.{Shdr}
-use Rattle.oc_elf_read.specs.declared.rel.Rel.{Rel}
 use Rattle.oc_elf_read.specs.Ehdr.{ehdr_in}
-use Rattle.oc_elf_read.specs.Rel.{rel_in}
 use Rattle.oc_elf_read.specs.Sections.{header_of, headers_of, kind_of, section_name, tag_of, section_of, first_sections, sections_of, position_of, entries_of, relocations_of}
 use Rattle.oc_elf_read.specs.Symbols.{symtab_of}
 use Rattle.objconv.specs.declared.headers.Headers.{Headers}
 use Rattle.objconv.specs.Plain.{headers_in, rel_count, entry_in}
 use Rattle.objconv.specs.Links.{text_in}
-use Rattle.objconv.proofs.HeaderLemmas.{HaveTypes, IsPlain, header_of-text, header_of-rels, header_of-symbols, header_of-names, header_of-section_names}
+use Rattle.objconv.proofs.HeaderLemmas.{IsPlain, header_of-text, header_of-rels, header_of-symbols, header_of-names, header_of-section_names}
 
 -- `.text` as the rules carry it
 abbrev pub text_section : List ℕ → Headers → Section

@@ -40,7 +40,10 @@ PlainHasObject = (b text : List ℕ) (entries : List (ℕ × Rel)) → is_plain 
     → AreRaised b (headers_in b) (rel_count (headers_in b)) (text_in b (headers_in b)) text → AreFields b (headers_in b) entries
     → IsCodeObject (object_for b (headers_in b) text entries)
 
--- and that file links as the object does, whatever is kept
+-- c, read as COFF for i386, links as b, read as ELF for i386, whatever is kept; nothing is edited
+abbrev pub LinksAlike : List ℕ → List ℕ → Type 0
+LinksAlike b c = (keep : Keep) → Faithful elf32_rules b keep (symbols_of b keep) coff32_rules c
+
+-- the canonical file of what a plain object becomes links as the object does
 abbrev pub ConvertedIsFaithful : Type 0
-ConvertedIsFaithful = (b c : List ℕ) → is_plain b ≡ true → length b ≤ 67108864 → IsConverted b c
-    → (keep : Keep) → Faithful elf32_rules b keep (symbols_of b keep) coff32_rules c
+ConvertedIsFaithful = (b c : List ℕ) → is_plain b ≡ true → length b ≤ 67108864 → IsConverted b c → LinksAlike b c

@@ -10,7 +10,7 @@ use Rattle.oc_outside.specs.Reading.{IsAbsent}
 use Rattle.oc_outside.specs.Texts.{grown, TakesPrefix}
 use Rattle.objconv.specs.declared.command.RunFault.{RunFault}
 use Rattle.objconv.specs.declared.command.RunFault.TheVariants as fault
-use Rattle.objconv.specs.Links.{IsConverted}
+use Rattle.objconv.specs.Links.{IsConverted, LinksAlike}
 use Rattle.objconv.specs.Refusals.{first_refusal, status_by, status_of}
 
 -- the text where the input was not read
@@ -37,10 +37,11 @@ LeavesFiles status = (status ≡ 0 → ⊥) × (status ≡ 5 → ⊥)
 pub record HasRefusal (input : List ℕ) (files : Option Held) (refusal : Option Fault) : Type 0 where
   pub held : (m : Held) → files ≡ Some m → IsSomeAnd (file_of input m) (λ b. first_refusal b ≡ refusal)
 
--- c is a planned output: where files are told, the input is held, is not refused, and becomes c
+-- c is a planned output: where files are told, the input is held, is not refused, becomes c, and c links as it does
 pub record IsPlanned (input : List ℕ) (files : Option Held) (c : List ℕ) : Type 0 where
   pub accepted : HasRefusal input files None
   pub converted : (m : Held) → files ≡ Some m → IsSomeAnd (file_of input m) (λ b. IsConverted b c)
+  pub links : (m : Held) → files ≡ Some m → IsSomeAnd (file_of input m) (λ b. LinksAlike b c)
 
 -- the output holds a planned file, and all other files stay
 pub record IsWritten (input output : List ℕ) (before now : Option Held) : Type 0 where

@@ -8,15 +8,13 @@ ghost use Rattle.objconv.specs.Jobs.{job_of, input_of, output_of, word_message};
 ghost use Rattle.objconv.specs.Refusals.{first_refusal, too_long};
 ghost use Rattle.objconv.specs.Runs as runs;
 
-use std::alloc::Global;
-
-use oc_base::{Code, Fault, Phase, Spot};
-use oc_outside::{Console, Files, LIMIT, ReadFault, read_file, write_file};
-
 use crate::convert::{ConvertFault, convert};
 use crate::job::job_of;
 use crate::report::{report, tell, word_words};
 use crate::words::Words;
+use oc_base::{Code, Fault, Phase, Spot};
+use oc_outside::{Console, Files, LIMIT, ReadFault, read_file, write_file};
+use std::alloc::Global;
 
 /// Why a conversion was not done.
 #[derive(Clone, Copy, Debug, PartialEq, Eq)]
@@ -66,7 +64,12 @@ fn plan<F: Files>(alloc: Global, files: &mut F, input: &str) -> Result<Vec<u8>, 
 }
 
 // reads, converts and writes
-fn convert_file<F: Files>(alloc: Global, files: &mut F, input: &str, output: &str) -> Result<(), RunFault>
+fn convert_file<F: Files>(
+    alloc: Global,
+    files: &mut F,
+    input: &str,
+    output: &str,
+) -> Result<(), RunFault>
     ensures done { OnOk result (runs.IsWritten input.now output.now (F.held files.old) (F.held files.new)) }
     ensures fault { IfErr result (runs.Explains F.held F.read_faults F.write_faults input.now output.now files.old files.new) }
     ensures reads { F.read_faults files.old ≤ F.read_faults files.new }

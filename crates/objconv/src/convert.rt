@@ -4,18 +4,16 @@ ghost use Rattle.objconv.specs.Links.{AreFields, IsConverted, text_in};
 ghost use Rattle.objconv.specs.Plain as plain;
 ghost use Rattle.objconv.specs.Refusals.{IsJudged, not_built, plain_refusal};
 
-use std::alloc::Global;
-use std::collections::BTreeMap;
-
-use oc_base::{Code, Fault, NoMemory, Phase, Spot};
-use oc_elf_read::Rel;
-
 use crate::emit::emit;
 use crate::fields::fields_of;
 use crate::headers::Headers;
 use crate::plain::headers_of;
 use crate::raising::raise_fields;
 use crate::symbols::has_symbols;
+use oc_base::{Code, Fault, NoMemory, Phase, Spot};
+use oc_elf_read::Rel;
+use std::alloc::Global;
+use std::collections::BTreeMap;
 
 /// What stands against a conversion.
 #[derive(Clone, Copy, Debug, PartialEq, Eq)]
@@ -60,7 +58,12 @@ fn contents(alloc: Global, file: &[u8], headers: &Headers) -> Result<Vec<u8>, No
 }
 
 // the COFF file of a plain object, by its relocations
-fn rewrite(alloc: Global, file: &[u8], headers: &Headers, fields: &BTreeMap<u32, Rel>) -> Result<Vec<u8>, NoMemory>
+fn rewrite(
+    alloc: Global,
+    file: &[u8],
+    headers: &Headers,
+    fields: &BTreeMap<u32, Rel>,
+) -> Result<Vec<u8>, NoMemory>
     requires headers { headers.now ≡ plain.headers_in file.now }
     requires laid { plain.AreLaid file.now headers.now }
     requires symbols { plain.has_symbols file.now headers.now ≡ true }

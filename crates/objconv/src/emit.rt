@@ -6,21 +6,23 @@ ghost use Rattle.oc_elf_read.specs.Sym.{type_of};
 ghost use Rattle.objconv.specs.Converted as converted;
 ghost use Rattle.objconv.specs.Plain as plain;
 
-use std::alloc::Global;
-use std::collections::BTreeMap;
-
-use oc_base::{NoMemory, push_u32};
-use oc_coff_read::{
-    FileHeader, IMAGE_FILE_MACHINE_I386, IMAGE_REL_I386_DIR32, IMAGE_REL_I386_REL32, IMAGE_SCN_CNT_CODE,
-    IMAGE_SCN_MEM_EXECUTE, IMAGE_SCN_MEM_READ, IMAGE_SYM_CLASS_EXTERNAL, IMAGE_SYM_CLASS_STATIC,
-    IMAGE_SYM_TYPE_FUNCTION, Relocation, SectionAux, SectionHeader, SymbolEntry,
-};
-use oc_elf_read::{R_386_32, Rel, STT_FUNC, Sym};
-
 use crate::headers::Headers;
 use crate::plain::exponent;
-use crate::structures::{padded_name, push_file_header, push_relocation, push_section_aux, push_section_header, push_symbol};
+use crate::structures::{
+    padded_name, push_file_header, push_relocation, push_section_aux, push_section_header,
+    push_symbol,
+};
 use crate::symbols::{name_of, symbol, symbol_count};
+use oc_base::{NoMemory, push_u32};
+use oc_coff_read::{
+    FileHeader, IMAGE_FILE_MACHINE_I386, IMAGE_REL_I386_DIR32, IMAGE_REL_I386_REL32,
+    IMAGE_SCN_CNT_CODE, IMAGE_SCN_MEM_EXECUTE, IMAGE_SCN_MEM_READ, IMAGE_SYM_CLASS_EXTERNAL,
+    IMAGE_SYM_CLASS_STATIC, IMAGE_SYM_TYPE_FUNCTION, Relocation, SectionAux, SectionHeader,
+    SymbolEntry,
+};
+use oc_elf_read::{R_386_32, Rel, STT_FUNC, Sym};
+use std::alloc::Global;
+use std::collections::BTreeMap;
 
 /// The numbers that the places of a file's parts follow from.
 #[derive(Clone, Copy, Debug)]
@@ -128,7 +130,11 @@ fn relocation_for(at: u32, rel: Rel) -> Relocation
     Relocation {
         VirtualAddress: at,
         SymbolTableIndex: if rel.r_sym() == 1 { 0 } else { rel.r_sym() },
-        Type: if rel.r_type() == R_386_32 { IMAGE_REL_I386_DIR32 } else { IMAGE_REL_I386_REL32 },
+        Type: if rel.r_type() == R_386_32 {
+            IMAGE_REL_I386_DIR32
+        } else {
+            IMAGE_REL_I386_REL32
+        },
     }
 }
 
@@ -152,7 +158,11 @@ fn push_external(out: &mut Vec<u8>, name: &[u8], symbol: Sym, value: u32) -> Res
         Name: padded_name(name),
         Value: value,
         SectionNumber: symbol.st_shndx,
-        Type: if symbol.st_type() == STT_FUNC { IMAGE_SYM_TYPE_FUNCTION } else { 0 },
+        Type: if symbol.st_type() == STT_FUNC {
+            IMAGE_SYM_TYPE_FUNCTION
+        } else {
+            0
+        },
         StorageClass: IMAGE_SYM_CLASS_EXTERNAL,
         NumberOfAuxSymbols: 0,
     };

@@ -5,14 +5,12 @@ ghost use Rattle.std.specs.BTreeMap.{get};
 ghost use Rattle.objconv.specs.Links.{AreFields};
 ghost use Rattle.objconv.specs.Plain as plain;
 
-use std::alloc::Global;
-use std::collections::BTreeMap;
-
-use oc_base::NoMemory;
-use oc_elf_read::{R_386_32, R_386_PC32, REL_SIZE, Rel, rel_at};
-
 use crate::headers::Headers;
 use crate::symbols::symbol_count;
+use oc_base::NoMemory;
+use oc_elf_read::{R_386_32, R_386_PC32, REL_SIZE, Rel, rel_at};
+use std::alloc::Global;
+use std::collections::BTreeMap;
 
 /// The size of a field, in bytes.
 pub const FIELD_SIZE: u32 = 4;
@@ -51,7 +49,10 @@ fn taken_at(fields: &BTreeMap<u32, Rel>, at: u32) -> Option<u32>
     ensures near { IfSome result (λ k. (k < at + 4) × (at < k + 4)) }
     ensures free { IfNone result ((k : ℕ) → k < at + 4 → at < k + 4 → get nat_cmp fields.now k ≡ None) }
 {
-    match fields.range(at.saturating_sub(FIELD_SIZE - 1)..at + FIELD_SIZE).next() {
+    match fields
+        .range(at.saturating_sub(FIELD_SIZE - 1)..at + FIELD_SIZE)
+        .next()
+    {
         Some((start, _)) => Some(*start),
         None => None,
     }
@@ -60,7 +61,11 @@ fn taken_at(fields: &BTreeMap<u32, Rel>, at: u32) -> Option<u32>
 /// The relocations by the offsets of their fields, where all are plain and no two of their fields
 /// meet. Takes memory for the map; time is n log n in their number.
 #[tactic(auto, unfolding(crate::specs::Plain::has_rels))]
-pub fn fields_of(alloc: Global, file: &[u8], headers: &Headers) -> Result<Option<BTreeMap<u32, Rel>>, NoMemory>
+pub fn fields_of(
+    alloc: Global,
+    file: &[u8],
+    headers: &Headers,
+) -> Result<Option<BTreeMap<u32, Rel>>, NoMemory>
     requires laid { plain.AreLaid file.now headers.now }
     requires small { length file.now < 2 ^ 32 }
     ensures none { IfOk result (λ fields. fields ≡ None → plain.has_rels file.now headers.now ≡ false) }

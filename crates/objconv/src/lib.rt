@@ -7,12 +7,16 @@ mod emit;
 mod fields;
 mod headers;
 mod job;
+mod laws;
 mod plain;
 mod raising;
 mod report;
-
 mod structures;
 mod symbols;
+#[cfg(test)]
+mod tests;
 mod words;
+
 pub use command::run;
+pub use laws::{conversions_are_faithful, plain_objects_have_files};
 pub use words::Words;

@@ -4,12 +4,12 @@ ghost use Rattle.oc_elf_read.specs.Ehdr.{ehdr_in};
 ghost use Rattle.oc_elf_read.specs.Names.{name_in};
 ghost use Rattle.objconv.specs.Plain as plain;
 
-use oc_elf_read::{
-    EHDR_SIZE, ELFCLASS32, ELFDATA2LSB, ELFMAG, EM_386, ET_REL, EV_CURRENT, REL_SIZE, SHF_ALLOC,
-    SHF_EXECINSTR, SHT_PROGBITS, SHT_REL, SHT_STRTAB, SHT_SYMTAB, SYM_SIZE, Ehdr, Shdr, ehdr_of, shdr_at, short_name,
-};
-
 use crate::headers::Headers;
+use oc_elf_read::{
+    EHDR_SIZE, ELFCLASS32, ELFDATA2LSB, ELFMAG, EM_386, ET_REL, EV_CURRENT, Ehdr, REL_SIZE,
+    SHF_ALLOC, SHF_EXECINSTR, SHT_PROGBITS, SHT_REL, SHT_STRTAB, SHT_SYMTAB, SYM_SIZE, Shdr,
+    ehdr_of, shdr_at, short_name,
+};
 
 /// How many section headers a plain object has.
 const HEADERS: u16 = 6;
@@ -168,5 +168,9 @@ pub fn headers_of(file: &[u8]) -> Option<Headers>
 {
     let ehdr = header_of(file)?;
     let headers = read_headers(file, ehdr.e_shoff as usize);
-    if are_plain(file, &headers) { Some(headers) } else { None }
+    if are_plain(file, &headers) {
+        Some(headers)
+    } else {
+        None
+    }
 }

@@ -3,13 +3,11 @@ ghost use Rattle.std.specs.Prelude.{◌≡◌, ◌+◌, ◌≤◌, true, length}
 ghost use Rattle.objconv.specs.Plain as plain;
 ghost use Rattle.objconv.specs.Raising.{IsRaisedAt, IsRaised, AreRaised};
 
-use byteorder::{ByteOrder, LittleEndian};
-
-use oc_base::u32_in;
-use oc_elf_read::{R_386_PC32, Rel};
-
 use crate::fields::{FIELD_SIZE, entry, rel_count};
 use crate::headers::Headers;
+use byteorder::{ByteOrder, LittleEndian};
+use oc_base::u32_in;
+use oc_elf_read::{R_386_PC32, Rel};
 
 // raises the number at a place by the size of a field
 fn raise_number(text: &mut [u8], at: usize)

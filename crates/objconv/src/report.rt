@@ -7,12 +7,10 @@ ghost use Rattle.objconv.specs.Jobs.{word_message};
 ghost use Rattle.objconv.specs.Refusals.{status_by};
 ghost use Rattle.objconv.specs.Runs.{Tells, IsReported, input_text, output_text, memory_text};
 
-use std::alloc::Global;
-
+use crate::command::RunFault;
 use oc_base::{Class, Code, Fault, class, message};
 use oc_outside::{Console, tell_all};
-
-use crate::command::RunFault;
+use std::alloc::Global;
 
 // the text where the input was not read
 #[tactic(auto, unfolding(crate::specs::Runs::input_text))]

@@ -3,13 +3,13 @@ ghost use Rattle.std.specs.Prelude.{◌≡◌, ◌+◌, ◌*◌, ◌≤◌, ◌<
 ghost use Rattle.oc_elf_read.specs.Names.{name_in, short};
 ghost use Rattle.objconv.specs.Plain as plain;
 
+use crate::headers::Headers;
+use oc_base::NoMemory;
+use oc_elf_read::{
+    STB_GLOBAL, STB_LOCAL, STT_FUNC, STT_NOTYPE, STT_SECTION, SYM_SIZE, Sym, short_name, sym_at,
+};
 use std::alloc::Global;
 use std::collections::BTreeSet;
-
-use oc_base::NoMemory;
-use oc_elf_read::{STB_GLOBAL, STB_LOCAL, STT_FUNC, STT_NOTYPE, STT_SECTION, SYM_SIZE, Sym, short_name, sym_at};
-
-use crate::headers::Headers;
 
 /// The longest name of a symbol, in bytes.
 pub const NAME_SIZE: usize = 8;
@@ -155,5 +155,9 @@ pub fn has_symbols(alloc: Global, file: &[u8], headers: &Headers) -> Result<bool
     let plain = is_null(symbol(file, headers, 0))
         && is_text_symbol(file, headers, symbol(file, headers, 1))
         && are_plain_symbols(file, headers);
-    if plain { are_distinct(alloc, file, headers) } else { Ok(false) }
+    if plain {
+        are_distinct(alloc, file, headers)
+    } else {
+        Ok(false)
+    }
 }

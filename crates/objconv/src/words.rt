@@ -1,10 +1,9 @@
 //! The command's words.
 ghost use Rattle.std.specs.Prelude.{◌≡◌, ◌+◌, ◌-◌, ◌^◌, ◌<◌, ◌≤◌, Some, [], ◌∷◌, ◌++◌, length, slice_get, OnOk, OnErr};
 
+use oc_base::{NoMemory, Text};
 use std::alloc::Global;
 use std::marker::Model;
-
-use oc_base::{NoMemory, Text};
 
 /// The words of a command, without the program's name. Contracts see a list of texts.
 #[derive(Debug, Drop)]

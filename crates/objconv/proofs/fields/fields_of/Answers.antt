@@ -45,7 +45,7 @@ returns-then-is_some-clause-none c none =
     let some : is_some c.taken_at.result ≡ true = sym c.is_some.ensures ∙ c.if-is_some.true in
     let met : meets_earlier b h c.loop-i.i ≡ true
     = meets_taken b h c.loop-i.i c.taken_at.result (get nat_cmp c.loop-i.fields) c.entry-rel.result c.entry-rel.ensures c.loop-i.invariant.fields some
-        (λ k e. (rw e at c.taken_at.ensures.held, rw e at c.taken_at.ensures.near)) in
+    (λ k e. (rw e at c.taken_at.ensures.held, rw e at c.taken_at.ensures.near)) in
     let low : c.loop-i.i < rel_count h = omega arith in
     and_right (are_plain_rels b h) (are_apart b h) (all_below_stop (λ i. not (meets_earlier b h i)) c.loop-i.i (rel_count h) (ap not met) low)
 
