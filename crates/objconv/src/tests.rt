@@ -1,12 +1,12 @@
 //! Whole runs over files and a console in memory. The input and the output of the first case, and
 //! all texts, are those that the commands' description states, byte for byte.
-use std::alloc::{AllocError, Global};
-use std::test::Fail;
-
-use oc_base::NoMemory;
-use oc_outside::{MemConsole, MemFiles};
+ghost use Rattle.std.specs.Prelude.{◌-◌, ◌^◌, None};
 
 use super::*;
+use oc_base::NoMemory;
+use oc_outside::{Failed, Files, MemConsole, MemFiles};
+use std::alloc::Global;
+use std::test::Fail;
 
 /// `call foo` in the function `main`, as ELF32.
 const CALL: [u8; 432] = [
@@ -109,11 +109,6 @@ fn job(alloc: Global) -> Result<Words, NoMemory> {
     Ok(words)
 }
 
-/// So many zeros.
-fn zeros(alloc: Global, len: usize) -> Result<Vec<u8>, AllocError> {
-    vec![in alloc; 0u8; len]
-}
-
 #[test]
 fn elf32_call_to_coff32(rt: HostRuntime) -> Result<(), Fail> {
     let words = job(rt.alloc())?;
@@ -158,7 +153,10 @@ fn one_zero_byte(rt: HostRuntime) -> Result<(), Fail> {
     let mut files = files(rt.alloc(), &[0])?;
     let mut console = console(rt.alloc())?;
     assert_eq!(rt; run(rt.alloc(), &words, &mut files, &mut console), 2);
-    assert_eq!(rt; console.told(), b"objconv: refused: header 0: NotBuilt at 0\n".as_slice());
+    assert_eq!(rt;
+        console.told(),
+        b"objconv: refused: header 0: NotBuilt at 0\n".as_slice()
+    );
     assert!(rt; files.file("b").is_none());
     Ok(())
 }
@@ -174,17 +172,58 @@ fn message_that_is_not_told(rt: HostRuntime) -> Result<(), Fail> {
     Ok(())
 }
 
+/// Files of 67,108,865 zeros, that can be read so many times.
+#[derive(Drop)]
+struct Zeros {
+    reads: u64,
+    faults: u64,
+}
+
+impl Files for Zeros {
+    ghost held = { λ _. None };
+
+    ghost read_faults = { λ s. s.faults };
+
+    ghost write_faults = { λ _. 2 ^ 64 - 1 };
+
+    fn read_at(&mut self, _name: &str, at: u64, to: &mut [u8]) -> Result<usize, Failed> {
+        if self.reads == 0 {
+            self.faults = self.faults.saturating_add(1);
+            return Err(Failed);
+        }
+        self.reads -= 1;
+        let rest = 67_108_865u64.saturating_sub(at);
+        if rest < to.len() as u64 {
+            Ok(rest as usize)
+        } else {
+            Ok(to.len())
+        }
+    }
+
+    fn create(&mut self, _name: &str) -> Result<(), Failed> {
+        Err(Failed)
+    }
+
+    fn append(&mut self, _name: &str, _piece: &[u8]) -> Result<usize, Failed> {
+        Err(Failed)
+    }
+}
+
 /// 1,025 reads of 65,536 bytes give all of the 67,108,865: a further one would fail.
 #[test]
 fn input_limit(rt: HostRuntime) -> Result<(), Fail> {
     let words = job(rt.alloc())?;
-    let bytes = zeros(rt.alloc(), 67_108_865)?;
-    let mut files = files(rt.alloc(), bytes.as_slice())?;
-    files.fail_at(1026)?;
     let mut console = console(rt.alloc())?;
+    let mut files = Zeros {
+        reads: 1025,
+        faults: 0,
+    };
     assert_eq!(rt; run(rt.alloc(), &words, &mut files, &mut console), 8);
-    assert_eq!(rt; console.told(), b"objconv: limit: header 0: LimitInput at 67108865\n".as_slice());
-    assert!(rt; files.file("b").is_none());
+    assert_eq!(rt;
+        console.told(),
+        b"objconv: limit: header 0: LimitInput at 67108865\n".as_slice()
+    );
+    assert_eq!(rt; files.reads, 0);
     Ok(())
 }
 
@@ -203,28 +242,28 @@ fn create_or_append_fails(rt: HostRuntime) -> Result<(), Fail> {
     Ok(())
 }
 
+/// Whether these words are answered by status 3 and its text, and leave no `b`.
+fn are_no_job(alloc: Global, list: &[&str]) -> Result<bool, NoMemory> {
+    let mut words = Words::new(alloc);
+    for word in list {
+        if words.count() < 4 {
+            words.push(word)?;
+        }
+    }
+    let mut files = files(alloc, &CALL)?;
+    let mut console = console(alloc)?;
+    let status = run(alloc, &words, &mut files, &mut console);
+    let told = console.told() == b"objconv: word 0: NotBuilt\n".as_slice();
+    Ok(status == 3 && told && files.file("b").is_none())
+}
+
 #[test]
 fn words_at_fault(rt: HostRuntime) -> Result<(), Fail> {
-    let none: [&str; 0] = [];
-    for list in [
-        none.as_slice(),
-        ["-fcoff32", "a", "a"].as_slice(),
-        ["-fcoff32", "-zz", "b"].as_slice(),
-        ["-fcoff32", "a", "-b"].as_slice(),
-        ["-fcoff64", "a", "b"].as_slice(),
-        ["-fcoff32", "a", "b", "c"].as_slice(),
-    ] {
-        let mut words = Words::new(rt.alloc());
-        for word in list {
-            if words.count() < 4 {
-                words.push(word)?;
-            }
-        }
-        let mut files = files(rt.alloc(), &CALL)?;
-        let mut console = console(rt.alloc())?;
-        assert_eq!(rt; run(rt.alloc(), &words, &mut files, &mut console), 3);
-        assert_eq!(rt; console.told(), b"objconv: word 0: NotBuilt\n".as_slice());
-        assert!(rt; files.file("b").is_none());
-    }
+    assert!(rt; are_no_job(rt.alloc(), &[])?);
+    assert!(rt; are_no_job(rt.alloc(), &["-fcoff32", "a", "a"])?);
+    assert!(rt; are_no_job(rt.alloc(), &["-fcoff32", "-zz", "b"])?);
+    assert!(rt; are_no_job(rt.alloc(), &["-fcoff32", "a", "-b"])?);
+    assert!(rt; are_no_job(rt.alloc(), &["-fcoff64", "a", "b"])?);
+    assert!(rt; are_no_job(rt.alloc(), &["-fcoff32", "a", "b", "c"])?);
     Ok(())
 }

@@ -1,0 +1,17 @@
+# make: proves and builds the program; make check: the whole gate; make install PREFIX=/usr/local
+
+PREFIX ?= /usr/local
+
+build/objconv: $(shell find crates -path '*/out' -prune -o -type f -print) crates.txt
+	cd crates/objconv_main && rt run -- -fcoff32 data/a /dev/null
+	mkdir -p build && cp crates/objconv_main/out/objconv_main build/objconv
+
+.PHONY: check install clean
+check:
+	rt ci
+
+install: build/objconv
+	install -D build/objconv $(DESTDIR)$(PREFIX)/bin/objconv
+
+clean:
+	rm -rf build
