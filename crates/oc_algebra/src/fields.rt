@@ -32,18 +32,9 @@ fn hold(width: Width, n: i64) -> Result<u64, AddendTooWide>
     ensures { result ≡ field_for width n }
 {
     match width {
-        Width::One => match i8::try_from(n) {
-            Ok(low) => Ok(u64::from(low.cast_unsigned())),
-            Err(_) => Err(AddendTooWide),
-        },
-        Width::Two => match i16::try_from(n) {
-            Ok(low) => Ok(u64::from(low.cast_unsigned())),
-            Err(_) => Err(AddendTooWide),
-        },
-        Width::Four => match i32::try_from(n) {
-            Ok(low) => Ok(u64::from(low.cast_unsigned())),
-            Err(_) => Err(AddendTooWide),
-        },
+        Width::One => Ok(u64::from(i8::try_from(n).map_err(|_| AddendTooWide)?.cast_unsigned())),
+        Width::Two => Ok(u64::from(i16::try_from(n).map_err(|_| AddendTooWide)?.cast_unsigned())),
+        Width::Four => Ok(u64::from(i32::try_from(n).map_err(|_| AddendTooWide)?.cast_unsigned())),
         Width::Eight => Ok(n.cast_unsigned()),
     }
 }
