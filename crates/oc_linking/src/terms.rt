@@ -30,7 +30,7 @@ impl Width {
 }
 
 /// Which residues fit a field of w bits, in words of W bits.
-#[derive(Clone, Copy, Debug, PartialEq, Eq)]
+#[derive(Clone, Copy, Debug, PartialEq, Eq, PartialOrd, Ord)]
 pub enum Check {
     /// All fit; the low w bits are stored.
     Wrap,

@@ -1,0 +1,4 @@
+pub mod Fields
+pub mod Folds
+pub mod Promises
+pub mod Residues
