@@ -1,0 +1,11 @@
+//! Entries, indexes and iterated data of OMF object modules (TIS OMF 1.1).
+#![tactic(auto)]
+
+mod block;
+mod indexes;
+mod iterated;
+mod records;
+
+pub use block::{Block, BlockFault};
+pub use indexes::{BadIndex, index};
+pub use records::{Entry, RecordFault, Records};
