@@ -1,1 +1,3 @@
-mod Rows
+pub mod ReadingLemmas
+pub mod RowLemmas
+mod WorkedCases

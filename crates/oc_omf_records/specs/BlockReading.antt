@@ -2,8 +2,8 @@
 -- of two bytes, and then a length byte with that many bytes where the block count is 0, else that many blocks.
 use Rattle.std.specs.Prelude.{ℕ, zero, suc, ◌+◌, Bool, true, false, not, ◌&&◌, nat_eq, nat_lt, nat_le, if◌then◌else◌, List, length, slice_range, Result, Ok, Err}
 use Rattle.oc_base.specs.Numbers.{number_at}
-use Rattle.oc_omf_records.specs.declared.block.BlockFault.{BlockFault}
-use Rattle.oc_omf_records.specs.declared.block.BlockFault.TheVariants.{BadBlock, TooDeep}
+use Rattle.oc_omf_records.specs.declared.faults.BlockFault.{BlockFault}
+use Rattle.oc_omf_records.specs.declared.faults.BlockFault.TheVariants.{BadBlock, TooDeep}
 use Rattle.oc_omf_records.specs.Blocks.{Blocks, none, content, nested, append}
 
 -- the blocks that are read and the place after them, or what is met first that is at fault
@@ -30,40 +30,40 @@ abbrev pub repeats_row : ℕ → Reading → Reading
 repeats_row count (Ok r) = Ok (nested count r.0 none, r.1)
 repeats_row count (Err fault) = Err fault
 
-module _ (wide : Bool) (b : List ℕ) where
-  -- how many bytes a repeat count has
-  abbrev pub count_size : ℕ
-  count_size = if wide then 4 else 2
+-- the place after the length byte at a place and that many bytes
+abbrev pub after_content : List ℕ → ℕ → ℕ
+after_content b at = at + 1 + number_at b at 1
 
+-- a block with this repeat count, whose length byte and content stand at a place
+abbrev pub content_at : List ℕ → ℕ → ℕ → Reading
+content_at b count at =
+    if nat_le (at + 1) (length b) && nat_le (after_content b at) (length b)
+    then Ok (content count (at + 1) (slice_range b (at + 1) (after_content b at)) none, after_content b at)
+    else Err BadBlock
+
+-- how many bytes a repeat count has
+abbrev pub count_size : Bool → ℕ
+count_size wide = if wide then 4 else 2
+
+module _ (wide : Bool) (b : List ℕ) where
   -- the place after the two counts of a block
   abbrev pub after_counts : ℕ → ℕ
-  after_counts at = at + count_size + 2
+  after_counts at = at + count_size wide + 2
 
   -- how often the block at a place repeats what is in it
   abbrev pub repeat_count : ℕ → ℕ
-  repeat_count at = number_at b at count_size
+  repeat_count at = number_at b at (count_size wide)
 
   -- how many blocks are in the block at a place
   abbrev pub block_count : ℕ → ℕ
-  block_count at = number_at b (at + count_size) 2
-
-  -- the place after the length byte at a place and that many bytes
-  abbrev pub after_content : ℕ → ℕ
-  after_content at = at + 1 + number_at b at 1
-
-  -- a block with this repeat count, whose length byte and content stand at a place
-  abbrev pub content_at : ℕ → ℕ → Reading
-  content_at count at =
-      if nat_le (at + 1) (length b) && nat_le (after_content at) (length b)
-      then Ok (content count (at + 1) (slice_range b (at + 1) (after_content at)) none, after_content at)
-      else Err BadBlock
+  block_count at = number_at b (at + count_size wide) 2
 
   -- the block at a place, which and all that is in it may have so many levels
   abbrev pub block_at : ℕ → ℕ → Reading
   block_at zero at = Err TooDeep
   block_at (suc levels) at =
       if not (nat_le (after_counts at) (length b)) then Err BadBlock
-      else if nat_eq (block_count at) 0 then content_at (repeat_count at) (after_counts at)
+      else if nat_eq (block_count at) 0 then content_at b (repeat_count at) (after_counts at)
       else repeats_row (repeat_count at) (row_at (block_at levels) (block_count at) (after_counts at))
 
   -- the blocks from a place to the end, at most so many

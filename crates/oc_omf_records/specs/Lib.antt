@@ -3,3 +3,7 @@ pub mod NextEntry
 pub mod Indexes
 pub mod Blocks
 pub mod BlockReading
+pub mod Rows
+pub mod Refusals
+pub mod Shown
+pub mod Counts

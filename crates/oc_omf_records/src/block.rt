@@ -1,25 +1,45 @@
 //! The iterated data of one entry.
-ghost use Rattle.std.specs.Prelude.{◌≡◌};
+ghost use Rattle.std.specs.Prelude.{◌≡◌, ◌^◌, min, IfOk, IfErr, Ok};
+ghost use Rattle.oc_omf_records.specs.Blocks.{size_of};
+ghost use Rattle.oc_omf_records.specs.BlockReading.{blocks_of};
+ghost use Rattle.oc_omf_records.specs.Refusals.{Refuses};
+ghost use Rattle.oc_omf_records.specs.Shown.{shown};
 
-use crate::iterated::Iterated;
-use thiserror::Error;
+use crate::faults::BlockFault;
+use crate::iterated::{Iterated, total_size};
+use crate::reading::read_block;
+use oc_base::View;
+use std::alloc::Global;
 
-/// Why bytes are no iterated data, or are not read.
-#[derive(Clone, Copy, Debug, PartialEq, Eq, Error)]
-pub enum BlockFault {
-    /// A count or a content passes the end.
-    #[error("a block passes the end of its entry")]
-    BadBlock,
-    /// A block is nested more than 32 deep.
-    #[error("blocks are nested more than 32 deep")]
-    TooDeep,
-    /// Memory ran out.
-    #[error("out of memory")]
-    NoMemory,
-}
+/// How deep blocks may be nested.
+pub const MOST_LEVELS: u32 = 32;
 
 /// The blocks of iterated data of one entry (TIS OMF 1.1, "LIDATA"). Contracts see a tree.
 #[derive(Debug, Drop)]
 pub struct Block {
     blocks: Vec<Iterated>,
+}
+
+impl Block {
+    /// The blocks in `view`, which follow one another to its end.
+    pub fn read(alloc: Global, view: &View<'_>, wide: bool) -> Result<Block, BlockFault>
+        ensures well { IfOk result (λ block. blocks_of wide view.now ≡ Ok (shown block)) }
+        ensures refused { IfErr result (λ fault. Refuses fault (blocks_of wide view.now)) }
+    {
+        let mut blocks = Vec::new(alloc);
+        let mut at = 0u64;
+        while at < view.len() {
+            let (block, after) = read_block(alloc, view, wide, MOST_LEVELS, at)?;
+            blocks.push(block)?;
+            at = after;
+        }
+        Ok(Block { blocks })
+    }
+
+    /// How many bytes the blocks stand for, or 2^32 where there are more.
+    pub fn size(&self) -> u64
+        ensures { result ≡ min (size_of (shown self.now)) (2 ^ 32) }
+    {
+        total_size(&self.blocks)
+    }
 }

@@ -1,5 +1,7 @@
 //! One block of iterated data.
-ghost use Rattle.std.specs.Prelude.{◌≡◌};
+ghost use Rattle.std.specs.Prelude.{◌≡◌, min, ◌^◌, ◌*◌};
+ghost use Rattle.oc_omf_records.specs.Blocks.{size_of};
+ghost use Rattle.oc_omf_records.specs.Rows.{row_of, rows_of};
 
 /// A block of iterated data (TIS OMF 1.1, "LIDATA").
 #[derive(Debug, Drop)]
@@ -15,4 +17,36 @@ pub enum Iterated {
         count: u32,
         blocks: Vec<Iterated>,
     },
+}
+
+impl Iterated {
+    /// How many bytes the block stands for, or 2^32 where there are more.
+    #[cycle(size)]
+    pub fn size(&self) -> u64
+        ensures { result ≡ min (size_of (row_of self.now)) (2 ^ 32) }
+    {
+        match self {
+            Iterated::Content { count, bytes, .. } => product(*count, bytes.len() as u64),
+            Iterated::Nested { count, blocks } => product(*count, total_size(blocks)),
+        }
+    }
+}
+
+/// How many bytes the blocks stand for, or 2^32 where there are more.
+#[cycle(size)]
+pub fn total_size(blocks: &[Iterated]) -> u64
+    ensures { result ≡ min (size_of (rows_of blocks.now)) (2 ^ 32) }
+{
+    let mut total = 0u64;
+    for block in blocks {
+        total = (total + block.size()).min(1 << 32);
+    }
+    total
+}
+
+/// The product, or 2^32 where it is larger.
+fn product(count: u32, size: u64) -> u64
+    ensures { result ≡ min (count * size) (2 ^ 32) }
+{
+    u64::from(count).saturating_mul(size).min(1 << 32)
 }

@@ -2,10 +2,13 @@
 #![tactic(auto)]
 
 mod block;
+mod faults;
 mod indexes;
 mod iterated;
+mod reading;
 mod records;
 
-pub use block::{Block, BlockFault};
+pub use block::Block;
+pub use faults::BlockFault;
 pub use indexes::{BadIndex, index};
 pub use records::{Entry, RecordFault, Records};

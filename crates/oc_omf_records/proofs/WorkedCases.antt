@@ -1,6 +1,6 @@
 -- The definitions, computed on bytes that were not made by them.
 use Rattle.std.proofs.Common.{◌≡◌, ℕ, List, [], ◌∷◌, Some, None, Ok, Err, refl, true, false}
-use Rattle.oc_omf_records.specs.declared.block.BlockFault.TheVariants.{BadBlock, TooDeep}
+use Rattle.oc_omf_records.specs.declared.faults.BlockFault.TheVariants.{BadBlock, TooDeep}
 use Rattle.oc_omf_records.specs.Blocks.{Blocks, none, content, nested, denotation, size_of, copies_of}
 use Rattle.oc_omf_records.specs.BlockReading.{blocks_of}
 
