@@ -1,14 +1,15 @@
 //! The iterated data of one entry.
-ghost use Rattle.std.specs.Prelude.{◌≡◌, ◌^◌, min, IfOk, IfErr, Ok};
-ghost use Rattle.oc_omf_records.specs.Blocks.{size_of};
+ghost use Rattle.std.specs.Prelude.{◌≡◌, ◌<◌, ◌^◌, min, IfOk, IfErr, Ok};
+ghost use Rattle.oc_omf_records.specs.Blocks.{denotation, size_of};
 ghost use Rattle.oc_omf_records.specs.BlockReading.{blocks_of};
 ghost use Rattle.oc_omf_records.specs.Refusals.{Refuses};
 ghost use Rattle.oc_omf_records.specs.Shown.{shown};
 
+use crate::expanding::expand_row;
 use crate::faults::BlockFault;
 use crate::iterated::{Iterated, total_size};
 use crate::reading::read_block;
-use oc_base::View;
+use oc_base::{Bytes, NoMemory, View};
 use std::alloc::Global;
 
 /// How deep blocks may be nested.
@@ -41,5 +42,15 @@ impl Block {
         ensures { result ≡ min (size_of (shown self.now)) (2 ^ 32) }
     {
         total_size(&self.blocks)
+    }
+
+    /// The bytes that the blocks stand for.
+    pub fn expand(&self, alloc: Global) -> Result<Bytes, NoMemory>
+        requires { size_of (shown self.now) < 2 ^ 31 }
+        ensures { IfOk result (λ bytes. bytes ≡ denotation (shown self.now)) }
+    {
+        let mut out = Vec::with_capacity(alloc, self.size() as usize)?;
+        expand_row(&self.blocks, &mut out)?;
+        Ok(Bytes::from_vec(out))
     }
 }

@@ -2,6 +2,7 @@
 #![tactic(auto)]
 
 mod block;
+mod expanding;
 mod faults;
 mod indexes;
 mod iterated;
