@@ -1,3 +1,5 @@
+pub mod CopyLemmas
 pub mod ReadingLemmas
 pub mod RowLemmas
+pub mod SeekingLemmas
 mod WorkedCases

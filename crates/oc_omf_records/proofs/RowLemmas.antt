@@ -1,9 +1,9 @@
 -- Rows of blocks that are put together.
-use Rattle.std.proofs.Common.{◌≡◌, ℕ, zero, suc, ◌+◌, ◌-◌, ◌*◌, ◌^◌, ◌<◌, ◌≤◌, min, List, [], ◌∷◌, ◌++◌, length, get_or, take, map, refl, sym, ◌∙◌, ap, subst, arith, length-append, drop, slice_range, Option, Some, None, option_map}
+use Rattle.std.proofs.Common.{rules, ◌≡◌, ℕ, zero, suc, ◌+◌, ◌-◌, ◌*◌, ◌^◌, ◌<◌, ◌≤◌, min, Vec, Global, List, [], ◌∷◌, ◌++◌, length, get_or, take, map, refl, sym, ◌∙◌, ap, subst, arith, length-append, drop, slice_range, Option, Some, None, option_map}
 use Rattle.std.proofs.lemmas.List.{take_more, append-nil, append_assoc, length-take-le, length-drop}
 use Rattle.std.proofs.Math.Seq.{drop-append_seam, take-append_seam, take-length, drop-length}
-use Rattle.oc_omf_records.specs.declared.iterated.Iterated.{Iterated}
-use Rattle.oc_omf_records.specs.Blocks.{Blocks, none, content, nested, append, repeated, denotation, size_of, moved, in_each, copies_of, lie_in}
+use Rattle.oc_omf_records.specs.declared.iterated.Iterated.{Iterated, Content, Nested, the_lemmas}
+use Rattle.oc_omf_records.specs.Blocks.{Blocks, none, content, nested, append, repeated, denotation, size_of, moved, in_each, copies_of}
 use Rattle.oc_omf_records.specs.Rows.{joined, row_of, rows_of}
 
 -- nothing behind a row
@@ -114,3 +114,32 @@ size_of-take_more blocks i total size next block l is sum_so_far own e =
     let more : rows_of (take (i + 1) blocks) ≡ append (rows_of (take i blocks)) (row_of block)
     = rows_of-take_more blocks i block l ∙ ap (λ x. append (rows_of (take i blocks)) (row_of x)) (sym is) in
     rw (more, size_of-append (rows_of (take i blocks)) (row_of block)) (omega arith)
+
+-- a block of content, and a block of blocks, as a row
+pub row_of-Content : (count place : ℕ) (bytes : Vec ℕ Global) → row_of (Content count place bytes) ≡ content count place bytes.items none
+row_of-Content count place bytes = search (rules, the_lemmas)
+
+pub row_of-Nested : (count : ℕ) (blocks : Vec Iterated Global) → row_of (Nested count blocks) ≡ nested count (rows_of blocks.items) none
+row_of-Nested count blocks = search (rules, the_lemmas)
+
+-- how many blocks there are in a row, those in its blocks among them
+abbrev pub blocks_in : Blocks → ℕ
+blocks_in none = 0
+blocks_in (content count place bytes rest) = 1 + blocks_in rest
+blocks_in (nested count inside rest) = 1 + blocks_in inside + blocks_in rest
+
+pub blocks_in-append : (a b : Blocks) → blocks_in (append a b) ≡ blocks_in a + blocks_in b
+blocks_in-append none b = omega arith
+blocks_in-append (content count place bytes rest) b = omega (arith, blocks_in-append rest b)
+blocks_in-append (nested count inside rest) b = omega (arith, blocks_in-append rest b)
+
+-- a block of some blocks has no more in it than all of them
+pub blocks_in-item : (blocks : List Iterated) (i : ℕ) (block : Iterated) → i < length blocks → block ≡ get_or blocks i block → blocks_in (row_of block) ≤ blocks_in (rows_of blocks)
+blocks_in-item [] i block l is = absurd (omega arith)
+blocks_in-item (first ∷ blocks) zero block l is = rw (blocks_in-append (row_of first) (rows_of blocks), is) (omega arith)
+blocks_in-item (first ∷ blocks) (suc i) block l is =
+    omega (arith, blocks_in-append (row_of first) (rows_of blocks), blocks_in-item blocks i block (omega arith) is)
+
+-- what is in a block has fewer
+pub blocks_in-inside : (block : Iterated) (count : ℕ) (blocks : Vec Iterated Global) → block ≡ Nested count blocks → blocks_in (rows_of blocks.items) < blocks_in (row_of block)
+blocks_in-inside block count blocks is = omega (arith, ap (λ x. blocks_in (row_of x)) is, ap blocks_in (row_of-Nested count blocks))

@@ -39,18 +39,19 @@ abbrev pub in_each : ℕ → ℕ → List ℕ → List ℕ
 in_each zero size places = []
 in_each (suc n) size places = in_each n size places ++ moved (n * size) places
 
--- four bytes at an encoded place lie in these bytes, which stand at a place
-abbrev pub lie_in : ℕ → ℕ → ℕ → Bool
-lie_in at place size = nat_le place at && nat_le (at + 4) (place + size)
+-- where four bytes at an encoded place stand in the content of so many bytes at a place, if it holds them
+abbrev pub in_content : ℕ → ℕ → ℕ → Option (List ℕ)
+in_content at place size = if nat_le place at && nat_le (at + 4) (place + size) then Some ((at - place) ∷ []) else None
+
+-- what is found in some blocks, of so many bytes, or else in those behind them
+abbrev pub found : Option (List ℕ) → ℕ → Option (List ℕ) → Option (List ℕ)
+found (Some places) size later = Some places
+found None size later = option_map (moved size) later
 
 -- where the copies of the four content bytes at an encoded place stand among the bytes of a row, in ascending order; none where no content holds them
 abbrev pub copies_of : Blocks → ℕ → Option (List ℕ)
 copies_of none at = None
 copies_of (content count place bytes rest) at =
-    if lie_in at place (length bytes) then Some (in_each count (length bytes) ((at - place) ∷ []))
-    else option_map (moved (count * length bytes)) (copies_of rest at)
-copies_of (nested count inside rest) at = held count (size_of inside) (copies_of inside at) (copies_of rest at)
-  where
-    held : ℕ → ℕ → Option (List ℕ) → Option (List ℕ) → Option (List ℕ)
-    held count size (Some places) later = Some (in_each count size places)
-    held count size None later = option_map (moved (count * size)) later
+    found (option_map (in_each count (length bytes)) (in_content at place (length bytes))) (count * length bytes) (copies_of rest at)
+copies_of (nested count inside rest) at =
+    found (option_map (in_each count (size_of inside)) (copies_of inside at)) (count * size_of inside) (copies_of rest at)

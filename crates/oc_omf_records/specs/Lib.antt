@@ -7,3 +7,4 @@ pub mod Rows
 pub mod Refusals
 pub mod Shown
 pub mod Counts
+pub mod Seeking

@@ -1,14 +1,16 @@
 //! The iterated data of one entry.
-ghost use Rattle.std.specs.Prelude.{◌≡◌, ◌<◌, ◌^◌, min, IfOk, IfErr, Ok};
-ghost use Rattle.oc_omf_records.specs.Blocks.{denotation, size_of};
+ghost use Rattle.std.specs.Prelude.{◌≡◌, ◌<◌, ◌^◌, min, IfOk, IfErr, Ok, Some};
+ghost use Rattle.oc_omf_records.specs.Blocks.{copies_of, denotation, size_of};
 ghost use Rattle.oc_omf_records.specs.BlockReading.{blocks_of};
-ghost use Rattle.oc_omf_records.specs.Refusals.{Refuses};
+ghost use Rattle.oc_omf_records.specs.Refusals.{Refuses, RefusesCopies};
 ghost use Rattle.oc_omf_records.specs.Shown.{shown};
 
 use crate::expanding::expand_row;
-use crate::faults::BlockFault;
+use crate::faults::{BlockFault, CopyFault};
 use crate::iterated::{Iterated, total_size};
+use crate::places::Places;
 use crate::reading::read_block;
+use crate::seeking::seek_row;
 use oc_base::{Bytes, NoMemory, View};
 use std::alloc::Global;
 
@@ -52,5 +54,19 @@ impl Block {
         let mut out = Vec::with_capacity(alloc, self.size() as usize)?;
         expand_row(&self.blocks, &mut out)?;
         Ok(Bytes::from_vec(out))
+    }
+
+    /// Where the copies of the four content bytes at the encoded place `at` stand among the expanded
+    /// bytes.
+    pub fn copies(&self, alloc: Global, at: u32) -> Result<Places, CopyFault>
+        requires { size_of (shown self.now) < 2 ^ 31 }
+        ensures well { IfOk result (λ places. copies_of (shown self.now) at ≡ Some places) }
+        ensures refused { IfErr result (λ fault. RefusesCopies fault (copies_of (shown self.now) at)) }
+    {
+        let sought = seek_row(alloc, &self.blocks, at, true)?;
+        match sought.places {
+            Some(places) => Ok(Places::from_vec(places)),
+            None => Err(CopyFault::NotContent),
+        }
     }
 }

@@ -17,6 +17,28 @@ pub enum BlockFault {
     NoMemory,
 }
 
+/// Why the copies of content bytes are not given.
+#[derive(Clone, Copy, Debug, PartialEq, Eq, Error)]
+pub enum CopyFault {
+    /// The four bytes do not lie in one content.
+    #[error("the bytes are not of one content")]
+    NotContent,
+    /// Memory ran out.
+    #[error("out of memory")]
+    NoMemory,
+}
+
+impl From<AllocError> for CopyFault {
+    ghost use Rattle.std.specs.Prelude.{◌≡◌};
+    ghost use Rattle.oc_omf_records.specs.declared.faults.CopyFault.TheVariants.{NoMemory};
+
+    ghost from_gives = { λ _ fault. fault ≡ NoMemory };
+
+    fn from(_: AllocError) -> CopyFault {
+        CopyFault::NoMemory
+    }
+}
+
 impl From<OutOfView> for BlockFault {
     ghost use Rattle.std.specs.Prelude.{◌≡◌};
     ghost use Rattle.oc_omf_records.specs.declared.faults.BlockFault.TheVariants.{BadBlock};

@@ -45,7 +45,7 @@ pub fn total_size(blocks: &[Iterated]) -> u64
 }
 
 /// The product, or 2^32 where it is larger.
-fn product(count: u32, size: u64) -> u64
+pub fn product(count: u32, size: u64) -> u64
     ensures { result ≡ min (count * size) (2 ^ 32) }
 {
     u64::from(count).saturating_mul(size).min(1 << 32)

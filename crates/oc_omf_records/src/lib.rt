@@ -6,10 +6,13 @@ mod expanding;
 mod faults;
 mod indexes;
 mod iterated;
+mod places;
 mod reading;
 mod records;
+mod seeking;
 
 pub use block::Block;
-pub use faults::BlockFault;
+pub use faults::{BlockFault, CopyFault};
 pub use indexes::{BadIndex, index};
+pub use places::Places;
 pub use records::{Entry, RecordFault, Records};
