@@ -3,6 +3,9 @@ ghost use Rattle.std.specs.Prelude.{◌≡◌, min, ◌^◌, ◌*◌};
 ghost use Rattle.oc_omf_records.specs.Blocks.{size_of};
 ghost use Rattle.oc_omf_records.specs.Rows.{row_of, rows_of};
 
+/// Where sizes stop: larger ones count as this. Nothing of this size is ever made.
+pub const MOST_BYTES: u64 = 1 << 32;
+
 /// A block of iterated data (TIS OMF 1.1, "LIDATA").
 #[derive(Debug, Drop)]
 pub enum Iterated {
@@ -20,7 +23,7 @@ pub enum Iterated {
 }
 
 impl Iterated {
-    /// How many bytes the block stands for, or 2^32 where there are more.
+    /// How many bytes the block stands for, or 2^32 where there are more. Linear in the block.
     #[cycle(size)]
     pub fn size(&self) -> u64
         ensures { result ≡ min (size_of (row_of self.now)) (2 ^ 32) }
@@ -32,14 +35,14 @@ impl Iterated {
     }
 }
 
-/// How many bytes the blocks stand for, or 2^32 where there are more.
+/// How many bytes the blocks stand for, or 2^32 where there are more. Linear in the blocks.
 #[cycle(size)]
 pub fn total_size(blocks: &[Iterated]) -> u64
     ensures { result ≡ min (size_of (rows_of blocks.now)) (2 ^ 32) }
 {
     let mut total = 0u64;
     for block in blocks {
-        total = (total + block.size()).min(1 << 32);
+        total = (total + block.size()).min(MOST_BYTES);
     }
     total
 }
@@ -48,5 +51,5 @@ pub fn total_size(blocks: &[Iterated]) -> u64
 pub fn product(count: u32, size: u64) -> u64
     ensures { result ≡ min (count * size) (2 ^ 32) }
 {
-    u64::from(count).saturating_mul(size).min(1 << 32)
+    u64::from(count).saturating_mul(size).min(MOST_BYTES)
 }

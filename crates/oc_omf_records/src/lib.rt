@@ -10,6 +10,8 @@ mod places;
 mod reading;
 mod records;
 mod seeking;
+#[cfg(test)]
+mod tests;
 
 pub use block::Block;
 pub use faults::{BlockFault, CopyFault};

@@ -11,6 +11,9 @@ use crate::iterated::Iterated;
 use oc_base::{OutOfView, View};
 use std::alloc::Global;
 
+/// How deep blocks may be nested, which is our profile's limit. A block in no other has one level.
+pub const MOST_LEVELS: u32 = 32;
+
 /// The counts at the front of a block.
 #[derive(Clone, Copy)]
 struct Counts {
@@ -58,7 +61,7 @@ fn read_repeats(view: &View<'_>, wide: bool, at: u64) -> Result<u32, OutOfView>
     Ok(repeats.into())
 }
 
-/// A block of content, whose length byte stands at `at`.
+/// A block of content, whose length byte stands at `at`, and the place after it.
 fn read_content(
     alloc: Global,
     view: &View<'_>,
@@ -86,7 +89,8 @@ fn read_content(
     ))
 }
 
-/// The block at `at`, which and all that is in it may have `levels` levels.
+/// The block at `at`, which with what is in it may have `levels` levels, and the place after it. A
+/// block at one level too many is met before its counts are read.
 #[cycle(reading)]
 pub fn read_block(
     alloc: Global,
@@ -112,7 +116,8 @@ pub fn read_block(
     Ok((Iterated::Nested { count, blocks }, after))
 }
 
-/// So many blocks from `at` on, which and all that is in them may have `levels` levels.
+/// `many` blocks from `at` on, which with what is in them may have `levels` levels, and the place
+/// after them.
 #[cycle(reading)]
 fn read_row(
     alloc: Global,

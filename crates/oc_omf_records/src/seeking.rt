@@ -5,7 +5,7 @@ ghost use Rattle.oc_omf_records.specs.Blocks.{moved, in_each, in_content, found,
 ghost use Rattle.oc_omf_records.specs.Rows.{row_of, rows_of};
 ghost use Rattle.oc_omf_records.specs.Seeking.{Finds, places_in, kept, FitIn};
 
-use crate::iterated::{Iterated, product};
+use crate::iterated::{Iterated, MOST_BYTES, product};
 use std::alloc::{AllocError, Global};
 
 /// What a walk over blocks finds of the copies of four content bytes.
@@ -18,7 +18,8 @@ pub struct Sought {
     pub places: Option<Vec<u32>>,
 }
 
-/// Walks the blocks for the content bytes at `at`. No count of 0 stands around them where `live`.
+/// Walks the blocks for the four content bytes at `at`, an encoded place. No count of 0 stands around
+/// the blocks exactly where `live`; else no place is computed.
 #[cycle(seeking)]
 pub fn seek_row(
     alloc: Global,
@@ -40,7 +41,7 @@ pub fn seek_row(
     Ok(sought)
 }
 
-/// Walks the block for the content bytes at `at`.
+/// Walks the block for the four content bytes at `at`.
 #[cycle(seeking)]
 fn seek_block(alloc: Global, block: &Iterated, at: u32, live: bool) -> Result<Sought, AllocError>
     requires { IsTrue live → size_of (row_of block.now) < 2 ^ 31 }
@@ -63,7 +64,7 @@ fn seek_block(alloc: Global, block: &Iterated, at: u32, live: bool) -> Result<So
     }
 }
 
-/// No count of 0 stands around what a block of this repeat count holds.
+/// Whether no count of 0 stands around what is in a block with this repeat count.
 fn is_live(live: bool, count: u32) -> bool
     ensures { result ≡ (live && nat_lt 0 count) }
 {
@@ -99,7 +100,7 @@ fn followed(before: Sought, own: Sought) -> Sought
     ensures places { places_in result.places ≡ found (places_in before.places) before.size (places_in own.places) }
 {
     let Sought { size, places } = before;
-    let total = (size + own.size).min(1 << 32);
+    let total = (size + own.size).min(MOST_BYTES);
     match places {
         Some(places) => Sought {
             size: total,
