@@ -8,3 +8,4 @@ pub mod Refusals
 pub mod Shown
 pub mod Counts
 pub mod Seeking
+pub mod Copies

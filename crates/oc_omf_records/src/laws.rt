@@ -1,0 +1,13 @@
+//! What holds of all blocks that are read.
+ghost use Rattle.oc_omf_records.specs.Copies.{CopiesAreCopies, SizesAreLengths};
+
+/// At each place that `Block::copies` gives stand the four bytes that it was asked for, and no two
+/// of the copies meet.
+pub fn copies_are_copies()
+    ensures { CopiesAreCopies }
+{}
+
+/// As many bytes are expanded as the size says.
+pub fn sizes_are_lengths()
+    ensures { SizesAreLengths }
+{}
