@@ -1,5 +1,6 @@
 pub mod CopyLaws
 pub mod CopyLemmas
+pub mod EncodingLaws
 pub mod ReadingLemmas
 pub mod RowLemmas
 pub mod SeekingLemmas

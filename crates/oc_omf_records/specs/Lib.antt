@@ -9,3 +9,4 @@ pub mod Shown
 pub mod Counts
 pub mod Seeking
 pub mod Copies
+pub mod Encoding
