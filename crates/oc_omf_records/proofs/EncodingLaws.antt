@@ -73,8 +73,15 @@ module _ (b : List ℕ) (small : All (λ byte. byte < 256) b) where
       let third : whole / 256 ^ 2 % 256 ≡ get_or b (suc (suc at)) 0 = omega arith in
       let fourth : whole / 256 ^ 3 % 256 ≡ get_or b (suc (suc (suc at))) 0 = omega arith in
       rw (
-        n, drop-cons b at 0 (omega arith), drop-cons b (suc at) 0 (omega arith), drop-cons b (suc (suc at)) 0 (omega arith), drop-cons b (suc (suc (suc at))) 0 (omega arith),
-        first, second, third, fourth,
+        n,
+        drop-cons b at 0 (omega arith),
+        drop-cons b (suc at) 0 (omega arith),
+        drop-cons b (suc (suc at)) 0 (omega arith),
+        drop-cons b (suc (suc (suc at))) 0 (omega arith),
+        first,
+        second,
+        third,
+        fourth,
       ) refl
 
   bytes-count : (wide : Bool) (at : ℕ) → at + count_size wide ≤ length b → bytes_of_number (count_size wide) (number_at b at (count_size wide)) ≡ slice_range b at (at + count_size wide)
@@ -102,7 +109,7 @@ Written-append wide b levels n k total at m end row next e left right = record {
   forward = let l : at + n ≤ m = left.forward in let r : m + k ≤ end = right.forward in omega arith;
   inside = right.inside;
   bytes = encoded-append wide row next ∙ rw (left.bytes, right.bytes)
-  (slice-join b at m end (let l : at + n ≤ m = left.forward in omega arith) (let r : m + k ≤ end = right.forward in omega arith) left.inside);
+      (slice-join b at m end (let l : at + n ≤ m = left.forward in omega arith) (let r : m + k ≤ end = right.forward in omega arith) left.inside);
   many = omega (arith, row_length-append row next, left.many, right.many);
   deep = let l : levels_of row ≤ levels = left.deep in let r : levels_of next ≤ levels = right.deep in omega (arith, levels_of-append row next);
 }
@@ -149,8 +156,8 @@ module _ (wide : Bool) (b : List ℕ) (small : All (λ byte. byte < 256) b) wher
             forward = omega arith;
             inside = all;
             bytes = rw (append-nil (slice_range b (p + 1) end), rest, zero_in, count)
-            (ap (λ xs. slice_range b at (at + count_size wide) ++ xs) (slice-join b (at + count_size wide) p end (omega arith) (omega arith) counts)
-            ∙ slice-join b at (at + count_size wide) end (omega arith) (omega arith) (omega arith));
+                (ap (λ xs. slice_range b at (at + count_size wide) ++ xs) (slice-join b (at + count_size wide) p end (omega arith) (omega arith) counts)
+                ∙ slice-join b at (at + count_size wide) end (omega arith) (omega arith) (omega arith));
             many = omega arith;
             deep = omega arith;
           })
@@ -170,8 +177,8 @@ module _ (wide : Bool) (b : List ℕ) (small : All (λ byte. byte < 256) b) wher
         forward = omega arith;
         inside = all.inside;
         bytes = rw (append-nil (encoded wide r.0), all.bytes, many, count)
-        (ap (λ xs. slice_range b at (at + count_size wide) ++ xs) (slice-join b (at + count_size wide) p end (omega arith) (omega arith) counts)
-        ∙ slice-join b at (at + count_size wide) end (omega arith) (omega arith) (omega arith));
+            (ap (λ xs. slice_range b at (at + count_size wide) ++ xs) (slice-join b (at + count_size wide) p end (omega arith) (omega arith) counts)
+            ∙ slice-join b at (at + count_size wide) end (omega arith) (omega arith) (omega arith));
         many = omega arith;
         deep = omega arith;
       }

@@ -5,3 +5,4 @@ pub mod ReadingLemmas
 pub mod RowLemmas
 pub mod SeekingLemmas
 mod WorkedCases
+pub mod WrittenLaws

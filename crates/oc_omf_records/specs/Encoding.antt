@@ -1,5 +1,5 @@
 -- Iterated data as they are written (TIS OMF 1.1, "LIDATA: Logical Iterated Data Record").
-use Rattle.std.specs.Prelude.{ℕ, ◌≡◌, ◌+◌, ◌<◌, ◌≤◌, max, Bool, List, [], ◌∷◌, ◌++◌, length, All, Ok}
+use Rattle.std.specs.Prelude.{ℕ, ◌≡◌, ◌+◌, ◌^◌, ◌<◌, ◌≤◌, max, Bool, List, [], ◌∷◌, ◌++◌, length, All, Ok}
 use Rattle.oc_base.specs.Numbers.{bytes_of_number}
 use Rattle.oc_omf_records.specs.Blocks.{Blocks, none, content, nested}
 use Rattle.oc_omf_records.specs.BlockReading.{count_size, blocks_of}
@@ -28,3 +28,16 @@ encoded wide (nested count inside rest) =
 abbrev pub ReadingIsWritten : Type 0
 ReadingIsWritten = (wide : Bool) (b : List ℕ) (row : Blocks) → All (λ byte. byte < 256) b → blocks_of wide b ≡ Ok row
     → (encoded wide row ≡ b) × (levels_of row ≤ 32)
+
+-- a row can be written at a place: its counts and lengths fit their fields, a block of blocks has some, and each content says where it stands
+abbrev pub CanBeWritten : Bool → ℕ → Blocks → Type 0
+CanBeWritten wide at none = Unit {0}
+CanBeWritten wide at (content count place bytes rest) =
+    (count < 256 ^ count_size wide) × (length bytes < 256) × (place ≡ at + count_size wide + 3) × CanBeWritten wide (place + length bytes) rest
+CanBeWritten wide at (nested count inside rest) =
+    let begin = at + count_size wide + 2 in
+    (count < 256 ^ count_size wide) × (0 < row_length inside) × (row_length inside < 65536) × CanBeWritten wide begin inside × CanBeWritten wide (begin + length (encoded wide inside)) rest
+
+-- a row that is written, with at most 32 levels, is read as it is
+abbrev pub WrittenIsRead : Type 0
+WrittenIsRead = (wide : Bool) (row : Blocks) → CanBeWritten wide 0 row → levels_of row ≤ 32 → blocks_of wide (encoded wide row) ≡ Ok row
