@@ -1,12 +1,10 @@
 -- Where the copies of content bytes stand.
-use Rattle.std.proofs.Common.{◌≡◌, ℕ, zero, suc, ◌+◌, ◌-◌, ◌*◌, ◌<◌, ◌≤◌, Bool, true, false, ◌&&◌, nat_lt, nat_le, IsTrue, List, [], ◌∷◌, ◌++◌, length, map, All, Vec, Global, refl, sym, ◌∙◌, ap, subst, arith, Option, Some, None}
-use Rattle.std.specs.Option.{option_map, ForSome}
+use Rattle.std.proofs.Common.{◌≡◌, ℕ, zero, suc, ◌+◌, ◌-◌, ◌*◌, ◌<◌, Bool, true, false, ◌&&◌, nat_lt, nat_le, IsTrue, List, [], ◌∷◌, length, All, refl, sym, ◌∙◌, ap, arith, Option, Some, None}
+use Rattle.std.specs.Option.{option_map}
 use Rattle.std.proofs.lemmas.Bool.Decides.{nat_tests}
 use Rattle.std.proofs.lemmas.List.Elements.{All-nil, All-cons, All-append, All-map, All-weaker}
-use Rattle.oc_omf_records.specs.declared.seeking.Sought.{Sought}
 use Rattle.oc_omf_records.specs.Blocks.{Blocks, none, content, nested, append, size_of, moved, in_each, in_content, found, copies_of}
-use Rattle.oc_omf_records.specs.Seeking.{Finds, places_in, kept, FitIn}
-use Rattle.oc_omf_records.proofs.RowLemmas.{size_of-append}
+use Rattle.oc_omf_records.specs.Seeking.{kept}
 
 -- moved by nothing
 pub moved-nothing : (places : List ℕ) → moved 0 places ≡ places

@@ -1,12 +1,10 @@
 -- What is read is what was written.
-use Rattle.std.proofs.Common.{◌≡◌, ◌≢◌, ℕ, zero, suc, ◌+◌, ◌-◌, ◌*◌, ◌/◌, ◌%◌, ◌^◌, ◌<◌, ◌≤◌, max, Bool, true, false, ◌&&◌, nat_lt, nat_eq, nat_le, List, [], ◌∷◌, ◌++◌, length, get_or, take, drop, slice_range, All, refl, sym, ◌∙◌, ap, subst, arith, length-append, Result, Ok, Err}
+use Rattle.std.proofs.Common.{◌≡◌, ℕ, zero, suc, ◌+◌, ◌-◌, ◌*◌, ◌/◌, ◌%◌, ◌^◌, ◌<◌, ◌≤◌, max, Bool, true, false, ◌&&◌, nat_lt, nat_eq, nat_le, List, [], ◌∷◌, ◌++◌, length, get_or, take, drop, slice_range, All, refl, sym, ◌∙◌, ap, subst, arith, Ok, Err}
 use Rattle.std.proofs.lemmas.Bool.Decides.{nat_tests}
 use Rattle.std.proofs.lemmas.List.{append_assoc, append-nil, length-take-le, length-drop}
 use Rattle.std.proofs.lemmas.List.Folds.{drop_split}
 use Rattle.std.proofs.Math.Seq.{drop-cons, take-append-add, take-length}
 use Rattle.oc_base.specs.Numbers.{number_at, bytes_of_number}
-use Rattle.oc_omf_records.specs.declared.faults.BlockFault.{BlockFault}
-use Rattle.oc_omf_records.specs.declared.faults.BlockFault.TheVariants.{BadBlock, TooDeep, NoMemory}
 use Rattle.oc_omf_records.specs.Blocks.{Blocks, none, content, nested, append}
 use Rattle.oc_omf_records.specs.BlockReading.{Reading, in_front, followed, row_at, repeats_row, count_size, content_at, after_content, after_counts, block_count, repeat_count, block_at, rest_at, blocks_of}
 use Rattle.oc_omf_records.specs.Encoding.{row_length, levels_of, encoded, ReadingIsWritten}

@@ -5,8 +5,8 @@ use Rattle.oc_omf_records.specs.declared.faults.BlockFault.{BlockFault}
 use Rattle.oc_omf_records.specs.declared.faults.BlockFault.TheVariants.{BadBlock, TooDeep, NoMemory}
 use Rattle.oc_omf_records.specs.declared.iterated.Iterated.{Iterated}
 use Rattle.oc_omf_records.specs.declared.reading.Counts.{Counts}
-use Rattle.oc_omf_records.specs.Blocks.{Blocks, none, content, nested, append}
-use Rattle.oc_omf_records.specs.BlockReading.{Reading, in_front, followed, row_at, repeats_row, content_at, after_counts, block_count, repeat_count, block_at, rest_at, blocks_of}
+use Rattle.oc_omf_records.specs.Blocks.{Blocks, none, append}
+use Rattle.oc_omf_records.specs.BlockReading.{Reading, in_front, row_at, repeats_row, content_at, after_counts, block_count, block_at, rest_at, blocks_of}
 use Rattle.oc_omf_records.specs.Counts.{counts_at}
 use Rattle.oc_omf_records.specs.Refusals.{Refuses}
 use Rattle.oc_omf_records.specs.Rows.{row_of, rows_of}

@@ -1,10 +1,10 @@
 -- Rows of blocks that are put together.
-use Rattle.std.proofs.Common.{rules, ◌≡◌, ℕ, zero, suc, ◌+◌, ◌-◌, ◌*◌, ◌^◌, ◌<◌, ◌≤◌, min, Vec, Global, List, [], ◌∷◌, ◌++◌, length, get_or, take, map, refl, sym, ◌∙◌, ap, subst, arith, length-append, drop, slice_range, Option, Some, None, option_map}
+use Rattle.std.proofs.Common.{rules, ◌≡◌, ℕ, zero, suc, ◌+◌, ◌-◌, ◌*◌, ◌^◌, ◌<◌, ◌≤◌, min, Vec, Global, List, [], ◌∷◌, ◌++◌, length, get_or, take, refl, sym, ◌∙◌, ap, arith, length-append, drop, slice_range}
 use Rattle.std.proofs.lemmas.List.{take_more, append-nil, append_assoc, length-take-le, length-drop}
 use Rattle.std.proofs.Math.Seq.{drop-append_seam, take-append_seam, take-length, drop-length}
 use Rattle.oc_omf_records.specs.declared.iterated.Iterated.{Iterated, Content, Nested, the_lemmas}
-use Rattle.oc_omf_records.specs.Blocks.{Blocks, none, content, nested, append, repeated, denotation, size_of, moved, in_each, copies_of}
-use Rattle.oc_omf_records.specs.Rows.{joined, row_of, rows_of}
+use Rattle.oc_omf_records.specs.Blocks.{Blocks, none, content, nested, append, repeated, denotation, size_of}
+use Rattle.oc_omf_records.specs.Rows.{row_of, rows_of}
 
 -- nothing behind a row
 pub append-none : (row : Blocks) → append row none ≡ row

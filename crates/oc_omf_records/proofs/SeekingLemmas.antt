@@ -1,12 +1,12 @@
 -- What a walk over blocks finds.
-use Rattle.std.proofs.Common.{◌≡◌, ℕ, zero, suc, ◌+◌, ◌-◌, ◌*◌, ◌^◌, ◌<◌, ◌≤◌, min, Bool, true, false, ◌&&◌, nat_lt, IsTrue, List, [], ◌∷◌, length, get_or, take, drop, map, All, IfOk, Vec, Global, Result, Ok, Err, refl, sym, ◌∙◌, ap, subst, arith, Option, Some, None}
+use Rattle.std.proofs.Common.{◌≡◌, ℕ, zero, suc, ◌+◌, ◌*◌, ◌^◌, ◌<◌, ◌≤◌, min, Bool, true, false, ◌&&◌, nat_lt, IsTrue, List, [], ◌∷◌, length, get_or, take, All, IfOk, Vec, Global, Result, Ok, Err, refl, sym, ◌∙◌, ap, subst, arith, Option, Some, None}
 use Rattle.std.specs.Option.{option_map, ForSome}
 use Rattle.std.proofs.lemmas.Bool.Decides.{nat_tests}
 use Rattle.std.proofs.lemmas.List.Elements.{All-nil, All-weaker}
 use Rattle.oc_omf_records.specs.declared.iterated.Iterated.{Iterated}
 use Rattle.oc_omf_records.specs.declared.seeking.Sought.{Sought}
-use Rattle.oc_omf_records.specs.Blocks.{Blocks, none, content, nested, append, size_of, moved, in_each, in_content, found, copies_of}
-use Rattle.oc_omf_records.specs.Rows.{joined, row_of, rows_of}
+use Rattle.oc_omf_records.specs.Blocks.{Blocks, none, content, nested, append, size_of, in_each, in_content, found, copies_of}
+use Rattle.oc_omf_records.specs.Rows.{row_of, rows_of}
 use Rattle.oc_omf_records.specs.Seeking.{Finds, places_in, kept, FitIn}
 use Rattle.oc_omf_records.proofs.RowLemmas.{size_of-append, rows_of-take_more, capped_product}
 use Rattle.oc_omf_records.proofs.CopyLemmas.{in_each-nothing, found-last, copies_of-append, copies_of-within, in_content-within, IsWithin, kept-found, kept-in_each, kept-repeated}

@@ -1,6 +1,6 @@
 -- Reading iterated data (TIS OMF 1.1, "LIDATA: Logical Iterated Data Record"): a block is a repeat count, a block count
 -- of two bytes, and then a length byte with that many bytes where the block count is 0, else that many blocks.
-use Rattle.std.specs.Prelude.{ℕ, zero, suc, ◌+◌, Bool, true, false, not, ◌&&◌, nat_eq, nat_lt, nat_le, if◌then◌else◌, List, length, slice_range, Result, Ok, Err}
+use Rattle.std.specs.Prelude.{ℕ, zero, suc, ◌+◌, Bool, not, ◌&&◌, nat_eq, nat_lt, nat_le, if◌then◌else◌, List, length, slice_range, Result, Ok, Err}
 use Rattle.oc_base.specs.Numbers.{number_at}
 use Rattle.oc_omf_records.specs.declared.faults.BlockFault.{BlockFault}
 use Rattle.oc_omf_records.specs.declared.faults.BlockFault.TheVariants.{BadBlock, TooDeep}

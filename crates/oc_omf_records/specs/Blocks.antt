@@ -1,5 +1,5 @@
 -- Iterated data (TIS OMF 1.1, "LIDATA: Logical Iterated Data Record").
-use Rattle.std.specs.Prelude.{ℕ, zero, suc, ◌+◌, ◌*◌, ◌-◌, ◌≤◌, Bool, ◌&&◌, nat_le, if◌then◌else◌, max, List, [], ◌∷◌, ◌++◌, length, map, Option, Some, None, option_map}
+use Rattle.std.specs.Prelude.{ℕ, zero, suc, ◌+◌, ◌*◌, ◌-◌, ◌&&◌, nat_le, if◌then◌else◌, List, [], ◌∷◌, ◌++◌, length, map, Option, Some, None, option_map}
 
 -- blocks in a row: none; a block of content, whose bytes stand at a place of the encoded data, and the row behind it; or a block of blocks and the row behind it
 pub data Blocks : Type 0 where

@@ -1,5 +1,5 @@
 -- The entry at a place of a module (TIS OMF 1.1, "Record Format"): a type byte, a length of two bytes, that many bytes.
-use Rattle.std.specs.Prelude.{ℕ, ◌+◌, ◌-◌, ◌%◌, Bool, true, false, not, ◌&&◌, ◌||◌, nat_eq, nat_lt, nat_le, if◌then◌else◌, List, length, sum, slice_index, slice_range, Option, Some, None, Result, Ok, Err}
+use Rattle.std.specs.Prelude.{ℕ, ◌+◌, ◌-◌, ◌%◌, Bool, not, ◌&&◌, ◌||◌, nat_eq, nat_lt, nat_le, if◌then◌else◌, List, length, sum, slice_index, slice_range, Option, Some, None, Result, Ok, Err}
 use Rattle.oc_base.specs.Numbers.{number_at}
 use Rattle.oc_omf_records.specs.declared.records.Entry.{Entry}
 use Rattle.oc_omf_records.specs.declared.records.RecordFault.{RecordFault}

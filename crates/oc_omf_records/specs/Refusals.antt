@@ -1,5 +1,5 @@
 -- Refusals of iterated data; want of memory may come anywhere.
-use Rattle.std.specs.Prelude.{ℕ, ◌≡◌, List, Option, None, Result, Ok, Err}
+use Rattle.std.specs.Prelude.{ℕ, ◌≡◌, List, Option, None, Result, Err}
 use Rattle.oc_omf_records.specs.declared.faults.BlockFault.{BlockFault}
 use Rattle.oc_omf_records.specs.declared.faults.BlockFault.TheVariants.{BadBlock, TooDeep, NoMemory}
 use Rattle.oc_omf_records.specs.declared.faults.CopyFault.{CopyFault}

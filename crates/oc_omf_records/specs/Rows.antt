@@ -1,5 +1,5 @@
 -- What the program's tree of blocks shows.
-use Rattle.std.specs.Prelude.{ℕ, ◌^◌, min, List, [], ◌∷◌, map}
+use Rattle.std.specs.Prelude.{List, [], ◌∷◌, map}
 use Rattle.oc_omf_records.specs.declared.iterated.Iterated.{Iterated}
 use Rattle.oc_omf_records.specs.declared.iterated.Iterated.TheOpen.{Iterated-F, Content, Nested}
 use Rattle.oc_omf_records.specs.declared.iterated.Iterated.TheFolds.{fold-Iterated}

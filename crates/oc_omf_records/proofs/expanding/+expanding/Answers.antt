@@ -1,5 +1,3 @@
-use Rattle.std.proofs.Common.{◌≡◌, ◌++◌, ◌∙◌, ap}
-use Rattle.std.proofs.lemmas.List.{append_assoc}
 use Rattle.oc_omf_records.proofs.RowLemmas.{denotation-behind}
 use Rattle.oc_omf_records.proofs.expanding.+expanding.Goals as goal
 

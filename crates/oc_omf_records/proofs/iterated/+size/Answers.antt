@@ -1,4 +1,3 @@
-use Rattle.std.proofs.Common.{rules}
 use Rattle.oc_omf_records.proofs.RowLemmas.{size_of-take_more}
 use Rattle.oc_omf_records.proofs.iterated.+size.Goals as goal
 

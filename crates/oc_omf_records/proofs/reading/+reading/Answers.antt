@@ -1,4 +1,4 @@
-use Rattle.std.proofs.Common.{rules, ◌≡◌, ap, ◌∙◌, Ok, Err}
+use Rattle.std.proofs.Common.{rules, ap, ◌∙◌}
 use Rattle.std.proofs.lemmas.Result.{err_from_is_err_and}
 use Rattle.oc_omf_records.specs.BlockReading.{repeats_row}
 use Rattle.oc_omf_records.proofs.RowLemmas.{rows_of-push}

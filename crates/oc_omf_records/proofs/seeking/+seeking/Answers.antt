@@ -1,10 +1,9 @@
-use Rattle.std.proofs.Common.{rules, ◌≡◌, ◌+◌, ◌*◌, ◌^◌, ◌<◌, ◌≤◌, ◌∙◌, sym, ap, arith, IfOk, take, subst, length}
-use Rattle.oc_omf_records.specs.declared.iterated.Iterated.{Content, Nested}
-use Rattle.oc_omf_records.specs.Blocks.{Blocks, none, content, nested, append, size_of, in_content}
+use Rattle.std.proofs.Common.{◌≡◌, ◌+◌, ◌∙◌, sym, ap, arith, take, subst, length}
+use Rattle.oc_omf_records.specs.Blocks.{append, size_of, in_content}
 use Rattle.oc_omf_records.specs.Rows.{row_of, rows_of}
 use Rattle.oc_omf_records.specs.Seeking.{Finds, places_in, kept}
 use Rattle.oc_omf_records.proofs.RowLemmas.{rows_of-take_more, row_of-Content, row_of-Nested, blocks_in-item, blocks_in-inside}
-use Rattle.oc_omf_records.proofs.SeekingLemmas.{live_inside, size_of-next, fits_behind, fits_repeated, fits_content, Finds-followed, Finds-repeated, Finds-content}
+use Rattle.oc_omf_records.proofs.SeekingLemmas.{live_inside, size_of-next, fits_behind, fits_repeated, Finds-followed, Finds-repeated, Finds-content}
 use Rattle.oc_omf_records.proofs.seeking.+seeking.Goals as goal
 
 pub seek_block-seek_row-requires : goal.seek_block-seek_row-requires

@@ -1,4 +1,4 @@
-use Rattle.std.proofs.Common.{rules, ◌≡◌, ◌+◌, get_or}
+use Rattle.std.proofs.Common.{rules, ◌+◌}
 use Rattle.std.proofs.lemmas.List.Edits.{map_over_more}
 use Rattle.oc_omf_records.proofs.seeking.moved_by.Goals as goal
 

@@ -1,4 +1,3 @@
-use Rattle.std.proofs.Common.{◌≡◌}
 use Rattle.oc_omf_records.proofs.seeking.repeated.Goals as goal
 
 pub in_each-requires : goal.in_each-requires

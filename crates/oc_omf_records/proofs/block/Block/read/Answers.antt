@@ -1,4 +1,4 @@
-use Rattle.std.proofs.Common.{rules, ◌≡◌, ◌+◌, ◌<◌, ◌≤◌, length, arith}
+use Rattle.std.proofs.Common.{rules, ◌<◌, ◌≤◌, length, arith}
 use Rattle.std.proofs.lemmas.Result.{err_from_is_err_and}
 use Rattle.oc_omf_records.proofs.ReadingLemmas.{Refuses-weaker, rest_at-push, rest_at-at_fault, rest_at-end, blocks_of-ok, blocks_of-err, length-pushed}
 use Rattle.oc_omf_records.proofs.block.Block.read.Goals as goal
