@@ -45,6 +45,10 @@ content_at b count at =
 abbrev pub count_size : Bool → ℕ
 count_size wide = if wide then 4 else 2
 
+-- how deep blocks may be nested, which is our profile's limit
+abbrev pub most_levels : ℕ
+most_levels = 32
+
 module _ (wide : Bool) (b : List ℕ) where
   -- the place after the two counts of a block
   abbrev pub after_counts : ℕ → ℕ
@@ -58,7 +62,7 @@ module _ (wide : Bool) (b : List ℕ) where
   abbrev pub block_count : ℕ → ℕ
   block_count at = number_at b (at + count_size wide) 2
 
-  -- the block at a place, which and all that is in it may have so many levels
+  -- the block at a place, from where blocks may go so many levels down; one below these is met before its counts are read
   abbrev pub block_at : ℕ → ℕ → Reading
   block_at zero at = Err TooDeep
   block_at (suc levels) at =
@@ -66,12 +70,12 @@ module _ (wide : Bool) (b : List ℕ) where
       else if nat_eq (block_count at) 0 then content_at b (repeat_count at) (after_counts at)
       else repeats_row (repeat_count at) (row_at (block_at levels) (block_count at) (after_counts at))
 
-  -- the blocks from a place to the end, at most so many
+  -- the blocks that follow one another from a place to the end, at most so many
   abbrev pub rest_at : ℕ → ℕ → Reading
   rest_at zero at = Ok (none, at)
-  rest_at (suc n) at = if nat_lt at (length b) then followed (block_at 32 at) (rest_at n) else Ok (none, at)
+  rest_at (suc n) at = if nat_lt at (length b) then followed (block_at most_levels at) (rest_at n) else Ok (none, at)
 
-  -- the blocks of the whole, or what is met first that is at fault; a block has at least one byte
+  -- the blocks of the whole, or what is met first that is at fault; there are no more blocks than bytes
   abbrev pub blocks_of : Result Blocks BlockFault
   blocks_of = without_place (rest_at (length b) 0)
     where

@@ -1,4 +1,4 @@
--- What the copies of content bytes are, and that they are where `copies_of` says.
+-- What a copy of content bytes is (TIS OMF 1.1, "LIDATA: Logical Iterated Data Record").
 use Rattle.std.specs.Prelude.{ℕ, ◌≡◌, ◌+◌, ◌<◌, ◌≤◌, Bool, List, length, slice_index, All, Some, Ok}
 use Rattle.std.specs.List.{AllPairs}
 use Rattle.oc_omf_records.specs.Blocks.{Blocks, denotation, size_of, copies_of}
@@ -9,7 +9,7 @@ pub record IsCopy (b : List ℕ) (at : ℕ) (bytes : List ℕ) (place : ℕ) : T
   pub inside : place + 4 ≤ length bytes
   pub same : (j : ℕ) → j < 4 → slice_index bytes (place + j) ≡ slice_index b (at + j)
 
--- places of four bytes each, none of which is of two, in ascending order
+-- the four bytes at each place are none of those at another, and the places ascend
 abbrev pub AreApart : List ℕ → Type 0
 AreApart places = AllPairs (λ p q. p + 4 ≤ q) places
 

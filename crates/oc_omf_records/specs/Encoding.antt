@@ -2,7 +2,7 @@
 use Rattle.std.specs.Prelude.{ℕ, ◌≡◌, ◌+◌, ◌^◌, ◌<◌, ◌≤◌, max, Bool, List, [], ◌∷◌, ◌++◌, length, All, Ok}
 use Rattle.oc_base.specs.Numbers.{bytes_of_number}
 use Rattle.oc_omf_records.specs.Blocks.{Blocks, none, content, nested}
-use Rattle.oc_omf_records.specs.BlockReading.{count_size, blocks_of}
+use Rattle.oc_omf_records.specs.BlockReading.{count_size, most_levels, blocks_of}
 
 -- how many blocks stand in a row
 abbrev pub row_length : Blocks → ℕ
@@ -24,10 +24,10 @@ encoded wide (content count place bytes rest) =
 encoded wide (nested count inside rest) =
     bytes_of_number (count_size wide) count ++ (bytes_of_number 2 (row_length inside) ++ (encoded wide inside ++ encoded wide rest))
 
--- blocks that are read from bytes are written as those bytes, and have at most 32 levels
+-- blocks that are read from bytes are written as those bytes, and are nested no deeper than is allowed
 abbrev pub ReadingIsWritten : Type 0
 ReadingIsWritten = (wide : Bool) (b : List ℕ) (row : Blocks) → All (λ byte. byte < 256) b → blocks_of wide b ≡ Ok row
-    → (encoded wide row ≡ b) × (levels_of row ≤ 32)
+    → (encoded wide row ≡ b) × (levels_of row ≤ most_levels)
 
 -- a row can be written at a place: its counts and lengths fit their fields, a block of blocks has some, and each content says where it stands
 abbrev pub CanBeWritten : Bool → ℕ → Blocks → Type 0
@@ -38,6 +38,6 @@ CanBeWritten wide at (nested count inside rest) =
     let begin = at + count_size wide + 2 in
     (count < 256 ^ count_size wide) × (0 < row_length inside) × (row_length inside < 65536) × CanBeWritten wide begin inside × CanBeWritten wide (begin + length (encoded wide inside)) rest
 
--- a row that is written, with at most 32 levels, is read as it is
+-- a row that is written, and is nested no deeper than is allowed, is read as it is
 abbrev pub WrittenIsRead : Type 0
-WrittenIsRead = (wide : Bool) (row : Blocks) → CanBeWritten wide 0 row → levels_of row ≤ 32 → blocks_of wide (encoded wide row) ≡ Ok row
+WrittenIsRead = (wide : Bool) (row : Blocks) → CanBeWritten wide 0 row → levels_of row ≤ most_levels → blocks_of wide (encoded wide row) ≡ Ok row

@@ -1,4 +1,4 @@
--- What the program's tree of blocks shows.
+-- The program's tree of blocks as a row (TIS OMF 1.1, "LIDATA: Logical Iterated Data Record").
 use Rattle.std.specs.Prelude.{List, [], ◌∷◌, map}
 use Rattle.oc_omf_records.specs.declared.iterated.Iterated.{Iterated}
 use Rattle.oc_omf_records.specs.declared.iterated.Iterated.TheOpen.{Iterated-F, Content, Nested}

@@ -1,4 +1,4 @@
--- What a walk over blocks finds of the copies of four content bytes.
+-- What a walk over blocks finds of the copies of four content bytes (TIS OMF 1.1, "LIDATA: Logical Iterated Data Record").
 use Rattle.std.specs.Prelude.{ℕ, ◌≡◌, ◌<◌, ◌*◌, ◌^◌, min, Bool, true, false, List, [], All, Option, Vec}
 use Rattle.std.specs.Global.{Global}
 use Rattle.std.specs.Option.{option_map}

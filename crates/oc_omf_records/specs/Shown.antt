@@ -1,4 +1,4 @@
--- What contracts see of iterated data that were read.
+-- What contracts see of iterated data that were read (TIS OMF 1.1, "LIDATA: Logical Iterated Data Record").
 use Rattle.oc_omf_records.specs.declared.block.Block.{Block}
 use Rattle.oc_omf_records.specs.Blocks.{Blocks}
 use Rattle.oc_omf_records.specs.Rows.{rows_of}

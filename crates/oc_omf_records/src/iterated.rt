@@ -1,21 +1,21 @@
-//! One block of iterated data.
+//! One block of iterated data, and its size.
 ghost use Rattle.std.specs.Prelude.{◌≡◌, min, ◌^◌, ◌*◌};
 ghost use Rattle.oc_omf_records.specs.Blocks.{size_of};
 ghost use Rattle.oc_omf_records.specs.Rows.{row_of, rows_of};
 
-/// Where sizes stop: larger ones count as this. Nothing of this size is ever made.
+/// Where sizes stop: a larger one counts as this.
 pub const MOST_BYTES: u64 = 1 << 32;
 
-/// A block of iterated data (TIS OMF 1.1, "LIDATA").
+/// A block of iterated data (TIS OMF 1.1, "LIDATA: Logical Iterated Data Record").
 #[derive(Debug, Drop)]
 pub enum Iterated {
-    /// Bytes, so many times. They stand at `place` of the encoded blocks, an offset in bytes.
+    /// Content, `count` times. Its bytes stand at `place` of the encoded blocks, an offset in bytes.
     Content {
         count: u32,
         place: u64,
         bytes: Vec<u8>,
     },
-    /// Blocks in a row, so many times.
+    /// Blocks in a row, the row `count` times.
     Nested {
         count: u32,
         blocks: Vec<Iterated>,

@@ -58,7 +58,7 @@ impl<'a> Model for Records<'a> {
 }
 
 impl<'a> Records<'a> {
-    ghost use Rattle.std.specs.Prelude.{◌≡◌};
+    ghost use Rattle.std.specs.Prelude.{◌≡◌, ◌<◌, ◌≤◌, length, IfOk, IfSome};
     ghost use Rattle.oc_omf_records.specs.NextEntry.{next_entry, after_next};
 
     /// The entries of the module in `view`, from its front. Constant time, no memory.
@@ -75,6 +75,10 @@ impl<'a> Records<'a> {
     pub fn next(&mut self) -> Result<Option<Entry<'a>>, RecordFault>
         ensures answer { result ≡ next_entry self.old }
         ensures after { self.new ≡ after_next self.old }
+
+        // A walk over the entries goes forward, and ends.
+        ensures forward { IfOk result (λ answer. IfSome answer (λ _. self.old.place < self.new.place)) }
+        ensures inside { self.new.place ≤ length self.new.bytes }
     {
         if self.at == self.view.len() {
             return Ok(None);
