@@ -1,0 +1,8 @@
+pub mod CopyLaws
+pub mod CopyLemmas
+pub mod EncodingLaws
+pub mod ReadingLemmas
+pub mod RowLemmas
+pub mod SeekingLemmas
+mod WorkedCases
+pub mod WrittenLaws

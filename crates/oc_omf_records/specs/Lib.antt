@@ -1,0 +1,12 @@
+pub mod Entries
+pub mod NextEntry
+pub mod Indexes
+pub mod Blocks
+pub mod BlockReading
+pub mod Rows
+pub mod Refusals
+pub mod Shown
+pub mod Counts
+pub mod Seeking
+pub mod Copies
+pub mod Encoding
