@@ -1,6 +1,7 @@
 pub mod FlagLaws
 pub mod PackedLaws
 pub mod PlaceLaws
+pub mod SectionWalks
 pub mod SeenLaws
 pub mod StructureLaws
 pub mod TargetLaws

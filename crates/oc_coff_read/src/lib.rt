@@ -2,6 +2,7 @@
 //! symbols and relocated fields, and the canonical file of one section.
 #![tactic(auto)]
 
+mod beyond;
 mod constants;
 mod file_header;
 mod laws;
@@ -9,6 +10,7 @@ mod name;
 mod relocation;
 mod section_aux;
 mod section_header;
+mod sections;
 mod symbol;
 
 pub use constants::{
