@@ -4,5 +4,7 @@ pub mod PlaceLaws
 pub mod SectionWalks
 pub mod SeenLaws
 pub mod StructureLaws
+pub mod SymbolWalks
+pub mod TableWalks
 pub mod TargetLaws
 mod Rows

@@ -12,6 +12,8 @@ mod section_aux;
 mod section_header;
 mod sections;
 mod symbol;
+mod symbols;
+mod tables;
 
 pub use constants::{
     IMAGE_FILE_MACHINE_I386, IMAGE_REL_I386_ABSOLUTE, IMAGE_REL_I386_DIR32, IMAGE_REL_I386_REL32,
@@ -26,3 +28,4 @@ pub use relocation::{RELOCATION_SIZE, Relocation, relocation_at};
 pub use section_aux::{SectionAux, section_aux_at};
 pub use section_header::{SECTION_HEADER_SIZE, SectionHeader, section_header_at};
 pub use symbol::{SYMBOL_SIZE, SymbolEntry, symbol_at};
+pub use tables::tables_lie;

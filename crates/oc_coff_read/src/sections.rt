@@ -49,7 +49,7 @@ pub fn header_of(file: &[u8], number: u16) -> SectionHeader
 }
 
 /// Whether the count of relocation entries stands in the first of them.
-fn is_overflowed(header: SectionHeader) -> bool
+pub fn is_overflowed(header: SectionHeader) -> bool
     ensures { result ≡ sectioning.is_overflowed header }
 {
     has(header.Characteristics, IMAGE_SCN_LNK_NRELOC_OVFL) && header.NumberOfRelocations == 0xFFFF
