@@ -1,3 +1,4 @@
+pub mod FieldWalks
 pub mod FlagLaws
 pub mod PackedLaws
 pub mod PlaceLaws

@@ -4,6 +4,7 @@
 
 mod beyond;
 mod constants;
+mod fields;
 mod file_header;
 mod laws;
 mod name;

@@ -1,5 +1,5 @@
 //! What symbol table entries say, plainly.
-ghost use Rattle.std.specs.Prelude.{◌≡◌, ◌+◌, ◌*◌, ◌<◌, ◌≤◌, not, eqb, length};
+ghost use Rattle.std.specs.Prelude.{◌≡◌, ◌+◌, ◌*◌, ◌<◌, ◌≤◌, not, eqb, length, IsTrue};
 ghost use Rattle.std.specs.List.{list_any};
 ghost use Rattle.oc_coff_read.specs.FileHeader.{file_header_in};
 ghost use Rattle.oc_coff_read.specs.Alignments as aligning;
@@ -33,7 +33,8 @@ pub fn entry_of(file: &[u8], i: u32) -> SymbolEntry
 pub fn is_symbol(file: &[u8], j: u32) -> bool
     requires there { 20 ≤ length file.now }
     requires lies { (file_header_in file.now).PointerToSymbolTable + 18 * (file_header_in file.now).NumberOfSymbols ≤ length file.now }
-    ensures { result ≡ list_any (λ i. eqb i j) (symbolic.numbers_of file.now) }
+    ensures found { result ≡ list_any (λ i. eqb i j) (symbolic.numbers_of file.now) }
+    ensures below { IsTrue result → j < (file_header_in file.now).NumberOfSymbols }
 {
     let count = u64::from(file_header_of(file).NumberOfSymbols);
     let mut i: u64 = 0;
