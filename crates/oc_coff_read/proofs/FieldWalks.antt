@@ -134,13 +134,16 @@ mapped_twice f g (Some x) = refl
 -- the patch of a relocation, from the address of its target
 pub patch_of-field_by : (targets : ℕ → Option Target) (s : ℕ) (contents : List ℕ) (r : Relocation) (p : Placement) (v : Valuation)
     → option_map (patch_of p v) (field_by targets s contents r)
-    ≡ option_and_then (λ a. option_map (λ (f : ℕ → ℕ → ℕ → ℕ). record { width = Four; check = Wrap; residue = f a (number_at contents r.VirtualAddress 4) ((p.site s).address + r.VirtualAddress) }) (value_by r.Type))
+    ≡ option_and_then (λ a. option_map (λ residue. record { width = Four; check = Wrap; residue = residue })
+    (option_map (λ (f : ℕ → ℕ → ℕ → ℕ). f a (number_at contents r.VirtualAddress 4) ((p.site s).address + r.VirtualAddress)) (value_by r.Type)))
     (option_map (λ (t : Target). t.address p v) (targets r.SymbolTableIndex))
 unfolding field_by
 patch_of-field_by targets s contents r p v = by (targets r.SymbolTableIndex)
   where
     by : (t : Option Target) → option_map (patch_of p v) (option_and_then (field_to s contents r) t)
-        ≡ option_and_then (λ a. option_map (λ (f : ℕ → ℕ → ℕ → ℕ). record { width = Four; check = Wrap; residue = f a (number_at contents r.VirtualAddress 4) ((p.site s).address + r.VirtualAddress) }) (value_by r.Type))
+        ≡ option_and_then (λ a. option_map (λ residue. record { width = Four; check = Wrap; residue = residue })
+        (option_map (λ (f : ℕ → ℕ → ℕ → ℕ). f a (number_at contents r.VirtualAddress 4) ((p.site s).address + r.VirtualAddress)) (value_by r.Type)))
         (option_map (λ (t : Target). t.address p v) t)
     by None = refl
     by (Some t) = mapped_twice (patch_of p v) _ (value_by r.Type)
+        ∙ sym (mapped_twice (λ residue. record { width = Four; check = Wrap; residue = residue }) (λ (f : ℕ → ℕ → ℕ → ℕ). f (t.address p v) (number_at contents r.VirtualAddress 4) ((p.site s).address + r.VirtualAddress)) (value_by r.Type))

@@ -1,6 +1,7 @@
 pub mod FieldWalks
 pub mod FlagLaws
 pub mod PackedLaws
+pub mod PatchWalks
 pub mod PlaceLaws
 pub mod SectionWalks
 pub mod SeenLaws

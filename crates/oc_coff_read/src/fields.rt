@@ -1,11 +1,9 @@
 //! The relocated fields of a file at one placement, plainly: slow, and right by their contracts.
-ghost use Rattle.std.specs.Prelude.{◌≡◌, ℕ, ◌+◌, ◌*◌, ◌^◌, ◌<◌, ◌≤◌, ◌++◌, length, find, filter_map, slice_index, IfOk, IsTrue};
+ghost use Rattle.std.specs.Prelude.{◌≡◌, ◌+◌, ◌*◌, ◌^◌, ◌<◌, ◌≤◌, length, find, slice_index, IsTrue};
 ghost use Rattle.std.specs.Option.{option_map, option_and_then};
 ghost use Rattle.oc_base.specs.declared.format.Word.TheVariants.{W32};
 ghost use Rattle.oc_linking.specs.Numbers.{reduced};
 ghost use Rattle.oc_linking.specs.Keeping.{all};
-ghost use Rattle.oc_linking.specs.Linking.{patch_of};
-ghost use Rattle.oc_linking.specs.Plain.{patches_at};
 ghost use Rattle.oc_coff_read.specs.FileHeader.{file_header_in};
 ghost use Rattle.oc_coff_read.specs.Sections as sectioning;
 ghost use Rattle.oc_coff_read.specs.Symbols as symbolic;
@@ -13,20 +11,15 @@ ghost use Rattle.oc_coff_read.specs.Fields as fielding;
 ghost use Rattle.oc_coff_read.specs.Plain as plainly;
 
 use crate::constants::{IMAGE_REL_I386_ABSOLUTE, IMAGE_REL_I386_DIR32, IMAGE_REL_I386_REL32};
-use crate::file_header::file_header_of;
 use crate::relocation::Relocation;
 use crate::section_header::SectionHeader;
 use crate::symbol::SymbolEntry;
-use crate::sections::{
-    entry_at, header_of, is_carried, number_in, position_of, relocation_range,
-};
+use crate::sections::{entry_at, position_of, relocation_range};
 use crate::symbols::{binding_of, entry_of, is_section_symbol, is_symbol};
-use oc_base::NoMemory;
-use oc_linking::{Binding, Check, Patch, PlacedPatch, Value, Width};
-use std::alloc::Global;
+use oc_linking::{Binding, Value};
 
 /// The address at `k`, or 0 past the end.
-fn address_at(addresses: &[u32], k: u32) -> u32
+pub fn address_at(addresses: &[u32], k: u32) -> u32
     ensures { result ≡ slice_index addresses.now k }
 {
     addresses.get(k as usize).copied().unwrap_or(0)
@@ -59,7 +52,7 @@ fn symbol_address(file: &[u8], valued: &[u32], entry: SymbolEntry, j: u32) -> Op
 
 /// The address of what symbol number `j` stands for, at the addresses `placed` of the carried
 /// sections, and `valued` of the symbols by their numbers.
-fn address_of(file: &[u8], placed: &[u32], valued: &[u32], j: u32) -> Option<u32>
+pub fn address_of(file: &[u8], placed: &[u32], valued: &[u32], j: u32) -> Option<u32>
     requires there { 20 ≤ length file.now }
     requires sections { 20 + 40 * (file_header_in file.now).NumberOfSections ≤ length file.now }
     requires symbols { (file_header_in file.now).PointerToSymbolTable + 18 * (file_header_in file.now).NumberOfSymbols ≤ length file.now }
@@ -79,7 +72,7 @@ fn address_of(file: &[u8], placed: &[u32], valued: &[u32], j: u32) -> Option<u32
 /// The value of a relocation type, from the symbol's address, the number in the field, and the
 /// field's address.
 #[tactic(auto, unfolding(crate::specs::Fields::value_by))]
-fn value_by(kind: u16, address: u32, number: u32, place: u64) -> Option<u32>
+pub fn value_by(kind: u16, address: u32, number: u32, place: u64) -> Option<u32>
     requires { place < 2 ^ 63 }
     ensures { result ≡ option_map (λ f. f address number place) (fielding.value_by kind) }
 {
@@ -99,7 +92,7 @@ fn relocates(relocation: Relocation, at: u32) -> bool
 }
 
 /// The first relocation of a section at an offset, of a type other than ABSOLUTE.
-fn first_relocation(file: &[u8], header: SectionHeader, at: u32) -> Option<Relocation>
+pub fn first_relocation(file: &[u8], header: SectionHeader, at: u32) -> Option<Relocation>
     requires { IsTrue (plainly.relocations_lie file.now header) }
     ensures { result ≡ find (fielding.relocates at) (sectioning.relocations_of file.now header) }
 {

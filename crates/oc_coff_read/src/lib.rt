@@ -8,6 +8,7 @@ mod fields;
 mod file_header;
 mod laws;
 mod name;
+mod plain;
 mod relocation;
 mod section_aux;
 mod section_header;
@@ -25,6 +26,7 @@ pub use constants::{
 };
 pub use file_header::{FILE_HEADER_SIZE, FileHeader, file_header_of};
 pub use laws::canonical_reads_back;
+pub use plain::patches;
 pub use relocation::{RELOCATION_SIZE, Relocation, relocation_at};
 pub use section_aux::{SectionAux, section_aux_at};
 pub use section_header::{SECTION_HEADER_SIZE, SectionHeader, section_header_at};
