@@ -16,6 +16,7 @@ pub fn u32_or_zeros(bytes: &[u8], at: u64) -> u32
     ensures { result ≡ number_at bytes.now at 4 }
 {
     let low = u32::from(byte_or_zero(bytes, at)) + 256 * u32::from(byte_or_zero(bytes, at + 1));
-    let high = u32::from(byte_or_zero(bytes, at + 2)) + 256 * u32::from(byte_or_zero(bytes, at + 3));
+    let high = u32::from(byte_or_zero(bytes, at + 2))
+        + 256 * u32::from(byte_or_zero(bytes, at + 3));
     low + 65_536 * high
 }

@@ -13,8 +13,8 @@ ghost use Rattle.oc_coff_read.specs.Plain as plainly;
 use crate::constants::{IMAGE_REL_I386_ABSOLUTE, IMAGE_REL_I386_DIR32, IMAGE_REL_I386_REL32};
 use crate::relocation::Relocation;
 use crate::section_header::SectionHeader;
-use crate::symbol::SymbolEntry;
 use crate::sections::{entry_at, position_of, relocation_range};
+use crate::symbol::SymbolEntry;
 use crate::symbols::{binding_of, entry_of, is_section_symbol, is_symbol};
 use oc_linking::{Binding, Value};
 

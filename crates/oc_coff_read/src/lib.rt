@@ -16,6 +16,8 @@ mod sections;
 mod symbol;
 mod symbols;
 mod tables;
+#[cfg(test)]
+mod tests;
 
 pub use constants::{
     IMAGE_FILE_MACHINE_I386, IMAGE_REL_I386_ABSOLUTE, IMAGE_REL_I386_DIR32, IMAGE_REL_I386_REL32,

@@ -101,8 +101,7 @@ pub fn is_nameless(file: &[u8], entry: SymbolEntry) -> bool
     }
     let offset = u32_in(&entry.Name, 4);
     let header = file_header_of(file);
-    let strings =
-        u64::from(header.PointerToSymbolTable) + 18 * u64::from(header.NumberOfSymbols);
+    let strings = u64::from(header.PointerToSymbolTable) + 18 * u64::from(header.NumberOfSymbols);
     offset == 0 || byte_or_zero(file, strings + u64::from(offset)) == 0
 }
 

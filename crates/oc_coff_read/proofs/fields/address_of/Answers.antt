@@ -18,11 +18,11 @@ returns-then-is_section_symbol c =
     c.section_address.ensures
     ∙ ap (λ (e : SymbolEntry). option_map (λ s. reduced W32 ((placed_at c.args.placed.now).site s).address) (position_of c.args.file.now e.SectionNumber)) c.entry_of-entry.ensures
     ∙ sym (address-section c.args.file.now c.args.j (placed_at c.args.placed.now) (valued_at c.args.valued.now) (sym c.is_symbol.ensures.found ∙ c.if-not-is_symbol.false)
-      (ap is_section_symbol (sym c.entry_of-entry.ensures) ∙ sym c.is_section_symbol.ensures ∙ c.if-is_section_symbol.true))
+    (ap is_section_symbol (sym c.entry_of-entry.ensures) ∙ sym c.is_section_symbol.ensures ∙ c.if-is_section_symbol.true))
 
 pub returns-else-is_section_symbol : goal.returns-else-is_section_symbol
 returns-else-is_section_symbol c =
     c.symbol_address.ensures
     ∙ ap (λ (e : SymbolEntry). option_map (λ n. (valued_at c.args.valued.now c.args.j).site.address) (option_and_then (named_by c.args.j) (binding_of c.args.file.now e))) c.entry_of-entry.ensures
     ∙ sym (address-carried c.args.file.now c.args.j (placed_at c.args.placed.now) (valued_at c.args.valued.now) (binding_of c.args.file.now (entry_of c.args.file.now c.args.j))
-      (sym c.is_symbol.ensures.found ∙ c.if-not-is_symbol.false) (ap is_section_symbol (sym c.entry_of-entry.ensures) ∙ sym c.is_section_symbol.ensures ∙ c.if-is_section_symbol.false) refl)
+    (sym c.is_symbol.ensures.found ∙ c.if-not-is_symbol.false) (ap is_section_symbol (sym c.entry_of-entry.ensures) ∙ sym c.is_section_symbol.ensures ∙ c.if-is_section_symbol.false) refl)
