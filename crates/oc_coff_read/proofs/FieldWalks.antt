@@ -1,6 +1,6 @@
 -- What a relocation's symbol stands for, and the patch of a relocation, case by case.
-use Rattle.std.proofs.Common.{◌≡◌, ℕ, zero, suc, ◌+◌, ◌-◌, ◌*◌, ◌%◌, ◌^◌, ◌<◌, ◌≤◌, ◌≢◌, Bool, true, false, cond, eqb, List, [], ◌∷◌, ◌++◌, length, get_or, Option, Some, None, refl, sym, ◌∙◌, ap, subst, arith}
-use Rattle.std.specs.Prelude.{not, ◌&&◌, ◌||◌, nat_le, filter_map, slice_index}
+use Rattle.std.proofs.Common.{◌≡◌, ℕ, ◌+◌, ◌≤◌, Bool, true, false, cond, eqb, List, Option, Some, None, refl, sym, ◌∙◌, arith}
+use Rattle.std.specs.Prelude.{◌&&◌, nat_le}
 use Rattle.std.specs.List.{list_any}
 use Rattle.std.specs.Option.{option_map, option_and_then}
 use Rattle.std.proofs.lemmas.Bool.{eqb-true, leb-true, ne_eqb}
@@ -8,7 +8,6 @@ use Rattle.oc_base.specs.declared.format.Word.TheVariants.{W32}
 use Rattle.oc_base.specs.Numbers.{number_at}
 use Rattle.oc_linking.specs.declared.terms.Width.TheVariants.{Four}
 use Rattle.oc_linking.specs.declared.terms.Check.TheVariants.{Wrap}
-use Rattle.oc_linking.specs.declared.terms.Patch.{Patch}
 use Rattle.oc_linking.specs.declared.terms.Value.{Value}
 use Rattle.oc_linking.specs.declared.terms.Value.TheVariants.{Place, Absolute}
 use Rattle.oc_linking.specs.declared.terms.Binding.{Binding}
@@ -17,7 +16,7 @@ use Rattle.oc_linking.specs.Numbers.{reduced, or_else}
 use Rattle.oc_linking.specs.Parts.{Symbol}
 use Rattle.oc_linking.specs.Keeping.{all}
 use Rattle.oc_linking.specs.Placing.{Placement}
-use Rattle.oc_linking.specs.Values.{Valuation, numbered}
+use Rattle.oc_linking.specs.Values.{Valuation}
 use Rattle.oc_linking.specs.Linking.{patch_of}
 use Rattle.oc_coff_read.specs.declared.relocation.Relocation.{Relocation}
 use Rattle.oc_coff_read.specs.declared.symbol.SymbolEntry.{SymbolEntry}

@@ -1,12 +1,12 @@
 -- The patches of a file as a list are its fields at a placement.
-use Rattle.std.proofs.Common.{◌≡◌, ℕ, zero, suc, ◌+◌, ◌-◌, ◌*◌, ◌<◌, ◌≤◌, ◌≢◌, ◌⊎◌, inl, inr, Bool, true, false, cond, eqb, List, [], ◌∷◌, ◌++◌, length, get_or, Option, Some, None, map, refl, sym, ◌∙◌, ap, subst, arith, append_assoc, length-append}
-use Rattle.std.specs.Prelude.{◌&&◌, ◌||◌, not, filter_map, find, slice_get, is_some}
+use Rattle.std.proofs.Common.{◌≡◌, ℕ, zero, suc, ◌+◌, ◌-◌, ◌<◌, Bool, true, false, cond, eqb, List, [], ◌∷◌, ◌++◌, length, Option, Some, None, map, refl, sym, ◌∙◌, ap, subst, arith, append_assoc, length-append}
+use Rattle.std.specs.Prelude.{◌&&◌, ◌||◌, filter_map, find, slice_get, is_some}
 use Rattle.std.specs.List.{cons_option, list_any, range_with_len}
 use Rattle.std.specs.Option.{option_map, option_and_then}
 use Rattle.std.proofs.Math.Dec.{eqb-zero-suc, eqb-suc-suc}
 use Rattle.std.proofs.lemmas.Option.{slice_get_past}
 use Rattle.std.proofs.lemmas.List.{append-nil}
-use Rattle.std.proofs.lemmas.Bool.{eq-eqb, eqb-true, ne_eqb, cases_eq}
+use Rattle.std.proofs.lemmas.Bool.{eq-eqb, eqb-true}
 use Rattle.oc_linking.specs.declared.terms.Kind.{Kind}
 use Rattle.oc_linking.specs.declared.terms.Patch.{Patch}
 use Rattle.oc_linking.specs.declared.plain.PlacedPatch.{PlacedPatch}
@@ -15,7 +15,6 @@ use Rattle.oc_linking.specs.Parts.{Section}
 use Rattle.oc_linking.specs.Keeping.{all}
 use Rattle.oc_linking.specs.Linking.{patch_of}
 use Rattle.oc_linking.specs.Plain.{patch_at, patches_at}
-use Rattle.oc_linking.specs.Rules.{Field}
 use Rattle.oc_coff_read.specs.declared.section_header.SectionHeader.{SectionHeader}
 use Rattle.oc_coff_read.specs.declared.relocation.Relocation.{Relocation}
 use Rattle.oc_coff_read.specs.FileHeader.{file_header_in}
@@ -24,7 +23,7 @@ use Rattle.oc_coff_read.specs.Alignments.{align_of}
 use Rattle.oc_coff_read.specs.Names.{section_name}
 use Rattle.oc_coff_read.specs.Sections.{header_of, contents_of, section_of, first_sections, sections_of, relocations_of}
 use Rattle.oc_coff_read.specs.Fields.{relocates, target_of, field_among, fields_of}
-use Rattle.oc_coff_read.specs.Plain.{placed_at, valued_at, patch_in, patch_for, section_patches, patches_upto}
+use Rattle.oc_coff_read.specs.Plain.{placed_at, valued_at, patch_in, section_patches, patches_upto}
 use Rattle.oc_coff_read.proofs.SectionWalks.{filter_map-more}
 use Rattle.oc_coff_read.proofs.TableWalks.{range_with_len-head}
 

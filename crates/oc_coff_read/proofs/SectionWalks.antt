@@ -1,11 +1,9 @@
 -- Walks over section headers.
-use Rattle.std.proofs.Common.{◌≡◌, ℕ, zero, suc, ◌+◌, ◌-◌, ◌*◌, ◌<◌, ◌≤◌, Bool, true, false, cond, eqb, List, [], ◌∷◌, ◌++◌, length, get_or, replicate, Option, Some, None, refl, sym, ◌∙◌, ap, subst, arith, length-append}
+use Rattle.std.proofs.Common.{◌≡◌, ℕ, zero, suc, ◌+◌, ◌-◌, ◌≤◌, true, false, List, [], ◌++◌, length, get_or, replicate, Option, Some, None, refl, ◌∙◌, ap, arith, length-append}
 use Rattle.std.specs.Prelude.{is_some, filter_map}
 use Rattle.std.specs.List.{cons_option, range_with_len}
 use Rattle.std.specs.Option.{option_map}
-use Rattle.std.proofs.lemmas.Bool.{eq-eqb}
 use Rattle.oc_base.specs.Numbers.{number_at}
-use Rattle.oc_linking.specs.declared.terms.Kind.{Kind}
 use Rattle.oc_linking.specs.Parts.{Section}
 use Rattle.oc_coff_read.specs.declared.section_header.SectionHeader.{SectionHeader}
 use Rattle.oc_coff_read.specs.Flags.{kind_of}

@@ -1,4 +1,4 @@
-use Rattle.std.proofs.Common.{◌≡◌, ◌∙◌, sym, ap, refl, true, false}
+use Rattle.std.proofs.Common.{◌∙◌, sym, ap, refl}
 use Rattle.std.specs.Option.{option_map, option_and_then}
 use Rattle.oc_linking.specs.Numbers.{reduced}
 use Rattle.oc_base.specs.declared.format.Word.TheVariants.{W32}
@@ -6,7 +6,7 @@ use Rattle.oc_coff_read.specs.declared.symbol.SymbolEntry.{SymbolEntry}
 use Rattle.oc_coff_read.specs.Plain.{placed_at, valued_at}
 use Rattle.oc_coff_read.specs.Sections.{position_of}
 use Rattle.oc_coff_read.specs.Symbols.{entry_of, binding_of, is_section_symbol}
-use Rattle.oc_coff_read.specs.Fields.{Target, named_by}
+use Rattle.oc_coff_read.specs.Fields.{named_by}
 use Rattle.oc_coff_read.proofs.FieldWalks.{target_of-absent, address-section, address-carried}
 use Rattle.oc_coff_read.proofs.fields.address_of.Goals as goal
 

@@ -1,7 +1,6 @@
-use Rattle.std.proofs.Common.{◌≡◌, ◌∙◌, sym, ap, refl, ◌+◌, ◌-◌, true, false, arith, map, zero, Some}
+use Rattle.std.proofs.Common.{◌≡◌, ◌∙◌, sym, ap, refl, ◌-◌, true, false, arith, map, Some}
 use Rattle.std.specs.Prelude.{find}
-use Rattle.std.specs.List.{range_with_len}
-use Rattle.oc_coff_read.specs.Sections.{entry_at, relocations_of}
+use Rattle.oc_coff_read.specs.Sections.{entry_at}
 use Rattle.oc_coff_read.specs.Fields.{relocates}
 use Rattle.oc_coff_read.proofs.TableWalks.{range_with_len-head}
 use Rattle.oc_coff_read.proofs.fields.first_relocation.Goals as goal

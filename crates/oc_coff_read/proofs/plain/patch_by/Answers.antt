@@ -1,5 +1,4 @@
-use Rattle.std.proofs.Common.{◌≡◌, ◌∙◌, sym, ap, refl, ◌+◌, ℕ, List}
-use Rattle.oc_base.specs.Numbers.{number_at}
+use Rattle.std.proofs.Common.{◌≡◌, refl, ◌+◌}
 use Rattle.oc_linking.specs.Keeping.{all}
 use Rattle.oc_coff_read.specs.Sections.{contents_of}
 use Rattle.oc_coff_read.specs.Fields.{target_of}

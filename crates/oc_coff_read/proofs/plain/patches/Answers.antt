@@ -1,10 +1,10 @@
-use Rattle.std.proofs.Common.{◌≡◌, ◌∙◌, sym, ap, refl, ◌+◌, ◌-◌, ◌++◌, ◌*◌, ◌<◌, ◌≤◌, suc, ℕ, List, arith, subst, length, true, false}
-use Rattle.std.specs.Prelude.{IsTrue, is_some}
+use Rattle.std.proofs.Common.{◌≡◌, ◌∙◌, sym, ap, refl, ◌+◌, suc, ℕ, List, arith, subst, true, false}
+use Rattle.std.specs.Prelude.{is_some}
 use Rattle.oc_linking.specs.Plain.{patches_at}
 use Rattle.oc_coff_read.specs.declared.file_header.FileHeader.{FileHeader}
 use Rattle.oc_coff_read.specs.FileHeader.{file_header_in}
-use Rattle.oc_coff_read.specs.Sections.{header_of, section_of, first_sections}
-use Rattle.oc_coff_read.specs.Plain.{contents_lie, relocations_lie, section_lies, patches_upto}
+use Rattle.oc_coff_read.specs.Sections.{section_of, first_sections}
+use Rattle.oc_coff_read.specs.Plain.{section_lies, patches_upto}
 use Rattle.oc_coff_read.proofs.TableWalks.{Lies, lies, contents-lie, relocations-lie}
 use Rattle.oc_coff_read.proofs.PatchWalks.{patches_upto-passed, patches_upto-fields, count-carried, count-passed}
 use Rattle.oc_coff_read.proofs.plain.patches.Goals as goal

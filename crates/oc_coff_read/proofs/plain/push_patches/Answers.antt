@@ -1,10 +1,7 @@
-use Rattle.std.proofs.Common.{◌≡◌, ◌∙◌, sym, ap, refl, ◌+◌, ◌-◌, ◌++◌, ◌∷◌, [], ℕ, List, Some, None}
-use Rattle.std.specs.Option.{option_map}
-use Rattle.oc_linking.specs.declared.terms.Patch.{Patch}
+use Rattle.std.proofs.Common.{◌≡◌, refl, Some, None}
 use Rattle.oc_linking.specs.declared.plain.PlacedPatch.{PlacedPatch}
-use Rattle.oc_coff_read.specs.declared.relocation.Relocation.{Relocation}
 use Rattle.oc_coff_read.specs.Sections.{entry_at}
-use Rattle.oc_coff_read.specs.Plain.{patch_in, patch_for, section_patches}
+use Rattle.oc_coff_read.specs.Plain.{patch_for}
 use Rattle.oc_coff_read.proofs.PatchWalks.{push-step, pass-step}
 use Rattle.oc_coff_read.proofs.plain.push_patches.Goals as goal
 use Rattle.oc_coff_read.proofs.plain.push_patches.Goals.{in-Some+in_ok-push, in_default}

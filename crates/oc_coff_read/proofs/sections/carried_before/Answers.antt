@@ -1,4 +1,4 @@
-use Rattle.std.proofs.Common.{refl, sym, ◌∙◌, ap, arith, ◌+◌, ◌≤◌, ◌≡◌}
+use Rattle.std.proofs.Common.{refl, sym, ◌∙◌, ap, arith, ◌+◌}
 use Rattle.oc_coff_read.specs.Sections.{first_sections}
 use Rattle.oc_coff_read.proofs.SectionWalks.{length-carried, length-passed}
 use Rattle.oc_coff_read.proofs.sections.carried_before.Goals as goal

@@ -1,7 +1,6 @@
-use Rattle.std.proofs.Common.{◌≡◌, ◌∙◌, ◌||◌, sym, ap, eqb, false, refl, ℕ, ◌+◌, ◌-◌, List, ◌∷◌}
+use Rattle.std.proofs.Common.{◌≡◌, ◌∙◌, sym, ap, eqb, false, refl}
 use Rattle.std.specs.List.{list_any}
 use Rattle.std.proofs.lemmas.Bool.{ne_eqb}
-use Rattle.oc_coff_read.specs.Symbols.{numbers_from, numbers_of}
 use Rattle.oc_coff_read.proofs.SymbolWalks.{numbers_from-next}
 use Rattle.oc_coff_read.proofs.symbols.is_symbol.Goals as goal
 

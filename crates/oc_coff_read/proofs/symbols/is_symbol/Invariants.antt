@@ -1,4 +1,4 @@
-use Rattle.std.proofs.Common.{◌≡◌, ◌+◌, ◌-◌, eqb}
+use Rattle.std.proofs.Common.{◌≡◌, ◌-◌, eqb}
 use Rattle.std.specs.List.{list_any}
 use Rattle.oc_coff_read.specs.Symbols.{numbers_of, numbers_from}
 use Rattle.oc_coff_read.proofs.symbols.is_symbol.Given as goal
