@@ -1,8 +1,8 @@
 -- Packed numbers and padded names read back.
-use Rattle.std.proofs.Common.{◌≡◌, ℕ, zero, suc, ◌+◌, ◌-◌, ◌*◌, ◌^◌, ◌<◌, ◌≤◌, ◌≢◌, Bool, true, false, cond, eqb, List, [], ◌∷◌, ◌++◌, length, get_or, take, drop, replicate, refl, sym, ◌∙◌, ap, subst, arith, append_assoc, length-append}
-use Rattle.std.specs.Prelude.{All, flat_map, not}
-use Rattle.std.specs.List.{sum_by, AllByRecursion, before_first, position_or_len, prefix_len}
-use Rattle.std.proofs.lemmas.List.{take-append-le, length-take-le, take_at}
+use Rattle.std.proofs.Common.{◌≡◌, ℕ, zero, suc, ◌+◌, ◌^◌, ◌<◌, ◌≤◌, ◌≢◌, false, eqb, List, [], ◌∷◌, ◌++◌, length, get_or, take, replicate, refl, ◌∙◌, ap, arith, append_assoc, length-append}
+use Rattle.std.specs.Prelude.{All}
+use Rattle.std.specs.List.{AllByRecursion, position_or_len}
+use Rattle.std.proofs.lemmas.List.{length-take-le, take_at}
 use Rattle.std.proofs.lemmas.Bool.{ne_eqb}
 use Rattle.oc_base.specs.Numbers.{number_at, bytes_of_number}
 use Rattle.oc_base.proofs.NumberLaws.{length-bytes_of_number, number_at-shift, number_at-bytes}

@@ -1,7 +1,6 @@
 -- The parts of the canonical file of an object of code, at their places.
-use Rattle.std.proofs.Common.{◌≡◌, ℕ, zero, suc, ◌+◌, ◌*◌, ◌^◌, ◌<◌, ◌≤◌, Bool, true, false, cond, eqb, List, [], ◌∷◌, ◌++◌, length, get_or, take, drop, replicate, map, refl, sym, ◌∙◌, ap, subst, arith, append_assoc, length-append}
-use Rattle.std.specs.Prelude.{All, flat_map, codes}
-use Rattle.std.specs.List.{range_with_len}
+use Rattle.std.proofs.Common.{◌≡◌, ℕ, zero, suc, ◌+◌, ◌*◌, ◌^◌, ◌<◌, ◌≤◌, true, false, cond, eqb, List, [], ◌∷◌, ◌++◌, length, get_or, take, drop, replicate, refl, sym, ◌∙◌, ap, arith, append_assoc, length-append}
+use Rattle.std.specs.Prelude.{All, flat_map}
 use Rattle.std.proofs.lemmas.List.{take_at}
 use Rattle.std.proofs.lemmas.List.FromFn.{fill_by_all}
 use Rattle.std.proofs.Math.Seq.{drop-append-add}
@@ -10,18 +9,15 @@ use Rattle.std.proofs.Math.Dec.{eqb-suc-zero}
 use Rattle.oc_base.specs.Numbers.{bytes_of_number}
 use Rattle.oc_base.proofs.NumberLaws.{length-bytes_of_number, length-table}
 use Rattle.oc_coff_read.specs.declared.file_header.FileHeader.{FileHeader}
-use Rattle.oc_coff_read.specs.declared.section_header.SectionHeader.{SectionHeader}
-use Rattle.oc_coff_read.specs.declared.symbol.SymbolEntry.{SymbolEntry}
 use Rattle.oc_coff_read.specs.declared.relocation.Relocation.{Relocation}
-use Rattle.oc_coff_read.specs.Packed.{padded}
 use Rattle.oc_coff_read.specs.FileHeader.{file_header_in, file_header_bytes}
-use Rattle.oc_coff_read.specs.SectionHeader.{section_header_in, section_header_bytes}
+use Rattle.oc_coff_read.specs.SectionHeader.{section_header_bytes}
 use Rattle.oc_coff_read.specs.SymbolEntry.{symbol_in, symbol_bytes}
 use Rattle.oc_coff_read.specs.SectionAux.{section_aux_bytes}
 use Rattle.oc_coff_read.specs.Relocation.{relocation_in, relocation_bytes}
 use Rattle.oc_coff_read.specs.Sections.{header_of, contents_of, entry_at, relocations_of}
 use Rattle.oc_coff_read.specs.Symbols.{entry_of}
-use Rattle.oc_coff_read.specs.Canonical.{External, CodeObject, IsCodeObject, IsExternal, FitsEntry, relocs_place, symbols_place, entry_count, pointer_to, code_length, code_header, code_flags, code_section, code_symbol, code_aux, external_entry, external_bytes, code_file}
+use Rattle.oc_coff_read.specs.Canonical.{External, CodeObject, IsCodeObject, IsExternal, relocs_place, symbols_place, pointer_to, code_length, code_header, code_flags, code_section, code_symbol, code_aux, external_entry, external_bytes, code_file}
 use Rattle.oc_coff_read.proofs.FlagLaws.{code_flags_say}
 use Rattle.oc_coff_read.proofs.PackedLaws.{Fit, length-padded}
 use Rattle.oc_coff_read.proofs.StructureLaws.{file_header_numbers, length-file_header_bytes, file_header_in-bytes, section_header_numbers, length-section_header_bytes, section_header_in-bytes, section_header_in-shift, symbol_numbers, length-symbol_bytes, symbol_in-bytes, symbol_in-shift, length-section_aux_bytes, length-relocation_bytes, relocation_in-shift, relocation_in-table}

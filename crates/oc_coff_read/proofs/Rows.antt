@@ -1,5 +1,5 @@
 -- A file of `call foo; ret` computed: main is the section's start, foo is undefined, and REL32 stands at 1.
-use Rattle.std.proofs.Common.{◌≡◌, ℕ, true, false, ◌+◌, List, [], ◌∷◌, ◌++◌, length, Some, None, refl}
+use Rattle.std.proofs.Common.{◌≡◌, ℕ, true, false, ◌+◌, List, [], ◌∷◌, ◌++◌, Some, None, refl}
 use Rattle.std.specs.Prelude.{codes}
 use Rattle.oc_base.specs.declared.format.Word.TheVariants.{W32}
 use Rattle.oc_base.specs.Numbers.{number_at, bytes_of_number}
@@ -8,15 +8,13 @@ use Rattle.oc_linking.specs.declared.terms.Mark.TheVariants.{NoType, Function}
 use Rattle.oc_linking.specs.declared.terms.Visibility.TheVariants.{Default}
 use Rattle.oc_linking.specs.declared.terms.Value.TheVariants.{Place}
 use Rattle.oc_linking.specs.declared.terms.Binding.TheVariants.{Global, Undefined}
-use Rattle.oc_linking.specs.declared.terms.Keep.{Keep}
 use Rattle.oc_linking.specs.declared.terms.Width.TheVariants.{Four}
 use Rattle.oc_linking.specs.declared.terms.Check.TheVariants.{Wrap}
 use Rattle.oc_linking.specs.declared.terms.Hint.TheVariants.{Plain}
 use Rattle.oc_linking.specs.Numbers.{minus}
-use Rattle.oc_linking.specs.Placing.{Site, Placement, Outside, nowhere}
-use Rattle.oc_linking.specs.Rules.{Field, Symbolic}
+use Rattle.oc_linking.specs.Placing.{Placement, Outside}
+use Rattle.oc_linking.specs.Rules.{Symbolic}
 use Rattle.oc_linking.specs.Linking.{Linked, Image, Overflow, link_whole}
-use Rattle.oc_linking.specs.Parts.{Section, Symbol}
 use Rattle.oc_linking.specs.Keeping.{all}
 use Rattle.oc_coff_read.specs.FileHeader.{file_header_in, file_header_bytes}
 use Rattle.oc_coff_read.specs.SectionHeader.{section_header_in, section_header_bytes}
@@ -25,12 +23,12 @@ use Rattle.oc_coff_read.specs.SectionAux.{section_aux_bytes}
 use Rattle.oc_coff_read.specs.Relocation.{relocation_in, relocation_bytes}
 use Rattle.oc_coff_read.specs.Names.{string_at, section_name, symbol_name}
 use Rattle.oc_coff_read.specs.Flags.{kind_of, tag_of}
-use Rattle.oc_coff_read.specs.Alignments.{output_align, common_align}
+use Rattle.oc_coff_read.specs.Alignments.{common_align}
 use Rattle.oc_coff_read.specs.Sections.{header_of, contents_of, section_of, first_sections, sections_of, position_of, entry_at, relocations_of}
 use Rattle.oc_coff_read.specs.Symbols.{entry_of, numbers_of, value_of, binding_of, symbol_with, symbol_of, symbols_of, section_symbol_of, section_symbols_of}
 use Rattle.oc_coff_read.specs.Fields.{target_among, value_by, field_by, field_among, fields_of}
 use Rattle.oc_coff_read.specs.Coff32.{coff32_rules}
-use Rattle.oc_coff_read.specs.Canonical.{External, CodeObject, code_file, code_length, external_bytes}
+use Rattle.oc_coff_read.specs.Canonical.{CodeObject, code_file, code_length, external_bytes}
 
 -- its file header
 abbrev row-header : List ℕ

@@ -1,23 +1,19 @@
 -- What the canonical file of an object of code says: its section, its symbols and its fields.
-use Rattle.std.proofs.Common.{◌≡◌, ℕ, zero, suc, ◌+◌, ◌*◌, ◌^◌, ◌<◌, ◌≤◌, ◌⊎◌, inl, inr, Bool, true, false, cond, eqb, List, [], ◌∷◌, ◌++◌, length, get_or, Option, Some, None, refl, sym, ◌∙◌, ap, subst, arith}
-use Rattle.std.specs.Prelude.{All, codes, filter_map}
+use Rattle.std.proofs.Common.{◌≡◌, ℕ, zero, suc, ◌+◌, ◌<◌, ◌≤◌, ◌⊎◌, inl, inr, true, false, cond, eqb, List, [], ◌∷◌, length, get_or, Option, Some, None, refl, ◌∙◌, ap, subst, arith}
+use Rattle.std.specs.Prelude.{filter_map}
 use Rattle.std.specs.List.{range_with_len}
 use Rattle.std.specs.Option.{option_map}
-use Rattle.std.proofs.lemmas.Bool.{ne_eqb, eq-eqb}
 use Rattle.oc_base.specs.Numbers.{number_at}
 use Rattle.oc_linking.specs.declared.terms.Keep.{Keep}
 use Rattle.oc_linking.specs.declared.terms.Mark.TheVariants.{NoType, Function}
-use Rattle.oc_linking.specs.Parts.{Section, Symbol}
-use Rattle.oc_linking.specs.Rules.{Field}
-use Rattle.oc_coff_read.specs.declared.file_header.FileHeader.{FileHeader}
+use Rattle.oc_linking.specs.Parts.{Symbol}
 use Rattle.oc_coff_read.specs.declared.symbol.SymbolEntry.{SymbolEntry}
 use Rattle.oc_coff_read.specs.FileHeader.{file_header_in}
-use Rattle.oc_coff_read.specs.Packed.{padded}
 use Rattle.oc_coff_read.specs.Names.{section_name, symbol_name}
 use Rattle.oc_coff_read.specs.Sections.{section_of, first_sections, sections_of, position_of}
 use Rattle.oc_coff_read.specs.Symbols.{mark_of, entry_of, numbers_from, numbers_of, value_of, binding_of, symbol_with, symbol_of, symbols_of, section_symbol_of, section_symbols_of}
 use Rattle.oc_coff_read.specs.Fields.{target_among, field_among, fields_of}
-use Rattle.oc_coff_read.specs.Canonical.{External, CodeObject, IsCodeObject, IsExternal, code_header, code_section, code_symbol, external_entry, code_file}
+use Rattle.oc_coff_read.specs.Canonical.{External, CodeObject, IsCodeObject, IsExternal, external_entry, code_file}
 use Rattle.oc_coff_read.specs.Seen.{seen_section, seen_binding, seen_symbol, externals_from, seen_symbols, seen_section_symbol, seen_fields, ReadsBack}
 use Rattle.oc_coff_read.proofs.PackedLaws.{until_nul-padded, padded-long}
 use Rattle.oc_coff_read.proofs.FlagLaws.{code_flags_say}

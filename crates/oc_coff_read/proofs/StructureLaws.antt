@@ -1,16 +1,13 @@
 -- Structures read back from their bytes, behind other bytes and in tables.
-use Rattle.std.proofs.Common.{◌≡◌, ℕ, zero, suc, ◌+◌, ◌*◌, ◌^◌, ◌<◌, ◌≤◌, List, [], ◌∷◌, ◌++◌, length, get_or, take, drop, refl, sym, ◌∙◌, ap, arith, append_assoc, length-append}
+use Rattle.std.proofs.Common.{◌≡◌, ℕ, zero, suc, ◌+◌, ◌*◌, ◌<◌, List, [], ◌∷◌, ◌++◌, length, get_or, take, drop, refl, ◌∙◌, ap, arith, append_assoc}
 use Rattle.std.specs.Prelude.{All, flat_map}
-use Rattle.std.proofs.lemmas.List.{take_at}
 use Rattle.std.proofs.Math.Seq.{drop-append-add}
-use Rattle.oc_base.specs.Numbers.{number_at, bytes_of_number}
 use Rattle.oc_base.proofs.NumberLaws.{number_at-shift}
 use Rattle.oc_coff_read.specs.declared.file_header.FileHeader.{FileHeader}
 use Rattle.oc_coff_read.specs.declared.section_header.SectionHeader.{SectionHeader}
 use Rattle.oc_coff_read.specs.declared.symbol.SymbolEntry.{SymbolEntry}
 use Rattle.oc_coff_read.specs.declared.section_aux.SectionAux.{SectionAux}
 use Rattle.oc_coff_read.specs.declared.relocation.Relocation.{Relocation}
-use Rattle.oc_coff_read.specs.Packed.{packed}
 use Rattle.oc_coff_read.specs.FileHeader.{file_header_in, file_header_bytes}
 use Rattle.oc_coff_read.specs.SectionHeader.{section_header_in, section_header_bytes}
 use Rattle.oc_coff_read.specs.SymbolEntry.{symbol_in, symbol_bytes}

@@ -1,6 +1,5 @@
 -- What the fields of an object of code name, and the addresses that they take.
-use Rattle.std.proofs.Common.{◌≡◌, ℕ, zero, suc, ◌+◌, ◌<◌, ◌≤◌, Bool, true, false, cond, eqb, List, [], ◌∷◌, length, get_or, Option, Some, None, refl, ◌∙◌, ap, arith}
-use Rattle.std.specs.Option.{option_and_then}
+use Rattle.std.proofs.Common.{◌≡◌, ℕ, zero, suc, ◌+◌, ◌<◌, true, false, cond, eqb, List, [], ◌∷◌, length, get_or, Option, Some, refl, arith}
 use Rattle.std.proofs.lemmas.Bool.{ne_eqb, eq-eqb}
 use Rattle.oc_base.specs.declared.format.Word.TheVariants.{W32}
 use Rattle.oc_base.specs.Numbers.{number_at}
@@ -10,14 +9,13 @@ use Rattle.oc_linking.specs.declared.terms.Hint.TheVariants.{Plain}
 use Rattle.oc_linking.specs.declared.terms.Value.TheVariants.{Place}
 use Rattle.oc_linking.specs.declared.terms.Binding.TheVariants.{Global, Undefined}
 use Rattle.oc_linking.specs.Numbers.{reduced, minus}
-use Rattle.oc_linking.specs.Parts.{Symbol}
 use Rattle.oc_linking.specs.Values.{own_site, numbered}
 use Rattle.oc_linking.specs.Rules.{Symbolic, Sectional}
 use Rattle.oc_coff_read.specs.declared.relocation.Relocation.{Relocation}
 use Rattle.oc_coff_read.specs.declared.constants.TheConstants.{IMAGE_REL_I386_DIR32, IMAGE_REL_I386_REL32}
 use Rattle.oc_coff_read.specs.Fields.{Target, named_by, target_among, value_by, field_by}
 use Rattle.oc_coff_read.specs.Canonical.{External, CodeObject}
-use Rattle.oc_coff_read.specs.Seen.{seen_binding, seen_symbol, externals_from, seen_symbols, seen_section_symbol, seen_target}
+use Rattle.oc_coff_read.specs.Seen.{seen_binding, seen_symbol, externals_from, seen_symbols, seen_target}
 
 -- external symbol k, by its number
 pub numbered-externals : (externals : List External) (i k j : ℕ) (d : External) → k < length externals → j ≡ i + k

@@ -1,5 +1,5 @@
 -- The canonical file of an object of one section of code (PE/COFF; our profile).
-use Rattle.std.specs.Prelude.{◌≡◌, ℕ, suc, ◌+◌, ◌*◌, ◌^◌, ◌<◌, ◌≤◌, ◌≢◌, ◌⊎◌, Bool, nat_eq, if◌then◌else◌, List, [], ◌∷◌, ◌++◌, length, codes, flat_map, All}
+use Rattle.std.specs.Prelude.{◌≡◌, ℕ, ◌+◌, ◌*◌, ◌^◌, ◌<◌, ◌≤◌, ◌≢◌, Bool, nat_eq, if◌then◌else◌, List, ◌++◌, length, codes, flat_map, All}
 use Rattle.oc_base.specs.Numbers.{bytes_of_number}
 use Rattle.oc_coff_read.specs.declared.file_header.FileHeader.{FileHeader}
 use Rattle.oc_coff_read.specs.declared.section_header.SectionHeader.{SectionHeader}

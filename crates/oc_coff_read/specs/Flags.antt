@@ -1,5 +1,5 @@
 -- Flags and kinds of sections (PE/COFF, "Section Flags" and "Special Sections"; our profile).
-use Rattle.std.specs.Prelude.{ℕ, ◌+◌, ◌-◌, bit_and, Bool, not, ◌||◌, nat_eq, if◌then◌else◌, List, [], ◌∷◌, Option, Some, None}
+use Rattle.std.specs.Prelude.{ℕ, ◌+◌, ◌-◌, bit_and, Bool, not, ◌||◌, nat_eq, if◌then◌else◌, Option, Some, None}
 use Rattle.oc_linking.specs.declared.terms.Kind.{Kind}
 use Rattle.oc_linking.specs.declared.terms.Kind.TheVariants.{Code}
 use Rattle.oc_coff_read.specs.declared.constants.TheConstants.{IMAGE_SCN_CNT_CODE, IMAGE_SCN_LNK_COMDAT, IMAGE_SCN_LNK_NRELOC_OVFL, IMAGE_SCN_MEM_EXECUTE, IMAGE_SCN_ALIGN_MASK}

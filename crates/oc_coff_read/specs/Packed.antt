@@ -1,5 +1,5 @@
 -- Structures as bytes (PE/COFF: numbers stand one behind another, without padding).
-use Rattle.std.specs.Prelude.{ℕ, ◌-◌, List, ◌++◌, take, replicate, flat_map}
+use Rattle.std.specs.Prelude.{ℕ, List, ◌++◌, take, replicate, flat_map}
 use Rattle.oc_base.specs.Numbers.{bytes_of_number}
 
 -- numbers one behind another, each after its width in bytes

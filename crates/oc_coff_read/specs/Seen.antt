@@ -1,5 +1,5 @@
 -- What the canonical file of an object of one section of code says by the rules of COFF for i386 (our profile).
-use Rattle.std.specs.Prelude.{◌≡◌, ℕ, zero, suc, ◌+◌, ◌^◌, Bool, true, false, nat_eq, if◌then◌else◌, List, [], ◌∷◌, length, codes, Option, None}
+use Rattle.std.specs.Prelude.{◌≡◌, ℕ, zero, suc, ◌+◌, ◌^◌, false, nat_eq, if◌then◌else◌, List, [], ◌∷◌, length, codes, Option, None}
 use Rattle.oc_linking.specs.declared.terms.Keep.{Keep}
 use Rattle.oc_linking.specs.declared.terms.Kind.TheVariants.{Code}
 use Rattle.oc_linking.specs.declared.terms.Mark.TheVariants.{NoType, Function}
@@ -8,7 +8,7 @@ use Rattle.oc_linking.specs.declared.terms.Value.TheVariants.{Place}
 use Rattle.oc_linking.specs.declared.terms.Binding.{Binding}
 use Rattle.oc_linking.specs.declared.terms.Binding.TheVariants.{Local, Global, Undefined}
 use Rattle.oc_linking.specs.Parts.{Section, Symbol}
-use Rattle.oc_linking.specs.Rules.{Field, Fields}
+use Rattle.oc_linking.specs.Rules.{Fields}
 use Rattle.oc_coff_read.specs.Sections.{sections_of}
 use Rattle.oc_coff_read.specs.Symbols.{symbols_of}
 use Rattle.oc_coff_read.specs.Fields.{Target, target_among, field_among, fields_of}
