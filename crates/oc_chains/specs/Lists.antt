@@ -1,8 +1,8 @@
 -- Our profile: what contracts see of all sections together.
-use Rattle.std.specs.Prelude.{ℕ, ◌-◌, ◌^◌, ◌≤◌, Bool, List, [], length, slice_index_or}
-use Rattle.std.specs.List.{All, list_any, sum_by}
+use Rattle.std.specs.Prelude.{ℕ, Bool, List, [], length, slice_index_or}
+use Rattle.std.specs.List.{list_any, sum_by}
 use Rattle.oc_chains.specs.declared.field.Field.{Field}
-use Rattle.oc_chains.specs.Fields.{FollowFrom, meets}
+use Rattle.oc_chains.specs.Fields.{meets}
 
 -- the fields of each section, by its number
 abbrev pub Lists : Type 0 → Type 0
@@ -11,11 +11,7 @@ Lists T = List (List (Field T))
 -- what contracts see of `Chains`
 pub record Chained (T : Type 0) : Type 0 where
   pub lists : Lists T
-
--- the fields of each section follow one another, and the sections can be counted
-pub record IsChained {T : Type 0} (lists : Lists T) : Type 0 where
-  pub follow : All (FollowFrom 0) lists
-  pub few : length lists ≤ 2 ^ 32 - 1
+  pub spare : ℕ
 
 -- the fields of a section
 abbrev pub list_of : {T : Type 0} → Lists T → ℕ → List (Field T)

@@ -1,13 +1,14 @@
 //! The lists of all sections.
-ghost use Rattle.std.specs.Prelude.{◌≡◌, ◌+◌, ◌-◌, ◌^◌, ◌<◌, ◌≤◌, ◌↔◌, not, [], ◌∷◌, ◌++◌, length, drop, take, slice_set, None, Some, IfOk, IsTrue, OnErr, OnOk};
-ghost use Rattle.std.specs.Option.{option_copied};
-ghost use Rattle.oc_chains.specs.Fields.{FollowFrom, meets, placed};
+ghost use Rattle.std.specs.Prelude.{◌≡◌, ◌≢◌, ◌+◌, ◌-◌, ◌^◌, ◌<◌, ◌≤◌, ◌↔◌, not, [], ◌∷◌, ◌++◌, length, slice_set, IfOk, IsTrue, OnErr, OnOk};
+ghost use Rattle.std.specs.List.{All};
+ghost use Rattle.oc_chains.specs.Fields.{FollowFrom, placed};
 ghost use Rattle.oc_chains.specs.Lists.{list_of, held_in, is_taken};
-ghost use Rattle.oc_chains.specs.Gaps.{begins_from as begins_from_lem, ends_by as ends_by_lem, first_of, is_between, IsRank, last_or};
-ghost use Rattle.std.specs.List.{list_any};
 
+use crate::entry::{Ends, Entry, extended, relink};
 use crate::fault::ChainFault;
 use crate::field::Field;
+use crate::pool::acquire;
+use crate::seek::spot_for;
 use crate::walk::Walk;
 use oc_base::NoMemory;
 use std::alloc::Global;
@@ -16,31 +17,36 @@ use std::marker::Model;
 /// The relocated fields of each section, which do not meet, in order of offset.
 #[derive(Debug, Drop)]
 pub struct Chains<T: Copy> {
-    lists: Vec<Vec<Field<T>>>,
-    alloc: Global,
+    lists: Vec<Ends>,
+    entries: Vec<Entry<T>>,
+    free: Option<u32>,
+    spare: u32,
 }
 
 impl<T: Copy> Model for Chains<T> {
-    ghost use Rattle.std.specs.Prelude.{map, ◌≤◌, ◌^◌, ◌-◌, length};
-    ghost use Rattle.std.specs.List.{All};
-    ghost use Rattle.oc_chains.specs.Fields.{FollowFrom};
-    ghost use Rattle.oc_chains.specs.Lists.{Chained, IsChained};
+    ghost use Rattle.std.specs.Prelude.{map};
+    ghost use Rattle.oc_chains.specs.Links.{fields};
+    ghost use Rattle.oc_chains.specs.Linked.{IsChained, lists_of};
+    ghost use Rattle.oc_chains.specs.Lists.{Chained};
 
     ghost Value = { Chained T };
 
-    ghost view = { λ c. record { lists = map (λ v. v.items) c.lists.items } };
+    ghost view = { λ c. record { lists = map fields (lists_of c.lists.items c.entries.items); spare = c.spare } };
 
-    ghost invariant = { λ c. IsChained (map (λ v. v.items) c.lists.items) };
+    ghost invariant = { λ c. IsChained c.lists.items c.entries.items c.free c.spare };
 }
 
 impl<T: Copy> Chains<T> {
     /// No section. Constant time, no memory.
     pub fn new(alloc: Global) -> Chains<T>
         ensures lists { result.lists ≡ [] }
+        ensures spare { result.spare ≡ 0 }
     {
         Chains {
             lists: Vec::new(alloc),
-            alloc,
+            entries: Vec::new(alloc),
+            free: None,
+            spare: 0,
         }
     }
 
@@ -51,15 +57,25 @@ impl<T: Copy> Chains<T> {
         self.lists.len() as u32
     }
 
-    /// One section more, without fields; its number, counted from 0.
+    /// How many free entries there are: a field that is inserted takes one of them where there is
+    /// one, and else memory. Constant time, no memory.
+    pub fn spare(&self) -> u32
+        ensures { result ≡ self.now.spare }
+    {
+        self.spare
+    }
+
+    /// One section more, without fields; its number, counted from 0. Constant time but for the
+    /// growth of the vector.
     pub fn add_section(&mut self) -> Result<u32, NoMemory>
         requires { length self.old.lists < 2 ^ 32 - 1 }
         ensures ok { IfOk result (λ section. section ≡ length self.old.lists) }
         ensures lists { OnOk result (self.new.lists ≡ self.old.lists ++ [] ∷ []) }
+        ensures spare { self.new.spare ≡ self.old.spare }
         ensures err { OnErr result (self.new ≡ self.old) }
     {
         let section = self.lists.len() as u32;
-        self.lists.push(Vec::new(self.alloc))?;
+        self.lists.push(Ends::NONE)?;
         Ok(section)
     }
 
@@ -68,11 +84,10 @@ impl<T: Copy> Chains<T> {
         requires there { section < length self.now.lists }
         requires wide { (1 ≤ width) × (width ≤ 8) }
         requires fits { at + width ≤ 2 ^ 31 }
-        ensures { result ≡ not (is_taken self.now.lists section at width) }
+        ensures free { result ≡ not (is_taken self.now.lists section at width) }
+        ensures apart { All (FollowFrom 0) self.now.lists }
     {
-        let list = &self.lists[section as usize];
-        let i = rank(list, at);
-        is_gap(list, i, at, width)
+        spot_for(&self.entries, self.lists[section as usize], at, width).is_some()
     }
 
     /// Adds a field to a section.
@@ -82,85 +97,48 @@ impl<T: Copy> Chains<T> {
         requires fits { at + width ≤ 2 ^ 31 }
         requires room { held_in self.old.lists < 2 ^ 32 - 1 }
         ensures lists { OnOk result (self.new.lists ≡ slice_set self.old.lists section (placed (record { at = at; width = width; item = item }) (list_of self.old.lists section))) }
+        ensures spare { OnOk result (self.new.spare ≡ self.old.spare - 1) }
         ensures err { OnErr result (self.new ≡ self.old) }
         ensures overlap { (result ≡ Err ChainFault.Overlap) ↔ IsTrue (is_taken self.old.lists section at width) }
+        ensures no_memory { 1 ≤ self.old.spare → result ≢ Err ChainFault.NoMemory }
     {
-        place(&mut self.lists[section as usize], Field { at, width, item })
+        let ends = self.lists[section as usize];
+        let Some(spot) = spot_for(&self.entries, ends, at, width) else {
+            return Err(ChainFault::Overlap);
+        };
+        let entry = Entry {
+            field: Field { at, width, item },
+            next: spot.next,
+        };
+        match acquire(&mut self.entries, &mut self.free, &mut self.spare, entry) {
+            Ok(index) => {
+                relink(&mut self.entries, spot.before, Some(index));
+                self.lists[section as usize] = extended(ends, spot.before, spot.next, index);
+                Ok(())
+            }
+            Err(NoMemory) => Err(ChainFault::NoMemory),
+        }
     }
 
     /// The fields of a section in order of offset. Constant time, no memory.
     pub fn walk(&self, section: u32) -> Walk<'_, T>
         requires { section < length self.now.lists }
-        ensures { result ≡ list_of self.now.lists section }
+        ensures items { result ≡ list_of self.now.lists section }
+        ensures apart { FollowFrom 0 result }
     {
-        Walk {
-            rest: self.lists[section as usize].as_slice(),
-        }
+        Walk::new(&self.entries, self.lists[section as usize])
     }
 
-    /// Takes all fields from a section; all others stay.
+    /// Takes all fields from a section; all others stay. Constant time, no memory.
     pub fn drop_section(&mut self, section: u32)
         requires { section < length self.old.lists }
         ensures lists { self.new.lists ≡ slice_set self.old.lists section [] }
+        ensures spare { self.new.spare ≡ self.old.spare + length (list_of self.old.lists section) }
     {
-        self.lists[section as usize].clear();
-    }
-}
-
-// where a field that begins at `at` goes
-fn rank<T: Copy>(list: &[Field<T>], at: u32) -> usize
-    requires { FollowFrom 0 list.now }
-    ensures within { result ≤ length list.now }
-    ensures rank { IsRank at (take result list.now) (drop result list.now) }
-{
-    list.partition_point(|other| other.at <= at)
-}
-
-// whether the `width` bytes from `at` on lie between the neighbours at place i
-fn is_gap<T: Copy>(list: &[Field<T>], i: usize, at: u32, width: u32) -> bool
-    requires within { i ≤ length list.now }
-    requires fits { at + width ≤ 2 ^ 31 }
-    ensures { result ≡ is_between (last_or None (take i list.now)) (first_of (drop i list.now)) at width }
-{
-    ends_by(list[..i].last().copied(), at) && begins_from(list[i..].first().copied(), at + width)
-}
-
-// whether the field, where there is one, ends by the offset
-fn ends_by<T: Copy>(field: Option<Field<T>>, at: u32) -> bool
-    ensures { result ≡ ends_by_lem field at }
-{
-    match field {
-        Some(field) => u64::from(field.at) + u64::from(field.width) <= u64::from(at),
-        None => true,
-    }
-}
-
-// whether the field, where there is one, begins at the offset or behind it
-fn begins_from<T: Copy>(field: Option<Field<T>>, at: u32) -> bool
-    ensures { result ≡ begins_from_lem field at }
-{
-    match field {
-        Some(field) => at <= field.at,
-        None => true,
-    }
-}
-
-// puts a field in its place
-fn place<T: Copy>(list: &mut Vec<Field<T>>, field: Field<T>) -> Result<(), ChainFault>
-    requires follow { FollowFrom 0 list.old.items }
-    requires wide { 1 ≤ field.width }
-    requires fits { field.at + field.width ≤ 2 ^ 31 }
-    ensures ok { OnOk result (list.new.items ≡ placed field list.old.items) }
-    ensures follow { FollowFrom 0 list.new.items }
-    ensures err { OnErr result (list.new.items ≡ list.old.items) }
-    ensures overlap { (result ≡ Err ChainFault.Overlap) ↔ IsTrue (list_any (meets field.at field.width) list.old.items) }
-{
-    let i = rank(list, field.at);
-    if !is_gap(list, i, field.at, field.width) {
-        return Err(ChainFault::Overlap);
-    }
-    match list.insert(i, field) {
-        Ok(()) => Ok(()),
-        Err(_) => Err(ChainFault::NoMemory),
+        let ends = self.lists[section as usize];
+        relink(&mut self.entries, ends.last, self.free);
+        self.free = ends.first.or(self.free);
+        self.spare += ends.count;
+        self.lists[section as usize] = Ends::NONE;
     }
 }

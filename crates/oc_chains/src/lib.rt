@@ -2,8 +2,11 @@
 #![tactic(auto)]
 
 mod chains;
+mod entry;
 mod fault;
 mod field;
+mod pool;
+mod seek;
 mod walk;
 
 pub use chains::Chains;
