@@ -1,7 +1,7 @@
 -- what the calls of `Chains` keep, and what they make of the lists
-use Rattle.std.proofs.Common.{◌≡◌, ℕ, zero, suc, ◌+◌, ◌-◌, ◌^◌, ◌<◌, ◌≤◌, Bool, true, false, nat_lt, List, [], ◌∷◌, ◌++◌, length, append-nil, length-append, get_or, drop, take, map, sum_by, refl, ap, sym, ◌∙◌, arith, Option, Some, None, IfSome, IsSome}
+use Rattle.std.proofs.Common.{◌≡◌, ℕ, zero, suc, ◌+◌, ◌-◌, ◌^◌, ◌<◌, ◌≤◌, Bool, true, false, nat_lt, List, [], ◌∷◌, ◌++◌, length, append-nil, length-append, get_or, drop, take, map, set, sum_by, refl, ap, sym, ◌∙◌, arith, Option, Some, None, IfSome, IsSome}
 use Rattle.std.proofs.lemmas.Bool.Decides.{nat_tests}
-use Rattle.std.proofs.lemmas.List.{get_or_append_left, get_or_read, same_lists}
+use Rattle.std.proofs.lemmas.List.{get_or-set_same, get_or_append_left, get_or_read, same_lists}
 use Rattle.std.proofs.Math.Seq.{get_or-append_seam}
 use Rattle.std.proofs.lemmas.List.Sums.{sum_by-cons}
 use Rattle.std.specs.List.{All}
@@ -182,3 +182,6 @@ written_back new old n is e = let same : n ≡ length new = omega arith in rw sa
 
 pub count_is : {T : Type 0} (hs : List Ends) (es : List (Entry T)) (lists : Lists T) → map fields (lists_of hs es) ≡ lists → length hs ≡ length lists
 count_is hs es lists is = omega (arith, mapped_length fields (lists_of hs es), mapped_length (nodes es) hs, ap length is)
+
+pub set_same : {X : Type 0} (xs : List (List X)) (k : ℕ) (ys : List X) → k < length xs → get_or (set xs k ys) k [] ≡ ys
+set_same xs k ys lt = get_or-set_same xs k ys [] lt

@@ -1,8 +1,9 @@
 //! The lists of all sections.
 ghost use Rattle.std.specs.Prelude.{◌≡◌, ◌≢◌, ◌+◌, ◌-◌, ◌^◌, ◌<◌, ◌≤◌, ◌↔◌, not, [], ◌∷◌, ◌++◌, length, slice_set, IfOk, IsTrue, OnErr, OnOk};
 ghost use Rattle.std.specs.List.{All};
-ghost use Rattle.oc_chains.specs.Fields.{FollowFrom, placed};
-ghost use Rattle.oc_chains.specs.Lists.{list_of, held_in, is_taken};
+ghost use Rattle.std.specs.List.Sorted.{IsPermutation};
+ghost use Rattle.oc_chains.specs.Fields.{field, FollowFrom};
+ghost use Rattle.oc_chains.specs.Lists.{held_in, is_taken, list_of, with_field};
 
 use crate::entry::{Ends, Entry, extended, relink};
 use crate::fault::ChainFault;
@@ -14,7 +15,14 @@ use oc_base::NoMemory;
 use std::alloc::Global;
 use std::marker::Model;
 
-/// The relocated fields of each section, which do not meet, in order of offset.
+#[cfg(test)]
+mod tests;
+
+/// The relocated fields of each section, which do not meet, in order of offset. Contracts see the
+/// list of each section, and how many entries are free.
+///
+/// Offsets and widths count bytes. A field lies in the first 2^31 bytes of its section. The number
+/// of a section is how many were added before it.
 #[derive(Debug, Drop)]
 pub struct Chains<T: Copy> {
     lists: Vec<Ends>,
@@ -57,16 +65,16 @@ impl<T: Copy> Chains<T> {
         self.lists.len() as u32
     }
 
-    /// How many free entries there are: a field that is inserted takes one of them where there is
-    /// one, and else memory. Constant time, no memory.
+    /// How many entries are free: those that dropped sections gave up, less those that were taken
+    /// again. Constant time, no memory.
     pub fn spare(&self) -> u32
         ensures { result ≡ self.now.spare }
     {
         self.spare
     }
 
-    /// One section more, without fields; its number, counted from 0. Constant time but for the
-    /// growth of the vector.
+    /// Adds a section without fields, and gives its number. `NoMemory` where memory ran out.
+    /// Constant time, taken over many calls.
     pub fn add_section(&mut self) -> Result<u32, NoMemory>
         requires { length self.old.lists < 2 ^ 32 - 1 }
         ensures ok { IfOk result (λ section. section ≡ length self.old.lists) }
@@ -79,7 +87,8 @@ impl<T: Copy> Chains<T> {
         Ok(section)
     }
 
-    /// Whether no field of the section takes one of the `width` bytes from `at` on.
+    /// Whether no field of the section takes one of the `width` bytes from `at` on. Time as for
+    /// `insert`, no memory.
     pub fn is_free(&self, section: u32, at: u32, width: u32) -> bool
         requires there { section < length self.now.lists }
         requires wide { (1 ≤ width) × (width ≤ 8) }
@@ -90,17 +99,27 @@ impl<T: Copy> Chains<T> {
         spot_for(&self.entries, self.lists[section as usize], at, width).is_some()
     }
 
-    /// Adds a field to a section.
+    /// Adds a field of `width` bytes from `at` on to a section, with what is kept of it.
+    ///
+    /// `Overlap` exactly where the field meets one of that section, and `NoMemory` where memory ran
+    /// out, which does not happen while entries are free. A refused field changes nothing.
+    ///
+    /// Constant time behind the last field of the section and before its first (over many calls,
+    /// where no entry is free); else linear in the fields of the section that begin before it.
     pub fn insert(&mut self, section: u32, at: u32, width: u32, item: T) -> Result<(), ChainFault>
         requires there { section < length self.old.lists }
         requires wide { (1 ≤ width) × (width ≤ 8) }
         requires fits { at + width ≤ 2 ^ 31 }
         requires room { held_in self.old.lists < 2 ^ 32 - 1 }
-        ensures lists { OnOk result (self.new.lists ≡ slice_set self.old.lists section (placed (record { at = at; width = width; item = item }) (list_of self.old.lists section))) }
+        ensures lists { OnOk result (self.new.lists ≡ with_field self.old.lists section at width item) }
+        ensures held { OnOk result
+            (IsPermutation (field at width item ∷ list_of self.old.lists section)
+            (list_of self.new.lists section)) }
         ensures spare { OnOk result (self.new.spare ≡ self.old.spare - 1) }
-        ensures err { OnErr result (self.new ≡ self.old) }
+
         ensures overlap { (result ≡ Err ChainFault.Overlap) ↔ IsTrue (is_taken self.old.lists section at width) }
         ensures no_memory { 1 ≤ self.old.spare → result ≢ Err ChainFault.NoMemory }
+        ensures err { OnErr result (self.new ≡ self.old) }
     {
         let ends = self.lists[section as usize];
         let Some(spot) = spot_for(&self.entries, ends, at, width) else {
@@ -120,7 +139,8 @@ impl<T: Copy> Chains<T> {
         }
     }
 
-    /// The fields of a section in order of offset. Constant time, no memory.
+    /// The fields of a section in order of offset: those that were inserted since it was added or
+    /// last dropped. Constant time, and for each field again; no memory.
     pub fn walk(&self, section: u32) -> Walk<'_, T>
         requires { section < length self.now.lists }
         ensures items { result ≡ list_of self.now.lists section }
@@ -129,7 +149,7 @@ impl<T: Copy> Chains<T> {
         Walk::new(&self.entries, self.lists[section as usize])
     }
 
-    /// Takes all fields from a section; all others stay. Constant time, no memory.
+    /// Takes all fields from a section; its entries become free. Constant time, no memory.
     pub fn drop_section(&mut self, section: u32)
         requires { section < length self.old.lists }
         ensures lists { self.new.lists ≡ slice_set self.old.lists section [] }
