@@ -1,0 +1,4 @@
+pub mod EndLemmas
+pub mod GivenLemmas
+pub mod PlaceLaws
+pub mod SliceLemmas

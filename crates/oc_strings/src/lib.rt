@@ -1,0 +1,4 @@
+//! String tables in which names share their tails: where each name stands, and the bytes.
+#![tactic(auto)]
+
+mod plain;
