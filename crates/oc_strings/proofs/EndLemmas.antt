@@ -1,12 +1,8 @@
 -- Names that are the tails of texts.
-use Rattle.std.proofs.Common.{◌≡◌, ℕ, ◌+◌, ◌-◌, ◌<◌, ◌≤◌, Bool, true, false, not, ◌&&◌, ◌||◌, List, [], ◌∷◌, ◌++◌, length, take, drop, get_or, refl, sym, ◌∙◌, ap, subst, arith, ltb, append_assoc, length-append, inl, inr}
-use Rattle.std.proofs.lemmas.List.{append_cancel_right, append_cancel_left}
-use Rattle.std.proofs.lemmas.Bool.{and_parts, and_from, ltb-true, lt-ltb, or_cases, true_from_ne_false, false_from_ne_true, both_ways}
+use Rattle.std.proofs.Common.{◌≡◌, ℕ, ◌-◌, ◌≤◌, true, List, [], ◌∷◌, ◌++◌, length, take, refl, sym, ◌∙◌, ap, arith, append_assoc, length-append}
 use Rattle.std.proofs.lemmas.Bool.Decides.{Decides-eqb}
-use Rattle.std.proofs.lemmas.Slice.Eq.{ends_is, bytes_eq-Decides}
-use Rattle.std.specs.List.{list_any}
-use Rattle.std.specs.Cmp.Lexicographic.{pointwise}
-use Rattle.oc_base.specs.Strings.{ends, is_proper_tail, is_maximal, is_given}
+use Rattle.std.proofs.lemmas.Slice.Eq.{ends_is}
+use Rattle.oc_base.specs.Strings.{ends}
 
 -- the text is a front and then the name
 pub record IsTail (name text : List ℕ) : Type 0 where

@@ -1,12 +1,12 @@
 -- Names among given names, and the maximal ones.
-use Rattle.std.proofs.Common.{◌≡◌, ℕ, zero, suc, ◌+◌, ◌<◌, ◌≤◌, Bool, true, false, not, ◌&&◌, ◌||◌, cond, List, [], ◌∷◌, ◌++◌, length, get_or, refl, sym, ◌∙◌, ap, subst, arith, inl, inr, ◌⊎◌, ⊎_elim}
-use Rattle.std.proofs.lemmas.Bool.{and_parts, and_from, ltb-true, lt-ltb, or_cases, or_left, or_right, or_parts, cases_Bool, true_from_ne_false, both_ways, not-true, not_from_false, cond-true, cond-false, cases_lt, not-false}
+use Rattle.std.proofs.Common.{◌≡◌, ℕ, zero, suc, ◌<◌, Bool, true, false, not, ◌&&◌, ◌||◌, List, [], ◌∷◌, ◌++◌, length, get_or, refl, sym, ◌∙◌, ap, subst, arith, inl, inr, ◌⊎◌, ⊎_elim}
+use Rattle.std.proofs.lemmas.Bool.{and_from, lt-ltb, or_cases, or_left, or_right, both_ways, cases_lt, not-false}
 use Rattle.std.proofs.lemmas.Slice.Eq.{bytes_eq-Decides}
 use Rattle.std.specs.List.{list_any, fold}
 use Rattle.std.specs.Cmp.Lexicographic.{pointwise}
 use Rattle.std.specs.Prelude.{nat_eq, nat_lt, if◌then◌else◌}
-use Rattle.oc_base.specs.Strings.{ends, is_proper_tail, is_maximal, is_given, with_top, tops_of}
-use Rattle.oc_strings.proofs.EndLemmas.{ends_self, ends_trans, ends_fits, ends_whole}
+use Rattle.oc_base.specs.Strings.{ends, is_proper_tail, is_maximal, is_given, with_top}
+use Rattle.oc_strings.proofs.EndLemmas.{ends_whole}
 
 -- a given name that passes a test
 pub record Found (test : List ℕ → Bool) (names : List (List ℕ)) : Type 0 where

@@ -2,3 +2,5 @@ pub mod EndLemmas
 pub mod GivenLemmas
 pub mod PlaceLaws
 pub mod SliceLemmas
+pub mod OrderLemmas
+pub mod RankLemmas

@@ -1,15 +1,15 @@
 -- Where names stand in texts: the law of the string table.
-use Rattle.std.proofs.Common.{◌≡◌, ℕ, zero, suc, ◌+◌, ◌-◌, ◌<◌, ◌≤◌, Bool, true, false, not, ◌&&◌, ◌||◌, List, [], ◌∷◌, ◌++◌, length, take, drop, get_or, Option, Some, None, refl, sym, ◌∙◌, ap, subst, arith, append_assoc, length-append, inl, inr, ◌⊎◌, ⊎_elim}
-use Rattle.std.proofs.lemmas.Bool.{or_cases, or_left, or_right, both_ways, and_parts, ltb-true, cases_Bool}
-use Rattle.std.proofs.lemmas.List.Sums.{sum_by_from, sum_by-cons, get_or-le-sum_by}
+use Rattle.std.proofs.Common.{◌≡◌, ℕ, zero, suc, ◌+◌, ◌-◌, ◌<◌, ◌≤◌, Bool, true, false, not, ◌&&◌, ◌||◌, List, [], ◌∷◌, ◌++◌, length, get_or, Some, refl, sym, ◌∙◌, ap, arith, append_assoc, length-append, ⊎_elim}
+use Rattle.std.proofs.lemmas.Bool.{and_parts, ltb-true, cases_Bool}
+use Rattle.std.proofs.lemmas.List.Sums.{sum_by-cons, get_or-le-sum_by}
 use Rattle.std.proofs.lemmas.List.Concat.{flat_map-append}
 use Rattle.std.proofs.lemmas.Option.{same_Some}
-use Rattle.std.specs.List.{list_any, fold, flat_map, sum_by}
+use Rattle.std.specs.List.{list_any, fold, sum_by}
 use Rattle.std.specs.Option.{is_some, option_or, option_map}
-use Rattle.std.specs.Prelude.{nat_eq, nat_lt, if◌then◌else◌}
-use Rattle.oc_base.specs.Strings.{ends, is_proper_tail, is_maximal, is_given, with_top, tops_of, text_of, place_from, table_text, table_place}
-use Rattle.oc_strings.proofs.EndLemmas.{IsTail, ends_split, ends_self, ends_trans, ends_fits}
-use Rattle.oc_strings.proofs.GivenLemmas.{Found, found, given_passes, given_at, Place, place_of_given, tops_have, longer_for}
+use Rattle.std.specs.Prelude.{nat_lt, if◌then◌else◌}
+use Rattle.oc_base.specs.Strings.{ends, is_maximal, is_given, with_top, tops_of, text_of, place_from}
+use Rattle.oc_strings.proofs.EndLemmas.{ends_split, ends_self, ends_trans}
+use Rattle.oc_strings.proofs.GivenLemmas.{found, given_passes, place_of_given, tops_have, longer_for}
 
 -- the name stands in the text behind a front of so many bytes, with a NUL behind it
 pub record Stands (name text : List ℕ) (at : ℕ) : Type 0 where

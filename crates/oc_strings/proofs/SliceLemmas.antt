@@ -1,11 +1,10 @@
 -- Names and tops that are held as slices.
-use Rattle.std.proofs.Common.{◌≡◌, ℕ, ◌+◌, ◌-◌, ◌<◌, ◌≤◌, Bool, true, false, Some, List, [], ◌∷◌, ◌++◌, length, get_or, take, drop, refl, sym, ◌∙◌, ap, subst, arith, length-append, drop-cons, add-one}
-use Rattle.std.proofs.lemmas.List.{get_or-map, length-map, map_more, drop-map, drop_more, take-map}
+use Rattle.std.proofs.Common.{◌≡◌, ℕ, ◌+◌, ◌-◌, ◌<◌, Bool, true, false, Some, List, [], ◌∷◌, ◌++◌, length, get_or, take, drop, sym, ◌∙◌, ap, arith, length-append}
+use Rattle.std.proofs.lemmas.List.{get_or-map, length-map, map_more, drop_more, take-map}
 use Rattle.std.proofs.lemmas.List.Folds.{list_any_at, list_any_more}
 use Rattle.std.proofs.lemmas.List.Concat.{flat_map-append}
 use Rattle.std.proofs.lemmas.Bool.{or_from, cond-false, cond-true}
 use Rattle.std.specs.List.{list_any}
-use Rattle.std.specs.Prelude.{if◌then◌else◌}
 use denote.Ref.{Bor}
 use Rattle.oc_base.specs.Strings.{ends, text_of, place_from}
 use Rattle.oc_strings.specs.Tables.{texts}

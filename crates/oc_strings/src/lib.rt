@@ -1,4 +1,5 @@
 //! String tables in which names share their tails: where each name stands, and the bytes.
 #![tactic(auto)]
 
+mod order;
 mod plain;

@@ -1,6 +1,6 @@
-use Rattle.std.proofs.Common.{◌≡◌, [], ◌+◌, refl, sym, ◌∙◌, ap, arith, rules, take, drop, length}
-use Rattle.oc_base.specs.Strings.{ends, text_of, place_from}
-use Rattle.oc_strings.specs.Tables.{texts, capped}
+use Rattle.std.proofs.Common.{[], sym, ◌∙◌, ap, arith, rules}
+use Rattle.oc_base.specs.Strings.{text_of, place_from}
+use Rattle.oc_strings.specs.Tables.{texts}
 use Rattle.oc_strings.proofs.SliceLemmas.{text_more, walked}
 use Rattle.oc_strings.proofs.plain.place.Goals as goal
 

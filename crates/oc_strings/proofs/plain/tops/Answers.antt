@@ -1,4 +1,4 @@
-use Rattle.std.proofs.Common.{◌≡◌, [], ap, ◌∙◌, take, length, arith}
+use Rattle.std.proofs.Common.{[], ap, ◌∙◌}
 use Rattle.std.proofs.lemmas.List.{take_all}
 use Rattle.std.specs.List.{fold}
 use Rattle.oc_base.specs.Strings.{with_top, tops_of}
