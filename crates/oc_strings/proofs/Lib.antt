@@ -4,3 +4,4 @@ pub mod PlaceLaws
 pub mod SliceLemmas
 pub mod OrderLemmas
 pub mod RankLemmas
+pub mod TailLemmas

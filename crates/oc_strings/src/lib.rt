@@ -1,5 +1,7 @@
 //! String tables in which names share their tails: where each name stands, and the bytes.
 #![tactic(auto)]
 
+mod layout;
 mod order;
 mod plain;
+mod tails;

@@ -1,0 +1,48 @@
+//! The layout of a string table: its texts in their order, and where each given name stands.
+ghost use Rattle.std.specs.Prelude.{◌≡◌, ℕ, ◌<◌, Option, Some, None, IfOk, IsSome, length, map, slice_index_or};
+ghost use Rattle.oc_base.specs.Strings.{tops_of};
+ghost use Rattle.oc_strings.specs.Tables.{texts, offset_of};
+ghost use Rattle.oc_strings.specs.Order.{IsOrder, AreNextTails, names_of, IsLaidOut};
+
+use crate::order::{Entry, Order};
+use crate::tails::{is_top, next_tails, place_tails};
+use oc_base::NoMemory;
+use std::alloc::Global;
+
+/// The texts of a table, and where the names stand.
+#[derive(Drop)]
+pub(crate) struct Placed<'a> {
+    /// The maximal names, once each, in the order of their first use.
+    pub tops: Vec<&'a [u8]>,
+    /// For each entry its offset, or the largest number where it passes that.
+    pub offsets: Vec<Option<u64>>,
+}
+
+/// Puts the texts one behind the other from `head` on, each where it is used first, and gives each
+/// name the offset in the first text that it ends.
+fn place<'a>(
+    alloc: Global,
+    head: u32,
+    names: &[&'a [u8]],
+    order: &Order<'a>,
+    tails: &[Option<usize>],
+) -> Result<Placed<'a>, NoMemory>
+    requires ordered { IsOrder (texts names.now) order.now.entries.items order.now.ranks.items }
+    requires known { AreNextTails (names_of order.now.entries.items) tails.now }
+    requires whole { length tails.now ≡ length order.now.entries.items }
+    ensures { IfOk result (λ placed. IsLaidOut head (texts names.now) (names_of order.now.entries.items) (length names.now) (texts placed.tops.items) placed.offsets.items) }
+{
+    let entries = &order.entries;
+    let mut tops = Vec::new(alloc);
+    let mut offsets = vec![in alloc; None; entries.len()]?;
+    let mut at = u64::from(head);
+    for rank in &order.ranks {
+        if offsets[*rank].is_none() && is_top(entries, *rank) {
+            place_tails(&mut offsets, entries, tails, *rank, at);
+            let name = entries[*rank].name;
+            tops.push(name)?;
+            at = at.saturating_add(name.len() as u64).saturating_add(1);
+        }
+    }
+    Ok(Placed { tops, offsets })
+}
