@@ -5,3 +5,4 @@ pub mod SliceLemmas
 pub mod OrderLemmas
 pub mod RankLemmas
 pub mod TailLemmas
+pub mod LayoutLemmas

@@ -1,8 +1,7 @@
 //! The layout of a string table: its texts in their order, and where each given name stands.
-ghost use Rattle.std.specs.Prelude.{◌≡◌, ℕ, ◌<◌, Option, Some, None, IfOk, IsSome, length, map, slice_index_or};
-ghost use Rattle.oc_base.specs.Strings.{tops_of};
-ghost use Rattle.oc_strings.specs.Tables.{texts, offset_of};
-ghost use Rattle.oc_strings.specs.Order.{IsOrder, AreNextTails, names_of, IsLaidOut};
+ghost use Rattle.std.specs.Prelude.{◌≡◌, ℕ, ◌<◌, Option, Some, None, ◌&&◌, IfOk, is_none, not, length, slice_index_or};
+ghost use Rattle.oc_strings.specs.Tables.{texts};
+ghost use Rattle.oc_strings.specs.Order.{IsOrder, AreNextTails, ends_next, names_of, IsLaidOut};
 
 use crate::order::{Entry, Order};
 use crate::tails::{is_top, next_tails, place_tails};
@@ -16,6 +15,15 @@ pub(crate) struct Placed<'a> {
     pub tops: Vec<&'a [u8]>,
     /// For each entry its offset, or the largest number where it passes that.
     pub offsets: Vec<Option<u64>>,
+}
+
+/// Whether the name at `k` ends no other one, and has no place yet.
+fn is_new_top(entries: &[Entry], offsets: &[Option<u64>], k: usize) -> bool
+    requires within { k < length entries.now }
+    requires room { length offsets.now ≡ length entries.now }
+    ensures { result ≡ (is_none (slice_index_or offsets.now k None) && not (ends_next (names_of entries.now) k)) }
+{
+    offsets[k].is_none() && is_top(entries, k)
 }
 
 /// Puts the texts one behind the other from `head` on, each where it is used first, and gives each
@@ -32,12 +40,12 @@ fn place<'a>(
     requires whole { length tails.now ≡ length order.now.entries.items }
     ensures { IfOk result (λ placed. IsLaidOut head (texts names.now) (names_of order.now.entries.items) (length names.now) (texts placed.tops.items) placed.offsets.items) }
 {
-    let entries = &order.entries;
+    let entries = order.entries.as_slice();
     let mut tops = Vec::new(alloc);
     let mut offsets = vec![in alloc; None; entries.len()]?;
     let mut at = u64::from(head);
     for rank in &order.ranks {
-        if offsets[*rank].is_none() && is_top(entries, *rank) {
+        if is_new_top(entries, &offsets, *rank) {
             place_tails(&mut offsets, entries, tails, *rank, at);
             let name = entries[*rank].name;
             tops.push(name)?;
