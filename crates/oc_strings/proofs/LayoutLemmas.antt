@@ -1,22 +1,22 @@
 -- One given name after the other: which are tops, and where the texts stand.
-use Rattle.std.proofs.Common.{◌≡◌, ℕ, ◌+◌, ◌-◌, ◌<◌, ◌≤◌, Bool, true, false, not, ◌&&◌, List, [], ◌∷◌, ◌++◌, length, take, drop, get_or, replicate, Option, Some, None, refl, sym, ◌∙◌, ap, subst, arith, inl, inr, ◌⊎◌, ⊎_elim, length-append}
-use Rattle.std.proofs.lemmas.List.{length-map, get_or-map, take-append-drop, length-replicate, get_or-replicate}
+use Rattle.std.proofs.Common.{◌≡◌, ℕ, ◌+◌, ◌-◌, ◌<◌, ◌≤◌, Bool, true, false, not, ◌&&◌, List, [], ◌∷◌, ◌++◌, length, take, drop, get_or, replicate, map, IsSome, Option, Some, None, refl, sym, ◌∙◌, ap, subst, arith, ⊎_elim, length-append}
+use Rattle.std.proofs.lemmas.List.{length-map, get_or-map, take-append-drop, length-replicate, get_or-replicate, take_all, same_lists}
 use Rattle.std.proofs.lemmas.List.Sums.{fold_more}
 use Rattle.std.proofs.lemmas.List.Concat.{flat_map-append}
 use Rattle.std.proofs.lemmas.Option.{slice_get-get_or, slice_get_within, get_or_from_slice_get}
-use Rattle.std.proofs.lemmas.Bool.{both_ways, cases_lt, cases_Bool, and_parts, and_from, ltb-true, lt-ltb, cond-true, cond-false, false_from_ne_true, not_from_false, not_from_true, or_left, and_left, and_right}
+use Rattle.std.proofs.lemmas.Bool.{both_ways, cases_lt, cases_Bool, and_parts, and_from, ltb-true, lt-ltb, cond-true, cond-false, false_from_ne_true, or_left, and_left, and_right}
 use Rattle.std.proofs.lemmas.Cmp.{tied_itself, nat_list_cmp_total}
-use Rattle.std.specs.List.{list_any, fold, slice_get}
+use Rattle.std.specs.List.{fold}
 use Rattle.std.specs.Option.{is_some, is_none, option_or, option_map}
 use Rattle.std.specs.Ordering.{is_lt}
 use Rattle.std.specs.Prelude.{nat_lt, if◌then◌else◌, reverse}
-use Rattle.oc_base.specs.Strings.{ends, is_proper_tail, is_maximal, is_given, with_top, text_of, place_from}
+use Rattle.oc_base.specs.Strings.{ends, is_maximal, is_given, with_top, tops_of, text_of, place_from, table_place}
 use Rattle.oc_strings.specs.declared.order.Entry.{Entry}
-use Rattle.oc_strings.specs.Tables.{capped}
-use Rattle.oc_strings.specs.Order.{is_before, StrictlyAscends, names_of, name_at, IsOrder, IsLaidOut, ends_next, place_in}
-use Rattle.oc_strings.proofs.EndLemmas.{ends_self, ends_whole, ends_fits}
-use Rattle.oc_strings.proofs.GivenLemmas.{Found, found, given_passes, given_at, Place, place_of_given, maximal_is, not_maximal, longer_for, tops_given, same_name, name_itself, given-append}
-use Rattle.oc_strings.proofs.PlaceLaws.{has_place, place_from-append}
+use Rattle.oc_strings.specs.Tables.{capped, offset_of}
+use Rattle.oc_strings.specs.Order.{is_before, names_of, name_at, IsOrder, IsLaidOut, ends_next, place_in}
+use Rattle.oc_strings.proofs.EndLemmas.{ends_self, ends_whole}
+use Rattle.oc_strings.proofs.GivenLemmas.{found, given_passes, given_at, place_of_given, maximal_is, not_maximal, longer_for, tops_given, given-append}
+use Rattle.oc_strings.proofs.PlaceLaws.{has_place, place_from-append, given_place}
 use Rattle.oc_strings.proofs.OrderLemmas.{tail_first, tail_between}
 use Rattle.oc_strings.proofs.RankLemmas.{count_of_names, name_of_entry}
 
@@ -206,3 +206,42 @@ laid_none head names order n same = record {
   whole = length-replicate n None ∙ same;
   placed = λ k d l. get_or-replicate n k None d (omega arith);
 }
+
+module _ (names : List (List ℕ)) (entries : List Entry) (ranks : List ℕ) (o : IsOrder names entries ranks) (head n : ℕ) (all : n ≡ length names)
+  (tops : List (List ℕ)) (offsets : List (Option ℕ)) (laid : IsLaidOut head names (names_of entries) n tops offsets) where
+  -- all names have been used
+  pub tops_all : tops ≡ tops_of names
+  unfolding tops_of
+  tops_all = laid.tops_are ∙ ap (fold (with_top names) []) (take_all n names (omega arith))
+
+  -- every name of the order has an offset
+  pub placed_all : (k : ℕ) (d : Option ℕ) → k < length offsets → IsSome (get_or offsets k d)
+  placed_all k d l =
+      let in' : k < length (names_of entries) = omega (arith, laid.whole) in
+      let there : is_some (place_from head tops (name_at (names_of entries) k)) ≡ true
+        = ap (λ ts. is_some (place_from head ts (name_at (names_of entries) k))) tops_all ∙ given_place head names (name_at (names_of entries) k) (order_given names entries ranks o k in')
+      in
+      subst (λ (p : Option ℕ). IsSome p) (sym (laid.placed k d in')) (some (place_from head tops (name_at (names_of entries) k)) there)
+    where
+      some : (p : Option ℕ) → is_some p ≡ true → IsSome (option_map capped p)
+      some None e = absurd (both_ways false refl e)
+      some (Some x) e = refl
+
+  -- the offset with a name's rank is the name's
+  offset_here : (k : ℕ) → k < length names → get_or offsets (get_or ranks k 0) None ≡ offset_of head names (get_or names k [])
+  unfolding table_place
+  offset_here k l =
+      laid.placed (get_or ranks k 0) None (rank_within names entries ranks o k l)
+      ∙ ap (λ n. option_map capped (place_from head tops n)) (rank_is names entries ranks o k l)
+      ∙ ap (λ ts. option_map capped (place_from head ts (get_or names k []))) tops_all
+      ∙ ap (option_map capped) (sym (cond-true (is_given names (get_or names k [])) (place_from head (tops_of names) (get_or names k [])) None (given_at names k [] l)))
+
+  pub offsets_all : (found : List ℕ) → map Some found ≡ map (λ rank. get_or offsets rank None) ranks → map Some found ≡ map (offset_of head names) names
+  offsets_all found same =
+      same
+      ∙ same_lists (map (λ rank. get_or offsets rank None) ranks) (map (offset_of head names) names)
+        (omega (arith, length-map ranks (λ (rank : ℕ). get_or offsets rank None), length-map names (offset_of head names), o.whole))
+        (λ k d l.
+          let in' : k < length ranks = omega (arith, length-map ranks (λ (rank : ℕ). get_or offsets rank None)) in
+          let in'' : k < length names = omega (arith, o.whole) in
+          get_or-map (λ (rank : ℕ). get_or offsets rank None) ranks k 0 d in' ∙ offset_here k in'' ∙ sym (get_or-map (offset_of head names) names k [] d in''))

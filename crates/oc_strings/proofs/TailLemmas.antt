@@ -1,12 +1,12 @@
 -- The walk from a name to the shorter ones that end it.
-use Rattle.std.proofs.Common.{◌≡◌, ℕ, ◌+◌, ◌-◌, ◌<◌, ◌≤◌, Bool, true, false, not, ◌&&◌, List, [], ◌∷◌, ◌++◌, length, get_or, set, Option, Some, None, refl, sym, ◌∙◌, ap, subst, arith, inl, inr, ◌⊎◌, ⊎_elim}
+use Rattle.std.proofs.Common.{◌≡◌, ℕ, ◌+◌, ◌-◌, ◌<◌, ◌≤◌, true, false, List, length, get_or, set, Option, Some, None, refl, sym, ◌∙◌, ap, subst, arith, ⊎_elim}
 use Rattle.std.proofs.lemmas.List.{get_or-set_same, get_or-set_other, length-set, get_or_default}
-use Rattle.std.proofs.lemmas.Bool.{both_ways, cases_lt, cases_order, cases_Bool, false_from_ne_true, cond-false, cond-true}
+use Rattle.std.proofs.lemmas.Bool.{both_ways, cases_order, false_from_ne_true, cond-false, cond-true}
 use Rattle.std.specs.Option.{option_or}
 use Rattle.oc_base.specs.Strings.{ends}
 use Rattle.oc_strings.specs.Tables.{capped}
-use Rattle.oc_strings.specs.Order.{StrictlyAscends, name_at, IsNextTail, AreNextTails, place_in}
-use Rattle.oc_strings.proofs.EndLemmas.{ends_self, ends_trans, ends_fits}
+use Rattle.oc_strings.specs.Order.{StrictlyAscends, name_at, IsNextTail, place_in}
+use Rattle.oc_strings.proofs.EndLemmas.{ends_self, ends_trans}
 use Rattle.oc_strings.proofs.OrderLemmas.{tail_first, tail_between}
 
 -- how many names the walk may still meet

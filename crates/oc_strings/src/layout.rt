@@ -1,6 +1,7 @@
 //! The layout of a string table: its texts in their order, and where each given name stands.
-ghost use Rattle.std.specs.Prelude.{◌≡◌, ℕ, ◌<◌, Option, Some, None, ◌&&◌, IfOk, is_none, not, length, slice_index_or};
-ghost use Rattle.oc_strings.specs.Tables.{texts};
+ghost use Rattle.std.specs.Prelude.{◌≡◌, ℕ, ◌<◌, List, ◌&&◌, All, IfOk, IsSome, is_none, not, length, map, slice_index_or};
+ghost use Rattle.oc_base.specs.Strings.{tops_of};
+ghost use Rattle.oc_strings.specs.Tables.{texts, offset_of};
 ghost use Rattle.oc_strings.specs.Order.{IsOrder, AreNextTails, ends_next, names_of, IsLaidOut};
 
 use crate::order::{Entry, Order};
@@ -53,4 +54,48 @@ fn place<'a>(
         }
     }
     Ok(Placed { tops, offsets })
+}
+
+/// For each rank the offset with that rank.
+fn by_rank(alloc: Global, offsets: &[Option<u64>], ranks: &[usize]) -> Result<Vec<u64>, NoMemory>
+    requires within { All (λ rank. rank < length offsets.now) ranks.now }
+    requires placed { All (λ offset. IsSome offset) offsets.now }
+    ensures { IfOk result (λ found. map Some found.items ≡ map (λ rank. slice_index_or offsets.now rank None) ranks.now) }
+{
+    let mut found = Vec::with_capacity(alloc, ranks.len())?;
+    for rank in ranks {
+        let offset = offsets[*rank].unwrap();
+        found.push(offset)?;
+    }
+    Ok(found)
+}
+
+/// The layout of the table of given names.
+#[derive(Drop)]
+pub(crate) struct Layout<'a> {
+    /// The texts, in the order in which they stand.
+    pub tops: Vec<&'a [u8]>,
+    /// For each given name, in the order in which they were given, its offset.
+    pub offsets: Vec<u64>,
+    /// The given names in ascending order, once each.
+    pub entries: Vec<Entry<'a>>,
+}
+
+impl<'a> Layout<'a> {
+    /// Lays the table out whose first text stands at `head`.
+    pub fn of(alloc: Global, head: u32, names: &[&'a [u8]]) -> Result<Layout<'a>, NoMemory>
+        ensures tops { IfOk result (λ layout. texts layout.tops.items ≡ tops_of (texts names.now)) }
+        ensures offsets { IfOk result (λ layout. map Some layout.offsets.items ≡ map (offset_of head (texts names.now)) (texts names.now)) }
+        ensures entries { IfOk result (λ layout. (ranks : List ℕ) × IsOrder (texts names.now) layout.entries.items ranks) }
+    {
+        let order = Order::of(alloc, names)?;
+        let tails = next_tails(alloc, &order.entries)?;
+        let placed = place(alloc, head, names, &order, &tails)?;
+        let offsets = by_rank(alloc, &placed.offsets, &order.ranks)?;
+        Ok(Layout {
+            tops: placed.tops,
+            offsets,
+            entries: order.entries,
+        })
+    }
 }

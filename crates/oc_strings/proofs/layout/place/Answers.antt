@@ -1,5 +1,5 @@
-use Rattle.std.proofs.Common.{◌≡◌, ◌<◌, ℕ, ◌+◌, [], ◌∷◌, ◌++◌, List, Option, None, Bool, true, false, ◌&&◌, not, length, arith, sym, ◌∙◌, ap, subst, get_or, refl, rules}
-use Rattle.std.proofs.lemmas.List.{map_push, with_items_is, length-map, length-replicate, get_or-replicate}
+use Rattle.std.proofs.Common.{◌≡◌, ◌<◌, ℕ, ◌+◌, [], ◌∷◌, ◌++◌, List, Option, None, ◌&&◌, not, length, arith, sym, ◌∙◌, ap, subst, get_or, rules}
+use Rattle.std.proofs.lemmas.List.{map_push, with_items_is}
 use Rattle.std.specs.Option.{option_or, is_none}
 use denote.Ref.{Bor}
 use Rattle.oc_base.specs.Strings.{text_of}
@@ -7,7 +7,7 @@ use Rattle.oc_strings.specs.declared.order.Entry.{Entry}
 use Rattle.oc_strings.specs.Tables.{texts, capped}
 use Rattle.oc_strings.specs.Order.{names_of, name_at, IsOrder, IsLaidOut, place_in, ends_next}
 use Rattle.oc_strings.proofs.RankLemmas.{name_of_entry, count_of_names}
-use Rattle.oc_strings.proofs.LayoutLemmas.{rank_in, rank_within, laid_none, laid_same, laid_more, last_text}
+use Rattle.oc_strings.proofs.LayoutLemmas.{rank_within, laid_none, laid_same, laid_more, last_text}
 use Rattle.oc_strings.proofs.layout.place.Goals as goal
 use Rattle.oc_strings.proofs.layout.place.Goals.{then-is_new_top+in_ok-push, else-is_new_top}
 

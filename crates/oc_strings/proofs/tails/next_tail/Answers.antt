@@ -1,5 +1,4 @@
-use Rattle.std.proofs.Common.{◌≡◌, ℕ, ◌<◌, [], Option, Some, None, false, length, get_or, sym, ◌∙◌, subst, arith}
-use Rattle.oc_strings.specs.declared.order.Entry.{Entry}
+use Rattle.std.proofs.Common.{◌<◌, [], None, false, length, get_or, sym, ◌∙◌, subst, arith}
 use Rattle.oc_strings.specs.Order.{names_of}
 use Rattle.oc_strings.proofs.RankLemmas.{count_of_names, ends_by_place}
 use Rattle.oc_strings.proofs.TailLemmas.{Beyond, tail_step}

@@ -1,5 +1,4 @@
-use Rattle.std.proofs.Common.{◌≡◌, ℕ, ◌+◌, ◌-◌, ◌<◌, [], List, Option, Some, None, length, get_or, set, sym, ◌∙◌, ap, subst, arith}
-use Rattle.std.specs.Option.{option_or}
+use Rattle.std.proofs.Common.{◌≡◌, ℕ, ◌+◌, ◌-◌, ◌<◌, [], Option, None, length, get_or, set, sym, ◌∙◌, ap, subst, arith}
 use Rattle.oc_strings.specs.declared.order.Entry.{Entry}
 use Rattle.oc_strings.specs.Tables.{capped}
 use Rattle.oc_strings.specs.Order.{names_of, name_at}
