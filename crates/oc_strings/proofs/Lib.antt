@@ -6,3 +6,4 @@ pub mod OrderLemmas
 pub mod RankLemmas
 pub mod TailLemmas
 pub mod LayoutLemmas
+pub mod SearchLemmas

@@ -12,10 +12,10 @@ use Rattle.oc_strings.specs.Order.{is_before, StrictlyAscends, name_at}
 use Rattle.oc_strings.proofs.EndLemmas.{ends_split, ends_from}
 
 -- the order of lists of bytes
-abbrev order : List ℕ → List ℕ → Ordering
+abbrev pub order : List ℕ → List ℕ → Ordering
 order = slice_cmp nat_cmp
 
-less_from : (o : Ordering) → is_lt o ≡ true → o ≡ Less
+pub less_from : (o : Ordering) → is_lt o ≡ true → o ≡ Less
 less_from Less e = refl
 less_from Equal e = absurd (both_ways false refl e)
 less_from Greater e = absurd (both_ways false refl e)
@@ -78,7 +78,7 @@ before_ended a b e =
     subst (λ (t : List ℕ). is_le (order (reverse a) t) ≡ true) (sym h.is) (front_first (reverse a) h.rest)
 
 -- lists that tie are the same
-tied_same : (x y : List ℕ) → order x y ≡ Equal → x ≡ y
+pub tied_same : (x y : List ℕ) → order x y ≡ Equal → x ≡ y
 tied_same [] [] e = refl
 tied_same [] (b ∷ y) e = absurd (cc)
 tied_same (a ∷ x) [] e = absurd (cc)
@@ -117,7 +117,7 @@ module _ (names : List (List ℕ)) (up : StrictlyAscends names) where
       subst (λ (j : ℕ). is_before (name_at names i) (name_at names j) ≡ true) next
       (ap is_lt (nat_list_cmp_total.trans (reverse (name_at names i)) (reverse (name_at names (i + k + 1))) (reverse (name_at names (i + k + 1 + 1))) far step))
 
-  earlier : (i j : ℕ) → i < j → j < length names → is_before (name_at names i) (name_at names j) ≡ true
+  pub earlier : (i j : ℕ) → i < j → j < length names → is_before (name_at names i) (name_at names j) ≡ true
   earlier i j l lj =
       let far : i + (j - i - 1) + 1 ≡ j = omega arith in
       subst (λ (m : ℕ). is_before (name_at names i) (name_at names m) ≡ true) far (before_later i (j - i - 1) (omega arith))

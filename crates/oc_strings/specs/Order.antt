@@ -23,6 +23,10 @@ StrictlyAscends names = (k : ℕ) (d : List ℕ) → k + 1 < length names → is
 abbrev pub names_of : List Entry → List (List ℕ)
 names_of entries = map (λ entry. entry.name.now) entries
 
+-- the numbers of entries
+abbrev pub numbers_of : List Entry → List ℕ
+numbers_of entries = map (λ entry. entry.number) entries
+
 -- the entries are the given names, each with its place among them
 pub record IsNumbered (names : List (List ℕ)) (entries : List Entry) : Type 0 where
   pub named : (k : ℕ) (d : Entry) → k < length entries → slice_get names (slice_index_or entries k d).number ≡ Some (slice_index_or entries k d).name.now

@@ -3,5 +3,10 @@
 
 mod layout;
 mod order;
+mod parts;
 mod plain;
+mod search;
+mod table;
 mod tails;
+
+pub use table::Table;
