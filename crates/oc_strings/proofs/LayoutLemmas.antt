@@ -34,7 +34,7 @@ module _ (names : List (List ℕ)) (entries : List Entry) (ranks : List ℕ) (o 
       let l' : k < length entries = omega (arith, count_of_names entries) in
       let within : (get_or entries k d).number < length names = slice_get_within names (get_or entries k d).number (get_or entries k d).name.now (o.named k d l') in
       let is : get_or names (get_or entries k d).number [] ≡ name_at (names_of entries) k
-        = get_or_from_slice_get names (get_or entries k d).number (get_or entries k d).name.now [] (o.named k d l') ∙ sym (name_of_entry entries k [] d l')
+      = get_or_from_slice_get names (get_or entries k d).number (get_or entries k d).name.now [] (o.named k d l') ∙ sym (name_of_entry entries k [] d l')
       in
       subst (λ (n : List ℕ). is_given names n ≡ true) is (given_at names (get_or entries k d).number [] within)
 
@@ -61,33 +61,33 @@ module _ (names : List (List ℕ)) (entries : List Entry) (ranks : List ℕ) (o 
   pub maximal_here : (k : ℕ) → k < length (names_of entries) → is_maximal names (name_at (names_of entries) k) ≡ not (ends_next (names_of entries) k)
   maximal_here k l =
       ⊎_elim
-        (λ next.
-          let parts = and_parts (nat_lt (k + 1) (length (names_of entries))) (ends (name_at (names_of entries) k) (name_at (names_of entries) (k + 1))) next in
-          let within : k + 1 < length (names_of entries) = ltb-true (k + 1) (length (names_of entries)) parts.0 in
-          let longer : length (name_at (names_of entries) k) < length (name_at (names_of entries) (k + 1))
-            = ⊎_elim (λ lt. lt) (λ ge. absurd (neighbours_differ k within (ends_whole (name_at (names_of entries) k) (name_at (names_of entries) (k + 1)) parts.1 ge)))
-              (cases_lt (length (name_at (names_of entries) k)) (length (name_at (names_of entries) (k + 1))))
-          in
-          not_maximal names (name_at (names_of entries) k) (name_at (names_of entries) (k + 1)) (order_given (k + 1) within) parts.1 longer ∙ sym (ap not next))
-        (λ apart. ⊎_elim
-          (λ top. top ∙ sym (ap not apart))
-          (λ not_top.
-            let f = longer_for names (name_at (names_of entries) k) not_top in
-            let j = known f.name f.given in
-            let both = and_parts (nat_lt (length (name_at (names_of entries) k)) (length f.name)) (ends (name_at (names_of entries) k) f.name) f.passes in
-            let longer : length (name_at (names_of entries) k) < length f.name = ltb-true (length (name_at (names_of entries) k)) (length f.name) both.0 in
-            let there : ends (name_at (names_of entries) k) (name_at (names_of entries) j.at) ≡ true = subst (λ (n : List ℕ). ends (name_at (names_of entries) k) n ≡ true) (sym j.is) both.1 in
-            let le : k ≤ j.at = tail_first (names_of entries) o.ascends k j.at l there in
-            let lt : k < j.at = ⊎_elim (λ lt. lt) (λ ge.
-              let same : j.at ≡ k = omega arith in
-              absurd (omega (arith, ap length (sym j.is ∙ ap (name_at (names_of entries)) same)))) (cases_lt k j.at)
-            in
-            let in' : k + 1 < length (names_of entries) = omega (arith, j.within) in
-            absurd (both_ways (ends_next (names_of entries) k) apart
-              (and_from (nat_lt (k + 1) (length (names_of entries))) (ends (name_at (names_of entries) k) (name_at (names_of entries) (k + 1))) (lt-ltb (k + 1) (length (names_of entries)) in')
-                (tail_between (names_of entries) o.ascends k (k + 1) j.at (omega arith) (omega arith) j.within there))))
-          (cases_Bool (is_maximal names (name_at (names_of entries) k))))
-        (cases_Bool (ends_next (names_of entries) k))
+      (λ next.
+      let parts = and_parts (nat_lt (k + 1) (length (names_of entries))) (ends (name_at (names_of entries) k) (name_at (names_of entries) (k + 1))) next in
+      let within : k + 1 < length (names_of entries) = ltb-true (k + 1) (length (names_of entries)) parts.0 in
+      let longer : length (name_at (names_of entries) k) < length (name_at (names_of entries) (k + 1))
+      = ⊎_elim (λ lt. lt) (λ ge. absurd (neighbours_differ k within (ends_whole (name_at (names_of entries) k) (name_at (names_of entries) (k + 1)) parts.1 ge)))
+      (cases_lt (length (name_at (names_of entries) k)) (length (name_at (names_of entries) (k + 1))))
+      in
+      not_maximal names (name_at (names_of entries) k) (name_at (names_of entries) (k + 1)) (order_given (k + 1) within) parts.1 longer ∙ sym (ap not next))
+      (λ apart. ⊎_elim
+      (λ top. top ∙ sym (ap not apart))
+      (λ not_top.
+      let f = longer_for names (name_at (names_of entries) k) not_top in
+      let j = known f.name f.given in
+      let both = and_parts (nat_lt (length (name_at (names_of entries) k)) (length f.name)) (ends (name_at (names_of entries) k) f.name) f.passes in
+      let longer : length (name_at (names_of entries) k) < length f.name = ltb-true (length (name_at (names_of entries) k)) (length f.name) both.0 in
+      let there : ends (name_at (names_of entries) k) (name_at (names_of entries) j.at) ≡ true = subst (λ (n : List ℕ). ends (name_at (names_of entries) k) n ≡ true) (sym j.is) both.1 in
+      let le : k ≤ j.at = tail_first (names_of entries) o.ascends k j.at l there in
+      let lt : k < j.at = ⊎_elim (λ lt. lt) (λ ge.
+      let same : j.at ≡ k = omega arith in
+      absurd (omega (arith, ap length (sym j.is ∙ ap (name_at (names_of entries)) same)))) (cases_lt k j.at)
+      in
+      let in' : k + 1 < length (names_of entries) = omega (arith, j.within) in
+      absurd (both_ways (ends_next (names_of entries) k) apart
+      (and_from (nat_lt (k + 1) (length (names_of entries))) (ends (name_at (names_of entries) k) (name_at (names_of entries) (k + 1))) (lt-ltb (k + 1) (length (names_of entries)) in')
+      (tail_between (names_of entries) o.ascends k (k + 1) j.at (omega arith) (omega arith) j.within there))))
+      (cases_Bool (is_maximal names (name_at (names_of entries) k))))
+      (cases_Bool (ends_next (names_of entries) k))
 
 given_take : (names : List (List ℕ)) (i : ℕ) (n : List ℕ) → is_given (take i names) n ≡ true → is_given names n ≡ true
 given_take names i n g =
@@ -99,16 +99,16 @@ placed_is_given : (head : ℕ) (names : List (List ℕ)) (i : ℕ) (n : List ℕ
 placed_is_given head names i n top =
     let tops : List (List ℕ) = fold (with_top names) [] (take i names) in
     ⊎_elim
-      (λ g. g ∙ sym (has_place head tops n ∙ given_passes (ends n) tops n g (ends_self n)))
-      (λ not_given.
-        not_given ∙ sym (false_from_ne_true (is_some (place_from head tops n)) (λ placed.
-          let f = found (ends n) tops (sym (has_place head tops n) ∙ placed) in
-          let given : is_given names f.name ≡ true
-            = ⊎_elim (λ old. absurd (both_ways false refl old)) (λ used. given_take names i f.name used) (tops_given names [] (take i names) f.name f.given)
-          in
-          let same : n ≡ f.name = maximal_is names n f.name top given f.passes in
-          both_ways (is_given tops n) not_given (subst (λ (m : List ℕ). is_given tops m ≡ true) (sym same) f.given))))
-      (cases_Bool (is_given tops n))
+    (λ g. g ∙ sym (has_place head tops n ∙ given_passes (ends n) tops n g (ends_self n)))
+    (λ not_given.
+    not_given ∙ sym (false_from_ne_true (is_some (place_from head tops n)) (λ placed.
+    let f = found (ends n) tops (sym (has_place head tops n) ∙ placed) in
+    let given : is_given names f.name ≡ true
+    = ⊎_elim (λ old. absurd (both_ways false refl old)) (λ used. given_take names i f.name used) (tops_given names [] (take i names) f.name f.given)
+    in
+    let same : n ≡ f.name = maximal_is names n f.name top given f.passes in
+    both_ways (is_given tops n) not_given (subst (λ (m : List ℕ). is_given tops m ≡ true) (sym same) f.given))))
+    (cases_Bool (is_given tops n))
 
 not_some : (p : Option ℕ) → is_none (option_map capped p) ≡ not (is_some p)
 not_some None = refl
@@ -134,7 +134,7 @@ either None q = refl
 either (Some x) q = refl
 
 module _ (names : List (List ℕ)) (entries : List Entry) (ranks : List ℕ) (o : IsOrder names entries ranks) (head i : ℕ) (l : i < length names)
-  (tops : List (List ℕ)) (offsets : List (Option ℕ)) (laid : IsLaidOut head names (names_of entries) i tops offsets) where
+    (tops : List (List ℕ)) (offsets : List (Option ℕ)) (laid : IsLaidOut head names (names_of entries) i tops offsets) where
   abbrev rank : ℕ
   rank = get_or ranks i 0
 
@@ -148,16 +148,16 @@ module _ (names : List (List ℕ)) (entries : List Entry) (ranks : List ℕ) (o 
       let none : is_none (get_or offsets rank None) ≡ not (is_some (place_from head tops name)) = ap is_none (laid.placed rank None in') ∙ not_some (place_from head tops name) in
       let here = maximal_here names entries ranks o rank in' in
       ⊎_elim
-        (λ top.
-          let given : is_given tops name ≡ is_some (place_from head tops name)
-            = subst (λ (ts : List (List ℕ)). is_given ts name ≡ is_some (place_from head ts name)) (sym laid.tops_are) (placed_is_given head names i name top)
-          in
-          ap (λ b. b && not (is_given tops name)) top ∙ ap not given ∙ sym none
-          ∙ sym (and_true (is_none (get_or offsets rank None)) (not (ends_next (names_of entries) rank)) (sym here ∙ top)))
-        (λ not_top.
-          and_left (is_maximal names name) (not (is_given tops name)) not_top
-          ∙ sym (and_right (is_none (get_or offsets rank None)) (not (ends_next (names_of entries) rank)) (sym here ∙ not_top)))
-        (cases_Bool (is_maximal names name))
+      (λ top.
+      let given : is_given tops name ≡ is_some (place_from head tops name)
+      = subst (λ (ts : List (List ℕ)). is_given ts name ≡ is_some (place_from head ts name)) (sym laid.tops_are) (placed_is_given head names i name top)
+      in
+      ap (λ b. b && not (is_given tops name)) top ∙ ap not given ∙ sym none
+      ∙ sym (and_true (is_none (get_or offsets rank None)) (not (ends_next (names_of entries) rank)) (sym here ∙ top)))
+      (λ not_top.
+      and_left (is_maximal names name) (not (is_given tops name)) not_top
+      ∙ sym (and_right (is_none (get_or offsets rank None)) (not (ends_next (names_of entries) rank)) (sym here ∙ not_top)))
+      (cases_Bool (is_maximal names name))
     where
       and_true : (a b : Bool) → b ≡ true → (a && b) ≡ a
       and_true true b e = e
@@ -185,11 +185,11 @@ module _ (names : List (List ℕ)) (entries : List Entry) (ranks : List ℕ) (o 
     tops_are = sym (more ∙ cond-true (is_maximal names name && not (is_given tops name)) (tops ++ name ∷ []) tops (test_is ∙ e));
     whole = same ∙ laid.whole;
     placed = λ k d in'.
-      placed k d in'
-      ∙ ap (λ p. option_or p (place_in at name (name_at (names_of entries) k))) (laid.placed k d in')
-      ∙ ap (option_or (option_map capped (place_from head tops (name_at (names_of entries) k)))) (last_place (head + length (text_of tops)) at name (name_at (names_of entries) k) is)
-      ∙ either (place_from head tops (name_at (names_of entries) k)) (place_from (head + length (text_of tops)) (name ∷ []) (name_at (names_of entries) k))
-      ∙ ap (option_map capped) (sym (place_from-append head tops (name ∷ []) (name_at (names_of entries) k)));
+        placed k d in'
+        ∙ ap (λ p. option_or p (place_in at name (name_at (names_of entries) k))) (laid.placed k d in')
+        ∙ ap (option_or (option_map capped (place_from head tops (name_at (names_of entries) k)))) (last_place (head + length (text_of tops)) at name (name_at (names_of entries) k) is)
+        ∙ either (place_from head tops (name_at (names_of entries) k)) (place_from (head + length (text_of tops)) (name ∷ []) (name_at (names_of entries) k))
+        ∙ ap (option_map capped) (sym (place_from-append head tops (name ∷ []) (name_at (names_of entries) k)));
   }
 
 -- a rank as it is read from the list of them
@@ -208,7 +208,7 @@ laid_none head names order n same = record {
 }
 
 module _ (names : List (List ℕ)) (entries : List Entry) (ranks : List ℕ) (o : IsOrder names entries ranks) (head n : ℕ) (all : n ≡ length names)
-  (tops : List (List ℕ)) (offsets : List (Option ℕ)) (laid : IsLaidOut head names (names_of entries) n tops offsets) where
+    (tops : List (List ℕ)) (offsets : List (Option ℕ)) (laid : IsLaidOut head names (names_of entries) n tops offsets) where
   -- all names have been used
   pub tops_all : tops ≡ tops_of names
   unfolding tops_of
@@ -219,7 +219,7 @@ module _ (names : List (List ℕ)) (entries : List Entry) (ranks : List ℕ) (o 
   placed_all k d l =
       let in' : k < length (names_of entries) = omega (arith, laid.whole) in
       let there : is_some (place_from head tops (name_at (names_of entries) k)) ≡ true
-        = ap (λ ts. is_some (place_from head ts (name_at (names_of entries) k))) tops_all ∙ given_place head names (name_at (names_of entries) k) (order_given names entries ranks o k in')
+      = ap (λ ts. is_some (place_from head ts (name_at (names_of entries) k))) tops_all ∙ given_place head names (name_at (names_of entries) k) (order_given names entries ranks o k in')
       in
       subst (λ (p : Option ℕ). IsSome p) (sym (laid.placed k d in')) (some (place_from head tops (name_at (names_of entries) k)) there)
     where
@@ -240,8 +240,8 @@ module _ (names : List (List ℕ)) (entries : List Entry) (ranks : List ℕ) (o 
   offsets_all found same =
       same
       ∙ same_lists (map (λ rank. get_or offsets rank None) ranks) (map (offset_of head names) names)
-        (omega (arith, length-map ranks (λ (rank : ℕ). get_or offsets rank None), length-map names (offset_of head names), o.whole))
-        (λ k d l.
-          let in' : k < length ranks = omega (arith, length-map ranks (λ (rank : ℕ). get_or offsets rank None)) in
-          let in'' : k < length names = omega (arith, o.whole) in
-          get_or-map (λ (rank : ℕ). get_or offsets rank None) ranks k 0 d in' ∙ offset_here k in'' ∙ sym (get_or-map (offset_of head names) names k [] d in''))
+      (omega (arith, length-map ranks (λ (rank : ℕ). get_or offsets rank None), length-map names (offset_of head names), o.whole))
+      (λ k d l.
+      let in' : k < length ranks = omega (arith, length-map ranks (λ (rank : ℕ). get_or offsets rank None)) in
+      let in'' : k < length names = omega (arith, o.whole) in
+      get_or-map (λ (rank : ℕ). get_or offsets rank None) ranks k 0 d in' ∙ offset_here k in'' ∙ sym (get_or-map (offset_of head names) names k [] d in''))

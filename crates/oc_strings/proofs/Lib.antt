@@ -7,3 +7,4 @@ pub mod RankLemmas
 pub mod TailLemmas
 pub mod LayoutLemmas
 pub mod SearchLemmas
+pub mod TableLemmas

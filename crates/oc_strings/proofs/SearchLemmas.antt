@@ -1,15 +1,15 @@
 -- The search among names in ascending order.
-use Rattle.std.proofs.Common.{◌≡◌, ℕ, ◌+◌, ◌-◌, ◌<◌, ◌≤◌, Bool, true, false, List, [], length, reverse, get_or, Option, Some, None, Ordering, refl, sym, ◌∙◌, ap, subst, arith, inl, inr, ◌⊎◌, ⊎_elim}
+use Rattle.std.proofs.Common.{◌≡◌, ℕ, ◌+◌, ◌<◌, ◌≤◌, true, false, List, [], length, reverse, get_or, Some, None, Ordering, sym, ◌∙◌, ap, subst, arith, ⊎_elim}
 use Rattle.std.proofs.lemmas.List.{get_or-map, length-map, reverse-reverse}
-use Rattle.std.proofs.lemmas.Bool.{both_ways, cases_lt, cases_order, cases_Bool, cond-true, cond-false, false_from_ne_true}
+use Rattle.std.proofs.lemmas.Bool.{both_ways, cases_lt, cond-false, false_from_ne_true}
 use Rattle.std.proofs.lemmas.Cmp.{nat_list_cmp_total, tied_itself}
 use Rattle.std.specs.Ordering.{nat_cmp, is_lt, ordering_reverse}
 use Rattle.std.specs.Cmp.Lexicographic.{slice_cmp}
 use Rattle.std.specs.declared.cmp.Ordering.TheVariants.{Less, Equal, Greater}
 use Rattle.oc_base.specs.Strings.{is_given, table_place, tops_of, place_from}
 use Rattle.oc_strings.specs.declared.table.Place.{Place}
-use Rattle.oc_strings.specs.Order.{is_before, name_at, StrictlyAscends}
-use Rattle.oc_strings.specs.Inside.{names_in, pick, IsSearchable, IsTable}
+use Rattle.oc_strings.specs.Order.{is_before, name_at}
+use Rattle.oc_strings.specs.Inside.{name_in, names_in, pick, IsSearchable, IsTable}
 use Rattle.oc_strings.proofs.GivenLemmas.{place_of_given}
 use Rattle.oc_strings.proofs.OrderLemmas.{earlier, tied_same, less_from}
 
@@ -51,12 +51,12 @@ module _ (names : List (List ℕ)) (order : List ℕ) (s : IsSearchable names or
     below = omega arith;
     within = n.within;
     before = λ k l'.
-      let m' : m < length order = omega (arith, n.within) in
-      ⊎_elim
+        let m' : m < length order = omega (arith, n.within) in
+        ⊎_elim
         (λ less. before_trans (name_at names (get_or order k 0)) (name_at names (get_or order m 0)) name (in_order k m less m') (ap is_lt e))
         (λ at.
-          let same : m ≡ k = omega arith in
-          subst (λ (j : ℕ). is_before (name_at names (get_or order j 0)) name ≡ true) same (ap is_lt e))
+        let same : m ≡ k = omega arith in
+        subst (λ (j : ℕ). is_before (name_at names (get_or order j 0)) name ≡ true) same (ap is_lt e))
         (cases_lt k m);
     after = n.after;
   }
@@ -66,18 +66,18 @@ module _ (names : List (List ℕ)) (order : List ℕ) (s : IsSearchable names or
       → IsNarrowed names order name low m
   narrowed_high low high m n l h e =
       let first : is_before name (name_at names (get_or order m 0)) ≡ true
-        = ap is_lt (nat_list_cmp_total.antisymm (reverse name) (reverse (name_at names (get_or order m 0))) ∙ ap ordering_reverse e)
+      = ap is_lt (nat_list_cmp_total.antisymm (reverse name) (reverse (name_at names (get_or order m 0))) ∙ ap ordering_reverse e)
       in
       record {
         below = l;
         within = omega (arith, n.within);
         before = n.before;
         after = λ k l' w.
-          ⊎_elim
+            ⊎_elim
             (λ more. before_trans name (name_at names (get_or order m 0)) (name_at names (get_or order k 0)) first (in_order m k more w))
             (λ at.
-              let same : m ≡ k = omega arith in
-              subst (λ (j : ℕ). is_before name (name_at names (get_or order j 0)) ≡ true) same first)
+            let same : m ≡ k = omega arith in
+            subst (λ (j : ℕ). is_before name (name_at names (get_or order j 0)) ≡ true) same first)
             (cases_lt m k);
       }
 
@@ -90,16 +90,32 @@ module _ (names : List (List ℕ)) (order : List ℕ) (s : IsSearchable names or
   pub narrowed_out : (low high : ℕ) → IsNarrowed names order name low high → high ≤ low → is_given names name ≡ false
   narrowed_out low high n l =
       false_from_ne_true (is_given names name) (λ g.
-        let p = place_of_given names name g in
-        let w = s.whole p.at p.within in
-        let is : name_at names (get_or order w.0 0) ≡ name = w.2 ∙ p.is in
-        let self : is_before name name ≡ false = ap is_lt (tied_itself nat_list_cmp_total (reverse name)) in
-        ⊎_elim
-          (λ less. both_ways (is_before name name) self (subst (λ (a : List ℕ). is_before a name ≡ true) is (n.before w.0 less)))
-          (λ more. both_ways (is_before name name) self (subst (λ (a : List ℕ). is_before name a ≡ true) is (n.after w.0 (omega arith) w.1)))
-          (cases_lt w.0 low))
+      let p = place_of_given names name g in
+      let w = s.whole p.at p.within in
+      let is : name_at names (get_or order w.0 0) ≡ name = w.2 ∙ p.is in
+      let self : is_before name name ≡ false = ap is_lt (tied_itself nat_list_cmp_total (reverse name)) in
+      ⊎_elim
+      (λ less. both_ways (is_before name name) self (subst (λ (a : List ℕ). is_before a name ≡ true) is (n.before w.0 less)))
+      (λ more. both_ways (is_before name name) self (subst (λ (a : List ℕ). is_before name a ≡ true) is (n.after w.0 (omega arith) w.1)))
+      (cases_lt w.0 low))
 
   -- where a name that is not given stands
   pub no_place : (head : ℕ) → is_given names name ≡ false → table_place head names name ≡ None
   unfolding table_place
   no_place head e = cond-false (is_given names name) (place_from head (tops_of names) name) None e
+
+module _ (head : ℕ) (bytes : List ℕ) (given : List Place) (order : List ℕ) (t : IsTable head bytes given order) (name : List ℕ) (m : ℕ) (l : m < length order) where
+  number_within : get_or order m 0 < length given
+  number_within = omega (arith, t.searchable.numbers m l, length-map given (name_in head bytes))
+
+  -- what a comparison says of the name with the number in the middle
+  pub compared : (found : List ℕ) (r : Ordering) → found ≡ name_in head bytes (get_or given (get_or order m 0) (record { at = 0; len = 0 }))
+      → r ≡ slice_cmp nat_cmp (reverse found) (reverse name) → slice_cmp nat_cmp (reverse (name_at (names_in head bytes given) (get_or order m 0))) (reverse name) ≡ r
+  compared found r is e =
+      ap (λ n. slice_cmp nat_cmp (reverse n) (reverse name)) (get_or-map (name_in head bytes) given (get_or order m 0) (record { at = 0; len = 0 }) [] number_within ∙ sym is) ∙ sym e
+
+  -- where it stands, if it is the name
+  pub found_place : name_at (names_in head bytes given) (get_or order m 0) ≡ name
+      → Some (get_or given (get_or order m 0) (record { at = 0; len = 0 })).at ≡ table_place head (names_in head bytes given) name
+  found_place same =
+      sym (t.placed (get_or order m 0) (record { at = 0; len = 0 }) number_within) ∙ ap (table_place head (names_in head bytes given)) same

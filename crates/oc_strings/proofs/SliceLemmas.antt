@@ -1,6 +1,6 @@
 -- Names and tops that are held as slices.
-use Rattle.std.proofs.Common.{◌≡◌, ℕ, ◌+◌, ◌-◌, ◌<◌, Bool, true, false, Some, List, [], ◌∷◌, ◌++◌, length, get_or, take, drop, sym, ◌∙◌, ap, arith, length-append}
-use Rattle.std.proofs.lemmas.List.{get_or-map, length-map, map_more, drop_more, take-map}
+use Rattle.std.proofs.Common.{◌≡◌, ℕ, ◌+◌, ◌-◌, ◌<◌, Bool, true, false, Some, List, [], ◌∷◌, ◌++◌, length, get_or, take, drop, sym, ◌∙◌, ap, arith, append_assoc, length-append}
+use Rattle.std.proofs.lemmas.List.{get_or-map, length-map, map_more, drop_more, take-map, append-nil}
 use Rattle.std.proofs.lemmas.List.Folds.{list_any_at, list_any_more}
 use Rattle.std.proofs.lemmas.List.Concat.{flat_map-append}
 use Rattle.std.proofs.lemmas.Bool.{or_from, cond-false, cond-true}
@@ -42,6 +42,16 @@ text_more tops i d l =
       length-append ((get_or tops i d).now ++ 0 ∷ []) [],
       length-append (get_or tops i d).now (0 ∷ []),
     )
+
+-- the same of the bytes, as they are written
+pub text_push : (tops : List (Bor (List ℕ))) (i : ℕ) (d : Bor (List ℕ)) → i < length tops
+    → (text_of (texts (take i tops)) ++ (get_or tops i d).now) ++ 0 ∷ [] ≡ text_of (texts (take (i + 1) tops))
+unfolding text_of
+text_push tops i d l =
+    append_assoc (text_of (texts (take i tops))) (get_or tops i d).now (0 ∷ [])
+    ∙ ap (λ t. text_of (texts (take i tops)) ++ t) (sym (append-nil ((get_or tops i d).now ++ 0 ∷ [])))
+    ∙ sym (flat_map-append (λ (top : List ℕ). top ++ 0 ∷ []) (texts (take i tops)) ((get_or tops i d).now ∷ []))
+    ∙ ap text_of (sym (map_more (λ (n : Bor (List ℕ)). n.now) tops i d l))
 
 -- a name that the next text does not end in has its place behind it
 pub walked : (head : ℕ) (tops : List (Bor (List ℕ))) (name : List ℕ) (i : ℕ) (d : Bor (List ℕ)) → i < length tops → ends name (get_or tops i d).now ≡ false

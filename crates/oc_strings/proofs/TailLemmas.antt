@@ -44,22 +44,24 @@ module _ (names : List (List ℕ)) (up : StrictlyAscends names) where
   between_none : (i c k : ℕ) → i < c → c ≤ k → k < length names → ends (name_at names i) (name_at names c) ≡ false → ends (name_at names i) (name_at names k) ≡ false
   between_none i c k l m w apart =
       false_from_ne_true (ends (name_at names i) (name_at names k)) (λ e.
-        both_ways (ends (name_at names i) (name_at names c)) apart (tail_between names up i c k (omega arith) m w e))
+      both_ways (ends (name_at names i) (name_at names c)) apart (tail_between names up i c k (omega arith) m w e))
 
   -- the step of the search
   pub tail_step : (k j : ℕ) (next : Option ℕ) → k < length names → Beyond names k (Some j) → ends (name_at names j) (name_at names k) ≡ false → IsNextTail names j next → Beyond names k next
   tail_step k j None w beyond apart tail =
       λ i l.
+      ⊎_elim
+      (λ same. subst (λ (m : ℕ). ends (name_at names m) (name_at names k) ≡ false) (sym same) apart)
+      (λ other. ⊎_elim (λ below. between_none i j k below (omega (arith, beyond.0)) w (tail i below)) (λ above. beyond.1 i above l) other)
+      (cases_order i j)
+  tail_step k j (Some m) w beyond apart tail = (
+    omega (arith, tail.0),
+    λ i above l.
         ⊎_elim
-          (λ same. subst (λ (m : ℕ). ends (name_at names m) (name_at names k) ≡ false) (sym same) apart)
-          (λ other. ⊎_elim (λ below. between_none i j k below (omega (arith, beyond.0)) w (tail i below)) (λ above. beyond.1 i above l) other)
-          (cases_order i j)
-  tail_step k j (Some m) w beyond apart tail =
-      (omega (arith, tail.0), λ i above l.
-        ⊎_elim
-          (λ same. subst (λ (m : ℕ). ends (name_at names m) (name_at names k) ≡ false) (sym same) apart)
-          (λ other. ⊎_elim (λ below. between_none i j k below (omega (arith, beyond.0)) w (tail.2 i above below)) (λ above'. beyond.1 i above' l) other)
-          (cases_order i j))
+        (λ same. subst (λ (m : ℕ). ends (name_at names m) (name_at names k) ≡ false) (sym same) apart)
+        (λ other. ⊎_elim (λ below. between_none i j k below (omega (arith, beyond.0)) w (tail.2 i above below)) (λ above'. beyond.1 i above' l) other)
+        (cases_order i j),
+  )
 
   no_place : (at : ℕ) (text name : List ℕ) (o : Option ℕ) → ends name text ≡ false → o ≡ option_or o (place_in at text name)
   no_place at text name o apart = by o ∙ ap (option_or o) (sym (cond-false (ends name text) (Some (capped (at + (length text - length name)))) None apart))
@@ -74,8 +76,8 @@ module _ (names : List (List ℕ)) (up : StrictlyAscends names) where
     whole = whole;
     on = (omega arith, ends_self (name_at names k));
     done = λ i d l above.
-      no_place at (name_at names k) (name_at names i) (get_or old i d)
-      (false_from_ne_true (ends (name_at names i) (name_at names k)) (λ e. let h = tail_first names up i k l e in absurd (omega arith)));
+        no_place at (name_at names k) (name_at names i) (get_or old i d)
+        (false_from_ne_true (ends (name_at names i) (name_at names k)) (λ e. let h = tail_first names up i k l e in absurd (omega arith)));
     left = λ i d l below. refl;
   }
 
@@ -103,26 +105,26 @@ module _ (names : List (List ℕ)) (up : StrictlyAscends names) where
         whole = length-set new c v ∙ p.whole;
         on = on_next k c next p.on tail;
         done = λ i e l passed.
-          ⊎_elim
+            ⊎_elim
             (λ same.
-              subst (λ (m : ℕ). get_or (set new c v) m e ≡ option_or (get_or old m e) (place_in at (name_at names k) (name_at names m))) (sym same)
-              (get_or-set_same new c v e in'
-                ∙ ap (λ o. option_or o (Some offset)) (get_or_default new c d e in' ∙ p.left c e in'' (omega arith))
-                ∙ ap (option_or (get_or old c e))
-                  (ap Some is ∙ sym (cond-true (ends (name_at names c) (name_at names k)) (Some (capped (at + (length (name_at names k) - length (name_at names c))))) None p.on.1))))
+            subst (λ (m : ℕ). get_or (set new c v) m e ≡ option_or (get_or old m e) (place_in at (name_at names k) (name_at names m))) (sym same)
+            (get_or-set_same new c v e in'
+            ∙ ap (λ o. option_or o (Some offset)) (get_or_default new c d e in' ∙ p.left c e in'' (omega arith))
+            ∙ ap (option_or (get_or old c e))
+            (ap Some is ∙ sym (cond-true (ends (name_at names c) (name_at names k)) (Some (capped (at + (length (name_at names k) - length (name_at names c))))) None p.on.1))))
             (λ other. ⊎_elim
-              (λ below.
-                let ne : i ≡ c → ⊥ = λ e. omega arith in
-                get_or-set_other new c i v e ne ∙ p.left i e l (omega arith)
-                ∙ no_place at (name_at names k) (name_at names i) (get_or old i e)
-                  (between_none i c k below p.on.0 w (passed_apart c next i tail below passed)))
-              (λ above.
-                let ne : i ≡ c → ⊥ = λ e. omega arith in
-                get_or-set_other new c i v e ne ∙ p.done i e l above)
-              other)
+            (λ below.
+            let ne : i ≡ c → ⊥ = λ e. omega arith in
+            get_or-set_other new c i v e ne ∙ p.left i e l (omega arith)
+            ∙ no_place at (name_at names k) (name_at names i) (get_or old i e)
+            (between_none i c k below p.on.0 w (passed_apart c next i tail below passed)))
+            (λ above.
+            let ne : i ≡ c → ⊥ = λ e. omega arith in
+            get_or-set_other new c i v e ne ∙ p.done i e l above)
+            other)
             (cases_order i c);
         left = λ i e l left.
-          let below : i < c = left_below c next i tail left in
-          let ne : i ≡ c → ⊥ = λ e. omega arith in
-          get_or-set_other new c i v e ne ∙ p.left i e l (omega arith);
+            let below : i < c = left_below c next i tail left in
+            let ne : i ≡ c → ⊥ = λ e. omega arith in
+            get_or-set_other new c i v e ne ∙ p.left i e l (omega arith);
       }

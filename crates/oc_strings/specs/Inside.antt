@@ -19,7 +19,7 @@ pick names numbers = map (name_at names) numbers
 -- each place is in the bytes
 abbrev pub AreWithin : ℕ → List ℕ → List Place → Type 0
 AreWithin head bytes given = (k : ℕ) (d : Place) → k < length given
-  → (head ≤ (slice_index_or given k d).at) × ((slice_index_or given k d).at - head + (slice_index_or given k d).len ≤ length bytes)
+    → (head ≤ (slice_index_or given k d).at) × ((slice_index_or given k d).at - head + (slice_index_or given k d).len ≤ length bytes)
 
 -- the numbers put the names in ascending order, once each
 pub record IsSearchable (names : List (List ℕ)) (order : List ℕ) : Type 0 where

@@ -18,7 +18,7 @@ loop-rank-init c =
     let empty = c.in_ok-offsets.ensures.items_if_clones_equal (λ y cloned. search rules) in
     record {
       laid = subst (λ (ts : List (List ℕ)). IsLaidOut c.args.head (texts c.args.names.now) (names_of c.as_slice-entries.result.now) 0 ts c.in_ok-offsets.offsets.items) (sym none)
-        (subst (λ (os : List (Option ℕ)). IsLaidOut c.args.head (texts c.args.names.now) (names_of c.as_slice-entries.result.now) 0 [] os) (sym empty)
+          (subst (λ (os : List (Option ℕ)). IsLaidOut c.args.head (texts c.args.names.now) (names_of c.as_slice-entries.result.now) 0 [] os) (sym empty)
           (laid_none c.args.head (texts c.args.names.now) (names_of c.as_slice-entries.result.now) _ (sym (count_of_names c.as_slice-entries.result.now))));
       at = omega (arith, ap (λ ts. length (text_of ts)) none);
     }
@@ -34,41 +34,49 @@ loop-rank-preserved c =
     let name : List ℕ = name_at (names_of entries) rank in
     let d : Entry = record { name = record { ref_ptr = (0, 0); now = [] }; number = 0 } in
     let order : IsOrder names entries read
-      = subst (λ (es : List Entry). IsOrder names es read) (sym c.as_slice-entries.ensures.value)
-        (subst (λ (rs : List ℕ). IsOrder names c.args.order.now.entries.items rs) (sym c.deref-rank-items.ensures.value) c.requires.ordered)
+    = subst (λ (es : List Entry). IsOrder names es read) (sym c.as_slice-entries.ensures.value)
+    (subst (λ (rs : List ℕ). IsOrder names c.args.order.now.entries.items rs) (sym c.deref-rank-items.ensures.value) c.requires.ordered)
     in
     let within : i < length names = omega (arith, order.whole) in
     let test : (is_none (get_or offsets rank None) && not (ends_next (names_of entries) rank)) ≡ c.is_new_top.result
-      = ap (λ (os : List (Option ℕ)). is_none (get_or os rank None) && not (ends_next (names_of entries) rank)) (sym c.deref.ensures.value) ∙ sym c.is_new_top.ensures
+    = ap (λ (os : List (Option ℕ)). is_none (get_or os rank None) && not (ends_next (names_of entries) rank)) (sym c.deref.ensures.value) ∙ sym c.is_new_top.ensures
     in
     elim c.if-is_new_top.branch [
-      then-is_new_top+in_ok-push w ↦
-        let new : List (Option ℕ) = w.place_tails.new.offsets in
-        let kept : length new ≡ length offsets = w.place_tails.auto.offsets ∙ ap length w.deref_mut.ensures.value in
-        let there : rank < length entries = omega (arith, rank_within names entries read order i within, count_of_names entries) in
-        let tops_are : texts c.if-is_new_top.tops.items ≡ texts c.loop-rank.tops.items ++ name ∷ []
+      | then-is_new_top+in_ok-push w ↦
+          let new : List (Option ℕ) = w.place_tails.new.offsets in
+          let kept : length new ≡ length offsets = w.place_tails.auto.offsets ∙ ap length w.deref_mut.ensures.value in
+          let there : rank < length entries = omega (arith, rank_within names entries read order i within, count_of_names entries) in
+          let tops_are : texts c.if-is_new_top.tops.items ≡ texts c.loop-rank.tops.items ++ name ∷ []
           = ap (λ v. texts v.items) w.tops-is ∙ ap texts w.in_ok-push.ensures.items
-            ∙ map_push (λ (t : Bor (List ℕ)). t.now) c.loop-rank.tops.items (get_or entries rank d).name
-            ∙ ap (λ n. texts c.loop-rank.tops.items ++ n ∷ []) (sym (name_of_entry entries rank [] d there))
-        in
-        let offsets_are : c.if-is_new_top.offsets.items ≡ new = ap (λ v. v.items) w.offsets-is ∙ with_items_is c.loop-rank.offsets new (kept ∙ sym c.loop-rank.offsets.ok.0) in
-        let long : length name ≡ length (get_or entries rank d).name.now = ap length (name_of_entry entries rank [] d there) in
-        record {
-          laid = subst (λ (ts : List (List ℕ)). IsLaidOut c.args.head names (names_of entries) (i + 1) ts c.if-is_new_top.offsets.items) (sym tops_are)
-            (subst (λ (os : List (Option ℕ)). IsLaidOut c.args.head names (names_of entries) (i + 1) (texts c.loop-rank.tops.items ++ name ∷ []) os) (sym offsets_are)
-              (laid_more names entries read order c.args.head i within (texts c.loop-rank.tops.items) offsets c.loop-rank.invariant.laid (test ∙ w.if-is_new_top.true)
+          ∙ map_push (λ (t : Bor (List ℕ)). t.now) c.loop-rank.tops.items (get_or entries rank d).name
+          ∙ ap (λ n. texts c.loop-rank.tops.items ++ n ∷ []) (sym (name_of_entry entries rank [] d there))
+          in
+          let offsets_are : c.if-is_new_top.offsets.items ≡ new = ap (λ v. v.items) w.offsets-is ∙ with_items_is c.loop-rank.offsets new (kept ∙ sym c.loop-rank.offsets.ok.0) in
+          let long : length name ≡ length (get_or entries rank d).name.now = ap length (name_of_entry entries rank [] d there) in
+          record {
+            laid = subst (λ (ts : List (List ℕ)). IsLaidOut c.args.head names (names_of entries) (i + 1) ts c.if-is_new_top.offsets.items) (sym tops_are)
+                (subst (λ (os : List (Option ℕ)). IsLaidOut c.args.head names (names_of entries) (i + 1) (texts c.loop-rank.tops.items ++ name ∷ []) os) (sym offsets_are)
+                (laid_more names entries read order c.args.head i within (texts c.loop-rank.tops.items) offsets c.loop-rank.invariant.laid (test ∙ w.if-is_new_top.true)
                 c.loop-rank.at c.loop-rank.invariant.at new kept
                 (λ k e in'.
-                  w.place_tails.ensures k e (omega (arith, count_of_names entries))
-                  ∙ ap (λ (os : List (Option ℕ)). option_or (get_or os k e) (place_in c.loop-rank.at name (name_at (names_of entries) k))) w.deref_mut.ensures.value)));
-          at = omega (arith, w.at-is, w.saturating_add-at.ensures, w.saturating_add.ensures, c.loop-rank.invariant.at, long, ap (λ ts. length (text_of ts)) tops_are,
-            last_text (texts c.loop-rank.tops.items) name);
-        }
-    | else-is_new_top w ↦
-        record {
-          laid = subst (λ (ts : List (List ℕ)). IsLaidOut c.args.head names (names_of entries) (i + 1) ts c.if-is_new_top.offsets.items) (sym (ap (λ v. texts v.items) w.tops-is))
-            (subst (λ (os : List (Option ℕ)). IsLaidOut c.args.head names (names_of entries) (i + 1) (texts c.loop-rank.tops.items) os) (sym (ap (λ v. v.items) w.offsets-is))
-              (laid_same names entries read order c.args.head i within (texts c.loop-rank.tops.items) offsets c.loop-rank.invariant.laid (test ∙ w.if-is_new_top.false)));
-          at = w.at-is ∙ c.loop-rank.invariant.at ∙ ap (λ v. capped (c.args.head + length (text_of (texts v.items)))) (sym w.tops-is);
-        }
+                w.place_tails.ensures k e (omega (arith, count_of_names entries))
+                ∙ ap (λ (os : List (Option ℕ)). option_or (get_or os k e) (place_in c.loop-rank.at name (name_at (names_of entries) k))) w.deref_mut.ensures.value)));
+            at = omega (
+              arith,
+              w.at-is,
+              w.saturating_add-at.ensures,
+              w.saturating_add.ensures,
+              c.loop-rank.invariant.at,
+              long,
+              ap (λ ts. length (text_of ts)) tops_are,
+              last_text (texts c.loop-rank.tops.items) name,
+            );
+          }
+      | else-is_new_top w ↦
+          record {
+            laid = subst (λ (ts : List (List ℕ)). IsLaidOut c.args.head names (names_of entries) (i + 1) ts c.if-is_new_top.offsets.items) (sym (ap (λ v. texts v.items) w.tops-is))
+                (subst (λ (os : List (Option ℕ)). IsLaidOut c.args.head names (names_of entries) (i + 1) (texts c.loop-rank.tops.items) os) (sym (ap (λ v. v.items) w.offsets-is))
+                (laid_same names entries read order c.args.head i within (texts c.loop-rank.tops.items) offsets c.loop-rank.invariant.laid (test ∙ w.if-is_new_top.false)));
+            at = w.at-is ∙ c.loop-rank.invariant.at ∙ ap (λ v. capped (c.args.head + length (text_of (texts v.items)))) (sym w.tops-is);
+          }
     ]

@@ -1,6 +1,5 @@
-use Rattle.std.proofs.Common.{◌≡◌, ℕ, ◌-◌, ◌<◌, ◌≤◌, true, length, get_or}
+use Rattle.std.proofs.Common.{◌-◌}
 use Rattle.oc_strings.specs.Inside.{names_in}
-use Rattle.oc_strings.specs.Order.{is_before, name_at}
 use Rattle.oc_strings.proofs.SearchLemmas.{IsNarrowed}
 use Rattle.oc_strings.proofs.search.find.Given as goal
 

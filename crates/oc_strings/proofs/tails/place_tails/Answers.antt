@@ -19,10 +19,10 @@ loop-current-preserved c =
     let within : c.args.k < length c.args.entries.now = c.requires.within in
     let here : c.in-Some.i < length c.args.entries.now = omega (arith, placing.on.0) in
     let offset : c.saturating_add-offset.result ≡ capped (c.args.at + (length (name_at names c.args.k) - length (name_at names c.in-Some.i)))
-      = c.saturating_add-offset.ensures
-        ∙ ap (λ n. capped (c.args.at + (length n - length (get_or c.args.entries.now c.in-Some.i d).name.now))) (sym (name_of_entry c.args.entries.now c.args.k [] d within))
-        ∙ ap (λ n. capped (c.args.at + (length (name_at names c.args.k) - length n))) (sym (name_of_entry c.args.entries.now c.in-Some.i [] d here))
+    = c.saturating_add-offset.ensures
+    ∙ ap (λ n. capped (c.args.at + (length n - length (get_or c.args.entries.now c.in-Some.i d).name.now))) (sym (name_of_entry c.args.entries.now c.args.k [] d within))
+    ∙ ap (λ n. capped (c.args.at + (length (name_at names c.args.k) - length n))) (sym (name_of_entry c.args.entries.now c.in-Some.i [] d here))
     in
     subst (λ (o : Option ℕ). IsPlacing names c.args.at c.args.k c.args.offsets.now (set c.loop-current.offsets c.in-Some.i o) (get_or c.args.tails.now c.in-Some.i None)) (sym c.or.ensures)
     (placing_more names c.requires.ascends c.args.at c.args.k c.args.offsets.now c.loop-current.offsets c.in-Some.i (get_or c.args.tails.now c.in-Some.i None) None
-      c.saturating_add-offset.result (omega (arith, count_of_names c.args.entries.now)) placing (c.requires.known c.in-Some.i None (omega (arith, c.requires.whole))) offset)
+    c.saturating_add-offset.result (omega (arith, count_of_names c.args.entries.now)) placing (c.requires.known c.in-Some.i None (omega (arith, c.requires.whole))) offset)
