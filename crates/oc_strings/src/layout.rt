@@ -99,3 +99,15 @@ impl<'a> Layout<'a> {
         })
     }
 }
+
+/// The offset of each of the names, in their order, in the table whose first text stands at
+/// `head`, an offset in bytes. The names may be longer together than a table can be: an offset
+/// past the largest number of 64 bits is that number.
+///
+/// The time and memory are those of `Table::of` without its bytes.
+pub fn offsets(alloc: Global, head: u32, names: &[&[u8]]) -> Result<Vec<u64>, NoMemory>
+    ensures { IfOk result (λ offsets. map Some offsets.items ≡ map (offset_of head (texts names.now)) (texts names.now)) }
+{
+    let layout = Layout::of(alloc, head, names)?;
+    Ok(layout.offsets)
+}

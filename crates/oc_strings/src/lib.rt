@@ -4,9 +4,13 @@
 mod layout;
 mod order;
 mod parts;
+#[cfg(test)]
 mod plain;
 mod search;
 mod table;
 mod tails;
+#[cfg(test)]
+mod tests;
 
+pub use layout::offsets;
 pub use table::Table;

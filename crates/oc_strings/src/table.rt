@@ -1,5 +1,5 @@
 //! The string table of given names.
-ghost use Rattle.std.specs.Prelude.{◌≡◌, ℕ, ◌+◌, ◌-◌, ◌^◌, ◌<◌, ◌≤◌, ◌↔◌, Contains, IfOk, IfSome, IsSome, length, sum_by};
+ghost use Rattle.std.specs.Prelude.{◌≡◌, ℕ, ◌+◌, ◌-◌, ◌^◌, ◌<◌, ◌≤◌, ◌↔◌, Contains, IfOk, IfSome, IsSome, IsTrue, length, sum_by};
 ghost use Rattle.oc_base.specs.Strings.{table_text, table_place};
 ghost use Rattle.oc_strings.specs.Tables.{StringTable, StandsAt};
 
@@ -40,6 +40,19 @@ impl Model for Table {
 }
 
 impl Table {
+    /// Whether a table of the names can be made: `head` and the lengths of the names, each with its
+    /// NUL, sum to below 2^32. Linear in the number of names, no memory.
+    pub fn fits(head: u32, names: &[Bytes]) -> bool
+        ensures { IsTrue result ↔ (head + sum_by (λ name. length name + 1) names.now < 2 ^ 32) }
+    {
+        let mut total = u64::from(head);
+        for name in names {
+            let length = name.as_slice().len() as u64;
+            total = total.saturating_add(length).saturating_add(1);
+        }
+        total <= u64::from(u32::MAX)
+    }
+
     /// The table of the names whose first text stands at `head`, an offset in bytes. Names that no
     /// longer name ends in stand once each, in the order of their first use, each with a NUL
     /// behind it. Every other name stands at the tail of the first of them that ends in it.
