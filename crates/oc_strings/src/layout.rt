@@ -100,11 +100,11 @@ impl<'a> Layout<'a> {
     }
 }
 
-/// The offset of each of the names, in their order, in the table whose first text stands at
-/// `head`, an offset in bytes. The names may be longer together than a table can be: an offset
-/// past the largest number of 64 bits is that number.
+/// The offset in bytes of each of the names, in their order, in the table whose first text stands
+/// at `head`. The names may be longer together than a `Table` can be: an offset past the largest
+/// number of 64 bits is that number. The names are not copied.
 ///
-/// The time and memory are those of `Table::of` without its bytes.
+/// `NoMemory` is the only refusal. Time and memory are those of `Table::of` without its bytes.
 pub fn offsets(alloc: Global, head: u32, names: &[&[u8]]) -> Result<Vec<u64>, NoMemory>
     ensures { IfOk result (λ offsets. map Some offsets.items ≡ map (offset_of head (texts names.now)) (texts names.now)) }
 {

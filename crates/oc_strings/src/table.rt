@@ -41,7 +41,7 @@ impl Model for Table {
 
 impl Table {
     /// Whether a table of the names can be made: `head` and the lengths of the names, each with its
-    /// NUL, sum to below 2^32. Linear in the number of names, no memory.
+    /// NUL, sum to below 2^32. Linear in the number of names, not in their lengths; no memory.
     pub fn fits(head: u32, names: &[Bytes]) -> bool
         ensures { IsTrue result ↔ (head + sum_by (λ name. length name + 1) names.now < 2 ^ 32) }
     {
@@ -53,12 +53,14 @@ impl Table {
         total <= u64::from(u32::MAX)
     }
 
-    /// The table of the names whose first text stands at `head`, an offset in bytes. Names that no
-    /// longer name ends in stand once each, in the order of their first use, each with a NUL
-    /// behind it. Every other name stands at the tail of the first of them that ends in it.
+    /// The table of the names, whose first text stands at `head`, an offset in bytes. A name that
+    /// is the tail of no other, longer name stands there itself, once, with a NUL behind it: these
+    /// texts follow one another in the order of their first use. Every other name stands at the
+    /// tail of the first text that it ends. A name may hold any bytes.
     ///
-    /// The names are sorted, so the time is at most the sum of their lengths times the logarithm
-    /// of their number. Besides the bytes, the memory is a few words for each name.
+    /// `NoMemory` is the only refusal. The names are sorted, so the time is at most the sum of
+    /// their lengths times the logarithm of their number; besides the bytes, the memory is a few
+    /// words for each name.
     pub fn of(alloc: Global, head: u32, names: &[Bytes]) -> Result<Table, NoMemory>
         requires { head + sum_by (λ name. length name + 1) names.now < 2 ^ 32 }
         ensures { IfOk result (λ table. table ≡ record { head = head; names = names.now }) }
@@ -76,8 +78,8 @@ impl Table {
         })
     }
 
-    /// The offset of the name, if it was given. No memory. The time is at most the length of the
-    /// name times the logarithm of the number of names.
+    /// The offset of the name in bytes, and `None` exactly where it was not given. No memory. The
+    /// time is at most the length of the name times the logarithm of the number of names.
     pub fn offset(&self, name: &[u8]) -> Option<u32>
         ensures place { result ≡ table_place self.now.head self.now.names name.now }
         ensures given { IsSome result ↔ Contains self.now.names name.now }
