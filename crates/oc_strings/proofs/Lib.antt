@@ -1,0 +1,10 @@
+pub mod EndLemmas
+pub mod GivenLemmas
+pub mod PlaceLaws
+pub mod SliceLemmas
+pub mod OrderLemmas
+pub mod RankLemmas
+pub mod TailLemmas
+pub mod LayoutLemmas
+pub mod SearchLemmas
+pub mod TableLemmas

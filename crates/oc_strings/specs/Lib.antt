@@ -1,0 +1,4 @@
+pub mod Tables
+pub mod Order
+pub mod Inside
+pub mod Parts

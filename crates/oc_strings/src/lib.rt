@@ -1,0 +1,16 @@
+//! String tables in which names share their tails: where each name stands, and the bytes.
+#![tactic(auto)]
+
+mod layout;
+mod order;
+mod parts;
+#[cfg(test)]
+mod plain;
+mod search;
+mod table;
+mod tails;
+#[cfg(test)]
+mod tests;
+
+pub use layout::offsets;
+pub use table::Table;

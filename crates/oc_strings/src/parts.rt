@@ -1,0 +1,67 @@
+//! The parts of a table.
+ghost use Rattle.std.specs.Prelude.{◌≡◌, ◌^◌, ◌<◌, All, IfOk, length};
+ghost use Rattle.oc_base.specs.Strings.{text_of};
+ghost use Rattle.oc_strings.specs.Tables.{texts};
+ghost use Rattle.oc_strings.specs.Order.{numbers_of};
+ghost use Rattle.oc_strings.specs.Parts.{ArePlaces};
+
+use crate::order::Entry;
+use crate::table::Place;
+use oc_base::{Bytes, NoMemory};
+use std::alloc::Global;
+
+/// The names as slices.
+pub(crate) fn slices(alloc: Global, names: &[Bytes]) -> Result<Vec<&[u8]>, NoMemory>
+    ensures { IfOk result (λ slices. texts slices.items ≡ names.now) }
+{
+    let mut slices = Vec::with_capacity(alloc, names.len())?;
+    for name in names {
+        slices.push(name.as_slice())?;
+    }
+    Ok(slices)
+}
+
+/// Each text with a NUL behind it.
+pub(crate) fn bytes_of(alloc: Global, tops: &[&[u8]]) -> Result<Vec<u8>, NoMemory>
+    ensures { IfOk result (λ bytes. bytes.items ≡ text_of (texts tops.now)) }
+{
+    let mut bytes = Vec::new(alloc);
+    for top in tops {
+        bytes.extend_from_slice(top)?;
+        bytes.push(0)?;
+    }
+    Ok(bytes)
+}
+
+/// The place of each name.
+pub(crate) fn places(
+    alloc: Global,
+    names: &[&[u8]],
+    offsets: &[u64],
+) -> Result<Vec<Place>, NoMemory>
+    requires offsets_fit { All (λ offset. offset < 2 ^ 32) offsets.now }
+    requires lengths_fit { All (λ name. length name.now < 2 ^ 32) names.now }
+    requires whole { length offsets.now ≡ length names.now }
+    ensures { IfOk result (λ places. ArePlaces (texts names.now) offsets.now places.items) }
+{
+    let mut places = Vec::with_capacity(alloc, names.len())?;
+    for (k, name) in names.iter().enumerate() {
+        places.push(Place {
+            at: offsets[k] as u32,
+            len: name.len() as u32,
+        })?;
+    }
+    Ok(places)
+}
+
+/// The numbers of the entries.
+pub(crate) fn numbers(alloc: Global, entries: &[Entry]) -> Result<Vec<u32>, NoMemory>
+    requires { All (λ entry. entry.number < 2 ^ 32) entries.now }
+    ensures { IfOk result (λ numbers. numbers.items ≡ numbers_of entries.now) }
+{
+    let mut numbers = Vec::with_capacity(alloc, entries.len())?;
+    for entry in entries {
+        numbers.push(entry.number as u32)?;
+    }
+    Ok(numbers)
+}

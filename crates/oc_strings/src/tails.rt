@@ -1,0 +1,78 @@
+//! Which of the names in ascending order end which.
+ghost use Rattle.std.specs.Prelude.{◌≡◌, ℕ, ◌<◌, Option, IfOk, length, not, slice_index_or};
+ghost use Rattle.std.specs.Option.{option_or};
+ghost use Rattle.oc_strings.specs.Order.{names_of, name_at, StrictlyAscends, IsNextTail, AreNextTails, ends_next, place_in};
+
+use crate::order::Entry;
+use oc_base::NoMemory;
+use std::alloc::Global;
+
+/// Whether the name with this place ends no other one. The names that it ends stand right behind it.
+pub(crate) fn is_top(entries: &[Entry], k: usize) -> bool
+    requires { k < length entries.now }
+    ensures { result ≡ not (ends_next (names_of entries.now) k) }
+{
+    match entries.get(k + 1) {
+        Some(next) => !next.name.ends_with(entries[k].name),
+        None => true,
+    }
+}
+
+/// The longest earlier name that ends the first one whose tail is not known yet.
+fn next_tail(entries: &[Entry], tails: &[Option<usize>]) -> Option<usize>
+    requires ascends { StrictlyAscends (names_of entries.now) }
+    requires known { AreNextTails (names_of entries.now) tails.now }
+    requires within { length tails.now < length entries.now }
+    ensures { IsNextTail (names_of entries.now) (length tails.now) result }
+{
+    let name = entries[tails.len()].name;
+    let mut candidate = tails.len().checked_sub(1);
+    while let Some(k) = candidate {
+        if name.ends_with(entries[k].name) {
+            return Some(k);
+        }
+        candidate = tails[k];
+    }
+    None
+}
+
+/// For each name the longest earlier one that ends it, if one does. No name is passed over twice:
+/// the time is linear in the total length of the names.
+pub(crate) fn next_tails(alloc: Global, entries: &[Entry]) -> Result<Vec<Option<usize>>, NoMemory>
+    requires { StrictlyAscends (names_of entries.now) }
+    ensures whole { IfOk result (λ tails. length tails.items ≡ length entries.now) }
+    ensures known { IfOk result (λ tails. AreNextTails (names_of entries.now) tails.items) }
+{
+    let mut tails = Vec::with_capacity(alloc, entries.len())?;
+    for _k in 0..entries.len() {
+        let tail = next_tail(entries, &tails);
+        tails.push(tail)?;
+    }
+    Ok(tails)
+}
+
+/// Gives each name that ends the name at `k`, and has no offset yet, its offset in a text that
+/// begins at `at` and is that name. The time is linear in the length of that name.
+pub(crate) fn place_tails(
+    offsets: &mut [Option<u64>],
+    entries: &[Entry],
+    tails: &[Option<usize>],
+    k: usize,
+    at: u64,
+)
+    requires ascends { StrictlyAscends (names_of entries.now) }
+    requires known { AreNextTails (names_of entries.now) tails.now }
+    requires whole { length tails.now ≡ length entries.now }
+    requires room { length offsets.old ≡ length entries.now }
+    requires within { k < length entries.now }
+    ensures { (i : ℕ) (d : Option ℕ) → i < length entries.now → slice_index_or offsets.new i d ≡ option_or (slice_index_or offsets.old i d) (place_in at (name_at (names_of entries.now) k) (name_at (names_of entries.now) i)) }
+{
+    let text = entries[k].name;
+    let mut current = Some(k);
+    while let Some(i) = current {
+        let before = text.len() - entries[i].name.len();
+        let offset = at.saturating_add(before as u64);
+        offsets[i] = offsets[i].or(Some(offset));
+        current = tails[i];
+    }
+}
