@@ -22,7 +22,8 @@ use Rattle.oc_coff_read.specs.declared.relocation.Relocation.{Relocation}
 use Rattle.oc_coff_read.specs.declared.symbol.SymbolEntry.{SymbolEntry}
 use Rattle.oc_coff_read.specs.Sections.{position_of}
 use Rattle.oc_coff_read.specs.Symbols.{entry_of, numbers_of, value_of, binding_of, is_section_symbol, symbol_with, symbol_of, symbols_of, section_symbol_of, section_symbols_of}
-use Rattle.oc_coff_read.specs.Fields.{Target, named_by, section_target, symbol_target, target_among, target_of, value_by, field_to, field_by}
+use Rattle.oc_linking.specs.Targets.{Target, named_by, section_target, symbol_target, target_among}
+use Rattle.oc_coff_read.specs.Fields.{target_of, value_by, field_to, field_by}
 use Rattle.oc_coff_read.proofs.SymbolWalks.{numbered-filter_map}
 
 -- a symbol keeps its number
@@ -54,7 +55,7 @@ target_of-absent file j none = rw (
 
 -- a number that a symbol has stands for that symbol
 pub target_of-there : (file : List ℕ) (j : ℕ) → list_any (λ i. eqb i j) (numbers_of file) ≡ true
-    → target_of file all j ≡ or_else (option_and_then section_target (section_symbol_of file j)) (option_and_then symbol_target (symbol_of file j))
+    → target_of file all j ≡ or_else (option_and_then (section_target W32) (section_symbol_of file j)) (option_and_then symbol_target (symbol_of file j))
 unfolding target_among symbols_of section_symbols_of
 target_of-there file j some = rw (
   numbered-filter_map (section_symbol_of file) (numbers_of file) j (section_symbol_of-own file),
@@ -105,7 +106,7 @@ address-section file j p v there own =
     rw (target_of-there file j there, binding-own file (entry_of file j) own, own, value-own file (entry_of file j) own)
     (by (entry_of file j).Value (own_parts (entry_of file j) own).value (position_of file (entry_of file j).SectionNumber))
   where
-    by : (n : ℕ) → n ≡ 0 → (o : Option ℕ) → option_map (λ (t : Target). t.address p v) (or_else (option_and_then section_target (option_map (λ x. symbol_with file j (Local x)) (option_map (λ s. Place s n) o))) None)
+    by : (n : ℕ) → n ≡ 0 → (o : Option ℕ) → option_map (λ (t : Target). t.address p v) (or_else (option_and_then (section_target W32) (option_map (λ x. symbol_with file j (Local x)) (option_map (λ s. Place s n) o))) None)
         ≡ option_map (λ s. reduced W32 ((p.site s).address)) o
     by n zeroed None = refl
     by n zeroed (Some s) = let e : (p.site s).address + n ≡ (p.site s).address = omega (arith, zeroed) in rw e refl

@@ -26,7 +26,8 @@ use Rattle.oc_coff_read.specs.Flags.{kind_of, tag_of}
 use Rattle.oc_coff_read.specs.Alignments.{common_align}
 use Rattle.oc_coff_read.specs.Sections.{header_of, contents_of, section_of, first_sections, sections_of, position_of, entry_at, relocations_of}
 use Rattle.oc_coff_read.specs.Symbols.{entry_of, numbers_of, value_of, binding_of, symbol_with, symbol_of, symbols_of, section_symbol_of, section_symbols_of}
-use Rattle.oc_coff_read.specs.Fields.{target_among, value_by, field_by, field_among, fields_of}
+use Rattle.oc_linking.specs.Targets.{target_among}
+use Rattle.oc_coff_read.specs.Fields.{value_by, field_by, field_among, fields_of}
 use Rattle.oc_coff_read.specs.Coff32.{coff32_rules}
 use Rattle.oc_coff_read.specs.Canonical.{CodeObject, code_file, code_length, external_bytes}
 

@@ -4,6 +4,7 @@ use Rattle.std.specs.Prelude.{filter_map}
 use Rattle.std.specs.List.{range_with_len}
 use Rattle.std.specs.Option.{option_map}
 use Rattle.oc_base.specs.Numbers.{number_at}
+use Rattle.oc_base.specs.declared.format.Word.TheVariants.{W32}
 use Rattle.oc_linking.specs.declared.terms.Keep.{Keep}
 use Rattle.oc_linking.specs.declared.terms.Mark.TheVariants.{NoType, Function}
 use Rattle.oc_linking.specs.Parts.{Symbol}
@@ -12,7 +13,8 @@ use Rattle.oc_coff_read.specs.FileHeader.{file_header_in}
 use Rattle.oc_coff_read.specs.Names.{section_name, symbol_name}
 use Rattle.oc_coff_read.specs.Sections.{section_of, first_sections, sections_of, position_of}
 use Rattle.oc_coff_read.specs.Symbols.{mark_of, entry_of, numbers_from, numbers_of, value_of, binding_of, symbol_with, symbol_of, symbols_of, section_symbol_of, section_symbols_of}
-use Rattle.oc_coff_read.specs.Fields.{target_among, field_among, fields_of}
+use Rattle.oc_linking.specs.Targets.{target_among}
+use Rattle.oc_coff_read.specs.Fields.{field_among, fields_of}
 use Rattle.oc_coff_read.specs.Canonical.{External, CodeObject, IsCodeObject, IsExternal, external_entry, code_file}
 use Rattle.oc_coff_read.specs.Seen.{seen_section, seen_binding, seen_symbol, externals_from, seen_symbols, seen_section_symbol, seen_fields, ReadsBack}
 use Rattle.oc_coff_read.proofs.PackedLaws.{until_nul-padded, padded-long}
@@ -146,8 +148,8 @@ pub fields_of-code : (o : CodeObject) (keep : Keep) → IsCodeObject o → (s at
 unfolding fields_of
 fields_of-code o keep is zero at =
     rw (sections_of-code o is, header_of-code o is, relocations_of-code o is) (
-    ap (λ own. field_among (target_among own (symbols_of (code_file o) keep)) 0 o.contents o.relocs at) (section_symbols_of-code o is)
-    ∙ ap (λ carried. field_among (target_among (seen_section_symbol ∷ []) carried) 0 o.contents o.relocs at) (symbols_of-code o keep is)
+    ap (λ own. field_among (target_among W32 own (symbols_of (code_file o) keep)) 0 o.contents o.relocs at) (section_symbols_of-code o is)
+    ∙ ap (λ carried. field_among (target_among W32 (seen_section_symbol ∷ []) carried) 0 o.contents o.relocs at) (symbols_of-code o keep is)
     )
 fields_of-code o keep is (suc s) at = rw (sections_of-code o is) refl
 

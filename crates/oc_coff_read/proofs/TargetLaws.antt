@@ -13,7 +13,8 @@ use Rattle.oc_linking.specs.Values.{own_site, numbered}
 use Rattle.oc_linking.specs.Rules.{Symbolic, Sectional}
 use Rattle.oc_coff_read.specs.declared.relocation.Relocation.{Relocation}
 use Rattle.oc_coff_read.specs.declared.constants.TheConstants.{IMAGE_REL_I386_DIR32, IMAGE_REL_I386_REL32}
-use Rattle.oc_coff_read.specs.Fields.{Target, named_by, target_among, value_by, field_by}
+use Rattle.oc_linking.specs.Targets.{Target, named_by, target_among}
+use Rattle.oc_coff_read.specs.Fields.{value_by, field_by}
 use Rattle.oc_coff_read.specs.Canonical.{External, CodeObject}
 use Rattle.oc_coff_read.specs.Seen.{seen_binding, seen_symbol, externals_from, seen_symbols, seen_target}
 

@@ -15,44 +15,11 @@ use Rattle.oc_linking.specs.Parts.{Symbol}
 use Rattle.oc_linking.specs.Placing.{Placement}
 use Rattle.oc_linking.specs.Values.{Valuation, own_site, numbered}
 use Rattle.oc_linking.specs.Rules.{Named, Symbolic, Sectional, Field, Fields}
+use Rattle.oc_linking.specs.Targets.{Target, target_among}
 use Rattle.oc_coff_read.specs.declared.relocation.Relocation.{Relocation}
 use Rattle.oc_coff_read.specs.declared.constants.TheConstants.{IMAGE_REL_I386_ABSOLUTE, IMAGE_REL_I386_DIR32, IMAGE_REL_I386_REL32}
 use Rattle.oc_coff_read.specs.Sections.{header_of, relocations_of, sections_of}
 use Rattle.oc_coff_read.specs.Symbols.{symbols_of, section_symbols_of}
-
--- what a relocation's symbol stands for: what its field names, and S, the address
-pub record Target : Type 0 where
-  pub named : Named
-  pub address : Placement → Valuation → ℕ
-
--- what a field names by a symbol of that number and binding, where it is no absolute Local
-abbrev pub named_by : ℕ → Binding → Option Named
-named_by number (Local (Place s offset)) = Some (Sectional s)
-named_by number (Local (Absolute n)) = None
-named_by number (Global v) = Some (Symbolic number)
-named_by number Undefined = Some (Symbolic number)
-named_by number (Common size align) = Some (Symbolic number)
-named_by number (Weak f) = Some (Symbolic number)
-
--- the address of a section's own symbol, read off the placement
-abbrev pub placed_address : Binding → Placement → ℕ
-placed_address (Local v) p = (own_site W32 p v).address
-placed_address (Global v) p = 0
-placed_address Undefined p = 0
-placed_address (Common size align) p = 0
-placed_address (Weak f) p = 0
-
--- a section's own symbol as a target: its address is read off the placement
-abbrev pub section_target : Symbol → Option Target
-section_target s = option_map (λ named. record { named = named; address = λ p v. placed_address s.binding p }) (named_by s.number s.binding)
-
--- a carried symbol as a target: its address is read off the valuation, by its number
-abbrev pub symbol_target : Symbol → Option Target
-symbol_target s = option_map (λ named. record { named = named; address = λ p v. (v s.number).site.address }) (named_by s.number s.binding)
-
--- the target of symbol number j among the sections' own symbols and the carried ones
-unfoldable pub target_among : List Symbol → List Symbol → ℕ → Option Target
-target_among own carried j = or_else (option_and_then section_target (numbered own j)) (option_and_then symbol_target (numbered carried j))
 
 -- the value of a type, from S, F, which is the number in the field, and P, which is the field's address: DIR32 is S + F, and REL32 is S + F - (P + 4).
 -- The rows of DIR32NB, SECTION and SECREL are left out
@@ -88,7 +55,7 @@ field_among targets s contents relocs at = option_and_then (field_by targets s c
 
 -- the target of symbol number j of a file
 abbrev pub target_of : List ℕ → Keep → ℕ → Option Target
-target_of file keep j = target_among (section_symbols_of file) (symbols_of file keep) j
+target_of file keep j = target_among W32 (section_symbols_of file) (symbols_of file keep) j
 
 -- the fields of a file, by the position of a carried section and the offset in it
 unfoldable pub fields_of : List ℕ → Keep → Fields

@@ -1,5 +1,6 @@
 -- What the canonical file of an object of one section of code says by the rules of COFF for i386 (our profile).
 use Rattle.std.specs.Prelude.{◌≡◌, ℕ, zero, suc, ◌+◌, ◌^◌, false, nat_eq, if◌then◌else◌, List, [], ◌∷◌, length, codes, Option, None}
+use Rattle.oc_base.specs.declared.format.Word.TheVariants.{W32}
 use Rattle.oc_linking.specs.declared.terms.Keep.{Keep}
 use Rattle.oc_linking.specs.declared.terms.Kind.TheVariants.{Code}
 use Rattle.oc_linking.specs.declared.terms.Mark.TheVariants.{NoType, Function}
@@ -11,7 +12,8 @@ use Rattle.oc_linking.specs.Parts.{Section, Symbol}
 use Rattle.oc_linking.specs.Rules.{Fields}
 use Rattle.oc_coff_read.specs.Sections.{sections_of}
 use Rattle.oc_coff_read.specs.Symbols.{symbols_of}
-use Rattle.oc_coff_read.specs.Fields.{Target, target_among, field_among, fields_of}
+use Rattle.oc_linking.specs.Targets.{Target, target_among}
+use Rattle.oc_coff_read.specs.Fields.{field_among, fields_of}
 use Rattle.oc_coff_read.specs.Canonical.{External, CodeObject, IsCodeObject, code_length, code_file}
 
 -- its section
@@ -57,7 +59,7 @@ seen_section_symbol = record { name = codes ".text"; binding = Local (Place 0 0)
 
 -- what a symbol's number stands for
 abbrev pub seen_target : CodeObject → ℕ → Option Target
-seen_target o j = target_among (seen_section_symbol ∷ []) (seen_symbols o) j
+seen_target o j = target_among W32 (seen_section_symbol ∷ []) (seen_symbols o) j
 
 -- its fields
 abbrev pub seen_fields : CodeObject → Fields

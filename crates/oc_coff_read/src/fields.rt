@@ -7,6 +7,7 @@ ghost use Rattle.oc_linking.specs.Keeping.{all};
 ghost use Rattle.oc_coff_read.specs.FileHeader.{file_header_in};
 ghost use Rattle.oc_coff_read.specs.Sections as sectioning;
 ghost use Rattle.oc_coff_read.specs.Symbols as symbolic;
+ghost use Rattle.oc_linking.specs.Targets as targets;
 ghost use Rattle.oc_coff_read.specs.Fields as fielding;
 ghost use Rattle.oc_coff_read.specs.Plain as plainly;
 
@@ -42,7 +43,7 @@ fn section_address(file: &[u8], placed: &[u32], entry: SymbolEntry) -> Option<u3
 fn symbol_address(file: &[u8], valued: &[u32], entry: SymbolEntry, j: u32) -> Option<u32>
     requires there { 20 ≤ length file.now }
     requires sections { 20 + 40 * (file_header_in file.now).NumberOfSections ≤ length file.now }
-    ensures { result ≡ option_map (λ n. slice_index valued.now j) (option_and_then (fielding.named_by j) (symbolic.binding_of file.now entry)) }
+    ensures { result ≡ option_map (λ n. slice_index valued.now j) (option_and_then (targets.named_by j) (symbolic.binding_of file.now entry)) }
 {
     match binding_of(file, entry) {
         None | Some(Binding::Local(Value::Absolute(_))) => None,

@@ -6,7 +6,7 @@ use Rattle.oc_coff_read.specs.declared.symbol.SymbolEntry.{SymbolEntry}
 use Rattle.oc_coff_read.specs.Plain.{placed_at, valued_at}
 use Rattle.oc_coff_read.specs.Sections.{position_of}
 use Rattle.oc_coff_read.specs.Symbols.{entry_of, binding_of, is_section_symbol}
-use Rattle.oc_coff_read.specs.Fields.{named_by}
+use Rattle.oc_linking.specs.Targets.{named_by}
 use Rattle.oc_coff_read.proofs.FieldWalks.{target_of-absent, address-section, address-carried}
 use Rattle.oc_coff_read.proofs.fields.address_of.Goals as goal
 
