@@ -44,9 +44,11 @@ fn too_long() -> RunFault
 // reads and converts the input
 fn plan<F: Files>(alloc: Global, files: &mut F, input: &str) -> Result<Vec<u8>, RunFault>
     ensures planned { IfOk result (λ c. runs.IsPlanned input.now (F.held files.old) c.items) }
-    ensures fault { IfErr result (runs.Explains F.held F.read_faults F.write_faults input.now input.now files.old files.new) }
+    ensures fault { IfErr result
+        (runs.Explains F.held F.read_faults F.write_faults input.now input.now files.old files.new) }
     ensures same { F.held files.new ≡ F.held files.old }
-    ensures counts { Counts (F.read_faults files.old) (F.read_faults files.new) (F.write_faults files.old) (F.write_faults files.new) }
+    ensures counts { Counts (F.read_faults files.old) (F.read_faults files.new)
+        (F.write_faults files.old) (F.write_faults files.new) }
 {
     let bytes = match read_file(alloc, files, input, LIMIT) {
         Ok(bytes) => bytes,
@@ -70,8 +72,10 @@ fn convert_file<F: Files>(
     input: &str,
     output: &str,
 ) -> Result<(), RunFault>
-    ensures done { OnOk result (runs.IsWritten input.now output.now (F.held files.old) (F.held files.new)) }
-    ensures fault { IfErr result (runs.Explains F.held F.read_faults F.write_faults input.now output.now files.old files.new) }
+    ensures done { OnOk result
+        (runs.IsWritten input.now output.now (F.held files.old) (F.held files.new)) }
+    ensures fault { IfErr result
+        (runs.Explains F.held F.read_faults F.write_faults input.now output.now files.old files.new) }
     ensures reads { F.read_faults files.old ≤ F.read_faults files.new }
     ensures writes { F.write_faults files.old ≤ F.write_faults files.new }
 {

@@ -140,7 +140,8 @@ fn relocation_for(at: u32, rel: Rel) -> Relocation
 
 // puts the relocations behind `out`, in order of their offsets
 fn push_relocations(out: &mut Vec<u8>, fields: &BTreeMap<u32, Rel>) -> Result<(), NoMemory>
-    ensures { OnOk result (out.new.items ≡ out.old.items ++ flat_map relocation_bytes (map converted.relocation_for fields.now.entries)) }
+    ensures { OnOk result (out.new.items ≡ out.old.items
+        ++ flat_map relocation_bytes (map converted.relocation_for fields.now.entries)) }
 {
     for (at, rel) in fields {
         push_relocation(out, relocation_for(*at, *rel))?;
@@ -152,7 +153,11 @@ fn push_relocations(out: &mut Vec<u8>, fields: &BTreeMap<u32, Rel>) -> Result<()
 #[tactic(auto, unfolding(oc_coff_read::specs::Canonical::external_bytes, crate::specs::Converted::external_for))]
 fn push_external(out: &mut Vec<u8>, name: &[u8], symbol: Sym, value: u32) -> Result<(), NoMemory>
     requires { length name.now ≤ 8 }
-    ensures { OnOk result (out.new.items ≡ out.old.items ++ canonical.external_bytes (record { name = name.now; Value = value; SectionNumber = symbol.st_shndx; function = nat_eq (type_of symbol) 2 })) }
+    ensures { OnOk result (out.new.items ≡ out.old.items ++ canonical.external_bytes (record {
+        name = name.now;
+        Value = value;
+        SectionNumber = symbol.st_shndx;
+        function = nat_eq (type_of symbol) 2 })) }
 {
     let entry = SymbolEntry {
         Name: padded_name(name),
@@ -183,7 +188,8 @@ fn push_externals(out: &mut Vec<u8>, file: &[u8], headers: &Headers) -> Result<(
     requires laid { plain.AreLaid file.now headers.now }
     requires symbols { plain.has_symbols file.now headers.now ≡ true }
     requires small { length file.now ≤ 2 ^ 26 }
-    ensures { OnOk result (out.new.items ≡ out.old.items ++ flat_map canonical.external_bytes (converted.externals_for file.now headers.now)) }
+    ensures { OnOk result (out.new.items ≡ out.old.items
+        ++ flat_map canonical.external_bytes (converted.externals_for file.now headers.now)) }
 {
     let count = symbol_count(headers) - 2;
     for j in 0..count {
@@ -208,7 +214,8 @@ pub fn emit(
     requires small { length file.now ≤ 2 ^ 26 }
     requires text { length text.now ≡ headers.now.text.sh_size }
     requires fields { length fields.now.entries ≡ plain.rel_count headers.now }
-    ensures { IfOk result (λ out. out.items ≡ canonical.code_file (converted.object_for file.now headers.now text.now fields.now.entries)) }
+    ensures { IfOk result (λ out. out.items ≡ canonical.code_file
+        (converted.object_for file.now headers.now text.now fields.now.entries)) }
 {
     let layout = Layout {
         exponent: exponent(headers.text.sh_addralign).unwrap_or(0),

@@ -47,7 +47,8 @@ fn taken_at(fields: &BTreeMap<u32, Rel>, at: u32) -> Option<u32>
     requires { at + 4 < 2 ^ 32 }
     ensures held { IfSome result (λ k. IsSome (get nat_cmp fields.now k)) }
     ensures near { IfSome result (λ k. (k < at + 4) × (at < k + 4)) }
-    ensures free { IfNone result ((k : ℕ) → k < at + 4 → at < k + 4 → get nat_cmp fields.now k ≡ None) }
+    ensures free { IfNone result
+        ((k : ℕ) → k < at + 4 → at < k + 4 → get nat_cmp fields.now k ≡ None) }
 {
     match fields
         .range(at.saturating_sub(FIELD_SIZE - 1)..at + FIELD_SIZE)
@@ -68,9 +69,12 @@ pub fn fields_of(
 ) -> Result<Option<BTreeMap<u32, Rel>>, NoMemory>
     requires laid { plain.AreLaid file.now headers.now }
     requires small { length file.now < 2 ^ 32 }
-    ensures none { IfOk result (λ fields. fields ≡ None → plain.has_rels file.now headers.now ≡ false) }
-    ensures some { IfOk result (λ fields. IsSome fields → plain.has_rels file.now headers.now ≡ true) }
-    ensures fields { IfOk result (λ found. IfSome found (λ fields. AreFields file.now headers.now fields.entries)) }
+    ensures none { IfOk result
+        (λ fields. fields ≡ None → plain.has_rels file.now headers.now ≡ false) }
+    ensures some { IfOk result
+        (λ fields. IsSome fields → plain.has_rels file.now headers.now ≡ true) }
+    ensures fields { IfOk result (λ found. IfSome found
+        (λ fields. AreFields file.now headers.now fields.entries)) }
 {
     let mut fields = BTreeMap::new(alloc);
     let count = rel_count(headers);

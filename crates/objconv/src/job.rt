@@ -33,7 +33,8 @@ fn are_operands(input: &str, output: &str) -> bool
 /// The job of the words: `-fcoff32`, the name of the input and that of the output, which differ and
 /// do not begin with `-`. `None` exactly where the words are no such job. Takes no memory.
 pub fn job_of(words: &Words) -> Option<Conversion<'_>>
-    ensures { MatchOption result (jobs.job_of words.now ≡ None) (λ job. jobs.job_of words.now ≡ Some (record { input = job.input.now; output = job.output.now })) }
+    ensures { MatchOption result (jobs.job_of words.now ≡ None) (λ job. jobs.job_of words.now
+        ≡ Some (record { input = job.input.now; output = job.output.now })) }
 {
     if words.count() != 3 {
         return None;

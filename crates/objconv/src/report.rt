@@ -58,9 +58,11 @@ fn refusal_status(code: Code) -> u8
 /// Tells a text, and answers a status: where a call fails, the status stays.
 pub fn tell<C: Console>(console: &mut C, text: &[u8], status: u8) -> u8
     ensures status { result ≡ status }
-    ensures tells { Tells text.now (C.told console.old) (C.told console.new) (C.err_faults console.old) (C.err_faults console.new) }
+    ensures tells { Tells text.now (C.told console.old) (C.told console.new)
+        (C.err_faults console.old) (C.err_faults console.new) }
     ensures counts { C.err_faults console.old ≤ C.err_faults console.new }
-    ensures other { LeavesOther (C.shown console.old) (C.shown console.new) (C.out_faults console.old) (C.out_faults console.new) }
+    ensures other { LeavesOther (C.shown console.old) (C.shown console.new)
+        (C.out_faults console.old) (C.out_faults console.new) }
 {
     let _ = tell_all(console, text);
     status
@@ -68,9 +70,11 @@ pub fn tell<C: Console>(console: &mut C, text: &[u8], status: u8) -> u8
 
 // tells the message of a refusal; where it finds no memory, the text for that
 fn report_refusal<C: Console>(alloc: Global, console: &mut C, fault: Fault) -> u8
-    ensures reported { IsReported (C.told console.old) (C.told console.new) (C.err_faults console.old) (C.err_faults console.new) (RunFault.Refused fault) result }
+    ensures reported { IsReported (C.told console.old) (C.told console.new)
+        (C.err_faults console.old) (C.err_faults console.new) (RunFault.Refused fault) result }
     ensures counts { C.err_faults console.old ≤ C.err_faults console.new }
-    ensures other { LeavesOther (C.shown console.old) (C.shown console.new) (C.out_faults console.old) (C.out_faults console.new) }
+    ensures other { LeavesOther (C.shown console.old) (C.shown console.new)
+        (C.out_faults console.old) (C.out_faults console.new) }
 {
     match message(alloc, &fault) {
         Ok(text) => tell(console, text.as_slice(), refusal_status(fault.code)),
@@ -80,9 +84,11 @@ fn report_refusal<C: Console>(alloc: Global, console: &mut C, fault: Fault) -> u
 
 /// Tells why a run did not succeed, and answers its status.
 pub fn report<C: Console>(alloc: Global, console: &mut C, fault: RunFault) -> u8
-    ensures reported { IsReported (C.told console.old) (C.told console.new) (C.err_faults console.old) (C.err_faults console.new) fault result }
+    ensures reported { IsReported (C.told console.old) (C.told console.new)
+        (C.err_faults console.old) (C.err_faults console.new) fault result }
     ensures counts { C.err_faults console.old ≤ C.err_faults console.new }
-    ensures other { LeavesOther (C.shown console.old) (C.shown console.new) (C.out_faults console.old) (C.out_faults console.new) }
+    ensures other { LeavesOther (C.shown console.old) (C.shown console.new)
+        (C.out_faults console.old) (C.out_faults console.new) }
 {
     match fault {
         RunFault::Refused(fault) => report_refusal(alloc, console, fault),

@@ -53,7 +53,9 @@ pub fn push_section_header(out: &mut Vec<u8>, header: &SectionHeader) -> Result<
 
 // puts what stands behind the pointers of a section header behind `out`
 fn push_counts(out: &mut Vec<u8>, header: &SectionHeader) -> Result<(), NoMemory>
-    ensures { OnOk result (out.new.items ≡ out.old.items ++ packed ((2, header.now.NumberOfRelocations) ∷ (2, header.now.NumberOfLinenumbers) ∷ (4, header.now.Characteristics) ∷ [])) }
+    ensures { OnOk result (out.new.items ≡ out.old.items
+        ++ packed ((2, header.now.NumberOfRelocations) ∷ (2, header.now.NumberOfLinenumbers)
+        ∷ (4, header.now.Characteristics) ∷ [])) }
 {
     push_u16(out, header.NumberOfRelocations)?;
     push_u16(out, header.NumberOfLinenumbers)?;
