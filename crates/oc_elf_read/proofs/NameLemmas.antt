@@ -59,5 +59,5 @@ pub short_none : (xs : List ℕ) (most m : ℕ) → min (length xs) (most + 1) �
     → short most (text_within xs) ≡ None
 short_none xs most m wide none =
     text_longer xs most (λ j low high nul.
-      let below : j < m = omega arith in
-      none j (omega arith) (omega (arith, length-take m xs)) (eq-eqb (get_or (take m xs) j 0) 0 (get_or-take m xs j 0 below ∙ nul)))
+    let below : j < m = omega arith in
+    none j (omega arith) (omega (arith, length-take m xs)) (eq-eqb (get_or (take m xs) j 0) 0 (get_or-take m xs j 0 below ∙ nul)))

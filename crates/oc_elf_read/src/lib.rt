@@ -2,20 +2,28 @@
 //! sections, symbols and relocated fields.
 #![tactic(auto)]
 
+mod beyond;
 mod constants;
 mod ehdr;
+mod fields;
 mod names;
+mod plain;
 mod rel;
+mod sections;
 mod shdr;
 mod sym;
+mod symbols;
+mod tables;
 
 pub use constants::{
     ELFCLASS32, ELFDATA2LSB, ELFMAG, EM_386, ET_REL, EV_CURRENT, R_386_32, R_386_NONE, R_386_PC32,
-    SHF_ALLOC, SHF_EXECINSTR, SHT_PROGBITS, SHT_REL, SHT_STRTAB, SHT_SYMTAB, STB_GLOBAL, STB_LOCAL, STT_FUNC, STT_NOTYPE,
-    STT_SECTION,
+    SHF_ALLOC, SHF_EXECINSTR, SHT_PROGBITS, SHT_REL, SHT_STRTAB, SHT_SYMTAB, STB_GLOBAL, STB_LOCAL,
+    STT_FUNC, STT_NOTYPE, STT_SECTION,
 };
 pub use ehdr::{EHDR_SIZE, Ehdr, ehdr_of};
 pub use names::{short_name, table_of};
+pub use plain::patches;
 pub use rel::{REL_SIZE, Rel, rel_at};
 pub use shdr::{SHDR_SIZE, Shdr, shdr_at};
 pub use sym::{SYM_SIZE, Sym, sym_at};
+pub use tables::tables_lie;

@@ -2,9 +2,8 @@
 ghost use Rattle.std.specs.Prelude.{◌≡◌, ◌+◌, ◌≤◌, None, Some, drop, length, MatchOption};
 ghost use Rattle.oc_elf_read.specs.Names.{name_in, short, table_bytes, text_within};
 
-use memchr::memchr;
-
 use crate::shdr::Shdr;
+use memchr::memchr;
 
 /// The bytes of a string table that lies in the file. Constant time.
 #[tactic(auto, unfolding(crate::specs::Names::table_bytes))]
