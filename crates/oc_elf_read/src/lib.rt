@@ -14,6 +14,8 @@ mod shdr;
 mod sym;
 mod symbols;
 mod tables;
+#[cfg(test)]
+mod tests;
 
 pub use constants::{
     ELFCLASS32, ELFDATA2LSB, ELFMAG, EM_386, ET_REL, EV_CURRENT, R_386_32, R_386_NONE, R_386_PC32,
