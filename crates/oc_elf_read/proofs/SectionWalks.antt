@@ -1,15 +1,13 @@
 -- Walks over section headers.
-use Rattle.std.proofs.Common.{◌≡◌, ℕ, zero, suc, ◌+◌, ◌-◌, ◌*◌, ◌/◌, ◌≤◌, Bool, true, false, cond, eqb, List, [], ◌++◌, length, map, Option, Some, None, refl, ◌∙◌, ap, arith, length-append}
+use Rattle.std.proofs.Common.{◌≡◌, ℕ, zero, suc, ◌+◌, ◌-◌, ◌/◌, ◌≤◌, Bool, true, false, cond, eqb, List, [], ◌++◌, length, map, Option, Some, None, refl, ◌∙◌, ap, arith, length-append}
 use Rattle.std.specs.Prelude.{◌&&◌, is_some, filter_map, find}
 use Rattle.std.specs.List.{cons_option, range_with_len}
 use Rattle.std.specs.Option.{option_map}
-use Rattle.oc_linking.specs.declared.terms.Kind.{Kind}
 use Rattle.oc_linking.specs.declared.terms.Kind.TheVariants.{Code}
 use Rattle.oc_linking.specs.Parts.{Section}
 use Rattle.oc_elf_read.specs.declared.shdr.Shdr.{Shdr}
 use Rattle.oc_elf_read.specs.Sections.{header_of, headers_of, has, kind_of, section_of, first_sections, entries_of, relocations_of}
 use Rattle.oc_elf_read.specs.Plain.{relocates_section, entry_at}
-use Rattle.oc_elf_read.proofs.TableWalks.{both}
 
 -- what stands before others
 cons_option-append : {X : Type 0} (o : Option X) (xs ys : List X) → cons_option o (xs ++ ys) ≡ cons_option o xs ++ ys

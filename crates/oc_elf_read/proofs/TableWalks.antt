@@ -1,6 +1,6 @@
 -- Steps of loops over consecutive numbers, and what is in a file whose tables are.
-use Rattle.std.proofs.Common.{◌≡◌, ℕ, zero, suc, ◌+◌, ◌-◌, ◌*◌, ◌<◌, ◌≤◌, Bool, true, false, cond, eqb, List, [], ◌∷◌, length, map, Option, Some, None, refl, sym, ap, arith, subst}
-use Rattle.std.specs.Prelude.{IsTrue, ◌&&◌, ◌||◌, not, find, is_some}
+use Rattle.std.proofs.Common.{◌≡◌, ℕ, zero, suc, ◌+◌, ◌-◌, ◌*◌, ◌<◌, ◌≤◌, Bool, true, false, cond, eqb, List, [], ◌∷◌, length, map, Some, refl, arith, subst}
+use Rattle.std.specs.Prelude.{IsTrue, ◌&&◌, ◌||◌, not, find}
 use Rattle.std.specs.List.{list_all, range_with_len}
 use Rattle.std.proofs.lemmas.Bool.{leb-true, eqb-true}
 use Rattle.oc_elf_read.specs.declared.shdr.Shdr.{Shdr}

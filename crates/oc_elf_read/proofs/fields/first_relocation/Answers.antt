@@ -1,4 +1,4 @@
-use Rattle.std.proofs.Common.{◌≡◌, ◌∙◌, sym, ap, refl, ◌-◌, true, false, arith, map, Some}
+use Rattle.std.proofs.Common.{◌≡◌, ◌∙◌, sym, ap, refl, false, map}
 use Rattle.std.specs.Prelude.{find}
 use Rattle.oc_elf_read.specs.Fields.{relocates}
 use Rattle.oc_elf_read.specs.Plain.{entry_at}

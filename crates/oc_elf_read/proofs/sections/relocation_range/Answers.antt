@@ -1,4 +1,4 @@
-use Rattle.std.proofs.Common.{◌≡◌, sym, eqb, ◌+◌, ◌≤◌, length, arith}
+use Rattle.std.proofs.Common.{sym, eqb, ◌+◌, ◌≤◌, length, arith}
 use Rattle.oc_elf_read.specs.Plain.{relocates_section}
 use Rattle.oc_elf_read.proofs.TableWalks.{both, found-lies, rel-read}
 use Rattle.oc_elf_read.proofs.SectionWalks.{relocations_of-none, relocations_of-some}
