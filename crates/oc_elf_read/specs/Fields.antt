@@ -1,5 +1,5 @@
 -- Relocated fields (i386 psABI, "Relocation Types"; our profile). The rows of all types but R_386_32 and R_386_PC32 are left out.
-use Rattle.std.specs.Prelude.{◌≡◌, ℕ, ◌+◌, Bool, not, ◌&&◌, nat_eq, if◌then◌else◌, List, find, slice_get, Option, Some, None}
+use Rattle.std.specs.Prelude.{ℕ, ◌+◌, Bool, not, ◌&&◌, nat_eq, if◌then◌else◌, List, find, slice_get, Option, Some, None}
 use Rattle.std.specs.Option.{option_map, option_and_then}
 use Rattle.oc_base.specs.declared.format.Word.TheVariants.{W32}
 use Rattle.oc_base.specs.Numbers.{number_at}

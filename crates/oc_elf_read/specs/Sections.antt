@@ -6,7 +6,7 @@ use Rattle.std.specs.Option.{option_map, option_map_or, unwrap_or}
 use Rattle.oc_linking.specs.declared.terms.Kind.{Kind}
 use Rattle.oc_linking.specs.declared.terms.Kind.TheVariants.{Code}
 use Rattle.oc_linking.specs.Parts.{Section}
-use Rattle.oc_elf_read.specs.declared.constants.TheConstants.{SHT_PROGBITS, SHT_REL, SHT_SYMTAB, SHF_ALLOC, SHF_EXECINSTR}
+use Rattle.oc_elf_read.specs.declared.constants.TheConstants.{SHT_PROGBITS, SHT_REL, SHF_ALLOC, SHF_EXECINSTR}
 use Rattle.oc_elf_read.specs.declared.shdr.Shdr.{Shdr}
 use Rattle.oc_elf_read.specs.declared.rel.Rel.{Rel}
 use Rattle.oc_elf_read.specs.Ehdr.{ehdr_in}

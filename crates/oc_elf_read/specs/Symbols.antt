@@ -1,8 +1,8 @@
 -- Symbols (gABI, "Symbol Table"; our profile).
 -- Left out are the rows of weak, common, absolute and local symbols, but for the sections' own.
-use Rattle.std.specs.Prelude.{ℕ, ◌+◌, ◌-◌, ◌*◌, ◌/◌, ◌%◌, Bool, false, ◌&&◌, nat_eq, if◌then◌else◌, List, [], length, map, find, filter_map, Option, Some, None}
+use Rattle.std.specs.Prelude.{ℕ, ◌+◌, ◌-◌, ◌*◌, ◌/◌, ◌%◌, Bool, false, ◌&&◌, nat_eq, if◌then◌else◌, List, [], find, filter_map, Option, Some, None}
 use Rattle.std.specs.List.{range_with_len}
-use Rattle.std.specs.Option.{option_map, option_map_or, unwrap_or}
+use Rattle.std.specs.Option.{option_map, unwrap_or}
 use Rattle.oc_linking.specs.declared.terms.Keep.{Keep}
 use Rattle.oc_linking.specs.declared.terms.Mark.{Mark}
 use Rattle.oc_linking.specs.declared.terms.Mark.TheVariants.{NoType, Function}
@@ -13,7 +13,7 @@ use Rattle.oc_linking.specs.declared.terms.Value.TheVariants.{Place}
 use Rattle.oc_linking.specs.declared.terms.Binding.{Binding}
 use Rattle.oc_linking.specs.declared.terms.Binding.TheVariants.{Local, Global, Undefined}
 use Rattle.oc_linking.specs.Parts.{Symbol}
-use Rattle.oc_elf_read.specs.declared.constants.TheConstants.{SHT_SYMTAB, STB_LOCAL, STB_GLOBAL, STT_NOTYPE, STT_FUNC, STT_SECTION}
+use Rattle.oc_elf_read.specs.declared.constants.TheConstants.{SHT_SYMTAB, STB_LOCAL, STB_GLOBAL, STT_FUNC, STT_SECTION}
 use Rattle.oc_elf_read.specs.declared.shdr.Shdr.{Shdr}
 use Rattle.oc_elf_read.specs.declared.sym.Sym.{Sym}
 use Rattle.oc_elf_read.specs.Sym.{sym_in, bind_of, type_of}

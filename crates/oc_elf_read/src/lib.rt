@@ -2,12 +2,20 @@
 //! sections, symbols and relocated fields.
 #![tactic(auto)]
 
+mod beyond;
 mod constants;
 mod ehdr;
+mod fields;
 mod names;
+mod plain;
 mod rel;
+mod sections;
 mod shdr;
 mod sym;
+mod symbols;
+mod tables;
+#[cfg(test)]
+mod tests;
 
 pub use constants::{
     ELFCLASS32, ELFDATA2LSB, ELFMAG, EM_386, ET_REL, EV_CURRENT, R_386_32, R_386_NONE, R_386_PC32,
@@ -16,6 +24,8 @@ pub use constants::{
 };
 pub use ehdr::{EHDR_SIZE, Ehdr, ehdr_of};
 pub use names::{short_name, table_of};
+pub use plain::patches;
 pub use rel::{REL_SIZE, Rel, rel_at};
 pub use shdr::{SHDR_SIZE, Shdr, shdr_at};
 pub use sym::{SYM_SIZE, Sym, sym_at};
+pub use tables::tables_lie;
