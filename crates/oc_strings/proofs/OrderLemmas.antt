@@ -1,6 +1,6 @@
 -- Names in ascending order, and which of them end which.
-use Rattle.std.proofs.Common.{◌≡◌, ℕ, zero, suc, ◌+◌, ◌-◌, ◌<◌, ◌≤◌, true, false, List, [], ◌∷◌, ◌++◌, length, reverse, Ordering, refl, sym, ◌∙◌, ap, subst, arith, ⊎_elim}
-use Rattle.std.proofs.lemmas.List.{reverse-append, reverse-reverse}
+use Rattle.std.proofs.Common.{take, drop, ◌≡◌, ℕ, zero, suc, ◌+◌, ◌-◌, ◌<◌, ◌≤◌, true, false, List, [], ◌∷◌, ◌++◌, length, reverse, Ordering, refl, sym, ◌∙◌, ap, subst, arith, ⊎_elim}
+use Rattle.std.proofs.lemmas.List.{reverse-append, reverse-reverse, take-append-drop}
 use Rattle.std.proofs.lemmas.Bool.{both_ways, cases_lt, cases_order}
 use Rattle.std.proofs.lemmas.Bool.Decides.{nat_tests}
 use Rattle.std.proofs.lemmas.Cmp.{nat_list_cmp_total, tied_itself, nat_cmp_total}
@@ -8,7 +8,7 @@ use Rattle.std.specs.Ordering.{nat_cmp, is_lt, is_le, ordering_then, ordering_re
 use Rattle.std.specs.Cmp.Lexicographic.{slice_cmp}
 use Rattle.std.specs.declared.cmp.Ordering.TheVariants.{Less, Equal, Greater}
 use Rattle.oc_base.specs.Strings.{ends}
-use Rattle.oc_strings.specs.Order.{is_before, StrictlyAscends, name_at}
+use Rattle.oc_strings.specs.Order.{SharesEnd, is_before, StrictlyAscends, name_at}
 use Rattle.oc_strings.proofs.EndLemmas.{ends_split, ends_from}
 
 -- the order of lists of bytes
@@ -76,6 +76,25 @@ before_ended : (a b : List ℕ) → ends a b ≡ true → is_le (order (reverse 
 before_ended a b e =
     let h = reversed_begins a b e in
     subst (λ (t : List ℕ). is_le (order (reverse a) t) ≡ true) (sym h.is) (front_first (reverse a) h.rest)
+
+-- a common front does not count
+same_fronts : (t x y : List ℕ) → order (t ++ x) (t ++ y) ≡ order x y
+same_fronts [] x y = refl
+same_fronts (c ∷ t) x y = ap (λ o. ordering_then o (order (t ++ x) (t ++ y))) (tied_itself nat_cmp_total c) ∙ same_fronts t x y
+
+-- nor does a common tail, for names that are read from the last byte on
+pub same_tails : (n : ℕ) (a b : List ℕ) → SharesEnd n a b → order (reverse a) (reverse b) ≡ order (reverse (take (length a - n) a)) (reverse (take (length b - n) b))
+same_tails n a b s =
+    let t : List ℕ = drop (length a - n) a in
+    let a_is : reverse a ≡ reverse t ++ reverse (take (length a - n) a)
+    = ap reverse (sym (take-append-drop (length a - n) a)) ∙ reverse-append (take (length a - n) a) t
+    in
+    let b_is : reverse b ≡ reverse t ++ reverse (take (length b - n) b)
+    = ap reverse (sym (take-append-drop (length b - n) b)) ∙ reverse-append (take (length b - n) b) (drop (length b - n) b)
+    ∙ ap (λ d. reverse d ++ reverse (take (length b - n) b)) (sym s.2)
+    in
+    ap (λ x. order x (reverse b)) a_is ∙ ap (order (reverse t ++ reverse (take (length a - n) a))) b_is
+    ∙ same_fronts (reverse t) (reverse (take (length a - n) a)) (reverse (take (length b - n) b))
 
 -- lists that tie are the same
 pub tied_same : (x y : List ℕ) → order x y ≡ Equal → x ≡ y

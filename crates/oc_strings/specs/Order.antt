@@ -1,5 +1,5 @@
 -- The order of names by their bytes, read from the last one on: a name stands right before the names that it ends.
-use Rattle.std.specs.Prelude.{◌≡◌, ℕ, ◌+◌, ◌-◌, ◌<◌, Bool, ◌&&◌, nat_lt, if◌then◌else◌, true, false, List, [], Option, Some, None, length, map, reverse, fold, take, slice_get, slice_index, slice_index_or}
+use Rattle.std.specs.Prelude.{◌≡◌, ℕ, ◌+◌, ◌-◌, ◌<◌, ◌≤◌, Bool, ◌&&◌, nat_lt, if◌then◌else◌, true, false, List, [], Option, Some, None, length, map, reverse, fold, take, drop, slice_get, slice_index, slice_index_or}
 use Rattle.std.specs.Ordering.{nat_cmp, is_lt}
 use Rattle.std.specs.Option.{option_map}
 use Rattle.std.specs.Cmp.Lexicographic.{slice_cmp}
@@ -10,6 +10,10 @@ use Rattle.oc_strings.specs.declared.order.Entry.{Entry}
 -- the name stands before the other one
 abbrev pub is_before : List ℕ → List ℕ → Bool
 is_before a b = is_lt (slice_cmp nat_cmp (reverse a) (reverse b))
+
+-- both names have that many bytes, and their last ones are the same
+abbrev pub SharesEnd : ℕ → List ℕ → List ℕ → Type 0
+SharesEnd n a b = (n ≤ length a) × (n ≤ length b) × (drop (length a - n) a ≡ drop (length b - n) b)
 
 -- no name stands before the one in front of it
 abbrev pub Ascends : List (List ℕ) → Type 0

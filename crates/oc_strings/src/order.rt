@@ -1,8 +1,8 @@
 //! Names in the order of their bytes, read from the last one on.
-ghost use Rattle.std.specs.Prelude.{◌≡◌, MatchBool, reverse, IfOk};
+ghost use Rattle.std.specs.Prelude.{◌≡◌, ◌↔◌, IsTrue, MatchBool, reverse, IfOk};
 ghost use Rattle.std.specs.Ordering.{nat_cmp};
 ghost use Rattle.std.specs.Cmp.Lexicographic.{slice_cmp};
-ghost use Rattle.oc_strings.specs.Order.{IsNumbered, names_of, Ascends, EndsWithName, IsOrder};
+ghost use Rattle.oc_strings.specs.Order.{IsNumbered, names_of, Ascends, EndsWithName, IsOrder, SharesEnd};
 ghost use Rattle.oc_strings.specs.Tables.{texts};
 
 use oc_base::NoMemory;
@@ -16,11 +16,34 @@ pub(crate) struct Entry<'a> {
     pub number: usize,
 }
 
+/// How many bytes are compared at once, while they are the same.
+const BLOCK: usize = 32;
+
+/// Whether both names have a last block, and it is the same.
+fn shares_block(a: &[u8], b: &[u8]) -> bool
+    ensures { IsTrue result ↔ SharesEnd BLOCK a.now b.now }
+{
+    a.len() >= BLOCK && b.len() >= BLOCK && a[a.len() - BLOCK..] == b[b.len() - BLOCK..]
+}
+
+/// Compares two names byte by byte, from their last bytes on.
+fn compare_bytes(a: &[u8], b: &[u8]) -> Ordering
+    ensures { result ≡ slice_cmp nat_cmp (reverse a.now) (reverse b.now) }
+{
+    a.iter().rev().cmp(b.iter().rev())
+}
+
 /// Compares two names from their last bytes on. A name stands before those that it ends.
 pub(crate) fn compare_backward(a: &[u8], b: &[u8]) -> Ordering
     ensures { result ≡ slice_cmp nat_cmp (reverse a.now) (reverse b.now) }
 {
-    a.iter().rev().cmp(b.iter().rev())
+    let mut a_left = a;
+    let mut b_left = b;
+    while shares_block(a_left, b_left) {
+        a_left = &a_left[..a_left.len() - BLOCK];
+        b_left = &b_left[..b_left.len() - BLOCK];
+    }
+    compare_bytes(a_left, b_left)
 }
 
 /// An entry for each name, in ascending order.

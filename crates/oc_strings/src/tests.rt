@@ -1,6 +1,7 @@
 use crate::{Table, offsets, plain};
 use oc_base::{Bytes, NoMemory};
 use std::alloc::{AllocError, Global};
+use std::process::Abort;
 use std::test::Fail;
 
 /// The table of these names, if it fits.
@@ -15,21 +16,22 @@ fn table_of(alloc: Global, head: u32, names: &[&[u8]]) -> Result<Option<Table>, 
     Ok(Some(Table::of(alloc, head, &owned)?))
 }
 
+/// Expects the table to have these bytes, and each name at its place.
+fn expect(rt: &impl Abort, table: &Table, bytes: &[u8], places: &[(&[u8], Option<u32>)]) {
+    assert_eq!(rt; table.bytes(), bytes);
+    for (name, place) in places {
+        assert_eq!(rt; table.offset(name), *place, "{name:?}");
+    }
+}
+
 // The string table of a canonical COFF file with these two symbols: the first text stands behind
-// the four bytes of the size. By hand, from the rule.
+// the four bytes of the size. By hand, from the rule, as are all cases here.
 #[test]
 fn string_table_shares_tails(rt: HostRuntime) -> Result<(), Fail> {
-    let names = [b"my_function".as_slice(), b"_my_function"];
-    let table = table_of(rt.alloc(), 4, &names)?.ok_or("two names")?;
-    assert_eq!(rt; table.bytes(), b"_my_function\0".as_slice());
-    assert_eq!(rt; table.offset(b"my_function"), Some(5));
-    assert_eq!(rt; table.offset(b"_my_function"), Some(4));
-    assert_eq!(rt;
-        table.offset(b"function"),
-        None,
-        "a tail that was not given"
-    );
-    assert_eq!(rt; table.offset(b"__my_function"), None);
+    let (short, long) = (b"my_function".as_slice(), b"_my_function".as_slice());
+    let table = table_of(rt.alloc(), 4, &[short, long])?.ok_or("two names")?;
+    let places = [(short, Some(5)), (long, Some(4)), (b"function", None)];
+    expect(&rt, &table, b"_my_function\0", &places);
     Ok(())
 }
 
@@ -46,40 +48,52 @@ fn a_chain_is_one_text_in_every_order(rt: HostRuntime) -> Result<(), Fail> {
     ];
     for order in &orders {
         let table = table_of(rt.alloc(), 1, order)?.ok_or("three names")?;
-        assert_eq!(rt; table.bytes(), b"cba\0".as_slice());
-        assert_eq!(rt; table.offset(cba), Some(1));
-        assert_eq!(rt; table.offset(ba), Some(2));
-        assert_eq!(rt; table.offset(a), Some(3));
+        expect(
+            &rt,
+            &table,
+            b"cba\0",
+            &[(cba, Some(1)), (ba, Some(2)), (a, Some(3))],
+        );
     }
     Ok(())
 }
 
-// `bar` ends both texts and stands in the one that is used first. By hand, from the rule.
+// `bar` ends both texts, and stands in the one that is used first.
 #[test]
 fn a_tail_stands_in_the_first_text(rt: HostRuntime) -> Result<(), Fail> {
     let (foobar, xbar, bar) = (b"foobar".as_slice(), b"xbar".as_slice(), b"bar".as_slice());
     let first = table_of(rt.alloc(), 1, &[bar, foobar, xbar])?.ok_or("three names")?;
-    assert_eq!(rt; first.bytes(), b"foobar\0xbar\0".as_slice());
-    assert_eq!(rt; first.offset(bar), Some(4));
+    expect(
+        &rt,
+        &first,
+        b"foobar\0xbar\0",
+        &[(bar, Some(4)), (xbar, Some(8))],
+    );
     let other = table_of(rt.alloc(), 1, &[xbar, bar, foobar])?.ok_or("three names")?;
-    assert_eq!(rt; other.bytes(), b"xbar\0foobar\0".as_slice());
-    assert_eq!(rt; other.offset(bar), Some(2));
+    expect(
+        &rt,
+        &other,
+        b"xbar\0foobar\0",
+        &[(bar, Some(2)), (foobar, Some(6))],
+    );
     Ok(())
 }
 
-// Equal names stand once, names of one byte and names with a NUL are names like any other.
+// Equal names stand once. A name of one byte and one with a NUL are names like any other.
 #[test]
 fn equal_short_and_odd_names(rt: HostRuntime) -> Result<(), Fail> {
-    let names = [b"b".as_slice(), b"a", b"b", b"x\0a", b"a", b"\xff", b"x\0a"];
-    let table = table_of(rt.alloc(), 0, &names)?.ok_or("seven names")?;
-    assert_eq!(rt; table.bytes(), b"b\0x\0a\0\xff\0".as_slice());
-    assert_eq!(rt; table.offset(b"b"), Some(0));
-    assert_eq!(rt; table.offset(b"a"), Some(4));
-    assert_eq!(rt; table.offset(b"x\0a"), Some(2));
-    assert_eq!(rt; table.offset(b"\xff"), Some(6));
-    assert_eq!(rt; table.offset(b"x"), None);
+    let (a, b, nul) = (b"a".as_slice(), b"b".as_slice(), b"x\0a".as_slice());
+    let table = table_of(rt.alloc(), 0, &[b, a, b, nul, a, nul])?.ok_or("six names")?;
+    let places = [(b, Some(0)), (a, Some(4)), (nul, Some(2)), (b"x", None)];
+    expect(&rt, &table, b"b\0x\0a\0", &places);
+    Ok(())
+}
+
+// The largest head leaves room for no name, not even for an empty one.
+#[test]
+fn the_largest_head(rt: HostRuntime) -> Result<(), Fail> {
     let none = table_of(rt.alloc(), u32::MAX, &[])?.ok_or("no names")?;
-    assert_eq!(rt; none.bytes(), b"".as_slice());
+    expect(&rt, &none, b"", &[]);
     assert!(rt; table_of(rt.alloc(), u32::MAX, &[b"".as_slice()])?.is_none());
     Ok(())
 }
@@ -99,7 +113,28 @@ fn drawn(alloc: Global, seed: u32, count: u32) -> Result<Vec<Vec<u8>>, AllocErro
     Ok(names)
 }
 
-// The plain program, whose contract is the definition, on the same lists.
+/// Expects the table, and the offsets with no limit, to be those of the plain program.
+fn compare(rt: &impl Abort, alloc: Global, names: &[&[u8]]) -> Result<(), Fail> {
+    let tops = plain::tops(alloc, names)?;
+    let table = table_of(alloc, 4, names)?.ok_or("few names")?;
+    for (name, offset) in names.iter().zip(offsets(alloc, 4, names)?.iter()) {
+        assert_eq!(rt; plain::place(4, &tops, name), Some(*offset), "{names:?}");
+        assert_eq!(rt;
+            table.offset(name).map(u64::from),
+            Some(*offset),
+            "{names:?}"
+        );
+    }
+    let mut bytes = Vec::new(alloc);
+    for top in &tops {
+        bytes.extend_from_slice(top)?;
+        bytes.push(0)?;
+    }
+    assert_eq!(rt; table.bytes(), bytes.as_slice(), "{names:?}");
+    Ok(())
+}
+
+// The plain program's contract is the definition.
 #[test]
 fn agrees_with_the_plain_program(rt: HostRuntime) -> Result<(), Fail> {
     let alloc = rt.alloc();
@@ -109,23 +144,7 @@ fn agrees_with_the_plain_program(rt: HostRuntime) -> Result<(), Fail> {
         for name in &names {
             slices.push(name.as_slice())?;
         }
-        let tops = plain::tops(alloc, &slices)?;
-        let table = table_of(alloc, 4, &slices)?.ok_or("few names")?;
-        let found = offsets(alloc, 4, &slices)?;
-        for (name, offset) in slices.iter().zip(found.iter()) {
-            assert_eq!(rt; plain::place(4, &tops, name), Some(*offset), "seed {seed}");
-            assert_eq!(rt;
-                table.offset(name).map(u64::from),
-                Some(*offset),
-                "seed {seed}"
-            );
-        }
-        let mut bytes = Vec::new(alloc);
-        for top in &tops {
-            bytes.extend_from_slice(top)?;
-            bytes.push(0)?;
-        }
-        assert_eq!(rt; table.bytes(), bytes.as_slice(), "seed {seed}");
+        compare(&rt, alloc, &slices)?;
     }
     Ok(())
 }

@@ -1,10 +1,7 @@
-use Rattle.std.proofs.Common.{◌≡◌, refl}
-use Rattle.std.specs.Ordering.{nat_cmp}
-use Rattle.std.proofs.lemmas.Iterator.Adapters.{YieldsList-from_rev_slice}
-use Rattle.std.proofs.lemmas.Iterator.Search.{cmp_from_yields_List}
+use Rattle.std.proofs.Common.{◌∙◌}
+use Rattle.oc_strings.proofs.OrderLemmas.{same_tails}
 use Rattle.oc_strings.proofs.order.compare_backward.Goals as goal
 
-pub returns : goal.returns
-returns c =
-    cmp_from_yields_List (λ x y. y ≡ x) _ nat_cmp _ c.cmp.ensures.ran (YieldsList-from_rev_slice c.args.a.now cc)
-    (λ it e. YieldsList-from_rev_slice c.args.b.now cc) (λ x y. refl)
+pub loop-a_left-preserved : goal.loop-a_left-preserved
+loop-a_left-preserved c =
+    c.loop-a_left.invariant ∙ same_tails 32 c.loop-a_left.a_left.now c.loop-a_left.b_left.now (c.shares_block.ensures.0 c.loop-a_left-test.true)
