@@ -1,8 +1,8 @@
 -- Tests of all numbers below one, or of some.
 use Rattle.std.proofs.Common.{◌≡◌, ℕ, zero, suc, ◌+◌, ◌<◌, inl, inr, Bool, true, false, refl, sym, ◌∙◌, ap, subst, arith, add-one}
-use Rattle.std.specs.Prelude.{◌&&◌, ◌||◌}
+use Rattle.std.specs.Prelude.{◌&&◌}
 use Rattle.std.proofs.lemmas.Bool.{cases_eq, and_left, and_right}
-use Rattle.objconv.specs.Plain.{all_below, any_below}
+use Rattle.objconv.specs.Plain.{all_below}
 
 -- one more number passes
 pub all_below_more : (test : ℕ → Bool) (i : ℕ) → all_below i test ≡ true → test i ≡ true → all_below (i + 1) test ≡ true

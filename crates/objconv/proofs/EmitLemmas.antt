@@ -1,15 +1,13 @@
 -- Tables that grow by an entry, and the numbers of a layout.
-use Rattle.std.proofs.Common.{◌≡◌, ℕ, ◌+◌, ◌-◌, List, [], ◌∷◌, ◌++◌, length, map, refl, sym, ◌∙◌, ap, subst, arith, append_assoc}
+use Rattle.std.proofs.Common.{◌≡◌, ℕ, ◌+◌, ◌-◌, List, [], ◌∷◌, ◌++◌, length, map, sym, ◌∙◌, ap, arith, append_assoc}
 use Rattle.std.specs.Prelude.{flat_map}
 use Rattle.std.specs.List.{range_with_len}
 use Rattle.std.proofs.lemmas.List.{append-nil, length-map}
 use Rattle.std.proofs.lemmas.List.FromFn.{map-range_with_len_more, length-range_with_len}
 use Rattle.std.proofs.lemmas.Grind.{flat_map-append}
-use Rattle.oc_elf_read.specs.declared.rel.Rel.{Rel}
 use Rattle.objconv.specs.declared.headers.Headers.{Headers}
-use Rattle.objconv.specs.declared.emit.Layout.{Layout}
 use Rattle.objconv.specs.Plain.{symbol_count}
-use Rattle.objconv.specs.Converted.{IsLayout, external_for, externals_for, relocation_for, object_for}
+use Rattle.objconv.specs.Converted.{external_for, externals_for}
 
 -- one more entry of a table
 pub table_more : {X : Type 0} (entry : X → List ℕ) (f : ℕ → X) (start before now : List ℕ) (j : ℕ) (x : X) → before ≡ start ++ flat_map entry (map f (range_with_len 0 j))

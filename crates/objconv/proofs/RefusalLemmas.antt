@@ -1,12 +1,10 @@
 -- The first refusal by what the reading and the conversion found.
-use Rattle.std.proofs.Common.{◌≡◌, ℕ, ◌<◌, ◌≤◌, Bool, true, false, cond, List, length, take, Option, Some, None, refl, sym, ◌∙◌, ap, subst, arith, length-take}
+use Rattle.std.proofs.Common.{◌≡◌, ℕ, ◌<◌, ◌≤◌, Bool, true, false, cond, List, length, take, Option, Some, None, refl, ap, subst, arith, length-take}
 use Rattle.std.specs.Prelude.{nat_lt}
 use Rattle.std.specs.Option.{IsSomeAnd}
 use Rattle.std.proofs.lemmas.Bool.{lt-ltb, ltb-true}
-use Rattle.oc_base.specs.declared.fault.Fault.{Fault}
 use Rattle.oc_outside.specs.Reading.{IsWholeOrLonger}
 use Rattle.objconv.specs.Plain.{is_plain}
-use Rattle.objconv.specs.Links.{IsConverted}
 use Rattle.objconv.specs.Refusals.{first_refusal, plain_refusal, too_long, not_built}
 
 -- what holds of the value holds of it in other words

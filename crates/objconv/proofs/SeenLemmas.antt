@@ -1,13 +1,12 @@
 -- A set of names that grows by one.
-use Rattle.std.proofs.Common.{◌≡◌, ℕ, suc, ◌+◌, Bool, true, false, cond, List, Bor, BTreeSet, refl, sym, ◌∙◌, ap, add-one}
-use Rattle.std.specs.Prelude.{◌||◌, not, bytes_eq}
+use Rattle.std.proofs.Common.{◌≡◌, ℕ, ◌+◌, Bool, true, false, cond, List, Bor, BTreeSet, refl, sym, ◌∙◌, ap, add-one}
+use Rattle.std.specs.Prelude.{◌||◌, bytes_eq}
 use Rattle.std.specs.Ordering.{nat_cmp}
 use Rattle.std.specs.Cmp.Lexicographic.{slice_cmp}
 use Rattle.std.specs.BTreeSet.{contains_by, UpdatesBy}
 use Rattle.std.proofs.lemmas.Map.Text.{is_eq-slice_cmp}
-use Rattle.oc_elf_read.specs.declared.sym.Sym.{Sym}
 use Rattle.objconv.specs.declared.headers.Headers.{Headers}
-use Rattle.objconv.specs.Plain.{any_below, is_used, symbol_name}
+use Rattle.objconv.specs.Plain.{is_used, symbol_name}
 
 either : (b x : Bool) → cond b true x ≡ (x || b)
 either true true = refl

@@ -1,10 +1,9 @@
 -- What the conditions on symbols say of each.
-use Rattle.std.proofs.Common.{◌≡◌, ℕ, ◌+◌, ◌-◌, ◌<◌, ◌≤◌, Bool, true, false, List, ◌^◌, cond, eqb, Option, Some, None, refl, sym, ◌∙◌, ap, arith}
+use Rattle.std.proofs.Common.{◌≡◌, ℕ, ◌+◌, ◌-◌, ◌<◌, ◌≤◌, Bool, true, false, List, ◌^◌, cond, eqb, Option, Some, None, refl, arith}
 use Rattle.std.specs.Prelude.{◌&&◌}
 use Rattle.std.specs.Option.{unwrap_or}
 use Rattle.std.proofs.lemmas.Option.{none-some, same_Some}
 use Rattle.oc_linking.proofs.Upto.{first_upto_from}
-use Rattle.oc_elf_read.specs.declared.sym.Sym.{Sym}
 use Rattle.objconv.specs.declared.headers.Headers.{Headers}
 use Rattle.objconv.specs.Plain.{has_symbols, are_plain_symbols, are_distinct, is_null_symbol, is_text_symbol, is_plain_symbol, is_plain_place, symbol_in, symbol_count, exponent_of}
 use Rattle.objconv.proofs.PlainLemmas.{both}

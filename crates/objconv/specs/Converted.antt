@@ -8,11 +8,10 @@ use Rattle.oc_elf_read.specs.Sym.{type_of}
 use Rattle.oc_elf_read.specs.Rel.{rel_sym, rel_type}
 use Rattle.oc_coff_read.specs.declared.relocation.Relocation.{Relocation}
 use Rattle.oc_coff_read.specs.declared.constants.TheConstants.{IMAGE_REL_I386_DIR32, IMAGE_REL_I386_REL32}
-use Rattle.oc_coff_read.specs.Canonical.{External, CodeObject, code_file}
+use Rattle.oc_coff_read.specs.Canonical.{External, CodeObject}
 use Rattle.objconv.specs.declared.emit.Layout.{Layout}
 use Rattle.objconv.specs.declared.headers.Headers.{Headers}
-use Rattle.objconv.specs.Plain.{exponent_of, headers_in, name_of, rel_count, symbol_count, symbol_in}
-use Rattle.objconv.specs.Raising.{AreRaised}
+use Rattle.objconv.specs.Plain.{exponent_of, name_of, symbol_count, symbol_in}
 
 -- the symbol table index in COFF of a symbol's number in ELF: the symbol of `.text` is the first
 abbrev pub index_of : ℕ → ℕ

@@ -1,7 +1,6 @@
 -- The job of a command's words (our profile). Today there is one command, `-fcoff32 IN OUT`.
-use Rattle.std.specs.Prelude.{ℕ, Bool, true, false, not, ◌&&◌, eqb, if◌then◌else◌, List, [], ◌∷◌, ◌++◌, codes, bytes_eq, Option, Some, None}
+use Rattle.std.specs.Prelude.{ℕ, Bool, false, not, ◌&&◌, eqb, if◌then◌else◌, List, [], ◌∷◌, codes, bytes_eq, Option, Some, None}
 use Rattle.std.specs.Option.{option_map, unwrap_or}
-use Rattle.std.specs.Fmt.{decimal}
 
 -- a conversion of a file to another
 pub record Conversion : Type 0 where

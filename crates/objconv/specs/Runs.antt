@@ -1,10 +1,10 @@
 -- What a run of the command leaves, by its status (our profile).
-use Rattle.std.specs.Prelude.{◌≡◌, ℕ, ◌⊎◌, List, codes, Option, Some, None, IsSome}
+use Rattle.std.specs.Prelude.{◌≡◌, ℕ, ◌⊎◌, List, codes, Option, Some, None}
 use Rattle.std.specs.Option.{option_map, IsSomeAnd}
 use Rattle.oc_base.specs.declared.fault.Fault.{Fault}
 use Rattle.oc_base.specs.Codes.{class_of}
 use Rattle.oc_base.specs.Messages.{message_of}
-use Rattle.oc_outside.specs.Causes.{Rose, IsSteady}
+use Rattle.oc_outside.specs.Causes.{Rose}
 use Rattle.oc_outside.specs.Held.{Held, file_of, with_file, HasPart}
 use Rattle.oc_outside.specs.Reading.{IsAbsent}
 use Rattle.oc_outside.specs.Texts.{grown, TakesPrefix}

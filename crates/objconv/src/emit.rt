@@ -154,10 +154,11 @@ fn push_relocations(out: &mut Vec<u8>, fields: &BTreeMap<u32, Rel>) -> Result<()
 fn push_external(out: &mut Vec<u8>, name: &[u8], symbol: Sym, value: u32) -> Result<(), NoMemory>
     requires { length name.now ≤ 8 }
     ensures { OnOk result (out.new.items ≡ out.old.items ++ canonical.external_bytes (record {
-        name = name.now;
-        Value = value;
-        SectionNumber = symbol.st_shndx;
-        function = nat_eq (type_of symbol) 2 })) }
+      name = name.now;
+      Value = value;
+      SectionNumber = symbol.st_shndx;
+      function = nat_eq (type_of symbol) 2;
+    })) }
 {
     let entry = SymbolEntry {
         Name: padded_name(name),

@@ -1,12 +1,11 @@
 //! The command `objconv`.
 #![tactic(auto)]
 
-use std::env;
-use std::process::ExitCode;
-
 use objconv::{Words, run};
 use oc_base::NoMemory;
 use oc_outside::{RealConsole, RealFiles};
+use std::env;
+use std::process::ExitCode;
 
 /// The status where the words find no memory.
 const NO_MEMORY: u8 = 7;

@@ -1,10 +1,9 @@
 -- What was read decides the first refusal of the file.
-use Rattle.std.proofs.Common.{◌≡◌, ℕ, ◌<◌, ◌≤◌, true, List, length, Option, Some, None, sym, ◌∙◌, ap, subst, arith}
-use Rattle.oc_outside.specs.Reading.{IsWholeOrLonger}
+use Rattle.std.proofs.Common.{◌≡◌, ℕ, ◌<◌, ◌≤◌, true, List, length, Some, sym, ◌∙◌, subst, arith}
 use Rattle.objconv.specs.declared.command.RunFault.{RunFault}
 use Rattle.objconv.specs.Plain.{is_plain}
 use Rattle.objconv.specs.Links.{IsConverted, LinksAlike}
-use Rattle.objconv.specs.Refusals.{first_refusal, plain_refusal, too_long}
+use Rattle.objconv.specs.Refusals.{plain_refusal}
 use Rattle.objconv.specs.Runs.{Explains}
 use Rattle.objconv.proofs.FaithfulLemmas.{converted_is_faithful}
 use Rattle.objconv.proofs.RefusalLemmas.{some_and, longer_refused, whole_judged, plain_accepted}

@@ -1,11 +1,10 @@
 -- The parts stand one behind another.
-use Rattle.std.proofs.Common.{◌≡◌, ℕ, ◌+◌, ◌-◌, ◌≤◌, List, ◌∷◌, ◌++◌, length, map, Option, refl, sym, ◌∙◌, ap, arith, append_assoc}
+use Rattle.std.proofs.Common.{ℕ, ◌-◌, length, Option, refl, sym, ◌∙◌, ap, append_assoc}
 use Rattle.std.specs.Option.{unwrap_or}
 use Rattle.oc_coff_read.specs.Canonical.{CodeObject, code_file}
 use Rattle.std.proofs.lemmas.List.{length-map}
 use Rattle.objconv.specs.declared.emit.Layout.{Layout}
 use Rattle.objconv.specs.declared.headers.Headers.{Headers}
-use Rattle.objconv.specs.Plain.{exponent_of}
 use Rattle.objconv.specs.Converted.{IsLayout, object_for, relocation_for}
 use Rattle.objconv.proofs.EmitLemmas.{length-externals_for}
 use Rattle.objconv.proofs.SymbolsLemmas.{exponent_small}

@@ -1,5 +1,5 @@
 -- One entry goes from what is left to what is put.
-use Rattle.std.proofs.Common.{◌≡◌, ℕ, List, [], ◌∷◌, ◌++◌, map, sym, ◌∙◌, ap, append_assoc}
+use Rattle.std.proofs.Common.{ℕ, List, ◌++◌, map, sym, ◌∙◌, ap, append_assoc}
 use Rattle.std.specs.Prelude.{flat_map}
 use Rattle.std.proofs.lemmas.List.{append-nil}
 use Rattle.oc_elf_read.specs.declared.rel.Rel.{Rel}

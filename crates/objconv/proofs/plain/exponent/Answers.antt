@@ -1,5 +1,5 @@
 -- The first power of two that is met is the least.
-use Rattle.std.proofs.Common.{◌≡◌, ℕ, ◌*◌, ◌<◌, ◌%◌, ◌^◌, cond, eqb, Option, Some, None, sym, ◌∙◌, ap, arith, eq-eqb}
+use Rattle.std.proofs.Common.{◌≡◌, ℕ, ◌*◌, ◌<◌, ◌%◌, ◌^◌, cond, eqb, Some, None, sym, ◌∙◌, ap, arith, eq-eqb}
 use Rattle.std.proofs.Math.Pow.{pow-lt}
 use Rattle.std.proofs.Math.Nat.{mod-eq_of_lt}
 use Rattle.oc_linking.proofs.Upto.{first_upto_stop}

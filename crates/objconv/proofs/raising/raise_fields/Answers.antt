@@ -1,9 +1,9 @@
 -- Each field lies in the text, and apart from the fields before it.
-use Rattle.std.proofs.Common.{◌≡◌, ℕ, ◌+◌, ◌<◌, ◌≤◌, ◌⊎◌, inl, inr, Bool, true, false, List, length, sym, ◌∙◌, ap, subst, arith}
+use Rattle.std.proofs.Common.{◌≡◌, ℕ, ◌<◌, List, ap, subst, arith}
 use Rattle.oc_elf_read.specs.declared.rel.Rel.{Rel}
 use Rattle.objconv.specs.declared.headers.Headers.{Headers}
-use Rattle.objconv.specs.Plain.{has_rels, rel_count, entry_in}
-use Rattle.objconv.specs.Raising.{AreRaised, IsRaised}
+use Rattle.objconv.specs.Plain.{rel_count, entry_in}
+use Rattle.objconv.specs.Raising.{IsRaised}
 use Rattle.objconv.proofs.RaisingLemmas.{raised_more}
 use Rattle.objconv.proofs.RelsLemmas.{rel_lies, rels_apart, rels_apart_before}
 use Rattle.objconv.proofs.raising.raise_fields.Goals as goal

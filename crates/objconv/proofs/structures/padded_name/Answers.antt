@@ -1,5 +1,5 @@
 -- The name stands over zeros.
-use Rattle.std.proofs.Common.{◌≡◌, ℕ, List, [], ◌∷◌, ◌++◌, length, drop, ◌∙◌, ap}
+use Rattle.std.proofs.Common.{ℕ, List, [], ◌∷◌, ◌++◌, length, drop, ◌∙◌, ap}
 use Rattle.objconv.proofs.PaddingLemmas.{padding}
 use Rattle.objconv.proofs.structures.padded_name.Goals as goal
 

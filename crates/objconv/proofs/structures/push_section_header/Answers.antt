@@ -1,5 +1,5 @@
 -- The name, six numbers and the counts stand one behind another.
-use Rattle.std.proofs.Common.{◌≡◌, ℕ, List, ◌++◌, ◌∙◌, append_assoc}
+use Rattle.std.proofs.Common.{◌∙◌, append_assoc}
 use Rattle.std.proofs.lemmas.Result.{on_ok_weaker}
 use Rattle.oc_coff_read.specs.SectionHeader.{section_header_bytes}
 use Rattle.objconv.proofs.structures.push_section_header.Goals as goal

@@ -4,7 +4,7 @@ use Rattle.std.specs.Prelude.{not}
 use Rattle.std.specs.List.{list_any}
 use Rattle.std.specs.Ordering.{nat_cmp, is_eq}
 use Rattle.std.specs.Cmp.Lexicographic.{slice_cmp}
-use Rattle.objconv.specs.Plain.{all_below, are_distinct, is_used, symbol_name, symbol_count, name_of}
+use Rattle.objconv.specs.Plain.{are_distinct, is_used, symbol_name, symbol_count, name_of}
 use Rattle.objconv.proofs.BelowLemmas.{all_below_more, all_below_stop}
 use Rattle.objconv.proofs.SeenLemmas.{holds, holds_more, used_more}
 use Rattle.objconv.proofs.symbols.are_distinct.Goals as goal

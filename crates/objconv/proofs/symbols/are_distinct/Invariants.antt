@@ -1,5 +1,5 @@
 -- The names so far are in the set, and no name stands twice among them.
-use Rattle.std.proofs.Common.{◌≡◌, ℕ, ◌+◌, Bool, true, List, Bor}
+use Rattle.std.proofs.Common.{◌≡◌, ℕ, ◌+◌, true, List, Bor}
 use Rattle.std.specs.Prelude.{not}
 use Rattle.std.specs.Ordering.{nat_cmp}
 use Rattle.std.specs.Cmp.Lexicographic.{slice_cmp}

@@ -1,6 +1,5 @@
 -- One symbol that is not plain decides.
-use Rattle.std.proofs.Common.{◌≡◌, ℕ, ◌+◌, ◌-◌, ◌<◌, Bool, true, false, sym, ◌∙◌, ap, arith}
-use Rattle.oc_elf_read.specs.declared.sym.Sym.{Sym}
+use Rattle.std.proofs.Common.{◌≡◌, ◌+◌, ◌-◌, ◌<◌, false, sym, ◌∙◌, ap, arith}
 use Rattle.objconv.specs.Plain.{are_plain_symbols, is_plain_symbol, symbol_in, symbol_count}
 use Rattle.objconv.proofs.BelowLemmas.{all_below_stop}
 use Rattle.objconv.proofs.symbols.are_plain_symbols.Goals as goal
