@@ -1,0 +1,13 @@
+//! The neutral object, through which every conversion goes: sections, symbols and relocations in
+//! one form for all formats; and what a reader and a writer of a format promise of it.
+#![tactic(auto)]
+
+mod reloc;
+mod section;
+mod symbol;
+
+pub use oc_algebra::{Base, Check, Form, Less, Width};
+pub use oc_linking::{Binding, Fallback, Hint, Keep, Kind, Mark, Value, Visibility};
+pub use reloc::{Reloc, Target};
+pub use section::Section;
+pub use symbol::Symbol;
