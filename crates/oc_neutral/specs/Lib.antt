@@ -1,1 +1,13 @@
+pub mod Alignments
+pub mod CoffKinds
+pub mod Constants
+pub mod ElfKinds
+pub mod Families
+pub mod GivenTags
+pub mod HomeNames
+pub mod KindRules
+pub mod MachKinds
 pub mod Objects
+pub mod OmfKinds
+pub mod SectionSymbols
+pub mod SelfReferences
