@@ -1,5 +1,6 @@
 pub mod Alignments
 pub mod CoffKinds
+pub mod CoffStrings
 pub mod Constants
 pub mod ElfKinds
 pub mod Families
@@ -11,3 +12,6 @@ pub mod Objects
 pub mod OmfKinds
 pub mod SectionSymbols
 pub mod SelfReferences
+pub mod TargetSections
+pub mod TargetSymbols
+pub mod WrittenSymbols
