@@ -1,1 +1,3 @@
+mod AlignmentRows
 mod KindRows
+mod NameRows

@@ -63,11 +63,13 @@ count_spot count = record { phase = TargetSymbol; index = 0; place = count }
 abbrev pub bounded : ℕ × ℕ → List Condition
 bounded bound = judged (count_spot bound.0) ((nat_lt bound.1 bound.0, TooMany) ∷ [])
 
--- the conditions on the number of symbols and on the lengths of all names
+-- the condition on the length of all names
+abbrev pub limited : ℕ → List Condition
+limited names = judged (count_spot names) ((nat_lt 268435456 names, LimitNames) ∷ [])
+
+-- the conditions on the number of symbols and on the length of all names
 abbrev pub symbol_count : Format → Object → List Condition
-symbol_count target n =
-    let names : ℕ = names_length target n in
-    option_map_or bounded (symbol_bound target n) [] ++ judged (count_spot names) ((nat_lt (2 ^ 28) names, LimitNames) ∷ [])
+symbol_count target n = option_map_or bounded (symbol_bound target n) [] ++ limited (names_length target n)
 
 -- the target cannot write the name of a symbol: it has a NUL; in OMF it is not Local and has more than 255 bytes
 abbrev pub is_unwritable : Format → Symbol → Bool
