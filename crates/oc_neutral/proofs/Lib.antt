@@ -1,3 +1,4 @@
 mod AlignmentRows
+mod ConditionRows
 mod KindRows
 mod NameRows

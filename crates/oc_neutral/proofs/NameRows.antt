@@ -2,6 +2,7 @@
 use Rattle.std.proofs.Common.{◌≡◌, ℕ, true, false, Bool, List, [], ◌∷◌, map, Some, None, Option, refl}
 use Rattle.std.specs.Prelude.{codes, pos, ◌++◌, replicate}
 use Rattle.std.specs.Fmt.{digits}
+use Rattle.std.specs.Option.{option_map_or, unwrap_or}
 use Rattle.oc_base.specs.Strings.{table_place, tops_of}
 use Rattle.oc_base.specs.declared.format.Format.{Format}
 use Rattle.oc_base.specs.declared.format.Format.TheVariants.{Elf32, Elf64, Coff32, Coff64, Mac32, Mac64, Omf}
@@ -29,7 +30,11 @@ use Rattle.oc_neutral.specs.declared.reloc.Target.{Target}
 use Rattle.oc_neutral.specs.declared.reloc.Target.TheVariants as target
 use Rattle.oc_neutral.specs.declared.reloc.Reloc.{Reloc}
 use Rattle.oc_neutral.specs.Objects.{Object}
-use Rattle.oc_neutral.specs.HomeNames.{Home, home_of, output_tag, output_names, wanted_names}
+use Rattle.oc_neutral.specs.ElfKinds.{elf_kind}
+use Rattle.oc_neutral.specs.CoffKinds.{coff_kind, coff_tag}
+use Rattle.oc_neutral.specs.MachKinds.{mach_kind, mach_tag}
+use Rattle.oc_neutral.specs.GivenTags.{can_have, family_gives, elf_gives, coff_gives, mach_gives}
+use Rattle.oc_neutral.specs.HomeNames.{Home, home_of, output_tag, output_names, wanted_names, is_home}
 use Rattle.oc_neutral.specs.SelfReferences.{is_relocated}
 use Rattle.oc_neutral.specs.SectionSymbols.{section_symbol_name, is_section_symbol, needs_section_symbol, needed_sections}
 use Rattle.oc_neutral.specs.WrittenSymbols.{is_written}
@@ -89,6 +94,34 @@ omf-homes : map (home_of Omf) kinds
     ∷ None ∷ None ∷ None ∷ None ∷ None ∷ []
 omf-homes = refl
 
+-- reading gives the kind back that is at home under that name
+abbrev gives_back : Format → Kind → Bool
+gives_back f k = option_map_or (λ (h : Home). can_have f k (unwrap_or h.name []) h.tag) (home_of f k) false
+
+-- of the kinds with a name, in the order of kinds; an Exception section has its own
+given-back : map (λ f. map (gives_back f) kinds) (Elf32 ∷ Coff64 ∷ Mac32 ∷ Omf ∷ [])
+    ≡ (true ∷ true ∷ true ∷ true ∷ true ∷ true ∷ false ∷ false ∷ false ∷ []) ∷ (true ∷ true ∷ true ∷ true ∷ true ∷ true ∷ false ∷ false ∷ false ∷ [])
+    ∷ (true ∷ true ∷ true ∷ true ∷ true ∷ true ∷ false ∷ false ∷ false ∷ []) ∷ (true ∷ true ∷ true ∷ true ∷ false ∷ false ∷ false ∷ false ∷ false ∷ []) ∷ []
+unfolding family_gives elf_gives coff_gives mach_gives elf_kind coff_kind mach_kind coff_tag mach_tag
+given-back = refl
+
+-- what can be a name across formats, of section 5
+abbrev HomeRow : Type 0
+HomeRow = Format × Kind × List ℕ × ℕ × Bool
+
+abbrev home_rows : List HomeRow
+home_rows =
+    (Elf32, Code, codes ".text", 14, true) ∷ (Elf32, Code, codes ".text", 15, false) ∷ (Elf32, Code, codes ".texty", 14, false) ∷ (Elf32, Exception, codes ".pdata", 10, true)
+    ∷ (Elf32, Exception, codes ".pdata", 11, false) ∷ (Elf32, Debug, codes ".debug", 8, false) ∷ (Coff64, Fini, codes ".CRT$XTU", 0x40000040, true) ∷ (Coff64, Note, codes ".x", 0, false)
+    ∷ (Mac64, ReadOnly, codes "__TEXT,__const", 0, true) ∷ (Mac64, ReadOnly, codes "__DATA,__const", 0, true) ∷ (Mac64, Data, codes "__DATA,__const", 0, false)
+    ∷ (Mac64, ReadOnly, codes "__TEXT,__s5", 0, true) ∷ (Mac64, ReadOnly, codes "__DATA,__s5", 0, true) ∷ (Mac64, ReadOnly, codes "__TEXT,__s4", 0, false)
+    ∷ (Mac32, Code, codes "__TEXT,__s5", 0x80000400, true) ∷ (Mac32, Code, codes "__DATA,__s5", 0x80000400, false) ∷ (Mac32, Zero, codes "__DATA,__s5", 1, true)
+    ∷ (Mac32, Zero, codes "__DATA,__s5", 0, false) ∷ (Omf, Zero, codes "_BSS", 0, true) ∷ (Omf, Code, codes "__s5", 0, false) ∷ (Omf, Init, codes "x", 0, false) ∷ []
+
+is_home-rows : map (λ (r : HomeRow). is_home r.0 5 r.1 r.2 r.3) home_rows ≡ map (λ (r : HomeRow). r.4) home_rows
+unfolding is_home digits
+is_home-rows = refl
+
 -- a section of that name, kind, tag and number
 abbrev pub section : List ℕ → Kind → ℕ → ℕ → Section
 section name kind tag number = record { name = name; kind = kind; align = 16; size = 0; bytes = []; tag = tag; number = number }
@@ -127,7 +160,7 @@ elf_sections =
     ∷ section (codes ".comment") Note 8 15 ∷ []
 
 -- and their object
-abbrev elf_object : Format → Object
+abbrev pub elf_object : Format → Object
 elf_object format = object format elf_sections (symbol (codes "x") Undefined 1 ∷ [])
     (
     [] ∷ [] ∷ (absolute (target.Symbol 0) ∷ []) ∷ [] ∷ (absolute (target.Section 0) ∷ []) ∷ [] ∷ [] ∷ [] ∷ [] ∷ [] ∷ [] ∷ [] ∷ [] ∷ []
@@ -213,7 +246,7 @@ eight relocs = object Elf64 (replicate 8 (section (codes ".data") Data 11 1)) (s
 
 -- sections 0 to 7: nothing; a section's address; a symbol's address; a distance from a symbol; four bytes of it; a difference
 -- with section 1 taken; a distance from its own section, which is a constant; its own address
-abbrev eight_object : Object
+abbrev pub eight_object : Object
 eight_object = eight (
     [] ∷ (absolute (target.Section 0) ∷ []) ∷ (absolute (target.Symbol 0) ∷ []) ∷ (absolute (target.Symbol 0) ∷ distance (target.Symbol 0) ∷ [])
     ∷ (reloc 0 4 Four base.Address less.Place (target.Symbol 0) ∷ []) ∷ (reloc 0 8 Eight base.Address (less.Section 1) (target.Symbol 0) ∷ [])
