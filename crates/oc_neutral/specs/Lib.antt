@@ -1,1 +1,5 @@
+pub mod Building
+pub mod Invariants
+pub mod Normal
 pub mod Objects
+pub mod Worth

@@ -2,12 +2,17 @@
 //! one form for all formats; and what a reader and a writer of a format promise of it.
 #![tactic(auto)]
 
+mod fault;
+mod neutral;
+mod normal;
 mod reloc;
 mod section;
 mod symbol;
 
 pub use oc_algebra::{Base, Check, Form, Less, Width};
 pub use oc_linking::{Binding, Fallback, Hint, Keep, Kind, Mark, Value, Visibility};
+pub use fault::BuildFault;
+pub use neutral::Neutral;
 pub use reloc::{Reloc, Target};
 pub use section::Section;
 pub use symbol::Symbol;
