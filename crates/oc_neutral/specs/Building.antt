@@ -1,10 +1,9 @@
 -- What a Builder holds, and what each of its calls makes of it (our profile).
 use Rattle.std.specs.Prelude.{ℕ, zero, suc, ◌+◌, ◌/◌, ◌%◌, Bool, true, false, not, ◌&&◌, ◌||◌, nat_eq, nat_lt, bytes_eq, if◌then◌else◌, List, [], ◌∷◌, ◌++◌, slice_get, slice_set, Option, Some, None, Result, Ok, Err}
 use Rattle.std.specs.List.{list_any, sum_by}
-use Rattle.std.specs.Option.{option_map, unwrap_or}
 use Rattle.oc_base.specs.declared.code.Code.{Code}
 use Rattle.oc_base.specs.declared.code.Code.TheVariants.{LimitSection, LimitSum, LimitBytes}
-use Rattle.oc_base.specs.declared.format.Word.{Word}
+use Rattle.oc_base.specs.declared.format.Format.{Format}
 use Rattle.oc_base.specs.Formats.{word_for}
 use Rattle.oc_linking.specs.declared.terms.Kind.{Kind}
 use Rattle.oc_linking.specs.declared.terms.Kind.TheVariants.{Code as CodeKind, ReadOnly, Data, Zero, Init, Fini, Debug, Exception, Note}
@@ -13,7 +12,7 @@ use Rattle.oc_linking.specs.Parts.{is_local}
 use Rattle.oc_algebra.specs.Folds.{fold_of}
 use Rattle.oc_chains.specs.declared.field.Field.{Field}
 use Rattle.oc_chains.specs.Fields.{field, meets, placed}
-use Rattle.oc_chains.specs.Lists.{Lists, list_of, with_field, is_taken}
+use Rattle.oc_chains.specs.Lists.{Lists, with_field, is_taken}
 use Rattle.oc_neutral.specs.declared.section.Section.{Section}
 use Rattle.oc_neutral.specs.declared.symbol.Symbol.{Symbol}
 use Rattle.oc_neutral.specs.declared.reloc.Reloc.{Reloc}
@@ -22,13 +21,17 @@ use Rattle.oc_neutral.specs.declared.normal.Normal.TheVariants as normal
 use Rattle.oc_neutral.specs.declared.normal.Folded.{Folded}
 use Rattle.oc_neutral.specs.declared.fault.BuildFault.{BuildFault}
 use Rattle.oc_neutral.specs.declared.fault.BuildFault.TheVariants as fault
-use Rattle.oc_neutral.specs.Objects.{Object}
+use Rattle.oc_neutral.specs.Objects.{Object, empty_object}
 use Rattle.oc_neutral.specs.Normal.{normal_of}
 
 -- what a Builder holds: the object so far, and for each section the fields that were folded into its bytes
 pub record Draft : Type 0 where
   pub object : Object
   pub folded : ℕ → List (Field Folded)
+
+-- nothing was added yet
+abbrev pub empty_draft : Format → Draft
+empty_draft format = record { object = empty_object format; folded = λ s. [] }
 
 -- sections of this kind have no bytes
 abbrev pub is_zero : Kind → Bool

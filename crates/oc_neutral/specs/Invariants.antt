@@ -1,7 +1,6 @@
 -- What holds of each neutral object, and of what a Builder holds (our profile).
-use Rattle.std.specs.Prelude.{◌≡◌, ℕ, ◌+◌, ◌^◌, ◌<◌, ◌≤◌, ◌≢◌, ◌⊎◌, Bool, true, false, ◌&&◌, if◌then◌else◌, List, [], length, slice_get, get_or, Option, Some, None}
-use Rattle.std.specs.List.{AllByRecursion, list_any, sum_by}
-use Rattle.oc_base.specs.declared.format.Word.{Word}
+use Rattle.std.specs.Prelude.{◌≡◌, ℕ, ◌+◌, ◌^◌, ◌<◌, ◌≤◌, ◌≢◌, Bool, true, false, List, [], length, slice_get, get_or, Some, None}
+use Rattle.std.specs.List.{AllByRecursion, list_any}
 use Rattle.oc_base.specs.Formats.{word_for}
 use Rattle.oc_linking.specs.declared.terms.Width.TheVariants.{Four}
 use Rattle.oc_linking.specs.declared.terms.Hint.TheVariants.{Call}
@@ -28,7 +27,7 @@ use Rattle.oc_neutral.specs.declared.reloc.Target.TheVariants as target
 use Rattle.oc_neutral.specs.declared.reloc.Reloc.{Reloc}
 use Rattle.oc_neutral.specs.Objects.{Object}
 use Rattle.oc_neutral.specs.Normal.{place_among, cancels, takes_section}
-use Rattle.oc_neutral.specs.Building.{Draft, is_zero, stored_size, size_sum, stored_sum}
+use Rattle.oc_neutral.specs.Building.{Draft, stored_size, size_sum, stored_sum}
 
 -- bytes
 abbrev pub AreBytes : List ℕ → Type 0

@@ -1,5 +1,5 @@
 -- The normal form of a relocation (our profile): equal references are one form, and what no placement changes is a constant.
-use Rattle.std.specs.Prelude.{ℕ, Bool, true, false, eqb, if◌then◌else◌, ℤ, pos, ◌+ℤ◌, List, slice_get, Option, Some, None}
+use Rattle.std.specs.Prelude.{ℕ, Bool, false, eqb, if◌then◌else◌, ℤ, pos, ◌+ℤ◌, List, slice_get, Option, Some, None}
 use Rattle.std.specs.Option.{option_and_then}
 use Rattle.oc_base.specs.declared.format.Word.{Word}
 use Rattle.oc_linking.specs.declared.terms.Value.{Value}

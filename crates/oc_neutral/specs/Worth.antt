@@ -1,5 +1,5 @@
 -- The value of a relocation of an object, at a placement and a valuation (our profile).
-use Rattle.std.specs.Prelude.{◌≡◌, ℕ, ◌+◌, true, List, slice_get, Option, Some, None}
+use Rattle.std.specs.Prelude.{◌≡◌, ℕ, ◌+◌, true, List, slice_get, Some}
 use Rattle.std.specs.Option.{option_map, unwrap_or}
 use Rattle.oc_base.specs.declared.format.Word.{Word}
 use Rattle.oc_linking.specs.Numbers.{minus}

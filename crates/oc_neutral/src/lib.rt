@@ -9,10 +9,10 @@ mod reloc;
 mod section;
 mod symbol;
 
-pub use oc_algebra::{Base, Check, Form, Less, Width};
-pub use oc_linking::{Binding, Fallback, Hint, Keep, Kind, Mark, Value, Visibility};
 pub use fault::BuildFault;
 pub use neutral::Neutral;
+pub use oc_algebra::{Base, Check, Form, Less, Width};
+pub use oc_linking::{Binding, Fallback, Hint, Keep, Kind, Mark, Value, Visibility};
 pub use reloc::{Reloc, Target};
 pub use section::Section;
 pub use symbol::Symbol;

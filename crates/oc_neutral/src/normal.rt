@@ -1,12 +1,6 @@
 //! The normal form of relocations.
-ghost use Rattle.std.specs.Prelude.{◌≡◌, ℕ, ◌<◌, ◌^◌, Option, IfSome};
-ghost use Rattle.oc_neutral.specs.Normal as normal;
 
-use crate::reloc::{Reloc, Target};
-use crate::symbol::Symbol;
-use oc_algebra::{Base, Form, Less, reduce};
-use oc_base::Word;
-use oc_linking::{Binding, Value};
+use crate::reloc::Reloc;
 
 /// What remains of a relocation in normal form.
 #[derive(Clone, Copy, Debug, PartialEq, Eq)]
