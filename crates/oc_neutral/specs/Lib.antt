@@ -1,1 +1,13 @@
+pub mod CoffRelocs
+pub mod ElfRelocs
+pub mod Expressible
+pub mod MachRelocs
 pub mod Objects
+pub mod OmfRelocs
+pub mod RelocConstants
+pub mod RelocTables
+pub mod Rows
+pub mod Shifts
+pub mod Spelling
+pub mod Stored
+pub mod TargetRelocations
