@@ -1,6 +1,8 @@
--- What the normal form of a relocation promises (our profile).
+-- Laws of neutral objects (our profile).
 use Rattle.std.specs.Prelude.{◌≡◌, ℕ, List}
 use Rattle.oc_base.specs.declared.format.Word.{Word}
+use Rattle.oc_base.specs.Formats.{word_for}
+use Rattle.oc_linking.specs.declared.terms.Keep.{Keep}
 use Rattle.oc_linking.specs.Placing.{Placement}
 use Rattle.oc_linking.specs.Values.{Valuation}
 use Rattle.oc_algebra.specs.Residues.{residue_of}
@@ -8,6 +10,10 @@ use Rattle.oc_neutral.specs.declared.symbol.Symbol.{Symbol}
 use Rattle.oc_neutral.specs.declared.reloc.Reloc.{Reloc}
 use Rattle.oc_neutral.specs.declared.normal.Normal.{Normal}
 use Rattle.oc_neutral.specs.declared.normal.Normal.TheVariants as normal
+use Rattle.oc_neutral.specs.Objects.{Object}
+use Rattle.oc_neutral.specs.Invariants.{IsObject}
+use Rattle.oc_neutral.specs.Dialects.{Dialect}
+use Rattle.oc_neutral.specs.Shows.{Shows}
 use Rattle.oc_neutral.specs.Normal.{normal_of}
 use Rattle.oc_neutral.specs.Worth.{residue_at, IsTrue}
 
@@ -21,3 +27,8 @@ KeepsValue w symbols s at r (normal.Constant c) =
 -- the normal form keeps the value of each relocation
 abbrev pub NormalFormKeepsValues : Type 0
 NormalFormKeepsValues = (w : Word) (symbols : List Symbol) (s at : ℕ) (r : Reloc) → KeepsValue w symbols s at r (normal_of w symbols s at r)
+
+-- an object is determined by the file that it shows
+abbrev pub ShownObjectIsOne : Type 0
+ShownObjectIsOne = (f : Dialect) (b : List ℕ) (keep : Keep) (n m : Object) → IsObject n → IsObject m → Shows f b keep n → Shows f b keep m
+    → f.rules.word ≡ word_for f.format → n ≡ m

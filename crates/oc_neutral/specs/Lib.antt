@@ -1,6 +1,9 @@
 pub mod Building
+pub mod Dialects
+pub mod Faces
 pub mod Invariants
 pub mod Laws
 pub mod Normal
 pub mod Objects
+pub mod Shows
 pub mod Worth
