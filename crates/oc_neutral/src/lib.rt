@@ -3,6 +3,7 @@
 #![tactic(auto)]
 
 mod fault;
+mod laws;
 mod neutral;
 mod normal;
 mod reloc;
@@ -10,6 +11,7 @@ mod section;
 mod symbol;
 
 pub use fault::BuildFault;
+pub use laws::normal_form_keeps_values;
 pub use neutral::Neutral;
 pub use oc_algebra::{Base, Check, Form, Less, Width};
 pub use oc_linking::{Binding, Fallback, Hint, Keep, Kind, Mark, Value, Visibility};
