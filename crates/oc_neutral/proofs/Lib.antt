@@ -1,1 +1,2 @@
+mod KindRows
 pub mod NormalValues

@@ -2,6 +2,7 @@ pub mod Alignments
 pub mod Building
 pub mod CoffKinds
 pub mod CoffRelocs
+pub mod CoffStrings
 pub mod Constants
 pub mod Dialects
 pub mod ElfKinds
@@ -30,4 +31,7 @@ pub mod Shows
 pub mod Spelling
 pub mod Stored
 pub mod TargetRelocations
+pub mod TargetSections
+pub mod TargetSymbols
 pub mod Worth
+pub mod WrittenSymbols
