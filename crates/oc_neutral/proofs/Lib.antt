@@ -1,2 +1,4 @@
 mod KindRows
+pub mod Linked
 pub mod NormalValues
+pub mod Truth
