@@ -10,6 +10,7 @@ pub mod ElfRelocs
 pub mod Expressible
 pub mod Faces
 pub mod Families
+pub mod Fitted
 pub mod GivenTags
 pub mod HomeNames
 pub mod Invariants
@@ -21,6 +22,7 @@ pub mod Normal
 pub mod Objects
 pub mod OmfKinds
 pub mod OmfRelocs
+pub mod Readable
 pub mod RelocConstants
 pub mod RelocTables
 pub mod Rows
@@ -33,5 +35,7 @@ pub mod Stored
 pub mod TargetRelocations
 pub mod TargetSections
 pub mod TargetSymbols
+pub mod Targets
 pub mod Worth
+pub mod Written
 pub mod WrittenSymbols
