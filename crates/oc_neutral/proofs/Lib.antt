@@ -1,0 +1,4 @@
+mod RelocConditionRows
+mod RelocRows
+pub mod ShiftLemmas
+mod SpellingRows
