@@ -198,8 +198,8 @@ unfolding reloc_conditions field_shift written_row to_field_of field_for reduced
 mac64-difference = refl
 
 -- of SIGNED, of a difference, and of an eight-byte distance at 16, which is taken from the start of its section
-mac64-shifts : map
-    (field_shift Mac64 16) (distance Four Signed (pos 24)
+mac64-shifts : map (field_shift Mac64 16)
+    (distance Four Signed (pos 24)
     ∷ to (target.Symbol 0) (form Address (less.Section 1) Eight Wrap) (pos 0)
     ∷ distance Eight Wrap (pos 16)
     ∷ []) ≡
@@ -238,13 +238,16 @@ abbrev difference : Target → Reloc
 difference t = to t (form Address (less.Section 1) Four Wrap) (pos 0)
 
 -- a section; Undefined; a Global with a place; a Global number; a Common; a Weak with a place
-mac32-ends : all_judged Mac32 0 4 (map difference (target.Section 0 ∷ target.Symbol 0 ∷ target.Symbol 1 ∷ target.Symbol 2 ∷ target.Symbol 4 ∷ target.Symbol 6 ∷ [])) ≡
+mac32-ends : all_judged Mac32 0 4
+    (map difference (target.Section 0 ∷ target.Symbol 0 ∷ target.Symbol 1 ∷ target.Symbol 2 ∷ target.Symbol 4 ∷ target.Symbol 6 ∷ [])) ≡
     None ∷ refused 1 NoForm 4 ∷ None ∷ refused 1 NoForm 4 ∷ refused 1 NoForm 4 ∷ refused 1 NoForm 4 ∷ []
 unfolding reloc_conditions field_shift written_row to_field_of field_for reduced_number residue_of
 mac32-ends = refl
 
 -- SUBTRACTOR and UNSIGNED name symbols, wherever they lie
-mac64-ends : all_judged Mac64 0 4 (map (λ t. to t (form Address (less.Section 2) Eight Wrap) (pos 0)) (target.Section 2 ∷ target.Symbol 0 ∷ target.Symbol 2 ∷ target.Symbol 6 ∷ target.Symbol 8 ∷ [])) ≡
+mac64-ends : all_judged Mac64 0 4
+    (map (λ t. to t (form Address (less.Section 2) Eight Wrap) (pos 0))
+    (target.Section 2 ∷ target.Symbol 0 ∷ target.Symbol 2 ∷ target.Symbol 6 ∷ target.Symbol 8 ∷ [])) ≡
     None ∷ None ∷ None ∷ None ∷ None ∷ []
 unfolding reloc_conditions field_shift written_row to_field_of field_for reduced_number residue_of
 mac64-ends = refl
@@ -363,8 +366,18 @@ stored-needs-nothing = refl
 
 -- ... of several
 
--- by the section's position, then by offset: at 20 of section 0, before what is refused at 40 of it and at 8 of section 1
-first-of-several : first_unfit_relocation Coff64 (holding ((field 10 4 (distance Four Signed (pos 0)) ∷ field 20 4 (address Four Signed (pos 0)) ∷ field 40 4 (distance Four Signed (pos 0x7FFFFFFF)) ∷ []) ∷ (field 8 4 (to (target.Symbol 3) (form Address less.Zero Eight Wrap) (pos 0)) ∷ []) ∷ [] ∷ [])) ≡
-    refused 1 NoForm 20
+-- in section 0 a good one at 10, then two that are refused; in section 1 one that is refused, at a lesser offset
+abbrev several : Lists Reloc
+several =
+    (field 10 4 (distance Four Signed (pos 0))
+    ∷ field 20 4 (address Four Signed (pos 0))
+    ∷ field 40 4 (distance Four Signed (pos 0x7FFFFFFF))
+    ∷ [])
+    ∷ (field 8 8 (to (target.Symbol 3) (form Address less.Zero Eight Wrap) (pos 0)) ∷ [])
+    ∷ []
+    ∷ []
+
+-- by the section's position, then by offset
+first-of-several : first_unfit_relocation Coff64 (holding several) ≡ refused 1 NoForm 20
 unfolding reloc_conditions field_shift written_row to_field_of field_for reduced_number residue_of
 first-of-several = refl

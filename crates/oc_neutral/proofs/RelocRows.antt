@@ -1,7 +1,8 @@
--- The relocation tables, row by row (i386 and x86-64 psABI, "Relocation Types"; PE/COFF, "Type Indicators"; Mach-O reference, "Relocation Data Structures"; TIS OMF 1.1, "FIXUPP").
+-- The relocation tables, row by row (i386 and x86-64 psABI, "Relocation Types"; PE/COFF, "Type Indicators";
+-- Mach-O reference, "Relocation Data Structures"; TIS OMF 1.1, "FIXUPP").
 -- The numbers are written out again from the standards, in the order of the numbers; the checks that the standards leave open are our profile.
 use Rattle.std.proofs.Common.{◌≡◌, ℕ, zero, suc, ◌+◌, Bool, true, false, List, [], ◌∷◌, Option, Some, None, refl}
-use Rattle.std.specs.Prelude.{map, is_some, ◌&&◌, not, ℤ, pos, neg_ℤ}
+use Rattle.std.specs.Prelude.{map, is_some, ◌&&◌, not, ℤ, pos, neg_ℤ, nat_eq, if◌then◌else◌}
 use Rattle.std.specs.List.{filter, flat_map}
 use Rattle.std.specs.Option.{option_map}
 use Rattle.oc_base.specs.declared.format.Format.{Format}
@@ -15,9 +16,9 @@ use Rattle.oc_linking.specs.declared.terms.Hint.TheVariants.{Plain, Call}
 use Rattle.oc_algebra.specs.declared.form.Base.{Base}
 use Rattle.oc_algebra.specs.declared.form.Base.TheVariants.{Address, Slot, GotBase, HomeNumber}
 use Rattle.oc_neutral.specs.Rows.{Row, Taken, TakesZero, TakesPlace, TakesGotBase, TakesImageBase, TakesHome, TakesSection, shift_of, same_width, same_check, same_base, same_taken, same_hint}
-use Rattle.oc_neutral.specs.MachRelocs.{MachRow}
+use Rattle.oc_neutral.specs.MachRelocs.{MachRow, length_of}
 use Rattle.oc_neutral.specs.OmfRelocs.{fixup_row, ByFlat, ByTarget, BySelf}
-use Rattle.oc_neutral.specs.RelocTables.{rows_of, row_of, entry_of}
+use Rattle.oc_neutral.specs.RelocTables.{rows_of, entries_of, row_of, entry_of}
 use Rattle.oc_neutral.specs.Shifts.{Symbolic, Sectional, entry_shift, subtractor_shift, sectdiff_shift, fixup_shift}
 
 -- a row, with all its columns: number, second number, width, check, base, what is taken, hint, bytes behind the place, whether it is written
@@ -257,3 +258,24 @@ unwritten format = filter (λ r. not (is_one (written_alike format r))) (rows_of
 -- whatever is read is written in one way
 written-once : map (λ format. unwritten format) (Elf32 ∷ Elf64 ∷ Coff32 ∷ Coff64 ∷ Mac32 ∷ Mac64 ∷ Omf ∷ []) ≡ [] ∷ [] ∷ [] ∷ [] ∷ [] ∷ [] ∷ [] ∷ []
 written-once = refl
+
+-- each row is found by its own number: no number stands twice
+found-again : map (λ format. map (λ r. row_of format r.number) (rows_of format)) (Elf32 ∷ Elf64 ∷ Coff32 ∷ Coff64 ∷ Omf ∷ []) ≡
+    map (λ format. map Some (rows_of format)) (Elf32 ∷ Elf64 ∷ Coff32 ∷ Coff64 ∷ Omf ∷ [])
+found-again = refl
+
+-- the entry with the number, r_pcrel and r_length of an entry
+abbrev again : Format → MachRow → Option MachRow
+again format m = entry_of format m.row.number m.pcrel (length_of m.row.width)
+
+-- in Mach-O r_pcrel and r_length belong to the number
+entries-found-again : map (λ format. map (again format) (entries_of format)) (Mac32 ∷ Mac64 ∷ []) ≡ map (λ format. map Some (entries_of format)) (Mac32 ∷ Mac64 ∷ [])
+entries-found-again = refl
+
+-- r_pcrel is 1 exactly where the field's place is taken
+abbrev is_marked : MachRow → Bool
+is_marked m = nat_eq m.pcrel (if same_taken m.row.taken TakesPlace then 1 else 0)
+
+-- in all entries
+marked : map (λ format. filter (λ m. not (is_marked m)) (entries_of format)) (Mac32 ∷ Mac64 ∷ []) ≡ [] ∷ [] ∷ []
+marked = refl

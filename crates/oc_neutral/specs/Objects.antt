@@ -1,14 +1,8 @@
 -- Neutral objects, as contracts see them (our profile).
-use Rattle.std.specs.Prelude.{ℕ, List, [], slice_get, slice_index_or, Option, Some, None}
-use Rattle.std.specs.Option.{option_map, unwrap_or}
+use Rattle.std.specs.Prelude.{ℕ, nat_eq, if◌then◌else◌, List, [], ◌∷◌, Option, Some, None}
 use Rattle.oc_base.specs.declared.format.Format.{Format}
-use Rattle.oc_linking.specs.declared.terms.Binding.{Binding}
-use Rattle.oc_linking.specs.declared.terms.Binding.TheVariants.{Local, Global, Undefined, Common, Weak}
-use Rattle.oc_linking.specs.declared.terms.Fallback.{Fallback}
-use Rattle.oc_linking.specs.declared.terms.Fallback.TheVariants as fallback
-use Rattle.oc_linking.specs.declared.terms.Kind.{Kind}
-use Rattle.oc_linking.specs.declared.terms.Kind.TheVariants.{Zero}
-use Rattle.oc_chains.specs.Lists.{Lists}
+use Rattle.oc_chains.specs.declared.field.Field.{Field}
+use Rattle.oc_chains.specs.Lists.{Lists, list_of}
 use Rattle.oc_neutral.specs.declared.section.Section.{Section}
 use Rattle.oc_neutral.specs.declared.symbol.Symbol.{Symbol}
 use Rattle.oc_neutral.specs.declared.reloc.Reloc.{Reloc}
@@ -20,3 +14,16 @@ pub record Object : Type 0 where
   pub sections : List Section
   pub symbols : List Symbol
   pub relocs : Lists Reloc
+
+-- the relocation at an offset, among fields
+abbrev pub reloc_among : List (Field Reloc) → ℕ → Option Reloc
+reloc_among [] at = None
+reloc_among (x ∷ xs) at = if nat_eq x.at at then Some x.item else reloc_among xs at
+
+-- the relocation at an offset of section s
+abbrev pub reloc_at : Object → ℕ → ℕ → Option Reloc
+reloc_at n s at = reloc_among (list_of n.relocs s) at
+
+-- an object without sections and symbols
+abbrev pub empty_object : Format → Object
+empty_object format = record { format = format; sections = []; symbols = []; relocs = [] }

@@ -1,0 +1,90 @@
+//! The neutral object.
+ghost use Rattle.std.specs.Prelude.{◌≡◌, ◌<◌, length, slice_get, Some};
+ghost use Rattle.oc_chains.specs.Lists.{list_of};
+ghost use Rattle.oc_neutral.specs.Invariants.{IsObject};
+
+use crate::reloc::Reloc;
+use crate::section::Section;
+use crate::symbol::Symbol;
+use oc_base::Format;
+use oc_chains::{Chains, Walk};
+use std::marker::Model;
+
+/// An object in the one form that all formats share. It comes from a `Builder` alone. Contracts see
+/// its sections, its symbols and the relocations of each section.
+///
+/// Sections and symbols are named by their positions, counted from 0. Each relocation is in normal
+/// form, and the bytes under its field are zero.
+#[derive(Debug, Drop)]
+pub struct Neutral {
+    format: Format,
+    sections: Vec<Section>,
+    symbols: Vec<Symbol>,
+    relocs: Chains<Reloc>,
+}
+
+impl Model for Neutral {
+    ghost use Rattle.oc_neutral.specs.Objects.{Object};
+    ghost use Rattle.oc_neutral.specs.Invariants.{IsObject};
+
+    ghost Value = { Object };
+
+    ghost view = { λ n. record { format = n.format; sections = n.sections.items; symbols = n.symbols.items; relocs = n.relocs.lists } };
+
+    ghost invariant = { λ n. IsObject (record { format = n.format; sections = n.sections.items; symbols = n.symbols.items; relocs = n.relocs.lists }) };
+}
+
+impl Neutral {
+    /// The format whose names and tags the sections have. Constant time, no memory.
+    pub fn format(&self) -> Format
+        ensures { result ≡ self.now.format }
+    {
+        self.format
+    }
+
+    /// How many sections there are, fewer than 2^31. Constant time, no memory.
+    pub fn section_count(&self) -> u32
+        ensures { result ≡ length self.now.sections }
+    {
+        self.sections.len() as u32
+    }
+
+    /// The section at a position. Constant time, no memory.
+    pub fn section(&self, index: u32) -> &Section
+        requires { index < length self.now.sections }
+        ensures { slice_get self.now.sections index ≡ Some result.now }
+    {
+        &self.sections[index as usize]
+    }
+
+    /// How many symbols there are, fewer than 2^31. Constant time, no memory.
+    pub fn symbol_count(&self) -> u32
+        ensures { result ≡ length self.now.symbols }
+    {
+        self.symbols.len() as u32
+    }
+
+    /// The symbol at a position. Constant time, no memory.
+    pub fn symbol(&self, index: u32) -> &Symbol
+        requires { index < length self.now.symbols }
+        ensures { slice_get self.now.symbols index ≡ Some result.now }
+    {
+        &self.symbols[index as usize]
+    }
+
+    /// The relocations of a section in order of offset. Constant time, and for each again; no
+    /// memory.
+    pub fn relocs(&self, section: u32) -> Walk<'_, Reloc>
+        requires { section < length self.now.sections }
+        ensures { result ≡ list_of self.now.relocs section }
+    {
+        self.relocs.walk(section)
+    }
+
+    /// What holds of every object, for callers to cite. It does nothing.
+    pub fn is_object(&self)
+        ensures { IsObject self.now }
+    {
+        let _ = &self.symbols;
+    }
+}
