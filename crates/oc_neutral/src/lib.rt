@@ -2,6 +2,7 @@
 //! one form for all formats; and what a reader and a writer of a format promise of it.
 #![tactic(auto)]
 
+mod determined;
 mod fault;
 mod neutral;
 mod normal;
@@ -9,6 +10,7 @@ mod reloc;
 mod section;
 mod symbol;
 
+pub use determined::shown_object_is_one;
 pub use fault::BuildFault;
 pub use neutral::Neutral;
 pub use oc_algebra::{Base, Check, Form, Less, Width};
