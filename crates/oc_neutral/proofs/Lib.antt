@@ -1,4 +1,7 @@
+mod KindRows
 pub mod Linked
+pub mod NormalLemmas
+pub mod NormalValues
 pub mod OneObject
 pub mod Positions
 pub mod SameRelocs

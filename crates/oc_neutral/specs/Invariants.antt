@@ -26,7 +26,7 @@ use Rattle.oc_neutral.specs.declared.reloc.Target.{Target}
 use Rattle.oc_neutral.specs.declared.reloc.Target.TheVariants as target
 use Rattle.oc_neutral.specs.declared.reloc.Reloc.{Reloc}
 use Rattle.oc_neutral.specs.Objects.{Object}
-use Rattle.oc_neutral.specs.Normal.{place_among, cancels, takes_section}
+use Rattle.oc_neutral.specs.Normal.{Place, place_among, cancels, takes_section}
 use Rattle.oc_neutral.specs.Building.{Draft, stored_size, size_sum, stored_sum}
 
 -- bytes
@@ -102,6 +102,11 @@ AreDistinct symbols = (i j : ℕ) (s t : Symbol) → i < j → slice_get symbols
 abbrev pub IsThere : Object → Target → Type 0
 IsThere n (target.Section k) = k < length n.sections
 IsThere n (target.Symbol k) = k < length n.symbols
+
+-- a target is there, and where it is a Local with a place, the section of that place too
+pub record IsTargetThere (n : Object) (t : Target) : Type 0 where
+  pub itself : IsThere n t
+  pub section : (place : Place) → place_among n.symbols t ≡ Some place → place.0 < length n.sections
 
 -- a section that is taken is there
 abbrev pub IsLessThere : Object → Less → Type 0
@@ -183,5 +188,5 @@ pub record CanAdd (n : Object) (s at : ℕ) (r : Reloc) : Type 0 where
   pub section : Section
   pub there : slice_get n.sections s ≡ Some section
   pub inside : at + bytes_of r.form.width ≤ stored_size section
-  pub target : IsThere n r.target
+  pub target : IsTargetThere n r.target
   pub less : IsLessThere n r.form.less
