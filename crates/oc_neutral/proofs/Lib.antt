@@ -1,9 +1,15 @@
 mod KindRows
+mod RelocConditionRows
+mod RelocRows
+mod SpellingRows
 pub mod Linked
 pub mod NormalLemmas
 pub mod NormalValues
-mod RelocConditionRows
-mod RelocRows
+pub mod OneObject
+pub mod Positions
+pub mod SameRelocs
+pub mod SameSections
+pub mod SameSymbols
 pub mod ShiftLemmas
-mod SpellingRows
+pub mod SortedFields
 pub mod Truth
