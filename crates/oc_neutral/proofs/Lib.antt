@@ -13,3 +13,5 @@ pub mod SameSymbols
 pub mod ShiftLemmas
 pub mod SortedFields
 pub mod Truth
+pub mod Refit
+pub mod Standing
