@@ -22,7 +22,7 @@ use Rattle.oc_neutral.specs.declared.symbol.Symbol.{Symbol}
 use Rattle.oc_neutral.specs.Families.{IsElf, IsCoff, IsMach, IsOmf}
 use Rattle.oc_neutral.specs.Objects.{Object}
 use Rattle.oc_neutral.specs.HomeNames.{output_names, wanted_names}
-use Rattle.oc_neutral.specs.SelfReferences.{is_relocated}
+use Rattle.oc_neutral.specs.Relocated.{is_relocated}
 use Rattle.oc_neutral.specs.SectionSymbols.{needs_section_symbol, needed_sections}
 use Rattle.oc_neutral.specs.CoffStrings.{coff_strings, string_offset}
 use Rattle.oc_neutral.specs.TargetSections as sections

@@ -35,7 +35,7 @@ use Rattle.oc_neutral.specs.CoffKinds.{coff_kind, coff_tag}
 use Rattle.oc_neutral.specs.MachKinds.{mach_kind, mach_tag}
 use Rattle.oc_neutral.specs.GivenTags.{can_have, family_gives, elf_gives, coff_gives, mach_gives}
 use Rattle.oc_neutral.specs.HomeNames.{Home, home_of, output_tag, output_names, wanted_names, is_home}
-use Rattle.oc_neutral.specs.SelfReferences.{is_relocated}
+use Rattle.oc_neutral.specs.Relocated.{is_relocated}
 use Rattle.oc_neutral.specs.SectionSymbols.{section_symbol_name, is_section_symbol, needs_section_symbol, needed_sections}
 use Rattle.oc_neutral.specs.WrittenSymbols.{is_written}
 use Rattle.oc_neutral.specs.CoffStrings.{symbol_names, coff_strings, string_offset}

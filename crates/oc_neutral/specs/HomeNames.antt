@@ -15,7 +15,7 @@ use Rattle.oc_neutral.specs.ElfKinds.{elf_tag}
 use Rattle.oc_neutral.specs.MachKinds.{mach_name, segment_of}
 use Rattle.oc_neutral.specs.OmfKinds.{omf_tag}
 use Rattle.oc_neutral.specs.Objects.{Object}
-use Rattle.oc_neutral.specs.SelfReferences.{is_relocated}
+use Rattle.oc_neutral.specs.Relocated.{is_relocated}
 
 -- where a kind is at home in a format: under a name, or under the section's own, with a tag
 pub record Home : Type 0 where

@@ -17,7 +17,7 @@ use Rattle.oc_neutral.specs.Families.{Family, IsElf, IsCoff, IsMach, IsOmf, fami
 use Rattle.oc_neutral.specs.KindRules.{same_kind}
 use Rattle.oc_neutral.specs.GivenTags.{has_nul}
 use Rattle.oc_neutral.specs.Objects.{Object}
-use Rattle.oc_neutral.specs.SelfReferences.{is_relocated}
+use Rattle.oc_neutral.specs.Relocated.{is_relocated}
 use Rattle.oc_neutral.specs.HomeNames.{output_names}
 use Rattle.oc_neutral.specs.Alignments.{most_align}
 use Rattle.oc_neutral.specs.CoffStrings.{is_tabled, string_offset}
