@@ -1,17 +1,25 @@
 -- No field of an object begins within another.
-use Rattle.std.proofs.Common.{◌≡◌, ℕ, ◌+◌, ◌<◌, ◌≤◌, true, false, cond, List, [], ◌∷◌, Some, refl, ◌∙◌, ap, arith}
+use Rattle.std.proofs.Common.{◌≡◌, ℕ, ◌+◌, ◌<◌, ◌≤◌, Bool, true, false, cond, List, [], ◌∷◌, Option, Some, None, refl, sym, ◌∙◌, ap, subst, arith}
 use Rattle.std.specs.Prelude.{eqb, slice_get}
 use Rattle.std.specs.List.{AllByRecursion}
+use Rattle.std.specs.Option.{option_map}
 use Rattle.std.proofs.lemmas.Bool.{eqb-true}
 use Rattle.std.proofs.lemmas.Option.{none-some, same_Some}
+use Rattle.oc_linking.specs.declared.terms.Patch.{Patch}
 use Rattle.oc_linking.specs.Fits.{bytes_of}
+use Rattle.oc_linking.specs.Placing.{Placement}
+use Rattle.oc_linking.specs.Values.{Valuation}
+use Rattle.oc_linking.specs.Linking.{patch_of}
+use Rattle.oc_linking.specs.Shows.{Apart}
 use Rattle.oc_chains.specs.declared.field.Field.{Field}
 use Rattle.oc_chains.specs.Fields.{FollowFrom, end_of}
 use Rattle.oc_chains.specs.Lists.{list_of}
 use Rattle.oc_neutral.specs.declared.section.Section.{Section}
 use Rattle.oc_neutral.specs.declared.reloc.Reloc.{Reloc}
-use Rattle.oc_neutral.specs.Objects.{Object, reloc_among}
+use Rattle.oc_neutral.specs.Objects.{Object, reloc_among, reloc_at}
 use Rattle.oc_neutral.specs.Invariants.{IsHeld, IsObject}
+use Rattle.oc_neutral.specs.Faces.{field_of}
+use Rattle.oc_neutral.specs.Shows.{patches_of}
 
 -- the field is as wide as its relocation says
 abbrev HasItsWidth : Field Reloc → Type 0
