@@ -1,6 +1,7 @@
 mod AlignmentRows
 mod ConditionRows
 mod KindRows
+pub mod GivenLaws
 mod RelocConditionRows
 mod RelocRows
 mod SpellingRows

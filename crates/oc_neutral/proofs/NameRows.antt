@@ -1,6 +1,7 @@
 -- Names and tags across formats compared with a table that was written from our profile, row by row, and on small objects.
 use Rattle.std.proofs.Common.{◌≡◌, ℕ, true, false, Bool, List, [], ◌∷◌, map, Some, None, Option, refl}
-use Rattle.std.specs.Prelude.{codes, pos, ◌++◌, replicate}
+use Rattle.std.specs.Prelude.{codes, pos, ◌+◌, ◌++◌, replicate, zip}
+use Rattle.std.specs.List.{enumerate_from}
 use Rattle.std.specs.Fmt.{digits}
 use Rattle.std.specs.Option.{option_map_or, unwrap_or}
 use Rattle.oc_base.specs.Strings.{table_place, tops_of}
@@ -180,6 +181,21 @@ mach-names : output_names Mac64 (elf_object Elf64)
     ∷ codes ".eh_frame" ∷ codes ".debug_info" ∷ codes ".comment" ∷ []
 unfolding output_names wanted_names is_relocated digits
 mach-names = refl
+
+-- each of these names is one that the table gives to that kind at that number, but where the kind has no home
+abbrev at_homes : Format → Object → List Bool
+at_homes target n =
+    map
+    (λ (row : ℕ × Section × List ℕ). is_home target (row.0 + 1) (row.1).kind row.2 (output_tag target n.format row.1))
+    (map (λ (row : ℕ × (Section × List ℕ)). (row.0, (row.1).0, (row.1).1)) (enumerate_from 0 (zip n.sections (output_names target n))))
+
+mach-homes : at_homes Mac64 (elf_object Elf64) ≡ replicate 10 true ++ replicate 3 false
+unfolding output_names output_tag wanted_names is_relocated is_home digits
+mach-homes = refl
+
+coff-homes : at_homes Coff64 (elf_object Elf64) ≡ replicate 11 true ++ replicate 2 false
+unfolding output_names output_tag wanted_names is_relocated is_home digits
+coff-homes = refl
 
 -- to OMF
 omf-names : output_names Omf (elf_object Elf32)
