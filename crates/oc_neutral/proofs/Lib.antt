@@ -19,3 +19,4 @@ pub mod SortedFields
 pub mod Truth
 pub mod Refit
 pub mod Standing
+pub mod FitLinks

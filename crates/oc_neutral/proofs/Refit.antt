@@ -1,5 +1,5 @@
 -- Symbols whose commons get a target's alignments are worth the same, export the same and have the same names.
-use Rattle.std.proofs.Common.{◌≡◌, ℕ, Bool, true, false, cond, List, [], ◌∷◌, map, Option, Some, None, refl, sym, ◌∙◌, ap}
+use Rattle.std.proofs.Common.{◌≡◌, ℕ, Bool, true, false, cond, List, [], ◌∷◌, map, Option, Some, None, refl, ◌∙◌, ap}
 use mathlib.Core.Path.{fun_ext}
 use Rattle.std.specs.Prelude.{eqb, slice_get, bytes_eq}
 use Rattle.std.specs.Option.{option_map, option_map_or, unwrap_or}
@@ -14,7 +14,7 @@ use Rattle.oc_linking.specs.Numbers.{or_else}
 use Rattle.oc_linking.specs.Parts as parts
 use Rattle.oc_linking.specs.Placing.{Site, Placement, Outside, nowhere}
 use Rattle.oc_linking.specs.Values.{Valued, worthless, numbered, strong_site, fallback_site, site_of, value_of, values}
-use Rattle.oc_linking.specs.Linking.{Export, Address, Size, export_at, export_of, exports}
+use Rattle.oc_linking.specs.Linking.{Address, export_at, export_of, exports}
 use Rattle.oc_linking.specs.Faithful.{sort_of, names_of}
 use Rattle.oc_neutral.specs.declared.symbol.Symbol.{Symbol}
 use Rattle.oc_neutral.specs.Alignments.{common_align}
