@@ -42,7 +42,7 @@ use Rattle.oc_neutral.proofs.Refit.{refit, symbols-fitted, values-refit, exports
 use Rattle.oc_neutral.proofs.Standing.{HasItsWidth, ends_by, wide_in}
 
 -- what a mapped option comes from
-from_mapped : {X Y : Type 0} (f : X → Y) (o : Option X) (y : Y) → option_map f o ≡ Some y → (x : X) × (o ≡ Some x) × (f x ≡ y)
+pub from_mapped : {X Y : Type 0} (f : X → Y) (o : Option X) (y : Y) → option_map f o ≡ Some y → (x : X) × (o ≡ Some x) × (f x ≡ y)
 from_mapped f None y here = absurd (none-some y here)
 from_mapped f (Some x) y here = (x, refl, same_Some (f x) y here)
 
@@ -133,27 +133,28 @@ module _ (n : Object) (is : IsObject n) where
         let is_it : is_stored target s a.0 ≡ true = sym (ap (λ o. option_map_or (is_stored target s) o false) a.1) ∙ stored in
         subst (λ (k : Patch). overflows (word_for n.format) k ≡ false) a.2 (stored_fit n target word p v s at a.0 is_it)
 
+module _ (target : Format) (n m : Object) (fit : IsFit target n m) where
+  -- the symbols, as they are shown
+  pub shown-fit : shown_symbols m ≡ map (refit target) (shown_symbols n)
+  shown-fit = ap (λ xs. map (shown_symbol xs) xs) fit.symbols ∙ symbols-fitted target n.symbols n.symbols
+
 module _ (target : Format) (n m : Object) (is : IsObject n) (word : word_for target ≡ word_for n.format) (fit : IsFit target n m) where
   -- the words are the same
   pub word-fit : word_for m.format ≡ word_for n.format
   word-fit = ap word_for fit.format ∙ word
 
-  -- the symbols, as they are shown
-  pub shown-fit : shown_symbols m ≡ map (refit target) (shown_symbols n)
-  shown-fit = ap (λ xs. map (shown_symbol xs) xs) fit.symbols ∙ symbols-fitted target n.symbols n.symbols
-
   -- what they are worth
   values-fit : (p : Placement) (e : Outside) → values (word_for m.format) (shown_symbols m) (shown_symbols m) p e ≡ values (word_for n.format) (shown_symbols n) (shown_symbols n) p e
   values-fit p e =
       ap (λ w. values w (shown_symbols m) (shown_symbols m) p e) word-fit
-      ∙ ap (λ xs. values (word_for n.format) xs xs p e) shown-fit
+      ∙ ap (λ xs. values (word_for n.format) xs xs p e) (shown-fit target n m fit)
       ∙ values-refit target (word_for n.format) p e (shown_symbols n)
 
   -- what they export
   exports-fit : (p : Placement) (e : Outside) → exports (word_for m.format) p e (shown_symbols m) ≡ exports (word_for n.format) p e (shown_symbols n)
   exports-fit p e =
       ap (λ w. exports w p e (shown_symbols m)) word-fit
-      ∙ ap (exports (word_for n.format) p e) shown-fit
+      ∙ ap (exports (word_for n.format) p e) (shown-fit target n m fit)
       ∙ exports-refit target (word_for n.format) p e (shown_symbols n)
 
   -- linking the one is linking the other
