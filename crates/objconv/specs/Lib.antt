@@ -1,5 +1,6 @@
 pub mod Converted
 pub mod Jobs
+pub mod Keys
 pub mod Links
 pub mod Plain
 pub mod Raising
