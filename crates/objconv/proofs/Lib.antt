@@ -15,6 +15,7 @@ pub mod PlainLemmas
 pub mod RaisingLemmas
 pub mod RefusalLemmas
 pub mod RelsLemmas
+pub mod RewritingLemmas
 pub mod RisingLemmas
 pub mod SectionLemmas
 pub mod SymbolLemmas

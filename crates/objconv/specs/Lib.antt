@@ -5,4 +5,5 @@ pub mod Links
 pub mod Plain
 pub mod Raising
 pub mod Refusals
+pub mod Rewriting
 pub mod Runs
