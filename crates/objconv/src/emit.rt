@@ -210,8 +210,8 @@ fn push_externals(out: &mut Vec<u8>, file: &[u8], headers: &Headers) -> Result<(
     Ok(())
 }
 
-/// The canonical COFF file of a plain object whose fields were raised. Takes memory for the file.
-/// Linear in the file.
+/// The canonical COFF file of a plain object with these contents of `.text`. Takes memory for the
+/// file, all at once. Linear in the file.
 pub fn emit(
     alloc: Global,
     file: &[u8],
