@@ -2,6 +2,8 @@
 use Rattle.std.proofs.Common.{◌≡◌, ◌≢◌, ℕ, zero, suc, ◌+◌, ◌-◌, ◌/◌, ◌%◌, ◌^◌, ◌<◌, ◌≤◌, inl, inr, refl, sym, ◌∙◌, ap, subst, arith, Bool, true, false, ◌&&◌, ◌||◌, cond, true≢false, eqb, List, [], ◌∷◌, ◌++◌, length, map, get_or, set, slice_get, Option, Some, None, Result, Ok, Err}
 use Rattle.std.specs.Prelude.{nat_eq, nat_le, nat_lt, if◌then◌else◌, ℤ}
 use Rattle.std.specs.List.{AllByRecursion, list_any}
+use Rattle.std.proofs.Math.Bool.{or_assoc}
+use Rattle.std.proofs.lemmas.List.Sorted.{list_any-IsPermutation}
 use Rattle.std.specs.Option.{option_map_or}
 use Rattle.std.proofs.lemmas.Bool.Decides.{nat_tests, eqb_tells}
 use Rattle.std.proofs.lemmas.Bool.{eq-eqb, eqb-true}
@@ -12,7 +14,10 @@ use Rattle.oc_linking.specs.Fits.{bytes_of}
 use Rattle.oc_chains.specs.declared.field.Field.{Field}
 use Rattle.oc_chains.specs.Fields.{end_of, field, meets, placed, FollowFrom}
 use Rattle.oc_chains.specs.Lists.{Lists, list_of, with_field, is_taken}
+use Rattle.oc_chains.proofs.FieldLemmas.{placed_held}
+use Rattle.oc_neutral.specs.declared.section.Section.{Section}
 use Rattle.oc_neutral.specs.declared.reloc.Reloc.{Reloc}
+use Rattle.oc_neutral.specs.Building.{Draft, with_section, is_met, with_reloc, with_constant}
 use Rattle.oc_neutral.specs.Objects.{Object, reloc_among, reloc_at}
 
 -- neither of two tests passes
@@ -23,6 +28,12 @@ or_left true b e = absurd (true≢false e)
 or_right : (a b : Bool) → (a || b) ≡ false → b ≡ false
 or_right false b e = e
 or_right true b e = absurd (true≢false e)
+
+-- a test before two others
+or-left_comm : (a b c : Bool) → (a || (b || c)) ≡ (b || (a || c))
+or-left_comm false b c = refl
+or-left_comm true false c = refl
+or-left_comm true true c = refl
 
 -- fields with bytes that begin at one offset meet
 apart-starts : (x y : Field Reloc) → 1 ≤ x.width → 1 ≤ y.width → meets x.at x.width y ≡ false → x.at ≢ y.at
@@ -85,4 +96,56 @@ reloc_at-placed lists s at width q lt wide follow free t x = ap (λ xs. reloc_am
     by : (b : Bool) → eqb t s ≡ b
         → reloc_among (cond b (placed (field at width q) (list_of lists s)) (list_of lists t)) x ≡ cond (b && eqb at x) (Some q) (reloc_among (list_of lists t) x)
     by true e = rw (eqb-true t s e) (reloc_among-placed 0 (field at width q) (list_of lists s) wide follow free x)
+    by false e = refl
+
+-- a section more has no relocations, and the others keep theirs
+list_of-more : (lists : Lists Reloc) (t : ℕ) → list_of (lists ++ [] ∷ []) t ≡ list_of lists t
+list_of-more [] zero = refl
+list_of-more [] (suc t) = refl
+list_of-more (xs ∷ lists) zero = refl
+list_of-more (xs ∷ lists) (suc t) = list_of-more lists t
+
+pub reloc_at-section : (n : Object) (z : Section) (t x : ℕ) → reloc_at (with_section n z) t x ≡ reloc_at n t x
+reloc_at-section n z t x = ap (λ xs. reloc_among xs x) (list_of-more n.relocs t)
+
+-- the relocation at an offset of a section, where a relocation of section s was kept
+pub reloc_at-reloc : (d : Draft) (s at : ℕ) (q : Reloc) → s < length d.object.relocs → FollowFrom 0 (list_of d.object.relocs s)
+    → is_taken d.object.relocs s at (bytes_of q.form.width) ≡ false
+    → (t x : ℕ) → reloc_at (with_reloc d s at q).object t x ≡ (if nat_eq t s && nat_eq at x then Some q else reloc_at d.object t x)
+reloc_at-reloc d s at q lt follow free t x = reloc_at-placed d.object.relocs s at (bytes_of q.form.width) q lt (wide_enough q.form.width) follow free t x
+
+-- and where one was folded
+pub reloc_at-constant : (d : Draft) (s at k number t x : ℕ) → reloc_at (with_constant d s at k number).object t x ≡ reloc_at d.object t x
+reloc_at-constant d s at k number t x = refl
+
+-- a test of fields, with one more
+list_any-placed : {T : Type 0} (p : Field T → Bool) (x : Field T) (xs : List (Field T)) → list_any p (placed x xs) ≡ (p x || list_any p xs)
+list_any-placed p x xs = sym (list_any-IsPermutation p (x ∷ xs) (placed x xs) (placed_held x xs))
+
+-- whether the k bytes from an offset x on, and the `width` bytes from an offset `at` on, have one in common
+abbrev pub have_common : ℕ → ℕ → ℕ → ℕ → Bool
+have_common at width x k = nat_lt x (at + width) && nat_lt at (x + k)
+
+-- what is met, where a relocation of section s was kept
+pub met-reloc : (d : Draft) (s at : ℕ) (q : Reloc) → s < length d.object.relocs
+    → (t x k : ℕ) → is_met (with_reloc d s at q) t x k ≡ (nat_eq t s && have_common at (bytes_of q.form.width) x k || is_met d t x k)
+met-reloc d s at q lt t x k =
+    ap (λ xs. list_any (meets x k) xs || list_any (meets x k) (d.folded t)) (list_of-with_field d.object.relocs s at (bytes_of q.form.width) q lt t)
+    ∙ by (eqb t s) refl
+  where
+    by : (b : Bool) → eqb t s ≡ b
+        → (list_any (meets x k) (cond b (placed (field at (bytes_of q.form.width) q) (list_of d.object.relocs s)) (list_of d.object.relocs t)) || list_any (meets x k) (d.folded t))
+        ≡ (b && have_common at (bytes_of q.form.width) x k || is_met d t x k)
+    by true e = rw (eqb-true t s e, list_any-placed (meets x k) (field at (bytes_of q.form.width) q) (list_of d.object.relocs s)) (or_assoc (have_common at (bytes_of q.form.width) x k) _ _)
+    by false e = refl
+
+-- and where one was folded
+pub met-constant : (d : Draft) (s at width number : ℕ) → (t x k : ℕ)
+    → is_met (with_constant d s at width number) t x k ≡ (nat_eq t s && have_common at width x k || is_met d t x k)
+met-constant d s at width number t x k = by (eqb t s) refl
+  where
+    by : (b : Bool) → eqb t s ≡ b
+        → (is_taken d.object.relocs t x k || list_any (meets x k) (cond b (placed (field at width (record {})) (d.folded t)) (d.folded t)))
+        ≡ (b && have_common at width x k || is_met d t x k)
+    by true e = rw (list_any-placed (meets x k) (field at width (record {})) (d.folded t)) (or-left_comm (is_taken d.object.relocs t x k) (have_common at width x k) _)
     by false e = refl
