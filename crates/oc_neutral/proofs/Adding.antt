@@ -21,7 +21,7 @@ use Rattle.oc_neutral.specs.Building.{Draft, with_section, is_met, with_reloc, w
 use Rattle.oc_neutral.specs.Objects.{Object, reloc_among, reloc_at}
 
 -- neither of two tests passes
-or_left : (a b : Bool) → (a || b) ≡ false → a ≡ false
+pub or_left : (a b : Bool) → (a || b) ≡ false → a ≡ false
 or_left false b e = refl
 or_left true b e = absurd (true≢false e)
 
