@@ -23,7 +23,7 @@ use Rattle.oc_neutral.specs.Normal.{normal_of}
 use Rattle.oc_neutral.specs.Building.{Draft, numbered_in, is_met, stored_size, with_reloc, with_constant, normal_added, reloc_added}
 use Rattle.oc_neutral.specs.Invariants.{HasItsBytes, IsDraft, CanAdd}
 use Rattle.oc_neutral.proofs.NormalLemmas.{IsLeft, kept_left}
-use Rattle.oc_neutral.proofs.Written.{lies_in, byte_at, byte_at-numbered}
+use Rattle.oc_neutral.proofs.WrittenBytes.{lies_in, byte_at, byte_at-numbered}
 use Rattle.oc_neutral.proofs.Adding.{or_left, have_common, reloc_among-free, reloc_at-reloc, met-reloc, met-constant, wide_enough}
 
 -- what a normal form keeps of the relocation

@@ -1,5 +1,8 @@
 pub mod Added
 pub mod Adding
+mod KindRows
+pub mod Linked
 pub mod NormalLemmas
 pub mod NormalValues
-pub mod Written
+pub mod Truth
+pub mod WrittenBytes
