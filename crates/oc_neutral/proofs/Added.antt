@@ -1,6 +1,6 @@
 -- What a relocation that is added makes of a draft, in one record: what a reader's loop cites.
-use Rattle.std.proofs.Common.{◌≡◌, ℕ, zero, suc, ◌+◌, ◌-◌, ◌/◌, ◌%◌, ◌^◌, ◌<◌, ◌≤◌, ◌⊎◌, inl, inr, refl, sym, ◌∙◌, ap, subst, arith, Bool, true, false, ◌&&◌, ◌||◌, cond, true≢false, eqb, List, [], ◌∷◌, length, slice_get, Option, Some, None, Result, Ok, Err}
-use Rattle.std.specs.Prelude.{nat_eq, nat_le, nat_lt, if◌then◌else◌, ℤ}
+use Rattle.std.proofs.Common.{◌≡◌, ℕ, zero, suc, ◌+◌, ◌-◌, ◌/◌, ◌%◌, ◌^◌, ◌<◌, ◌≤◌, ◌⊎◌, inl, inr, refl, ◌∙◌, subst, arith, Bool, true, false, ◌&&◌, ◌||◌, cond, eqb, List, [], ◌∷◌, length, slice_get, Option, Some, None, Ok, Err}
+use Rattle.std.specs.Prelude.{nat_eq, if◌then◌else◌, ℤ}
 use Rattle.std.specs.List.{AllByRecursion}
 use Rattle.std.proofs.lemmas.Bool.{eqb-true}
 use Rattle.std.proofs.lemmas.Option.{none-some, same_Some, slice_get_within}
@@ -12,17 +12,15 @@ use Rattle.oc_linking.specs.Fits.{bytes_of, fits}
 use Rattle.oc_algebra.specs.Residues.{residue_of}
 use Rattle.oc_algebra.specs.Fields.{too_wide}
 use Rattle.oc_algebra.specs.Folds.{low_of, fold_of}
-use Rattle.oc_neutral.specs.declared.section.Section.{Section}
 use Rattle.oc_neutral.specs.declared.reloc.Reloc.{Reloc}
 use Rattle.oc_neutral.specs.declared.normal.Normal.{Normal}
 use Rattle.oc_neutral.specs.declared.normal.Normal.TheVariants as normal
-use Rattle.oc_neutral.specs.declared.fault.BuildFault.{BuildFault}
 use Rattle.oc_neutral.specs.declared.fault.BuildFault.TheVariants as fault
-use Rattle.oc_neutral.specs.Objects.{Object, reloc_at}
+use Rattle.oc_neutral.specs.Objects.{reloc_at}
 use Rattle.oc_neutral.specs.Normal.{normal_of}
 use Rattle.oc_neutral.specs.Building.{Draft, numbered_in, is_met, stored_size, with_reloc, with_constant, normal_added, reloc_added}
 use Rattle.oc_neutral.specs.Invariants.{HasItsBytes, IsDraft, CanAdd}
-use Rattle.oc_neutral.proofs.NormalLemmas.{IsLeft, kept_left}
+use Rattle.oc_neutral.proofs.NormalLemmas.{kept_left}
 use Rattle.oc_neutral.proofs.WrittenBytes.{lies_in, byte_at, byte_at-numbered}
 use Rattle.oc_neutral.proofs.Adding.{or_left, have_common, reloc_among-free, reloc_at-reloc, met-reloc, met-constant, wide_enough}
 

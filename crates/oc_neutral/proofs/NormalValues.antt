@@ -1,5 +1,5 @@
 -- The normal form of a relocation has its value.
-use Rattle.std.proofs.Common.{◌≡◌, ℕ, ◌+◌, ◌%◌, refl, sym, ◌∙◌, Bool, true, false, cond, true≢false, List, slice_get, Option, Some, None}
+use Rattle.std.proofs.Common.{◌≡◌, ℕ, ◌+◌, ◌%◌, refl, sym, ◌∙◌, ap, Bool, true, false, cond, true≢false, List, slice_get, Option, Some, None}
 use Rattle.std.specs.Prelude.{ℤ, pos, ◌+ℤ◌}
 use Rattle.std.specs.Option.{option_map, option_and_then, unwrap_or}
 use Rattle.std.proofs.lemmas.Bool.{eqb-true}
@@ -122,7 +122,7 @@ module _ (w : Word) (symbols : List Symbol) (p : Placement) (v : Valuation) (is_
   value-placed s at b t less.Home a e = absurd (true≢false (sym e))
 
 -- the value of what remains
-abbrev value_of_normal : Word → List Symbol → Placement → Valuation → ℕ → ℕ → Normal → ℕ
+abbrev pub value_of_normal : Word → List Symbol → Placement → Valuation → ℕ → ℕ → Normal → ℕ
 value_of_normal w symbols p v s at (normal.Constant c) = residue_of w c
 value_of_normal w symbols p v s at (normal.Kept q) = residue_at w symbols p v s at q
 
@@ -141,6 +141,16 @@ module _ (w : Word) (symbols : List Symbol) (p : Placement) (v : Valuation) (is_
   -- the normal form has the value
   pub value-normal : (s at : ℕ) (r : Reloc) → value_of_normal w symbols p v s at (normal_of w symbols s at r) ≡ residue_at w symbols p v s at r
   value-normal s at r = value-folded s at (by_section w symbols r) ∙ value-by_section w symbols p v is_true s at r
+
+-- so has what is kept
+pub kept_value : (w : Word) (symbols : List Symbol) (p : Placement) (v : Valuation) → IsTrue w symbols p v → (s at : ℕ) (r q : Reloc)
+    → normal_of w symbols s at r ≡ normal.Kept q → residue_at w symbols p v s at q ≡ residue_at w symbols p v s at r
+kept_value w symbols p v is_true s at r q is = sym (ap (value_of_normal w symbols p v s at) is) ∙ value-normal w symbols p v is_true s at r
+
+-- and a constant
+pub constant_value : (w : Word) (symbols : List Symbol) (p : Placement) (v : Valuation) → IsTrue w symbols p v → (s at : ℕ) (r : Reloc) (c : ℤ)
+    → normal_of w symbols s at r ≡ normal.Constant c → residue_of w c ≡ residue_at w symbols p v s at r
+constant_value w symbols p v is_true s at r c is = sym (ap (value_of_normal w symbols p v s at) is) ∙ value-normal w symbols p v is_true s at r
 
 -- the law
 pub keeps_value : (w : Word) (symbols : List Symbol) (s at : ℕ) (r : Reloc) → KeepsValue w symbols s at r (normal_of w symbols s at r)
