@@ -30,9 +30,9 @@ kept_of (normal.Constant c) = None
 kept_of (normal.Kept q) = Some q
 
 -- the number that it leaves in the bytes of the field: the constant, or else 0
-abbrev pub number_of : Word → Width → Normal → ℕ
-number_of w k (normal.Constant c) = low_of k (residue_of w c)
-number_of w k (normal.Kept q) = 0
+abbrev pub number_left : Word → Width → Normal → ℕ
+number_left w k (normal.Constant c) = low_of k (residue_of w c)
+number_left w k (normal.Kept q) = 0
 
 -- its constant fits the field
 abbrev pub IsFitting : Word → Reloc → Normal → Type 0
@@ -44,11 +44,11 @@ pub record IsAdded (d : Draft) (s at : ℕ) (r : Reloc) (n : Normal) (e : Draft)
   pub format : e.object.format ≡ d.object.format
   pub symbols : e.object.symbols ≡ d.object.symbols
   pub sections : e.object.sections
-      ≡ numbered_in d.object.sections s at (bytes_of r.form.width) (number_of (word_for d.object.format) r.form.width n) (slice_get d.object.sections s)
+      ≡ numbered_in d.object.sections s at (bytes_of r.form.width) (number_left (word_for d.object.format) r.form.width n) (slice_get d.object.sections s)
   pub fitting : IsFitting (word_for d.object.format) r n
   pub relocs : (t x : ℕ) → reloc_at e.object t x ≡ (if nat_eq t s && nat_eq at x then kept_of n else reloc_at d.object t x)
   pub bytes : (t i : ℕ) → byte_at e.object.sections t i
-      ≡ (if nat_eq t s && lies_in at (bytes_of r.form.width) i then number_of (word_for d.object.format) r.form.width n / 256 ^ (i - at) % 256 else byte_at d.object.sections t i)
+      ≡ (if nat_eq t s && lies_in at (bytes_of r.form.width) i then number_left (word_for d.object.format) r.form.width n / 256 ^ (i - at) % 256 else byte_at d.object.sections t i)
   pub free : is_met d s at (bytes_of r.form.width) ≡ false
   pub met : (t x k : ℕ) → is_met e t x k ≡ (nat_eq t s && have_common at (bytes_of r.form.width) x k || is_met d t x k)
 

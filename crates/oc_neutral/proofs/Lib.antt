@@ -1,3 +1,4 @@
+pub mod Addable
 pub mod Added
 pub mod Adding
 mod KindRows

@@ -275,7 +275,7 @@ there-section : (n : Object) (x : Section) (t : Target) → IsThere n t → IsTh
 there-section n x (target.Section k) there = more n.sections x k there
 there-section n x (target.Symbol k) there = there
 
-less_there-symbol : (n : Object) (y : Symbol) (l : Less) → IsLessThere n l → IsLessThere (with_symbol n y) l
+pub less_there-symbol : (n : Object) (y : Symbol) (l : Less) → IsLessThere n l → IsLessThere (with_symbol n y) l
 less_there-symbol n y (less.Section k) there = there
 less_there-symbol n y less.Zero there = tt
 less_there-symbol n y less.Place there = tt
@@ -283,7 +283,7 @@ less_there-symbol n y less.GotBase there = tt
 less_there-symbol n y less.ImageBase there = tt
 less_there-symbol n y less.Home there = tt
 
-less_there-section : (n : Object) (x : Section) (l : Less) → IsLessThere n l → IsLessThere (with_section n x) l
+pub less_there-section : (n : Object) (x : Section) (l : Less) → IsLessThere n l → IsLessThere (with_section n x) l
 less_there-section n x (less.Section k) there = more n.sections x k there
 less_there-section n x less.Zero there = tt
 less_there-section n x less.Place there = tt
