@@ -1,7 +1,6 @@
 -- Laws of neutral objects (our profile).
 use Rattle.std.specs.Prelude.{◌≡◌, ℕ, List}
 use Rattle.oc_base.specs.declared.format.Word.{Word}
-use Rattle.oc_base.specs.Formats.{word_for}
 use Rattle.oc_linking.specs.declared.terms.Keep.{Keep}
 use Rattle.oc_linking.specs.Placing.{Placement}
 use Rattle.oc_linking.specs.Values.{Valuation}
@@ -30,5 +29,4 @@ NormalFormKeepsValues = (w : Word) (symbols : List Symbol) (s at : ℕ) (r : Rel
 
 -- an object is determined by the file that it shows
 abbrev pub ShownObjectIsOne : Type 0
-ShownObjectIsOne = (f : Dialect) (b : List ℕ) (keep : Keep) (n m : Object) → IsObject n → IsObject m → Shows f b keep n → Shows f b keep m
-    → f.rules.word ≡ word_for f.format → n ≡ m
+ShownObjectIsOne = (f : Dialect) (b : List ℕ) (keep : Keep) (n m : Object) → IsObject n → IsObject m → Shows f b keep n → Shows f b keep m → n ≡ m

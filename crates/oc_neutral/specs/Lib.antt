@@ -25,6 +25,7 @@ pub mod OmfRelocs
 pub mod Readable
 pub mod RelocConstants
 pub mod RelocTables
+pub mod Relocated
 pub mod Rows
 pub mod SectionSymbols
 pub mod SelfReferences

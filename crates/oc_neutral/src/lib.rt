@@ -2,6 +2,7 @@
 //! one form for all formats; and what a reader and a writer of a format promise of it.
 #![tactic(auto)]
 
+mod determined;
 mod fault;
 mod fitted;
 mod laws;
@@ -13,6 +14,7 @@ mod section;
 mod symbol;
 mod writes;
 
+pub use determined::shown_object_is_one;
 pub use fault::BuildFault;
 pub use fitted::Fitted;
 pub use laws::normal_form_keeps_values;
