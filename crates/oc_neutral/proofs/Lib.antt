@@ -7,6 +7,7 @@ pub mod FitLinks
 pub mod GivenLaws
 mod KindRows
 pub mod Linked
+pub mod Looking
 mod NameRows
 pub mod NormalLemmas
 mod NormalRows
