@@ -1,7 +1,9 @@
 pub mod Converted
 pub mod Jobs
+pub mod Keys
 pub mod Links
 pub mod Plain
 pub mod Raising
 pub mod Refusals
+pub mod Rewriting
 pub mod Runs
