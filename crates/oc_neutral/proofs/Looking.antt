@@ -90,7 +90,7 @@ true_to_locals w symbols p v is = record {
     shown k s here = slice_get-map (shown_symbol symbols) symbols k ∙ ap (option_map (shown_symbol symbols)) here
 
 -- the look of a relocation among these symbols
-abbrev look_among : List Symbol → Reloc → Look
+abbrev pub look_among : List Symbol → Reloc → Look
 look_among symbols q = record { base = q.form.base; less = q.form.less; width = q.form.width; check = q.form.check; target = named_of symbols q.target; hint = q.hint }
 
 -- what is kept looks so
