@@ -1,22 +1,28 @@
+pub mod Addable
+pub mod Added
+pub mod Adding
 mod AlignmentRows
 mod ConditionRows
-mod KindRows
+pub mod FitLinks
 pub mod GivenLaws
-mod RelocConditionRows
-mod RelocRows
-mod SpellingRows
+mod KindRows
 pub mod Linked
+pub mod Looking
 mod NameRows
 pub mod NormalLemmas
+mod NormalRows
 pub mod NormalValues
 pub mod OneObject
 pub mod Positions
+pub mod Refit
+mod RelocConditionRows
+mod RelocRows
 pub mod SameRelocs
 pub mod SameSections
 pub mod SameSymbols
 pub mod ShiftLemmas
 pub mod SortedFields
-pub mod Truth
-pub mod Refit
+mod SpellingRows
 pub mod Standing
-pub mod FitLinks
+pub mod Truth
+pub mod WrittenBytes

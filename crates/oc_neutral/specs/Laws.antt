@@ -14,14 +14,14 @@ use Rattle.oc_neutral.specs.Invariants.{IsObject}
 use Rattle.oc_neutral.specs.Dialects.{Dialect}
 use Rattle.oc_neutral.specs.Shows.{Shows}
 use Rattle.oc_neutral.specs.Normal.{normal_of}
-use Rattle.oc_neutral.specs.Worth.{residue_at, IsTrue}
+use Rattle.oc_neutral.specs.Worth.{residue_at, IsTrueToLocals}
 
--- what remains of a relocation at an offset of section s has its value, at every placement and every valuation that is true to the symbols
+-- what remains of a relocation at an offset of section s has its value, at every placement and every valuation that is true to the Locals
 abbrev pub KeepsValue : Word → List Symbol → ℕ → ℕ → Reloc → Normal → Type 0
 KeepsValue w symbols s at r (normal.Kept q) =
-    (p : Placement) (v : Valuation) → IsTrue w symbols p v → residue_at w symbols p v s at q ≡ residue_at w symbols p v s at r
+    (p : Placement) (v : Valuation) → IsTrueToLocals w symbols p v → residue_at w symbols p v s at q ≡ residue_at w symbols p v s at r
 KeepsValue w symbols s at r (normal.Constant c) =
-    (p : Placement) (v : Valuation) → IsTrue w symbols p v → residue_of w c ≡ residue_at w symbols p v s at r
+    (p : Placement) (v : Valuation) → IsTrueToLocals w symbols p v → residue_of w c ≡ residue_at w symbols p v s at r
 
 -- the normal form keeps the value of each relocation
 abbrev pub NormalFormKeepsValues : Type 0
