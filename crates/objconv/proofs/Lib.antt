@@ -4,6 +4,7 @@ pub mod EmitLemmas
 pub mod FaithfulLemmas
 pub mod FieldLemmas
 pub mod FoundLemmas
+pub mod Gathered
 pub mod HeaderLemmas
 pub mod KeyLemmas
 pub mod ListedLemmas
