@@ -1,6 +1,7 @@
 pub mod AlikeLemmas
 pub mod BelowLemmas
 pub mod EmitLemmas
+pub mod CodedPlain
 pub mod FaithfulLemmas
 pub mod FieldLemmas
 pub mod FoundLemmas
