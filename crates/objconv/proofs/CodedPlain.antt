@@ -1,32 +1,23 @@
 -- What is written of the neutral object of a plain object is what the plain object becomes.
-use Rattle.std.proofs.Common.{◌≡◌, ◌≢◌, ℕ, zero, suc, ◌+◌, ◌-◌, ◌*◌, ◌/◌, ◌%◌, ◌^◌, ◌<◌, ◌≤◌, ◌⊎◌, inl, inr, Bool, true, false, cond, List, [], ◌∷◌, length, map, get_or, Option, None, Some, refl, sym, ◌∙◌, ap, subst, arith}
-use Rattle.std.specs.Prelude.{eqb, nat_lt, nat_eq, pos, codes}
+use Rattle.std.proofs.Common.{◌≡◌, ℕ, zero, suc, ◌+◌, ◌-◌, ◌<◌, ◌≤◌, ◌⊎◌, inl, inr, Bool, true, false, cond, List, [], ◌∷◌, map, refl, sym, ◌∙◌, ap, subst, arith}
+use Rattle.std.specs.Prelude.{eqb, nat_lt}
 use Rattle.std.specs.List.{AllByRecursion, range_with_len}
-use Rattle.std.specs.Option.{option_map, unwrap_or}
-use Rattle.std.specs.Map.{lookup, keys_of}
-use Rattle.std.specs.BTreeMap.{is_at}
-use Rattle.std.specs.Ordering.{nat_cmp}
 use Rattle.std.proofs.lemmas.Bool.{eqb-true}
 use Rattle.std.proofs.lemmas.Bool.Decides.{nat_tests}
-use Rattle.std.proofs.lemmas.List.{ext_get_or}
-use Rattle.std.proofs.lemmas.List.FromFn.{length-map-range_with_len, get_or-map-range_with_len}
 use Rattle.oc_linking.specs.declared.terms.Value.TheVariants as value
-use Rattle.oc_linking.specs.declared.terms.Binding.{Binding}
 use Rattle.oc_linking.specs.declared.terms.Binding.TheVariants.{Global, Undefined}
 use Rattle.oc_linking.specs.declared.terms.Mark.TheVariants.{NoType, Function}
-use Rattle.oc_algebra.specs.declared.form.Less.TheVariants as less
 use Rattle.oc_neutral.specs.declared.reloc.Target.TheVariants as target
 use Rattle.oc_elf_read.specs.declared.sym.Sym.{Sym}
-use Rattle.oc_elf_read.specs.declared.rel.Rel.{Rel}
 use Rattle.oc_elf_read.specs.Sym.{type_of}
 use Rattle.oc_elf_read.specs.Rel.{rel_sym, rel_type}
 use Rattle.oc_elf_read.specs.Symbols.{mark_of}
 use Rattle.oc_coff_read.specs.declared.relocation.Relocation.{Relocation}
 use Rattle.oc_coff_read.specs.declared.constants.TheConstants.{IMAGE_REL_I386_DIR32, IMAGE_REL_I386_REL32}
-use Rattle.oc_coff_read.specs.Canonical.{External, CodeObject}
+use Rattle.oc_coff_read.specs.Canonical.{External}
 use Rattle.objconv.specs.declared.headers.Headers.{Headers}
 use Rattle.oc_neutral.proofs.Positions.{each_weaker}
-use Rattle.objconv.specs.Plain.{entry_in, has_rels, has_symbols, headers_in, name_of, rel_count, symbol_count, symbol_in}
+use Rattle.objconv.specs.Plain.{entry_in, has_rels, has_symbols, name_of, rel_count, symbol_count, symbol_in}
 use Rattle.objconv.specs.Converted.{index_of, relocation_for, external_for, externals_for}
 use Rattle.objconv.specs.Neutral.{binding_of, neutral_symbol, neutral_symbols, neutral_target, neutral_less, neutral_reloc, neutral_field}
 use Rattle.objconv.specs.Coded.{entry_of, external_of, offset_of, section_of, is_function, relocation_of}

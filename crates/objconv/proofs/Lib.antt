@@ -2,8 +2,10 @@ pub mod AlikeLemmas
 pub mod BelowLemmas
 pub mod EmitLemmas
 pub mod CodedPlain
+pub mod ConvertedPlain
 pub mod FaithfulLemmas
 pub mod FieldLemmas
+pub mod FilledPlain
 pub mod FoundLemmas
 pub mod Gathered
 pub mod HeaderLemmas
