@@ -3,6 +3,10 @@ pub mod BelowLemmas
 pub mod EmitLemmas
 pub mod FaithfulLemmas
 pub mod FieldLemmas
+pub mod FittingBlank
+pub mod FittingFit
+pub mod FittingObject
+pub mod FittingParts
 pub mod FoundLemmas
 pub mod HeaderLemmas
 pub mod KeyLemmas
