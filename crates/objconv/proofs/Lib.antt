@@ -1,11 +1,15 @@
 pub mod AlikeLemmas
 pub mod BelowLemmas
-pub mod EmitLemmas
 pub mod CodedPlain
 pub mod ConvertedPlain
+pub mod EmitLemmas
 pub mod FaithfulLemmas
 pub mod FieldLemmas
 pub mod FilledPlain
+pub mod FittingBlank
+pub mod FittingFit
+pub mod FittingObject
+pub mod FittingParts
 pub mod FoundLemmas
 pub mod Gathered
 pub mod HeaderLemmas
