@@ -20,6 +20,7 @@ pub mod OneSectionLemmas
 pub mod PaddingLemmas
 pub mod PatchLemmas
 pub mod PlainLemmas
+pub mod PlainNeutral
 pub mod RaisingLemmas
 pub mod RefusalLemmas
 pub mod RelsLemmas
