@@ -3,9 +3,11 @@ pub mod Added
 pub mod Adding
 mod AlignmentRows
 mod ConditionRows
+pub mod Dressing
 pub mod FitLinks
 pub mod GivenLaws
 mod KindRows
+pub mod Likeness
 pub mod Linked
 pub mod Looking
 mod NameRows
