@@ -2,6 +2,7 @@ pub mod Building
 pub mod Dialects
 pub mod Faces
 pub mod Invariants
+pub mod Keeping
 pub mod Laws
 pub mod Normal
 pub mod Objects

@@ -2,14 +2,19 @@
 //! one form for all formats; and what a reader and a writer of a format promise of it.
 #![tactic(auto)]
 
+mod builder;
 mod fault;
+mod fields;
 mod laws;
+mod limits;
+mod names;
 mod neutral;
 mod normal;
 mod reloc;
 mod section;
 mod symbol;
 
+pub use builder::Builder;
 pub use fault::BuildFault;
 pub use laws::normal_form_keeps_values;
 pub use neutral::Neutral;
