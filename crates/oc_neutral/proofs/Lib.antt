@@ -1,3 +1,10 @@
+pub mod Added
+pub mod Adding
+mod KindRows
+pub mod Linked
 pub mod NameLemmas
+pub mod NormalLemmas
 pub mod NormalValues
+pub mod Truth
+pub mod WrittenBytes
 pub mod WrittenLemmas

@@ -1,13 +1,11 @@
 -- What a format says beyond linking: what each of its fields is made of (our profile).
-use Rattle.std.specs.Prelude.{◌≡◌, ℕ, Bool, true, false, if◌then◌else◌, List, [], slice_get, Option, Some, None}
+use Rattle.std.specs.Prelude.{ℕ, Bool, true, false, if◌then◌else◌, List, slice_get, Option, Some, None}
 use Rattle.std.specs.Option.{option_map, option_and_then, unwrap_or}
 use Rattle.oc_base.specs.declared.format.Format.{Format}
-use Rattle.oc_base.specs.Formats.{word_for}
 use Rattle.oc_linking.specs.declared.terms.Width.{Width}
 use Rattle.oc_linking.specs.declared.terms.Check.{Check}
 use Rattle.oc_linking.specs.declared.terms.Hint.{Hint}
 use Rattle.oc_linking.specs.declared.terms.Keep.{Keep}
-use Rattle.oc_linking.specs.Parts as parts
 use Rattle.oc_linking.specs.Placing.{Placement}
 use Rattle.oc_linking.specs.Values.{Valuation}
 use Rattle.oc_linking.specs.Rules.{Named, Symbolic, Sectional, Field, Fields, Rules}

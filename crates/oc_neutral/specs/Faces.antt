@@ -1,15 +1,12 @@
 -- A neutral object, as linking sees it (our profile).
-use Rattle.std.specs.Prelude.{ℕ, if◌then◌else◌, List, map, replicate, slice_get, Option, Some, None}
+use Rattle.std.specs.Prelude.{ℕ, if◌then◌else◌, List, map, replicate, slice_get}
 use Rattle.std.specs.Option.{option_map, option_map_or}
-use Rattle.oc_base.specs.declared.format.Word.{Word}
 use Rattle.oc_base.specs.Formats.{word_for}
 use Rattle.oc_linking.specs.declared.terms.Fallback.{Fallback}
 use Rattle.oc_linking.specs.declared.terms.Fallback.TheVariants as fallback
 use Rattle.oc_linking.specs.declared.terms.Binding.{Binding}
 use Rattle.oc_linking.specs.declared.terms.Binding.TheVariants.{Local, Global, Undefined, Common, Weak}
 use Rattle.oc_linking.specs.Parts as parts
-use Rattle.oc_linking.specs.Placing.{Placement}
-use Rattle.oc_linking.specs.Values.{Valuation}
 use Rattle.oc_linking.specs.Rules.{Named, Symbolic, Sectional, Field, Fields}
 use Rattle.oc_linking.specs.Shows as linking
 use Rattle.oc_neutral.specs.declared.section.Section.{Section}

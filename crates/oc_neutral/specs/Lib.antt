@@ -1,10 +1,45 @@
+pub mod Alignments
 pub mod Building
+pub mod CoffKinds
+pub mod CoffRelocs
+pub mod CoffStrings
+pub mod Constants
 pub mod Dialects
+pub mod ElfKinds
+pub mod ElfRelocs
+pub mod Expressible
 pub mod Faces
+pub mod Families
+pub mod Fitted
+pub mod GivenTags
+pub mod HomeNames
 pub mod Invariants
+<<<<<<< HEAD
 pub mod Keeping
+=======
+pub mod KindRules
+>>>>>>> e91bf943d8c8e48586891dea33c87cbdcdd4c11e
 pub mod Laws
+pub mod MachKinds
+pub mod MachRelocs
 pub mod Normal
 pub mod Objects
+pub mod OmfKinds
+pub mod OmfRelocs
+pub mod Readable
+pub mod RelocConstants
+pub mod RelocTables
+pub mod Rows
+pub mod SectionSymbols
+pub mod SelfReferences
+pub mod Shifts
 pub mod Shows
+pub mod Spelling
+pub mod Stored
+pub mod TargetRelocations
+pub mod TargetSections
+pub mod TargetSymbols
+pub mod Targets
 pub mod Worth
+pub mod Written
+pub mod WrittenSymbols

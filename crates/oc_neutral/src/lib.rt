@@ -5,21 +5,27 @@
 mod builder;
 mod fault;
 mod fields;
+mod fitted;
 mod laws;
 mod limits;
 mod names;
 mod neutral;
 mod normal;
+mod reads;
 mod reloc;
 mod section;
 mod symbol;
+mod writes;
 
 pub use builder::Builder;
 pub use fault::BuildFault;
+pub use fitted::Fitted;
 pub use laws::normal_form_keeps_values;
 pub use neutral::Neutral;
 pub use oc_algebra::{Base, Check, Form, Less, Width};
 pub use oc_linking::{Binding, Fallback, Hint, Keep, Kind, Mark, Value, Visibility};
+pub use reads::{ReadFault, Reads};
 pub use reloc::{Reloc, Target};
 pub use section::Section;
 pub use symbol::Symbol;
+pub use writes::{Emits, Writes};

@@ -1,0 +1,108 @@
+-- What a target can express of sections (gABI, "Section Header"; PE/COFF, "Section Table"; Mach-O reference, "section";
+-- TIS OMF 1.1, "SEGDEF: Segment Definition Record"; our profile).
+use Rattle.std.specs.Prelude.{ℕ, ◌+◌, Bool, not, ◌&&◌, ◌||◌, nat_lt, List, [], ◌∷◌, length, map, slice_get, get_or, count_by}
+use Rattle.std.specs.List.{range_with_len}
+use Rattle.std.specs.Option.{option_map_or}
+use Rattle.oc_base.specs.declared.format.Format.{Format}
+use Rattle.oc_base.specs.declared.code.Code.{Code}
+use Rattle.oc_base.specs.declared.code.Code.TheVariants.{TooMany, DebugKept, ExceptionKept, KindUnavailable, AlignTooBig, NameForm}
+use Rattle.oc_base.specs.declared.fault.Phase.TheVariants.{TargetSection}
+use Rattle.oc_base.specs.declared.fault.Spot.{Spot}
+use Rattle.oc_base.specs.Faults.{fault_at}
+use Rattle.oc_linking.specs.declared.terms.Kind.{Kind}
+use Rattle.oc_linking.specs.declared.terms.Kind.TheVariants.{Init, Fini, Debug, Exception}
+use Rattle.oc_linking.specs.FirstFault.{Condition, Stage}
+use Rattle.oc_neutral.specs.declared.section.Section.{Section}
+use Rattle.oc_neutral.specs.Families.{Family, IsElf, IsCoff, IsMach, IsOmf, family_of, is_of, same_format}
+use Rattle.oc_neutral.specs.KindRules.{same_kind}
+use Rattle.oc_neutral.specs.GivenTags.{has_nul}
+use Rattle.oc_neutral.specs.Objects.{Object}
+use Rattle.oc_neutral.specs.SelfReferences.{is_relocated}
+use Rattle.oc_neutral.specs.HomeNames.{output_names}
+use Rattle.oc_neutral.specs.Alignments.{most_align}
+use Rattle.oc_neutral.specs.CoffStrings.{is_tabled, string_offset}
+
+-- the conditions on what stands at a spot: whether each is broken, and its code
+abbrev pub judged : Spot → List (Bool × Code) → List Condition
+judged spot conditions = map (λ (c : Bool × Code). (c.0, fault_at spot c.1)) conditions
+
+-- the conditions on the thing at a position of a list, which is there
+abbrev pub each_of : {X : Type 0} → (X → List Condition) → List X → ℕ → List Condition
+each_of conditions xs i = option_map_or conditions (slice_get xs i) []
+
+-- how many section headers an ELF output has: the null one, those of the sections, of a relocation table for each section
+-- that has relocations, and of the symbol table and the two string tables
+abbrev pub header_count : Format → Object → ℕ
+header_count target n = 4 + length n.sections + count_by (is_relocated target n) (range_with_len 0 (length n.sections))
+
+-- what is counted of sections
+abbrev pub counted_in : Family → Format → Object → ℕ
+counted_in IsElf target n = header_count target n
+counted_in IsCoff target n = length n.sections
+counted_in IsMach target n = length n.sections
+counted_in IsOmf target n = length n.sections
+
+-- and how many there can be
+abbrev pub most_counted : Family → ℕ
+most_counted IsElf = 65279
+most_counted IsCoff = 65279
+most_counted IsMach = 255
+most_counted IsOmf = 30000
+
+-- a count in a target
+abbrev pub count_spot : ℕ → Spot
+count_spot count = record { phase = TargetSection; index = 0; place = count }
+
+-- the condition on the number of sections
+abbrev pub section_count : Format → Object → List Condition
+section_count target n =
+    let count : ℕ = counted_in (family_of target) target n in
+    judged (count_spot count) ((nat_lt (most_counted (family_of target)) count, TooMany) ∷ [])
+
+-- a Debug section stays in its format, and there is none in OMF
+abbrev pub is_debug_kept : Format → Format → Kind → Bool
+is_debug_kept target from kind = same_kind kind Debug && (not (same_format target from) || is_of IsOmf from)
+
+-- one format is ELF and the other COFF
+abbrev pub are_elf_and_coff : Format → Format → Bool
+are_elf_and_coff f g = (is_of IsElf f && is_of IsCoff g) || (is_of IsCoff f && is_of IsElf g)
+
+-- an Exception section goes to another format from ELF to COFF and back alone
+abbrev pub is_exception_kept : Format → Format → Kind → Bool
+is_exception_kept target from kind = same_kind kind Exception && not (same_format target from) && not (are_elf_and_coff target from)
+
+-- OMF has no sections of functions that run before or after the program
+abbrev pub is_unavailable : Format → Kind → Bool
+is_unavailable target kind = is_of IsOmf target && (same_kind kind Init || same_kind kind Fini)
+
+-- the target cannot write the name of a section: it has a NUL; in COFF its offset has more than seven digits; in OMF it has more than 255 bytes
+abbrev pub is_unwritable : Family → Format → Object → List ℕ → Bool
+is_unwritable IsElf target n name = has_nul name
+is_unwritable IsCoff target n name = has_nul name || (is_tabled name && nat_lt 9999999 (string_offset target n name))
+is_unwritable IsMach target n name = has_nul name
+is_unwritable IsOmf target n name = nat_lt 255 (length name)
+
+-- a section in a target
+abbrev pub section_spot : Section → Spot
+section_spot s = record { phase = TargetSection; index = s.number; place = 0 }
+
+-- the conditions on a section that has this name in the output
+unfoldable pub section_conditions : Format → Object → List ℕ → Section → List Condition
+section_conditions target n name s = judged (section_spot s) (
+    (is_debug_kept target n.format s.kind, DebugKept)
+    ∷ (is_exception_kept target n.format s.kind, ExceptionKept)
+    ∷ (is_unavailable target s.kind, KindUnavailable)
+    ∷ (nat_lt (most_align target) s.align, AlignTooBig)
+    ∷ (is_unwritable (family_of target) target n name, NameForm)
+    ∷ [])
+
+-- the conditions on the section at a position
+abbrev pub conditions_at : Format → Object → ℕ → List Condition
+conditions_at target n i = each_of (section_conditions target n (get_or (output_names target n) i [])) n.sections i
+
+-- what is judged of sections: their number, and then each in the order of the list
+unfoldable pub section_stages : Format → Object → List Stage
+section_stages target n =
+    record { count = 1; conditions = λ i. section_count target n }
+    ∷ record { count = length n.sections; conditions = conditions_at target n }
+    ∷ []

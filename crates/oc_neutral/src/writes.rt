@@ -1,0 +1,55 @@
+//! What a writer of a format promises.
+ghost use Rattle.std.specs.Prelude.{◌≡◌, ℕ, ◌≤◌, List, length, IfOk, OnOk, OnErr};
+ghost use Rattle.oc_outside.specs.Causes.{Rose};
+ghost use Rattle.oc_outside.specs.Texts.{grown, TakesPrefix};
+ghost use Rattle.oc_neutral.specs.Dialects.{Dialect};
+ghost use Rattle.oc_neutral.specs.Objects.{Object};
+ghost use Rattle.oc_neutral.specs.Targets.{IsDialect, WritesCanonical};
+
+use crate::fitted::Fitted;
+use oc_base::NoMemory;
+use oc_outside::{Failed, Sink};
+use std::alloc::Global;
+
+/// A planned file, which can be put to a sink. No call takes memory.
+pub trait Emits {
+    /// The file.
+    ghost file: { Self → List ℕ };
+
+    /// Its length in bytes.
+    fn len(&self) -> u64
+        ensures { result ≡ length (file self.now) };
+
+    /// Puts the file to a sink, in pieces of 4,096 bytes, the last one shorter.
+    ///
+    /// After Failed the sink took some front of the file, and its count rose.
+    fn emit<S: Sink>(&self, sink: &mut S) -> Result<(), Failed>
+        ensures ok { OnOk result (S.taken sink.new ≡ grown (file self.now) (S.taken sink.old)) }
+        ensures err { OnErr result (TakesPrefix (file self.now) (S.taken sink.old) (S.taken sink.new)) }
+        ensures counts { S.faults sink.old ≤ S.faults sink.new }
+        ensures cause { OnErr result (Rose (S.faults sink.old) (S.faults sink.new)) }
+        ensures beside { S.beside sink.new ≡ S.beside sink.old }
+        ensures borrow { S.borrow sink.new ≡ S.borrow sink.old };
+}
+
+/// A writer of a format.
+pub trait Writes {
+    /// The planned file.
+    type Plan: Emits;
+
+    /// The format.
+    ghost dialect: { Dialect };
+
+    /// The one file that is written for an object.
+    ghost canonical: { Object → List ℕ };
+
+    /// The plan of the file of an object that is ready to be written in the format. `NoMemory` where
+    /// memory ran out.
+    fn plan(&self, alloc: Global, fitted: Fitted) -> Result<Self::Plan, NoMemory>
+        requires { fitted.format ≡ dialect.format }
+        ensures { IfOk result (λ plan. Self.Plan.file plan ≡ canonical fitted) };
+
+    /// The dialect says of words and alignments what its format does, and the file of each object that is
+    /// ready to be written is well formed, shows an object, and this looks like the one that is written.
+    ghost law: { WritesCanonical dialect canonical };
+}
