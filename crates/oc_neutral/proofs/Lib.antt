@@ -2,6 +2,8 @@ pub mod Added
 pub mod Adding
 mod KindRows
 pub mod Linked
+pub mod MoreSections
+pub mod MoreSymbols
 pub mod NameLemmas
 pub mod NormalLemmas
 pub mod NormalValues

@@ -1,5 +1,5 @@
 -- A set of names with one more.
-use Rattle.std.proofs.Common.{◌≡◌, ℕ, Bool, true, false, ◌||◌, List, [], ◌∷◌, refl, sym, ◌∙◌, ap, bytes_eq}
+use Rattle.std.proofs.Common.{◌≡◌, ℕ, Bool, true, false, not, ◌||◌, List, [], ◌∷◌, refl, sym, ◌∙◌, ap, bytes_eq}
 use Rattle.std.specs.declared.vec.Vec.{Vec}
 use Rattle.std.specs.declared.cmp.Ordering.{Ordering}
 use Rattle.std.specs.declared.cmp.Ordering.TheVariants.{Less, Equal, Greater}
@@ -42,6 +42,15 @@ module _ {K : Type 0} where
       by Less e rest = refl
       by Equal e rest = either_again (p k) (p x) (list_any p xs) (same k x e)
       by Greater e rest = either_swap (p k) (p x) (list_any p xs) (list_any p (insert_key cmp xs k)) rest
+
+-- what a test is, whose opposite is known
+pub not_true : (t : Bool) → not t ≡ true → t ≡ false
+not_true true e = cc
+not_true false e = refl
+
+pub not_false : (t : Bool) → not t ≡ false → t ≡ true
+not_false true e = refl
+not_false false e = cc
 
 -- the names that are equal to one are those that compare equal
 same_names : (a b : List ℕ) → is_eq (slice_cmp nat_cmp a b) ≡ bytes_eq b a

@@ -1,5 +1,5 @@
 -- What a Builder keeps beside the object (our profile): running sums, and the names of nonlocal symbols.
-use Rattle.std.specs.Prelude.{◌≡◌, ℕ, ◌≤◌, Bool, not, ◌&&◌, bytes_eq, List, length, take, Result, Ok, Err}
+use Rattle.std.specs.Prelude.{◌≡◌, ℕ, ◌≤◌, Bool, not, ◌&&◌, bytes_eq, List, [], length, take, Result, Ok, Err}
 use Rattle.std.specs.declared.vec.Vec.{Vec}
 use Rattle.std.specs.List.{list_any}
 use Rattle.std.specs.BTreeSet.{BTreeSet}
@@ -11,7 +11,7 @@ use Rattle.oc_algebra.specs.declared.form.Form.{Form}
 use Rattle.oc_algebra.specs.Folds.{fold_of}
 use Rattle.oc_chains.specs.declared.fault.ChainFault.{ChainFault}
 use Rattle.oc_chains.specs.declared.fault.ChainFault.TheVariants as chain
-use Rattle.oc_chains.specs.Lists.{Lists, with_field}
+use Rattle.oc_chains.specs.Lists.{Lists, list_of, with_field}
 use Rattle.oc_neutral.specs.declared.section.Section.{Section}
 use Rattle.oc_neutral.specs.declared.symbol.Symbol.{Symbol}
 use Rattle.oc_neutral.specs.declared.reloc.Reloc.{Reloc}
@@ -42,9 +42,10 @@ draft_of format sections symbols relocs folded = record {
   folded = take (length sections) folded;
 }
 
--- the sums are those of the sections, and the names those of the nonlocal symbols
+-- no field is folded into a section that is not there; the sums are those of the sections, and the names those of the nonlocal symbols
 pub record IsKept {Z : Type 0} (sections : List Section) (symbols : List Symbol) (folded : Lists Folded) (sizes stored : ℕ) (names : BTreeSet (Vec ℕ Z)) : Type 0 where
   pub room : length sections ≤ length folded
+  pub beyond : (k : ℕ) → length sections ≤ k → list_of folded k ≡ []
   pub sizes_are : sizes ≡ size_sum sections
   pub stored_are : stored ≡ stored_sum sections
   pub named : (name : List ℕ) → is_among names name ≡ has_name symbols name

@@ -14,11 +14,8 @@ pub mod Fitted
 pub mod GivenTags
 pub mod HomeNames
 pub mod Invariants
-<<<<<<< HEAD
 pub mod Keeping
-=======
 pub mod KindRules
->>>>>>> e91bf943d8c8e48586891dea33c87cbdcdd4c11e
 pub mod Laws
 pub mod MachKinds
 pub mod MachRelocs

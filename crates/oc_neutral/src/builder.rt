@@ -8,7 +8,7 @@ ghost use Rattle.oc_neutral.specs.Keeping.{is_again, is_among, is_named};
 
 use crate::fault::BuildFault;
 use crate::fields::{hold, is_met, put};
-use crate::limits::{are_bytes, limit_passed, stored_size};
+use crate::limits::{is_section, limit_passed, stored_size};
 use crate::names::add_name;
 use crate::neutral::Neutral;
 use crate::normal::{Folded, normalize};
@@ -88,8 +88,7 @@ impl Builder {
         if let Some(fault) = limit_passed(self.sizes, self.stored, &section) {
             return Err(fault);
         }
-        are_bytes(&section.name);
-        are_bytes(&section.bytes);
+        is_section(&section);
         let index = self.sections.len() as u32;
         let (size, stored) = (u64::from(section.size), u64::from(stored_size(&section)));
         push_section(

@@ -1,11 +1,11 @@
 //! The limits on sections.
 ghost use Rattle.std.specs.Prelude.{◌≡◌, ◌^◌, ◌<◌, ◌≤◌};
 ghost use Rattle.oc_neutral.specs.Building as building;
-ghost use Rattle.oc_neutral.specs.Invariants.{AreBytes};
+ghost use Rattle.oc_neutral.specs.Invariants.{AreBytes, IsSection};
 
 use crate::fault::BuildFault;
 use crate::section::Section;
-use oc_base::{Bytes, Code};
+use oc_base::Code;
 use oc_linking::Kind;
 
 /// The most bytes that a section has when it is placed.
@@ -57,8 +57,18 @@ fn passed(code: Code, counted: u64) -> BuildFault
 }
 
 /// What holds of each of the bytes, for callers to cite. It does nothing.
-pub(crate) fn are_bytes(bytes: &Bytes)
+fn are_bytes(bytes: &[u8])
     ensures { AreBytes bytes.now }
 {
-    let _ = bytes.as_slice();
+    let _ = bytes;
+}
+
+/// What holds of the numbers of a section, for callers to cite. It does nothing.
+pub(crate) fn is_section(section: &Section)
+    ensures { IsSection section.now }
+{
+    are_bytes(section.name.as_slice());
+    are_bytes(section.bytes.as_slice());
+    let _tag = section.tag;
+    let _number = section.number;
 }
