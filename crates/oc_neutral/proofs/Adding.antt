@@ -25,7 +25,7 @@ pub or_left : (a b : Bool) → (a || b) ≡ false → a ≡ false
 or_left false b e = refl
 or_left true b e = absurd (true≢false e)
 
-or_right : (a b : Bool) → (a || b) ≡ false → b ≡ false
+pub or_right : (a b : Bool) → (a || b) ≡ false → b ≡ false
 or_right false b e = e
 or_right true b e = absurd (true≢false e)
 

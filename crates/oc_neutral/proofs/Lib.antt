@@ -1,7 +1,9 @@
 pub mod Added
 pub mod Adding
+pub mod HeldLemmas
 mod KindRows
 pub mod Linked
+pub mod MoreRelocs
 pub mod MoreSections
 pub mod MoreSymbols
 pub mod NameLemmas
