@@ -1,10 +1,11 @@
 -- What was held of a relocation, and what its draft becomes.
 use Rattle.std.proofs.Common.{◌≡◌, ◌⊎◌, ℕ, zero, suc, ◌+◌, ◌-◌, ◌^◌, ◌<◌, ◌≤◌, Bool, true, false, ◌||◌, cond, nat_lt, eqb, List, [], ◌∷◌, length, get_or, set, take, inl, inr, refl, sym, ◌∙◌, ap, subst, arith, Option, Some, None, slice_get, Result, Ok, Err}
 use Rattle.std.specs.Prelude.{ℤ}
-use Rattle.std.specs.List.{list_any}
+use Rattle.std.specs.List.{list_any, sum_by}
+use Rattle.std.proofs.lemmas.List.Sums.{sum_by-set}
 use Rattle.std.proofs.lemmas.Bool.Decides.{nat_tests}
 use Rattle.std.proofs.lemmas.List.{get_or-take, length-set, length-take}
-use Rattle.std.proofs.lemmas.Option.{slice_get_within}
+use Rattle.std.proofs.lemmas.Option.{get_or_from_slice_get, slice_get_within}
 use Rattle.std.proofs.Math.Seq.{take-set-lt}
 use Rattle.oc_base.specs.declared.format.Format.{Format}
 use Rattle.oc_base.specs.declared.format.Word.{Word}
@@ -12,6 +13,7 @@ use Rattle.oc_base.specs.Formats.{word_for}
 use Rattle.oc_linking.specs.declared.terms.Width.{Width}
 use Rattle.oc_linking.specs.Fits.{bytes_of}
 use Rattle.oc_algebra.specs.declared.fields.AddendTooWide.{AddendTooWide}
+use Rattle.oc_algebra.specs.declared.form.Form.{Form}
 use Rattle.oc_algebra.specs.Folds.{fold_of}
 use Rattle.oc_chains.specs.declared.field.Field.{Field}
 use Rattle.oc_chains.specs.Fields.{field, meets, placed}
@@ -213,3 +215,27 @@ module _ (f : Format) (ss : List Section) (ys : List Symbol) (rs : Lists Reloc) 
               let made : Held = record { number = h.number; relocs = rs; folded = with_field fs s at k (record {}) } in
               let same : made ≡ h = ap (λ (a : Lists Reloc). heldof h.number a (with_field fs s at k (record {}))) (sym stored.relocs) ∙ ap (λ (b : Lists Folded). heldof h.number h.relocs b) (sym stored.folded) in
               subst (λ (g : Held). IsMade g) same (constant_made c h.number e stored.number)
+
+-- the section with the bytes that were written
+abbrev pub rebuilt : Section → List ℕ → Section
+rebuilt e bytes = record { name = e.name; kind = e.kind; align = e.align; size = e.size; bytes = bytes; tag = e.tag; number = e.number }
+
+pub rebuilt_is : (ss : List Section) (s at k width number : ℕ) (e x : Section) (bytes : List ℕ) → e ≡ get_or ss s e → slice_get ss s ≡ Some x → width ≡ k → bytes ≡ written width number at e.bytes
+    → record { name = e.name; kind = e.kind; align = e.align; size = e.size; bytes = bytes; tag = e.tag; number = e.number } ≡ with_number k number at x
+rebuilt_is ss s at k width number e x bytes entry here same wrote =
+    let is : e ≡ x = entry ∙ get_or_from_slice_get ss s x e here in
+    ap (rebuilt e) wrote ∙ ap (λ w. rebuilt e (written w number at e.bytes)) same ∙ ap (λ (z : Section). with_number k number at z) is
+
+-- what is held, where the parts are as they were computed
+pub held_is : (w v : Word) (form : Form) (rs : Lists Reloc) (fs : Lists Folded) (s at : ℕ) (r : Reloc) (ys zs : List Symbol) (n : Normal) → w ≡ v → n ≡ normal_of w zs s at r → zs ≡ ys
+    → held_by v form rs fs s at (normal_of v ys s at r) ≡ held_by w form rs fs s at n
+held_is w v form rs fs s at r ys zs n word is symbols =
+    ap (λ (u : Word). held_by u form rs fs s at (normal_of u ys s at r)) (sym word)
+    ∙ ap (λ (l : List Symbol). held_by w form rs fs s at (normal_of w l s at r)) (sym symbols)
+    ∙ ap (λ (m : Normal). held_by w form rs fs s at m) (sym is)
+
+-- the sums stay
+pub sum_numbered : (g : Section → ℕ) (ss : List Section) (s at k number : ℕ) (x : Section) → slice_get ss s ≡ Some x → g (with_number k number at x) ≡ g x
+    → sum_by g (set ss s (with_number k number at x)) ≡ sum_by g ss
+sum_numbered g ss s at k number x here same =
+    omega (arith, sum_by-set g ss s (with_number k number at x) x (slice_get_within ss s x here), ap g (get_or_from_slice_get ss s x x here), same)

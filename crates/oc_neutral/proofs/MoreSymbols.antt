@@ -44,6 +44,7 @@ unnamed (z ∷ zs) name none zero s here own = by (is_local z.binding) (bytes_eq
   where
     same : z ≡ s
     same = same_Some z s here
+
     by : (a b : Bool) → is_local z.binding ≡ a → bytes_eq z.name name ≡ b → (not a && b || has_name zs name) ≡ false → s.name ≢ name
     by true b e f none is = true≢false (sym e ∙ ap (λ (x : Symbol). is_local x.binding) same ∙ own)
     by false true e f none is = true≢false none
@@ -68,6 +69,7 @@ module _ (d : Draft) (y : Symbol) (draft : IsDraft d) (single : is_double d.obje
     where
       there : j < length (d.object.symbols ++ y ∷ [])
       there = slice_get_within (d.object.symbols ++ y ∷ []) j t at_j
+
       by : (b : Bool) → nat_lt j (length d.object.symbols) ≡ b → s.name ≢ t.name
       by true e =
           let j_lt : j < length d.object.symbols = grind (arith, nat_tests) in

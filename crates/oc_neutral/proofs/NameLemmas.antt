@@ -71,5 +71,5 @@ module _ {Z : Type 0} where
   among_more old new key name is keys q =
       ap (list_any (λ (x : Vec ℕ Z). bytes_eq x.items q)) keys
       ∙ any_inserted (λ (x y : Vec ℕ Z). slice_cmp nat_cmp x.items y.items) (λ (x : Vec ℕ Z). bytes_eq x.items q)
-        (λ k x e. ap (λ (xs : List ℕ). bytes_eq xs q) (exact_bytes k.items x.items e)) old.keys key
+      (λ k x e. ap (λ (xs : List ℕ). bytes_eq xs q) (exact_bytes k.items x.items e)) old.keys key
       ∙ ap (λ (xs : List ℕ). bytes_eq xs q || is_among old q) is

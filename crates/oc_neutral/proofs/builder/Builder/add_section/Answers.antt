@@ -22,12 +22,11 @@ invariant_of-self-2 c =
     let made = c.in_ok-push_section.ensures in
     let d = draft_of b.format b.sections.items b.symbols.items b.relocs.lists b.folded.lists in
     let is = sectioned_is b.format b.sections.items new.sections.items b.symbols.items b.relocs.lists new.relocs.lists b.folded.lists new.folded.lists c.args.section
-        made.sections made.relocs made.folded kept.room made.room_after (kept.beyond (length b.sections.items) (omega arith)) in
+    made.sections made.relocs made.folded kept.room made.room_after (kept.beyond (length b.sections.items) (omega arith)) in
     let none : c.limit_passed.result ≡ None = search rules in
     let passed = sym (limit_is b.sections.items b.sizes b.stored c.args.section kept.sizes_are kept.stored_are) ∙ sym c.limit_passed.ensures ∙ none in
     let long = ap length made.sections ∙ length-append b.sections.items (c.args.section ∷ []) in
-    let room : length b.sections.items < 2 ^ 31 - 1 = rw (← c.self.view_is) at c.requires.room in
-    (
+    let room : length b.sections.items < 2 ^ 31 - 1 = rw (← c.self.view_is) at c.requires.room in (
       subst (λ (e : Draft). IsDraft e) (sym is) (section_draft d c.args.section c.self.invariant.0 c.requires.bytes c.is_section.ensures passed room),
       record {
         room = made.room_after;
@@ -46,7 +45,7 @@ returns-clause-added c =
     let made = c.in_ok-push_section.ensures in
     let d = draft_of b.format b.sections.items b.symbols.items b.relocs.lists b.folded.lists in
     let is = sectioned_is b.format b.sections.items new.sections.items b.symbols.items b.relocs.lists new.relocs.lists b.folded.lists new.folded.lists c.args.section
-        made.sections made.relocs made.folded kept.room made.room_after (kept.beyond (length b.sections.items) (omega arith)) in
+    made.sections made.relocs made.folded kept.room made.room_after (kept.beyond (length b.sections.items) (omega arith)) in
     let none : c.limit_passed.result ≡ None = search rules in
     let passed = sym (limit_is b.sections.items b.sizes b.stored c.args.section kept.sizes_are kept.stored_are) ∙ sym c.limit_passed.ensures ∙ none in
     subst (λ (e : Draft). section_added e c.args.section ≡ Ok (draft_of b.format new.sections.items b.symbols.items new.relocs.lists new.folded.lists)) c.self.view_is

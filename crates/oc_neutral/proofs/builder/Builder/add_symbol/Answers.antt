@@ -26,10 +26,9 @@ invariant_of-self-2 c =
     let d = draft_of b.format b.sections.items b.symbols.items b.relocs.lists b.folded.lists in
     let made = c.in_ok-push_symbol.ensures in
     let single = sym (ap (λ t. not (is_local c.args.symbol.binding) && t) (kept.named c.args.symbol.name)) ∙ made.new in
-    let room : length b.symbols.items < 2 ^ 31 - 1 = rw (← c.self.view_is) at c.requires.room in
-    (
+    let room : length b.symbols.items < 2 ^ 31 - 1 = rw (← c.self.view_is) at c.requires.room in (
       subst (λ (ys : List Symbol). IsDraft (draft_of b.format b.sections.items ys b.relocs.lists b.folded.lists)) (sym made.symbols)
-      (symbol_draft d c.args.symbol c.self.invariant.0 single room),
+          (symbol_draft d c.args.symbol c.self.invariant.0 single room),
       record {
         room = kept.room;
         beyond = kept.beyond;
