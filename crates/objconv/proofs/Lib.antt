@@ -5,6 +5,7 @@ pub mod FaithfulLemmas
 pub mod FieldLemmas
 pub mod FoundLemmas
 pub mod HeaderLemmas
+pub mod KeyLemmas
 pub mod ListedLemmas
 pub mod ObjectLemmas
 pub mod OneSectionLemmas
@@ -14,8 +15,9 @@ pub mod PlainLemmas
 pub mod RaisingLemmas
 pub mod RefusalLemmas
 pub mod RelsLemmas
+pub mod RewritingLemmas
+pub mod RisingLemmas
 pub mod SectionLemmas
-pub mod SeenLemmas
 pub mod SymbolLemmas
 pub mod SymbolsLemmas
 pub mod TargetLemmas

@@ -1,7 +1,12 @@
+pub mod Coded
 pub mod Converted
+pub mod Dialects
 pub mod Jobs
+pub mod Keys
 pub mod Links
+pub mod Neutral
 pub mod Plain
 pub mod Raising
 pub mod Refusals
+pub mod Rewriting
 pub mod Runs

@@ -100,7 +100,7 @@ fn convert_file<F: Files>(
 ///   of the planned file. 7: memory ran out, before anything was written.
 ///
 /// With every status but 0 and 5 no file is changed. Where telling a text fails, the status stays.
-/// Takes memory for a few copies of the input and for tables of its symbols and relocations.
+/// Takes memory for the input, for the output and for tables of its symbols and relocations.
 pub fn run<F: Files, C: Console>(alloc: Global, words: &Words, files: &mut F, console: &mut C) -> u8
     // when each status comes
     ensures words { (result ≡ 3) ↔ (job_of words.now ≡ None) }

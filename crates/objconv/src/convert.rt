@@ -1,10 +1,11 @@
 //! The conversion of a plain ELF32 object to COFF32.
-ghost use Rattle.std.specs.Prelude.{◌≡◌, ◌+◌, ◌≤◌, None, true, length, IfOk, IfErr, OnOk};
+ghost use Rattle.std.specs.Prelude.{◌≡◌, ◌+◌, ◌≤◌, None, true, length, take, drop, IfOk, IfErr, OnOk};
 ghost use Rattle.objconv.specs.Links.{AreFields, IsConverted, text_in};
 ghost use Rattle.objconv.specs.Plain as plain;
 ghost use Rattle.objconv.specs.Refusals.{IsJudged, not_built, plain_refusal};
+ghost use Rattle.objconv.specs.Rewriting.{IsRaisedWithin};
 
-use crate::emit::emit;
+use crate::emit::{TEXT_PLACE, emit};
 use crate::fields::fields_of;
 use crate::headers::Headers;
 use crate::plain::headers_of;
@@ -47,14 +48,28 @@ fn refused() -> ConvertFault
     ConvertFault::Refused(header.fault(Code::NotBuilt))
 }
 
-// a copy of the contents of `.text`
-fn contents(alloc: Global, file: &[u8], headers: &Headers) -> Result<Vec<u8>, NoMemory>
+// the contents of `.text`
+fn contents<'a>(file: &'a [u8], headers: &Headers) -> &'a [u8]
     requires { plain.AreLaid file.now headers.now }
-    ensures { IfOk result (λ text. text.items ≡ text_in file.now headers.now) }
+    ensures { result.now ≡ text_in file.now headers.now }
 {
     let start = headers.text.sh_offset as usize;
     let size = headers.text.sh_size as usize;
-    Ok(file[start..start + size].to_vec(alloc)?)
+    &file[start..start + size]
+}
+
+// raises the fields of a canonical file that has the contents of `.text` as they were
+fn raise_in(out: &mut [u8], file: &[u8], headers: &Headers)
+    requires laid { plain.AreLaid file.now headers.now }
+    requires fields { plain.has_rels file.now headers.now ≡ true }
+    requires place { 60 + headers.now.text.sh_size ≤ length out.old }
+    requires text { take headers.now.text.sh_size (drop 60 out.old) ≡ text_in file.now headers.now }
+    ensures raised { IsRaisedWithin file.now headers.now out.old out.new }
+    ensures length { length out.new ≡ length out.old }
+{
+    let end = TEXT_PLACE + headers.text.sh_size as usize;
+    let text = &mut out[TEXT_PLACE..end];
+    raise_fields(text, file, headers);
 }
 
 // the COFF file of a plain object, by its relocations
@@ -72,9 +87,9 @@ fn rewrite(
     requires small { length file.now ≤ 67108864 }
     ensures { IfOk result (λ out. IsConverted file.now out.items) }
 {
-    let mut text = contents(alloc, file, headers)?;
-    raise_fields(text.as_mut_slice(), file, headers);
-    emit(alloc, file, headers, text.as_slice(), fields)
+    let mut out = emit(alloc, file, headers, contents(file, headers), fields)?;
+    raise_in(out.as_mut_slice(), file, headers);
+    Ok(out)
 }
 
 /// Converts a plain ELF32 object of at most 67,108,864 bytes to COFF32. The answer is the canonical

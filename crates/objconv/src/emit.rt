@@ -24,6 +24,9 @@ use oc_elf_read::{R_386_32, Rel, STT_FUNC, Sym};
 use std::alloc::Global;
 use std::collections::BTreeMap;
 
+/// Where the contents of `.text` begin: behind the file header and the section header.
+pub const TEXT_PLACE: usize = 60;
+
 /// The numbers that the places of a file's parts follow from.
 #[derive(Clone, Copy, Debug)]
 pub struct Layout {
@@ -84,6 +87,12 @@ impl Layout {
             NumberOfLinenumbers: 0,
             Characteristics: flags(self.exponent),
         }
+    }
+
+    // how many bytes the file has
+    fn file_size(self) -> usize {
+        let entries = self.symbols as usize + 2;
+        TEXT_PLACE + self.size as usize + 10 * self.relocs as usize + 18 * entries + 4
     }
 
     // the auxiliary entry of the symbol of `.text`
@@ -201,8 +210,8 @@ fn push_externals(out: &mut Vec<u8>, file: &[u8], headers: &Headers) -> Result<(
     Ok(())
 }
 
-/// The canonical COFF file of a plain object whose fields were raised. Takes memory for the file.
-/// Linear in the file.
+/// The canonical COFF file of a plain object with these contents of `.text`. Takes memory for the
+/// file, all at once. Linear in the file.
 pub fn emit(
     alloc: Global,
     file: &[u8],
@@ -224,7 +233,7 @@ pub fn emit(
         relocs: fields.len() as u16,
         symbols: (symbol_count(headers) - 2) as u32,
     };
-    let mut out = Vec::new(alloc);
+    let mut out = Vec::with_capacity(alloc, layout.file_size())?;
     push_file_header(&mut out, &layout.file_header())?;
     push_section_header(&mut out, &layout.section_header())?;
     out.extend_from_slice(text)?;

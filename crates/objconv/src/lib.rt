@@ -3,6 +3,7 @@
 
 mod command;
 mod convert;
+mod distinct;
 mod emit;
 mod fields;
 mod headers;

@@ -73,17 +73,29 @@ pub fn push_relocation(out: &mut Vec<u8>, relocation: Relocation) -> Result<(), 
     push_u16(out, relocation.Type)
 }
 
+// the bytes of a symbol table entry
+#[tactic(auto, unfolding(oc_coff_read::specs::SymbolEntry::symbol_bytes, oc_base::specs::Numbers::bytes_of_number))]
+fn symbol_bytes(symbol: SymbolEntry) -> [u8; 18]
+    ensures { result ≡ symbol_bytes symbol }
+{
+    let n = symbol.Name;
+    let v = symbol.Value.to_le_bytes();
+    let s = symbol.SectionNumber.to_le_bytes();
+    let t = symbol.Type.to_le_bytes();
+    let class = symbol.StorageClass;
+    let aux = symbol.NumberOfAuxSymbols;
+    [
+        n[0], n[1], n[2], n[3], n[4], n[5], n[6], n[7], v[0], v[1], v[2], v[3], s[0], s[1], t[0],
+        t[1], class, aux,
+    ]
+}
+
 /// Puts a symbol table entry behind `out`.
-#[tactic(auto, unfolding(oc_coff_read::specs::SymbolEntry::symbol_bytes))]
 pub fn push_symbol(out: &mut Vec<u8>, symbol: &SymbolEntry) -> Result<(), NoMemory>
     ensures { OnOk result (out.new.items ≡ out.old.items ++ symbol_bytes symbol.now) }
 {
-    out.extend_from_slice(&symbol.Name)?;
-    push_u32(out, symbol.Value)?;
-    push_u16(out, symbol.SectionNumber)?;
-    push_u16(out, symbol.Type)?;
-    push_u8(out, symbol.StorageClass)?;
-    push_u8(out, symbol.NumberOfAuxSymbols)
+    out.extend_from_slice(&symbol_bytes(*symbol))?;
+    Ok(())
 }
 
 /// Puts the auxiliary entry of a section's own symbol behind `out`.

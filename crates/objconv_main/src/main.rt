@@ -29,7 +29,7 @@ fn main(rt: HostRuntime) -> ExitCode {
     let Ok(words) = words(&rt) else {
         return ExitCode::from(NO_MEMORY);
     };
-    let mut files = RealFiles::new(&rt);
+    let mut files = RealFiles::new(rt.alloc(), &rt);
     let mut console = RealConsole::new(rt.stdout(), rt.stderr());
     ExitCode::from(run(rt.alloc(), &words, &mut files, &mut console))
 }

@@ -25,12 +25,20 @@ use Rattle.oc_neutral.specs.declared.normal.Normal.{Normal}
 use Rattle.oc_neutral.specs.declared.normal.Normal.TheVariants as normal
 use Rattle.oc_neutral.specs.Objects.{Object}
 use Rattle.oc_neutral.specs.Normal.{Place, local_place, place_among, at_section, by_section, cancels, takes_section, by_place, folded, normal_of}
+use Rattle.oc_neutral.specs.Dialects.{less_in}
 use Rattle.oc_neutral.specs.Building.{with_section, with_symbol}
 use Rattle.oc_neutral.specs.Invariants.{HasOffset, IsBinding, IsThere, IsTargetThere, IsLessThere, IsNormal, IsHeld, IsHinted}
 
+-- the target of the normal form: the section of the place, where there is one
+abbrev pub section_for : Option Place → Target → Target
+section_for None t = t
+section_for (Some place) t = target.Section place.0
+
 -- what holds of a relocation q that a relocation r of section s leaves
 pub record IsLeft (w : Word) (symbols : List Symbol) (s : ℕ) (r q : Reloc) : Type 0 where
+  pub target : q.target ≡ section_for (place_among symbols r.target) r.target
   pub base : q.form.base ≡ r.form.base
+  pub less : q.form.less ≡ less_in s r.form.less
   pub width : q.form.width ≡ r.form.width
   pub check : q.form.check ≡ r.form.check
   pub hint : q.hint ≡ r.hint
@@ -62,7 +70,9 @@ folded-left w symbols s at r reduced against = by (cancels r.form.base r.target 
         → OfKept (IsLeft w symbols s r) (cond a (normal.Constant r.addend) (cond b (normal.Kept (by_place w at r)) (normal.Kept r)))
     by true b e f = tt
     by false true e f = record {
+      target = rw against refl;
       base = refl;
+      less = rw f refl;
       width = refl;
       check = refl;
       hint = refl;
@@ -72,7 +82,9 @@ folded-left w symbols s at r reduced against = by (cancels r.form.base r.target 
       placed = refl;
     }
     by false false e f = record {
+      target = rw against refl;
       base = refl;
+      less = rw f refl;
       width = refl;
       check = refl;
       hint = refl;
@@ -82,8 +94,9 @@ folded-left w symbols s at r reduced against = by (cancels r.form.base r.target 
       placed = f;
     }
 
--- a relocation against its section has the form and hint that it had, and a reduced addend, and is against no Local with a place
+-- a relocation q against the section of r's target has the form and hint of r, and a reduced addend, and is against no Local with a place
 pub record IsSectioned (w : Word) (symbols : List Symbol) (r q : Reloc) : Type 0 where
+  pub target : q.target ≡ section_for (place_among symbols r.target) r.target
   pub form : q.form ≡ r.form
   pub hint : q.hint ≡ r.hint
   pub reduced : reduced_number w q.addend ≡ q.addend
@@ -98,12 +111,14 @@ unfolding by_section
 sectioned w symbols r = by (place_among symbols r.target) refl
   where
     by : (o : Option Place) → place_among symbols r.target ≡ o → IsSectioned w symbols r (at_section w r o)
-    by None is = record { form = refl; hint = refl; reduced = reduced_reduced w r.addend; against = is }
-    by (Some place) is = record { form = refl; hint = refl; reduced = reduced_reduced w _; against = place_among-section symbols place.0 }
+    by None is = record { target = rw is refl; form = refl; hint = refl; reduced = reduced_reduced w r.addend; against = is }
+    by (Some place) is = record { target = rw is refl; form = refl; hint = refl; reduced = reduced_reduced w _; against = place_among-section symbols place.0 }
 
 -- what is left of a relocation against its section is left of the relocation
 left_of : (w : Word) (symbols : List Symbol) (s : ℕ) (r m : Reloc) → IsSectioned w symbols r m → (q : Reloc) → IsLeft w symbols s m q → IsLeft w symbols s r q
 left_of w symbols s r m is q left = record {
+  target = left.target ∙ ap (λ o. section_for o m.target) is.against ∙ is.target;
+  less = left.less ∙ ap (λ f. less_in s f.less) is.form;
   base = left.base ∙ ap (λ f. f.base) is.form;
   width = left.width ∙ ap (λ f. f.width) is.form;
   check = left.check ∙ ap (λ f. f.check) is.form;
@@ -125,6 +140,29 @@ kept_left w symbols s at r q is =
     let m : IsSectioned w symbols r (by_section w symbols r) = sectioned w symbols r in
     left_of w symbols s r (by_section w symbols r) m q
     (kept_has (IsLeft w symbols s (by_section w symbols r)) (normal_of w symbols s at r) q is (folded-left w symbols s at (by_section w symbols r) m.reduced m.against))
+
+-- a number is left, and no relocation
+abbrev pub is_constant : Normal → Bool
+is_constant (normal.Constant c) = true
+is_constant (normal.Kept q) = false
+
+folded-constant : (w : Word) (s at : ℕ) (r : Reloc) → is_constant (folded w s at r) ≡ cancels r.form.base r.target r.form.less
+unfolding folded
+folded-constant w s at r = by (cancels r.form.base r.target r.form.less) (takes_section s r.form.less)
+  where
+    by : (a b : Bool) → is_constant (cond a (normal.Constant r.addend) (cond b (normal.Kept (by_place w at r)) (normal.Kept r))) ≡ a
+    by true b = refl
+    by false true = refl
+    by false false = refl
+
+-- where that is
+pub constant_is : (w : Word) (symbols : List Symbol) (s at : ℕ) (r : Reloc)
+    → is_constant (normal_of w symbols s at r) ≡ cancels r.form.base (section_for (place_among symbols r.target) r.target) r.form.less
+constant_is w symbols s at r =
+    let is : IsSectioned w symbols r (by_section w symbols r) = sectioned w symbols r in
+    folded-constant w s at (by_section w symbols r)
+    ∙ ap (λ f. cancels f.base (by_section w symbols r).target f.less) is.form
+    ∙ ap (λ t. cancels r.form.base t r.form.less) is.target
 
 -- the place of a symbol that is there
 pub place_among-there : (symbols : List Symbol) (k : ℕ) (s : Symbol) → slice_get symbols k ≡ Some s → place_among symbols (target.Symbol k) ≡ local_place s.binding
@@ -179,7 +217,6 @@ sectioned-there n w r there taken = by (place_among n.symbols r.target) refl
 pub kept_normal : (n : Object) (s at : ℕ) (r q : Reloc) → IsTargetThere n r.target → IsLessThere n r.form.less
     → normal_of (word_for n.format) n.symbols s at r ≡ normal.Kept q → IsNormal n s q
 kept_normal n s at r q there taken is =
-    let w : Word = word_for n.format in
     let left : IsLeft (word_for n.format) n.symbols s r q = kept_left (word_for n.format) n.symbols s at r q is in
     let refers : RefersThere n q = kept_has (RefersThere n) (normal_of (word_for n.format) n.symbols s at r) q is
     (folded-there n (word_for n.format) s at (by_section (word_for n.format) n.symbols r) (sectioned-there n (word_for n.format) r there taken)) in
@@ -238,7 +275,7 @@ there-section : (n : Object) (x : Section) (t : Target) → IsThere n t → IsTh
 there-section n x (target.Section k) there = more n.sections x k there
 there-section n x (target.Symbol k) there = there
 
-less_there-symbol : (n : Object) (y : Symbol) (l : Less) → IsLessThere n l → IsLessThere (with_symbol n y) l
+pub less_there-symbol : (n : Object) (y : Symbol) (l : Less) → IsLessThere n l → IsLessThere (with_symbol n y) l
 less_there-symbol n y (less.Section k) there = there
 less_there-symbol n y less.Zero there = tt
 less_there-symbol n y less.Place there = tt
@@ -246,7 +283,7 @@ less_there-symbol n y less.GotBase there = tt
 less_there-symbol n y less.ImageBase there = tt
 less_there-symbol n y less.Home there = tt
 
-less_there-section : (n : Object) (x : Section) (l : Less) → IsLessThere n l → IsLessThere (with_section n x) l
+pub less_there-section : (n : Object) (x : Section) (l : Less) → IsLessThere n l → IsLessThere (with_section n x) l
 less_there-section n x (less.Section k) there = more n.sections x k there
 less_there-section n x less.Zero there = tt
 less_there-section n x less.Place there = tt

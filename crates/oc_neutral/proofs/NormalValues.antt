@@ -1,5 +1,5 @@
 -- The normal form of a relocation has its value.
-use Rattle.std.proofs.Common.{◌≡◌, ℕ, ◌+◌, ◌%◌, refl, sym, ◌∙◌, Bool, true, false, cond, true≢false, List, slice_get, Option, Some, None}
+use Rattle.std.proofs.Common.{◌≡◌, ℕ, ◌+◌, ◌%◌, refl, sym, ◌∙◌, ap, Bool, true, false, cond, true≢false, List, slice_get, Option, Some, None}
 use Rattle.std.specs.Prelude.{ℤ, pos, ◌+ℤ◌}
 use Rattle.std.specs.Option.{option_map, option_and_then, unwrap_or}
 use Rattle.std.proofs.lemmas.Bool.{eqb-true}
@@ -25,7 +25,7 @@ use Rattle.oc_neutral.specs.declared.reloc.Reloc.{Reloc}
 use Rattle.oc_neutral.specs.declared.normal.Normal.{Normal}
 use Rattle.oc_neutral.specs.declared.normal.Normal.TheVariants as normal
 use Rattle.oc_neutral.specs.Normal.{Place, local_place, place_among, moved_addend, at_section, by_section, cancels, takes_section, by_place, folded, normal_of}
-use Rattle.oc_neutral.specs.Worth.{target_worth, base_of, less_of, residue_at, IsTrue}
+use Rattle.oc_neutral.specs.Worth.{target_worth, base_of, less_of, residue_at, IsTrueToLocals}
 use Rattle.oc_neutral.specs.Laws.{KeepsValue}
 
 -- what a Local at that place is worth
@@ -40,12 +40,12 @@ reduced-reduced w a = mod-mod a (modulus w)
 valued_is : (a : Valued) (x : Site) (n : ℕ) → a.site ≡ x → a.slot ≡ n → a ≡ record { site = x; slot = n }
 valued_is a x n e f = rw (← e, ← f) refl
 
-module _ (w : Word) (symbols : List Symbol) (p : Placement) (v : Valuation) (is_true : IsTrue w symbols p v) where
+module _ (w : Word) (symbols : List Symbol) (p : Placement) (v : Valuation) (is_true : IsTrueToLocals w symbols p v) where
   -- a symbol whose binding is a Local with a place is worth what stands there
   symbol-worth : (k : ℕ) (x : Symbol) (b : Binding) (place : Place) → slice_get symbols k ≡ Some x → x.binding ≡ b → local_place b ≡ Some place → v x.number ≡ placed_worth w p place
   symbol-worth k x (Local (value.Place section offset)) place here is at =
       let same : (section, offset) ≡ place = same_Some _ place at in
-      let site : (v x.number).site ≡ place_site w p section offset = is_true.sites k x _ here (rw is refl) in
+      let site : (v x.number).site ≡ place_site w p section offset = is_true.sites k x _ here (rw is refl) (rw is refl) in
       let slot : (v x.number).slot ≡ 0 = is_true.slots k x here (rw is refl) in
       rw (← same) (valued_is (v x.number) _ 0 site slot)
   symbol-worth k x (Local (value.Absolute number)) place here is at = absurd (none-some place at)
@@ -122,11 +122,11 @@ module _ (w : Word) (symbols : List Symbol) (p : Placement) (v : Valuation) (is_
   value-placed s at b t less.Home a e = absurd (true≢false (sym e))
 
 -- the value of what remains
-abbrev value_of_normal : Word → List Symbol → Placement → Valuation → ℕ → ℕ → Normal → ℕ
+abbrev pub value_of_normal : Word → List Symbol → Placement → Valuation → ℕ → ℕ → Normal → ℕ
 value_of_normal w symbols p v s at (normal.Constant c) = residue_of w c
 value_of_normal w symbols p v s at (normal.Kept q) = residue_at w symbols p v s at q
 
-module _ (w : Word) (symbols : List Symbol) (p : Placement) (v : Valuation) (is_true : IsTrue w symbols p v) where
+module _ (w : Word) (symbols : List Symbol) (p : Placement) (v : Valuation) (is_true : IsTrueToLocals w symbols p v) where
   value-folded : (s at : ℕ) (r : Reloc) → value_of_normal w symbols p v s at (folded w s at r) ≡ residue_at w symbols p v s at r
   unfolding folded residue_at
   value-folded s at r = by (cancels r.form.base r.target r.form.less) (takes_section s r.form.less) refl refl
@@ -142,11 +142,21 @@ module _ (w : Word) (symbols : List Symbol) (p : Placement) (v : Valuation) (is_
   pub value-normal : (s at : ℕ) (r : Reloc) → value_of_normal w symbols p v s at (normal_of w symbols s at r) ≡ residue_at w symbols p v s at r
   value-normal s at r = value-folded s at (by_section w symbols r) ∙ value-by_section w symbols p v is_true s at r
 
+-- so has what is kept
+pub kept_value : (w : Word) (symbols : List Symbol) (p : Placement) (v : Valuation) → IsTrueToLocals w symbols p v → (s at : ℕ) (r q : Reloc)
+    → normal_of w symbols s at r ≡ normal.Kept q → residue_at w symbols p v s at q ≡ residue_at w symbols p v s at r
+kept_value w symbols p v is_true s at r q is = sym (ap (value_of_normal w symbols p v s at) is) ∙ value-normal w symbols p v is_true s at r
+
+-- and a constant
+pub constant_value : (w : Word) (symbols : List Symbol) (p : Placement) (v : Valuation) → IsTrueToLocals w symbols p v → (s at : ℕ) (r : Reloc) (c : ℤ)
+    → normal_of w symbols s at r ≡ normal.Constant c → residue_of w c ≡ residue_at w symbols p v s at r
+constant_value w symbols p v is_true s at r c is = sym (ap (value_of_normal w symbols p v s at) is) ∙ value-normal w symbols p v is_true s at r
+
 -- the law
 pub keeps_value : (w : Word) (symbols : List Symbol) (s at : ℕ) (r : Reloc) → KeepsValue w symbols s at r (normal_of w symbols s at r)
 keeps_value w symbols s at r = by (normal_of w symbols s at r) (λ p v is_true. value-normal w symbols p v is_true s at r)
   where
-    by : (n : Normal) → ((p : Placement) (v : Valuation) → IsTrue w symbols p v → value_of_normal w symbols p v s at n ≡ residue_at w symbols p v s at r)
+    by : (n : Normal) → ((p : Placement) (v : Valuation) → IsTrueToLocals w symbols p v → value_of_normal w symbols p v s at n ≡ residue_at w symbols p v s at r)
         → KeepsValue w symbols s at r n
     by (normal.Constant c) same = same
     by (normal.Kept q) same = same

@@ -1,5 +1,5 @@
 -- Objects that are ready to be written in a format, and what fitting makes of an object (our profile).
-use Rattle.std.specs.Prelude.{◌≡◌, ℕ, ◌^◌, ◌≤◌, Bool, true, false, ◌&&◌, ◌||◌, ◌++◌, nat_eq, bytes_eq, if◌then◌else◌, List, [], ◌∷◌, length, map, slice_get, Option, Some, None}
+use Rattle.std.specs.Prelude.{◌≡◌, ℕ, ◌+◌, ◌^◌, ◌≤◌, Bool, true, false, ◌||◌, ◌++◌, if◌then◌else◌, List, [], ◌∷◌, length, map, slice_get, Option, Some, None}
 use Rattle.std.specs.List.{AllByRecursion}
 use Rattle.std.specs.Option.{option_map_or}
 use Rattle.oc_base.specs.declared.format.Format.{Format}
@@ -21,7 +21,7 @@ use Rattle.oc_neutral.specs.Objects.{Object, reloc_at}
 use Rattle.oc_neutral.specs.Invariants.{IsObject}
 use Rattle.oc_neutral.specs.Alignments.{output_align, common_align}
 use Rattle.oc_neutral.specs.GivenTags.{can_have}
-use Rattle.oc_neutral.specs.HomeNames.{Home, home_of, output_names, output_tag}
+use Rattle.oc_neutral.specs.HomeNames.{is_home, output_names, output_tag}
 use Rattle.oc_neutral.specs.Stored.{is_stored}
 use Rattle.oc_neutral.specs.TargetSections.{section_stages}
 use Rattle.oc_neutral.specs.TargetSymbols.{symbol_stages}
@@ -72,14 +72,9 @@ fitted_frames target from names [] = []
 fitted_frames target from [] (s ∷ sections) = fitted_frame target from s.name s ∷ fitted_frames target from [] sections
 fitted_frames target from (name ∷ names) (s ∷ sections) = fitted_frame target from name s ∷ fitted_frames target from names sections
 
--- a section whose kind is at home in the format under this name and tag
-abbrev pub is_at_home : Format → Section → Bool
-is_at_home format s =
-    option_map_or (λ (h : Home). nat_eq h.tag s.tag && option_map_or (λ name. bytes_eq name s.name) h.name true) (home_of format s.kind) false
-
--- the section has a name and a tag that go with its kind in the format
-abbrev pub IsNamed : Format → Section → Type 0
-IsNamed format s = is_at_home format s || can_have format s.kind s.name s.tag ≡ true
+-- the section at position k has a name and a tag that go with its kind in the format
+abbrev pub IsNamed : Format → ℕ → Section → Type 0
+IsNamed format k s = is_home format (k + 1) s.kind s.name s.tag || can_have format s.kind s.name s.tag ≡ true
 
 -- an object that is ready to be written in a format
 pub record IsFitted (target : Format) (n : Object) : Type 0 where
@@ -87,7 +82,7 @@ pub record IsFitted (target : Format) (n : Object) : Type 0 where
   pub format : n.format ≡ target
   pub expressible : first_unfit target n ≡ None
   pub few_symbols : length n.symbols ≤ 2 ^ 24
-  pub names : AllByRecursion (IsNamed target) n.sections
+  pub names : (k : ℕ) (s : Section) → slice_get n.sections k ≡ Some s → IsNamed target k s
   pub blanks : (s : ℕ) (x : Section) → slice_get n.sections s ≡ Some x → IsBlankWhereTyped n s x
   pub aligns : AllByRecursion (λ (s : Section). output_align target s.align ≡ s.align) n.sections
   pub commons : AllByRecursion (λ (s : Symbol). fitted_binding target s.binding ≡ s.binding) n.symbols

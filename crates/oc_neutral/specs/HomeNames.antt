@@ -1,8 +1,8 @@
 -- Names and tags of sections across formats (gABI, "Special Sections"; PE/COFF, "Special Sections"; Mach-O reference,
 -- "section"; our profile). Within one format a section keeps its name and tag.
-use Rattle.std.specs.Prelude.{ℕ, ◌+◌, Bool, ◌&&◌, if◌then◌else◌, List, [], ◌∷◌, ◌++◌, length, map, codes, decimal, Option, Some, None}
+use Rattle.std.specs.Prelude.{ℕ, ◌+◌, Bool, true, false, ◌&&◌, ◌||◌, nat_eq, bytes_eq, if◌then◌else◌, List, [], ◌∷◌, ◌++◌, length, map, codes, decimal, Option, Some, None}
 use Rattle.std.specs.List.{enumerate_from}
-use Rattle.std.specs.Option.{unwrap_or, option_map, option_and_then}
+use Rattle.std.specs.Option.{unwrap_or, option_map, option_map_or, option_and_then}
 use Rattle.oc_base.specs.declared.format.Format.{Format}
 use Rattle.oc_base.specs.Strings.{is_given}
 use Rattle.oc_linking.specs.declared.terms.Kind.{Kind}
@@ -15,7 +15,7 @@ use Rattle.oc_neutral.specs.ElfKinds.{elf_tag}
 use Rattle.oc_neutral.specs.MachKinds.{mach_name, segment_of}
 use Rattle.oc_neutral.specs.OmfKinds.{omf_tag}
 use Rattle.oc_neutral.specs.Objects.{Object}
-use Rattle.oc_neutral.specs.SelfReferences.{is_relocated}
+use Rattle.oc_neutral.specs.Relocated.{is_relocated}
 
 -- where a kind is at home in a format: under a name, or under the section's own, with a tag
 pub record Home : Type 0 where
@@ -110,3 +110,18 @@ names_across target n = if is_of IsMach target then final_names [] (wanted_names
 -- the names of the sections of an object in a target, in their order
 unfoldable pub output_names : Format → Object → List (List ℕ)
 output_names target n = if same_format target n.format then map (λ (s : Section). s.name) n.sections else names_across target n
+
+-- what the table and its two exceptions for Mach-O can call section k of the output, counted from 1, of that kind and with that home
+abbrev pub can_call : Format → ℕ → Kind → List ℕ → List ℕ → Bool
+can_call target k kind home name =
+    bytes_eq name home || (is_of IsMach target && (
+    bytes_eq name (numbered_name k home)
+    || (same_kind kind ReadOnly && (bytes_eq name (codes "__DATA,__const") || bytes_eq name (numbered_name k (codes "__DATA,__const"))))
+    ))
+
+-- across formats section k of the output, counted from 1, can get this name and tag by its kind
+unfoldable pub is_home : Format → ℕ → Kind → List ℕ → ℕ → Bool
+is_home target k kind name tag =
+    option_map_or
+    (λ (h : Home). nat_eq tag h.tag && option_map_or (λ home. can_call target k kind home name) h.name true)
+    (home_of target kind) false

@@ -27,6 +27,7 @@ use Rattle.oc_neutral.specs.declared.reloc.Target.TheVariants as target
 use Rattle.oc_neutral.specs.declared.reloc.Reloc.{Reloc}
 use Rattle.oc_neutral.specs.declared.normal.Folded.{Folded}
 use Rattle.oc_neutral.specs.Objects.{Object}
+use Rattle.oc_neutral.specs.Faces.{number_of}
 use Rattle.oc_neutral.specs.Normal.{Place, place_among, cancels, takes_section}
 use Rattle.oc_neutral.specs.Building.{Draft, stored_size, size_sum, stored_sum}
 
@@ -72,11 +73,15 @@ is_strong Undefined = true
 is_strong (Common size align) = true
 is_strong (Weak f) = false
 
+-- the symbol at a position is the first that has its number: no alias, which has the number of its original and stands after it
+abbrev pub IsOriginal : List Symbol → ℕ → Type 0
+IsOriginal symbols k = (j : ℕ) → j < k → number_of symbols j ≢ number_of symbols k
+
 -- a fallback is a place, or names a Global, an Undefined or a Common that is there
 abbrev pub IsFallback : Object → Fallback → Type 0
 IsFallback n (fallback.Place k offset) = HasOffset n.sections k offset
 IsFallback n fallback.Zero = Unit {0}
-IsFallback n (fallback.Name k) = (s : Symbol) × (slice_get n.symbols k ≡ Some s) × (is_strong s.binding ≡ true)
+IsFallback n (fallback.Name k) = (s : Symbol) × (slice_get n.symbols k ≡ Some s) × (is_strong s.binding ≡ true) × IsOriginal n.symbols k
 
 -- a binding speaks of things that are there
 abbrev pub IsBinding : Object → Binding → Type 0
@@ -175,11 +180,17 @@ pub record IsDraft (d : Draft) : Type 0 where
 abbrev pub IsHinted : Reloc → Type 0
 IsHinted r = r.hint ≡ Call → (r.form.base ≡ base.Address) × (r.form.less ≡ less.Place) × (r.form.width ≡ Four)
 
+-- what a relocation names is no alias
+abbrev pub NamesOriginal : List Symbol → Target → Type 0
+NamesOriginal symbols (target.Section k) = Unit {0}
+NamesOriginal symbols (target.Symbol k) = IsOriginal symbols k
+
 -- what an object is to have besides, when it is finished
 pub record IsComplete (n : Object) : Type 0 where
   pub aligns : AllByRecursion (λ (s : Section). IsAlign s.align) n.sections
   pub symbols : AllByRecursion (IsSymbol n) n.symbols
   pub hints : (s : ℕ) → AllByRecursion (λ (x : Field Reloc). IsHinted x.item) (list_of n.relocs s)
+  pub originals : (s : ℕ) → AllByRecursion (λ (x : Field Reloc). NamesOriginal n.symbols x.item.target) (list_of n.relocs s)
 
 -- what holds of every neutral object
 pub record IsObject (n : Object) : Type 0 where

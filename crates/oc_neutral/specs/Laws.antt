@@ -1,7 +1,6 @@
 -- Laws of neutral objects (our profile).
 use Rattle.std.specs.Prelude.{◌≡◌, ℕ, List}
 use Rattle.oc_base.specs.declared.format.Word.{Word}
-use Rattle.oc_base.specs.Formats.{word_for}
 use Rattle.oc_linking.specs.declared.terms.Keep.{Keep}
 use Rattle.oc_linking.specs.Placing.{Placement}
 use Rattle.oc_linking.specs.Values.{Valuation}
@@ -15,14 +14,14 @@ use Rattle.oc_neutral.specs.Invariants.{IsObject}
 use Rattle.oc_neutral.specs.Dialects.{Dialect}
 use Rattle.oc_neutral.specs.Shows.{Shows}
 use Rattle.oc_neutral.specs.Normal.{normal_of}
-use Rattle.oc_neutral.specs.Worth.{residue_at, IsTrue}
+use Rattle.oc_neutral.specs.Worth.{residue_at, IsTrueToLocals}
 
--- what remains of a relocation at an offset of section s has its value, at every placement and every valuation that is true to the symbols
+-- what remains of a relocation at an offset of section s has its value, at every placement and every valuation that is true to the Locals
 abbrev pub KeepsValue : Word → List Symbol → ℕ → ℕ → Reloc → Normal → Type 0
 KeepsValue w symbols s at r (normal.Kept q) =
-    (p : Placement) (v : Valuation) → IsTrue w symbols p v → residue_at w symbols p v s at q ≡ residue_at w symbols p v s at r
+    (p : Placement) (v : Valuation) → IsTrueToLocals w symbols p v → residue_at w symbols p v s at q ≡ residue_at w symbols p v s at r
 KeepsValue w symbols s at r (normal.Constant c) =
-    (p : Placement) (v : Valuation) → IsTrue w symbols p v → residue_of w c ≡ residue_at w symbols p v s at r
+    (p : Placement) (v : Valuation) → IsTrueToLocals w symbols p v → residue_of w c ≡ residue_at w symbols p v s at r
 
 -- the normal form keeps the value of each relocation
 abbrev pub NormalFormKeepsValues : Type 0
@@ -30,5 +29,4 @@ NormalFormKeepsValues = (w : Word) (symbols : List Symbol) (s at : ℕ) (r : Rel
 
 -- an object is determined by the file that it shows
 abbrev pub ShownObjectIsOne : Type 0
-ShownObjectIsOne = (f : Dialect) (b : List ℕ) (keep : Keep) (n m : Object) → IsObject n → IsObject m → Shows f b keep n → Shows f b keep m
-    → f.rules.word ≡ word_for f.format → n ≡ m
+ShownObjectIsOne = (f : Dialect) (b : List ℕ) (keep : Keep) (n m : Object) → IsObject n → IsObject m → Shows f b keep n → Shows f b keep m → n ≡ m

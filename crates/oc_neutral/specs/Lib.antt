@@ -26,6 +26,7 @@ pub mod OmfRelocs
 pub mod Readable
 pub mod RelocConstants
 pub mod RelocTables
+pub mod Relocated
 pub mod Rows
 pub mod SectionSymbols
 pub mod SelfReferences

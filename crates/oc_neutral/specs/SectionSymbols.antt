@@ -7,12 +7,12 @@ use Rattle.oc_linking.specs.declared.terms.Value.{Value}
 use Rattle.oc_linking.specs.declared.terms.Value.TheVariants.{Place, Absolute}
 use Rattle.oc_linking.specs.declared.terms.Binding.{Binding}
 use Rattle.oc_linking.specs.declared.terms.Binding.TheVariants.{Local, Global, Undefined, Common, Weak}
-use Rattle.oc_algebra.specs.declared.form.Less.{Less}
-use Rattle.oc_algebra.specs.declared.form.Less.TheVariants as less
 use Rattle.oc_chains.specs.declared.field.Field.{Field}
 use Rattle.oc_neutral.specs.declared.reloc.Reloc.{Reloc}
 use Rattle.oc_neutral.specs.Objects.{Object}
-use Rattle.oc_neutral.specs.SelfReferences.{is_section, is_long_distance, stays}
+use Rattle.oc_neutral.specs.Normal.{takes_section}
+use Rattle.oc_neutral.specs.SelfReferences.{is_section, is_long_distance}
+use Rattle.oc_neutral.specs.Relocated.{stays}
 
 -- the name of the symbol of section k, counted from 1
 abbrev pub section_symbol_name : ℕ → List ℕ
@@ -30,15 +30,6 @@ is_section_symbol name (Global v) = false
 is_section_symbol name Undefined = false
 is_section_symbol name (Common size align) = false
 is_section_symbol name (Weak f) = false
-
--- the address of section k is taken
-abbrev pub takes_section : ℕ → Less → Bool
-takes_section k less.Zero = false
-takes_section k less.Place = false
-takes_section k less.GotBase = false
-takes_section k less.ImageBase = false
-takes_section k less.Home = false
-takes_section k (less.Section j) = nat_eq j k
 
 -- a relocation in section s names section k: as its target, as what is taken, or as its own section where it is written as a difference
 abbrev pub names_section : ℕ → ℕ → Reloc → Bool

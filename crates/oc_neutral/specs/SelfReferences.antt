@@ -1,10 +1,7 @@
 -- Fields that are constants where they are written (Mach-O reference, "Relocation Data Structures"; our profile).
 -- In mac64 eight bytes of an address less the place of the field are written as a difference with the field's own section.
 -- One whose target is that section has the same value wherever it is placed, and is stored as this constant.
-use Rattle.std.specs.Prelude.{ℕ, Bool, true, false, not, ◌&&◌, nat_eq}
-use Rattle.std.specs.List.{list_any}
-use Rattle.oc_base.specs.declared.format.Format.{Format}
-use Rattle.oc_base.specs.declared.format.Format.TheVariants.{Mac64}
+use Rattle.std.specs.Prelude.{ℕ, Bool, true, false, ◌&&◌, nat_eq}
 use Rattle.oc_linking.specs.declared.terms.Width.{Width}
 use Rattle.oc_linking.specs.declared.terms.Width.TheVariants.{One, Two, Four, Eight}
 use Rattle.oc_algebra.specs.declared.form.Base.{Base}
@@ -12,13 +9,9 @@ use Rattle.oc_algebra.specs.declared.form.Base.TheVariants as base
 use Rattle.oc_algebra.specs.declared.form.Less.{Less}
 use Rattle.oc_algebra.specs.declared.form.Less.TheVariants as less
 use Rattle.oc_algebra.specs.declared.form.Form.{Form}
-use Rattle.oc_chains.specs.declared.field.Field.{Field}
-use Rattle.oc_chains.specs.Lists.{list_of}
 use Rattle.oc_neutral.specs.declared.reloc.Target.{Target}
 use Rattle.oc_neutral.specs.declared.reloc.Target.TheVariants as target
 use Rattle.oc_neutral.specs.declared.reloc.Reloc.{Reloc}
-use Rattle.oc_neutral.specs.Families.{same_format}
-use Rattle.oc_neutral.specs.Objects.{Object}
 
 -- the value begins with the target's address
 abbrev pub is_address : Base → Bool
@@ -55,11 +48,3 @@ is_section k (target.Symbol j) = false
 -- a relocation in section s is eight bytes of the address of s less the place of the field
 abbrev pub is_self_reference : ℕ → Reloc → Bool
 is_self_reference s r = is_long_distance r.form && is_section s r.target
-
--- a relocation in section s stays one in that format, and is not stored as a constant
-abbrev pub stays : Format → ℕ → Field Reloc → Bool
-stays format s x = not (same_format format Mac64 && is_self_reference s x.item)
-
--- the output in that format has relocations in section s
-unfoldable pub is_relocated : Format → Object → ℕ → Bool
-is_relocated format n s = list_any (stays format s) (list_of n.relocs s)

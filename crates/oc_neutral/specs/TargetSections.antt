@@ -17,7 +17,7 @@ use Rattle.oc_neutral.specs.Families.{Family, IsElf, IsCoff, IsMach, IsOmf, fami
 use Rattle.oc_neutral.specs.KindRules.{same_kind}
 use Rattle.oc_neutral.specs.GivenTags.{has_nul}
 use Rattle.oc_neutral.specs.Objects.{Object}
-use Rattle.oc_neutral.specs.SelfReferences.{is_relocated}
+use Rattle.oc_neutral.specs.Relocated.{is_relocated}
 use Rattle.oc_neutral.specs.HomeNames.{output_names}
 use Rattle.oc_neutral.specs.Alignments.{most_align}
 use Rattle.oc_neutral.specs.CoffStrings.{is_tabled, string_offset}
@@ -53,11 +53,13 @@ most_counted IsOmf = 30000
 abbrev pub count_spot : ℕ → Spot
 count_spot count = record { phase = TargetSection; index = 0; place = count }
 
+-- the condition on a count
+abbrev pub bounded : Family → ℕ → List Condition
+bounded family count = judged (count_spot count) ((nat_lt (most_counted family) count, TooMany) ∷ [])
+
 -- the condition on the number of sections
 abbrev pub section_count : Format → Object → List Condition
-section_count target n =
-    let count : ℕ = counted_in (family_of target) target n in
-    judged (count_spot count) ((nat_lt (most_counted (family_of target)) count, TooMany) ∷ [])
+section_count target n = bounded (family_of target) (counted_in (family_of target) target n)
 
 -- a Debug section stays in its format, and there is none in OMF
 abbrev pub is_debug_kept : Format → Format → Kind → Bool
@@ -75,10 +77,14 @@ is_exception_kept target from kind = same_kind kind Exception && not (same_forma
 abbrev pub is_unavailable : Format → Kind → Bool
 is_unavailable target kind = is_of IsOmf target && (same_kind kind Init || same_kind kind Fini)
 
--- the target cannot write the name of a section: it has a NUL; in COFF its offset has more than seven digits; in OMF it has more than 255 bytes
+-- an offset has more digits than a section header has room for
+abbrev pub is_far : ℕ → Bool
+is_far offset = nat_lt 9999999 offset
+
+-- the target cannot write the name of a section: it has a NUL; in COFF its offset is far; in OMF it has more than 255 bytes
 abbrev pub is_unwritable : Family → Format → Object → List ℕ → Bool
 is_unwritable IsElf target n name = has_nul name
-is_unwritable IsCoff target n name = has_nul name || (is_tabled name && nat_lt 9999999 (string_offset target n name))
+is_unwritable IsCoff target n name = has_nul name || (is_tabled name && is_far (string_offset target n name))
 is_unwritable IsMach target n name = has_nul name
 is_unwritable IsOmf target n name = nat_lt 255 (length name)
 

@@ -7,8 +7,6 @@ use Rattle.oc_base.specs.declared.format.Format.TheVariants.{Elf32, Elf64, Coff3
 use Rattle.oc_base.specs.declared.code.Code.TheVariants.{TooMany, NameForm, AbsoluteForm, CommonForm, WeakForm, LimitNames}
 use Rattle.oc_base.specs.declared.fault.Phase.TheVariants.{TargetSymbol}
 use Rattle.oc_base.specs.declared.fault.Spot.{Spot}
-use Rattle.oc_linking.specs.declared.terms.Value.{Value}
-use Rattle.oc_linking.specs.declared.terms.Value.TheVariants.{Place, Absolute}
 use Rattle.oc_linking.specs.declared.terms.Fallback.{Fallback}
 use Rattle.oc_linking.specs.declared.terms.Fallback.TheVariants as fallback
 use Rattle.oc_linking.specs.declared.terms.Binding.{Binding}
@@ -24,6 +22,7 @@ use Rattle.oc_neutral.specs.HomeNames.{output_names}
 use Rattle.oc_neutral.specs.Alignments.{natural_align}
 use Rattle.oc_neutral.specs.WrittenSymbols.{is_written, is_long_number}
 use Rattle.oc_neutral.specs.TargetSections.{judged, each_of}
+use Rattle.oc_neutral.specs.TargetRelocations.{is_absolute}
 
 -- the symbol is Undefined or Common
 abbrev pub is_external : Binding → Bool
@@ -63,20 +62,17 @@ count_spot count = record { phase = TargetSymbol; index = 0; place = count }
 abbrev pub bounded : ℕ × ℕ → List Condition
 bounded bound = judged (count_spot bound.0) ((nat_lt bound.1 bound.0, TooMany) ∷ [])
 
--- the conditions on the number of symbols and on the lengths of all names
+-- the condition on the length of all names
+abbrev pub limited : ℕ → List Condition
+limited names = judged (count_spot names) ((nat_lt 268435456 names, LimitNames) ∷ [])
+
+-- the conditions on the number of symbols and on the length of all names
 abbrev pub symbol_count : Format → Object → List Condition
-symbol_count target n =
-    let names : ℕ = names_length target n in
-    option_map_or bounded (symbol_bound target n) [] ++ judged (count_spot names) ((nat_lt (2 ^ 28) names, LimitNames) ∷ [])
+symbol_count target n = option_map_or bounded (symbol_bound target n) [] ++ limited (names_length target n)
 
 -- the target cannot write the name of a symbol: it has a NUL; in OMF it is not Local and has more than 255 bytes
 abbrev pub is_unwritable : Format → Symbol → Bool
 is_unwritable target s = if is_of IsOmf target then not (is_local s.binding) && nat_lt 255 (length s.name) else has_nul s.name
-
--- the value is absolute
-abbrev pub is_absolute : Value → Bool
-is_absolute (Place s offset) = false
-is_absolute (Absolute n) = true
 
 -- a Global with an absolute value that the target cannot write: in OMF any, in coff64 one of more than 32 bits
 abbrev pub is_absolute_form : Format → Binding → Bool

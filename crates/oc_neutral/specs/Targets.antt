@@ -13,7 +13,7 @@ pub record IsDialect (f : Dialect) : Type 0 where
   pub output_align : (align : ℕ) → f.rules.output_align align ≡ output_align f.format align
   pub common_align : (size align : ℕ) → f.rules.common_align size align ≡ common_align f.format size align
 
--- the dialect is one, and the file of every object that is ready to be written has what it is to have
-pub record WritesCanonical (g : Dialect) (canonical : Object → List ℕ) : Type 0 where
+-- the dialect is one, and the file of every object that is written has what it is to have
+pub record WritesCanonical (g : Dialect) (accepts : Object → Type 0) (canonical : Object → List ℕ) : Type 0 where
   pub dialect : IsDialect g
-  pub written : (n : Object) → IsFitted g.format n → IsWritten g n (canonical n)
+  pub written : (n : Object) → IsFitted g.format n → accepts n → IsWritten g n (canonical n)

@@ -47,7 +47,7 @@ residue_at w symbols p v s at r =
     let t : Valued = target_worth symbols p v r.target in
     minus w (base_of p t r.form.base + residue_of w r.addend) (less_of p s at t r.form.less)
 
--- v gives every Local and Global of the symbols its own site, and every Local no slot
-pub record IsTrue (w : Word) (symbols : List Symbol) (p : Placement) (v : Valuation) : Type 0 where
-  pub sites : (k : ℕ) (s : Symbol) (x : Site) → slice_get symbols k ≡ Some s → fixed_site w p s.binding ≡ Some x → (v s.number).site ≡ x
+-- v gives every Local of the symbols its own site, and no slot
+pub record IsTrueToLocals (w : Word) (symbols : List Symbol) (p : Placement) (v : Valuation) : Type 0 where
+  pub sites : (k : ℕ) (s : Symbol) (x : Site) → slice_get symbols k ≡ Some s → is_local s.binding ≡ true → fixed_site w p s.binding ≡ Some x → (v s.number).site ≡ x
   pub slots : (k : ℕ) (s : Symbol) → slice_get symbols k ≡ Some s → is_local s.binding ≡ true → (v s.number).slot ≡ 0

@@ -3,6 +3,7 @@
 #![tactic(auto)]
 
 mod builder;
+mod determined;
 mod fault;
 mod fields;
 mod fitted;
@@ -18,6 +19,7 @@ mod symbol;
 mod writes;
 
 pub use builder::Builder;
+pub use determined::shown_object_is_one;
 pub use fault::BuildFault;
 pub use fitted::Fitted;
 pub use laws::normal_form_keeps_values;

@@ -40,16 +40,20 @@ pub trait Writes {
     /// The format.
     ghost dialect: { Dialect };
 
+    /// Which of the objects that are ready for the format it writes; all, where nothing is said.
+    ghost accepts: { Object → Type 0 };
+
     /// The one file that is written for an object.
     ghost canonical: { Object → List ℕ };
 
     /// The plan of the file of an object that is ready to be written in the format. `NoMemory` where
     /// memory ran out.
     fn plan(&self, alloc: Global, fitted: Fitted) -> Result<Self::Plan, NoMemory>
-        requires { fitted.format ≡ dialect.format }
+        requires format { fitted.format ≡ dialect.format }
+        requires accepted { accepts fitted }
         ensures { IfOk result (λ plan. Self.Plan.file plan ≡ canonical fitted) };
 
     /// The dialect says of words and alignments what its format does, and the file of each object that is
-    /// ready to be written is well formed, shows an object, and this looks like the one that is written.
-    ghost law: { WritesCanonical dialect canonical };
+    /// written is well formed, shows an object, and this looks like the one that is written.
+    ghost law: { WritesCanonical dialect accepts canonical };
 }

@@ -2,50 +2,127 @@ ghost use Rattle.std.specs.Prelude.{◌≡◌, ◌≤◌, ◌+◌, ◌-◌, ◌^
 
 use crate::failed::Failed;
 use crate::files::Files;
+use std::alloc::Global;
 use std::fs::{self, OpenOptions};
 use std::io::{self, Read, Seek, SeekFrom, Write};
 use std::rt;
 
+// a file that stays open for the next call
+#[derive(Drop)]
+struct Kept<T> {
+    // the name that it was opened by, or nothing where no memory was found for the name
+    name: Option<String>,
+    file: T,
+}
+
+impl<T> Kept<T> {
+    // the file as one to keep
+    fn new(alloc: Global, name: &str, file: T) -> Kept<T> {
+        Kept {
+            name: String::from_str(alloc, name).ok(),
+            file,
+        }
+    }
+
+    // whether it was opened by this name
+    fn is_of(&self, name: &str) -> bool {
+        match &self.name {
+            Some(kept) => kept.as_str() == name,
+            None => false,
+        }
+    }
+}
+
 /// The files of the operating system. What they hold is not told.
 ///
-/// Each call opens its file, so the files are those that have these names at that moment. A file
-/// that is not there is a fault of the call. Names are paths. What cannot be read from a place on,
-/// as a pipe, is not read.
+/// The file that was read last stays open until its end is read, and so does the one that was
+/// appended to last. A call by the same name goes on with it, even if the name stands for another
+/// file by then: what is read or appended call by call is one file. `create`, a call that fails and
+/// one by another name let it go. The next call opens the file that has its name at that moment.
+///
+/// A file that is not there is a fault of the call that opens it. Names are paths. What cannot be
+/// read from a place on, as a pipe, is not read. Takes memory for two names; where there is none,
+/// each call opens its file.
 #[derive(Drop)]
 pub struct RealFiles<'r, R: rt::Files> {
+    alloc: Global,
     rt: &'r R,
+    reading: Option<Kept<R::File>>,
+    appending: Option<Kept<R::File>>,
     read_faults: u64,
     write_faults: u64,
 }
 
 impl<'r, R: rt::Files> RealFiles<'r, R> {
-    /// The files that `rt` reaches, with no fault counted so far.
-    pub fn new(rt: &'r R) -> RealFiles<'r, R>
+    /// The files that `rt` reaches, none of them open, with no fault counted so far.
+    pub fn new(alloc: Global, rt: &'r R) -> RealFiles<'r, R>
         ensures read_faults { result.read_faults ≡ 0 }
         ensures write_faults { result.write_faults ≡ 0 }
     {
         RealFiles {
+            alloc,
             rt,
+            reading: None,
+            appending: None,
             read_faults: 0,
             write_faults: 0,
         }
     }
 
-    /// One call of the system's read, after the file was opened and its place sought.
-    fn read_once(&self, name: &str, at: u64, to: &mut [u8]) -> io::Result<usize>
-        ensures { IfOk result (λ n. n ≤ length to.new) }
+    // the file for reads of this name: the one that is kept, or else one that is opened now
+    fn reader(&mut self, name: &str) -> io::Result<Kept<R::File>>
+        ensures read_faults { self.new.read_faults ≡ self.old.read_faults }
+        ensures write_faults { self.new.write_faults ≡ self.old.write_faults }
     {
-        let mut file = fs::open(self.rt, name)?;
-        file.seek(SeekFrom::Start(at))?;
-        file.read(to)
+        match self.reading.take() {
+            Some(kept) if kept.is_of(name) => Ok(kept),
+            _ => {
+                let file = fs::open(self.rt, name)?;
+                Ok(Kept::new(self.alloc, name, file))
+            }
+        }
     }
 
-    /// One call of the system's write, at the end of the file.
-    fn append_once(&self, name: &str, piece: &[u8]) -> io::Result<usize>
-        ensures { IfOk result (λ n. n ≤ length piece.now) }
+    // the file for appends to this name: the one that is kept, or else one that is opened now
+    fn appender(&mut self, name: &str) -> io::Result<Kept<R::File>>
+        ensures read_faults { self.new.read_faults ≡ self.old.read_faults }
+        ensures write_faults { self.new.write_faults ≡ self.old.write_faults }
     {
-        let mut file = OpenOptions::new().append(true).open(self.rt, name)?;
-        file.write(piece)
+        match self.appending.take() {
+            Some(kept) if kept.is_of(name) => Ok(kept),
+            _ => {
+                let file = OpenOptions::new().append(true).open(self.rt, name)?;
+                Ok(Kept::new(self.alloc, name, file))
+            }
+        }
+    }
+
+    // one call of the system's read, from a place of the file on; where it reads anything, the file
+    // is kept
+    fn read_once(&mut self, name: &str, at: u64, to: &mut [u8]) -> io::Result<usize>
+        ensures count { IfOk result (λ n. n ≤ length to.new) }
+        ensures read_faults { self.new.read_faults ≡ self.old.read_faults }
+        ensures write_faults { self.new.write_faults ≡ self.old.write_faults }
+    {
+        let mut kept = self.reader(name)?;
+        kept.file.seek(SeekFrom::Start(at))?;
+        let count = kept.file.read(to)?;
+        if count > 0 {
+            self.reading = Some(kept);
+        }
+        Ok(count)
+    }
+
+    // one call of the system's write, at the end of the file, which is kept if it succeeds
+    fn append_once(&mut self, name: &str, piece: &[u8]) -> io::Result<usize>
+        ensures count { IfOk result (λ n. n ≤ length piece.now) }
+        ensures read_faults { self.new.read_faults ≡ self.old.read_faults }
+        ensures write_faults { self.new.write_faults ≡ self.old.write_faults }
+    {
+        let mut kept = self.appender(name)?;
+        let count = kept.file.write(piece)?;
+        self.appending = Some(kept);
+        Ok(count)
     }
 }
 
@@ -67,6 +144,8 @@ impl<R: rt::Files> Files for RealFiles<'_, R> {
     }
 
     fn create(&mut self, name: &str) -> Result<(), Failed> {
+        self.reading = None;
+        self.appending = None;
         match fs::create(self.rt, name) {
             Ok(_) => Ok(()),
             Err(_) => {
@@ -95,14 +174,20 @@ mod tests {
     use std::process;
     use std::test::Fail;
 
-    /// 10,000 bytes are three pieces. A file that is not there is a fault of each kind.
+    // the path of a file that no other test has
+    fn path(rt: &HostRuntime, word: &str) -> Result<String, Fail> {
+        let id = process::id(rt.process());
+        let path = format!(in rt.alloc(); "/tmp/oc_outside-{id}-{word}")?;
+        Ok(path)
+    }
+
+    /// 10,000 bytes are three pieces.
     #[test]
     fn real_file_there_and_back(rt: HostRuntime) -> Result<(), Fail> {
-        let id = process::id(rt.process());
-        let path = format!(in rt.alloc(); "/tmp/oc_outside-{id}")?;
+        let path = path(&rt, "back")?;
         let name = path.as_str();
         let sent = vec![in rt.alloc(); 7u8; 10_000]?;
-        let mut files = RealFiles::new(&rt);
+        let mut files = RealFiles::new(rt.alloc(), &rt);
         let written = write_file(&mut files, name, sent.as_slice());
         let read = read_file(rt.alloc(), &mut files, name, LIMIT);
         fs::remove_file(&rt, name)?;
@@ -110,12 +195,54 @@ mod tests {
         let got = read?;
         assert!(rt; got.as_slice() == sent.as_slice(), "the bytes come back");
         assert_eq!(rt; (files.read_faults, files.write_faults), (0, 0));
+        Ok(())
+    }
 
+    /// A file that is not there is a fault of each kind.
+    #[test]
+    fn real_file_that_is_absent(rt: HostRuntime) -> Result<(), Fail> {
+        let path = path(&rt, "absent")?;
+        let name = path.as_str();
+        let mut files = RealFiles::new(rt.alloc(), &rt);
         let absent = read_file(rt.alloc(), &mut files, name, LIMIT).err();
         assert_eq!(rt; absent, Some(ReadFault::Input));
         assert_eq!(rt; files.append(name, b"a"), Err(Failed));
         assert_eq!(rt; files.create("/tmp/oc_outside/no/such/folder"), Err(Failed));
         assert_eq!(rt; (files.read_faults, files.write_faults), (1, 2));
+        Ok(())
+    }
+
+    /// The one byte that is read keeps the file, `create` lets it go, and so does its end.
+    #[test]
+    fn real_file_is_opened_anew(rt: HostRuntime) -> Result<(), Fail> {
+        let path = path(&rt, "anew")?;
+        let name = path.as_str();
+        let mut files = RealFiles::new(rt.alloc(), &rt);
+        let mut to = [0; 1];
+        write_file(&mut files, name, b"ab")?;
+        assert_eq!(rt; files.read_at(name, 0, &mut to), Ok(1));
+        fs::remove_file(&rt, name)?;
+        assert_eq!(rt;
+            files.read_at(name, 1, &mut to),
+            Ok(1),
+            "the file that is open"
+        );
+        assert_eq!(rt; to, *b"b");
+        write_file(&mut files, name, b"c")?;
+        assert_eq!(rt;
+            files.read_at(name, 0, &mut to),
+            Ok(1),
+            "the file that was created"
+        );
+        assert_eq!(rt; to, *b"c");
+        assert_eq!(rt; files.read_at(name, 1, &mut to), Ok(0));
+        fs::remove_file(&rt, name)?;
+        assert_eq!(rt;
+            files.read_at(name, 0, &mut to),
+            Err(Failed),
+            "after its end"
+        );
+        assert_eq!(rt; files.append(name, b"d"), Ok(1), "the file that is open");
         Ok(())
     }
 }

@@ -34,7 +34,7 @@ returns c =
       c.in_ok-extend_from_slice.ensures.items,
       c.in_ok-push_section_header.ensures,
       c.in_ok-push_file_header.ensures,
-      c.new-out.ensures.items,
+      c.in_ok-out.ensures.items,
       c.file_header.ensures o is,
       c.section_header.ensures o is,
       c.section_aux.ensures o is,

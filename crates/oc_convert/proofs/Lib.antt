@@ -1,0 +1,4 @@
+pub mod Notes
+pub mod OneRefusal
+pub mod Outlines
+pub mod Whole

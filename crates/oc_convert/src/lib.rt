@@ -1,0 +1,13 @@
+//! The conversion, once for all formats: it reads an object, fits it to the target and plans the
+//! file, and knows of the formats only what readers and writers promise.
+#![tactic(auto)]
+
+mod conversion;
+mod fault;
+mod fits;
+mod laws;
+
+pub use conversion::convert;
+pub use fault::ConvertFault;
+pub use fits::{FitFault, Fits};
+pub use laws::first_refusal_is_one;
