@@ -7,6 +7,11 @@ pub mod FoundLemmas
 pub mod HeaderLemmas
 pub mod KeyLemmas
 pub mod ListedLemmas
+pub mod NeutralBytes
+pub mod NeutralEntries
+pub mod NeutralFields
+pub mod NeutralShows
+pub mod NeutralSymbols
 pub mod ObjectLemmas
 pub mod OneSectionLemmas
 pub mod PaddingLemmas
