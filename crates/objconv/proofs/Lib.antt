@@ -15,6 +15,11 @@ pub mod Gathered
 pub mod HeaderLemmas
 pub mod KeyLemmas
 pub mod ListedLemmas
+pub mod NeutralBytes
+pub mod NeutralEntries
+pub mod NeutralFields
+pub mod NeutralShows
+pub mod NeutralSymbols
 pub mod ObjectLemmas
 pub mod OneSectionLemmas
 pub mod PaddingLemmas

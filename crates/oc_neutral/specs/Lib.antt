@@ -15,6 +15,7 @@ pub mod Fitted
 pub mod GivenTags
 pub mod HomeNames
 pub mod Invariants
+pub mod Keeping
 pub mod KindRules
 pub mod Laws
 pub mod MachKinds

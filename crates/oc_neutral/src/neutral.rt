@@ -37,6 +37,24 @@ impl Model for Neutral {
 }
 
 impl Neutral {
+    /// The object of these parts. Constant time, no memory.
+    pub(crate) fn new(
+        format: Format,
+        sections: Vec<Section>,
+        symbols: Vec<Symbol>,
+        relocs: Chains<Reloc>,
+    ) -> Neutral
+        requires { IsObject (record { format = format; sections = sections.items; symbols = symbols.items; relocs = relocs.lists }) }
+        ensures { result ≡ record { format = format; sections = sections.items; symbols = symbols.items; relocs = relocs.lists } }
+    {
+        Neutral {
+            format,
+            sections,
+            symbols,
+            relocs,
+        }
+    }
+
     /// The format whose names and tags the sections have. Constant time, no memory.
     pub fn format(&self) -> Format
         ensures { result ≡ self.now.format }
