@@ -1,5 +1,7 @@
 pub mod AlikeLemmas
 pub mod BelowLemmas
+pub mod CodedLemmas
+pub mod CodedObjects
 pub mod EmitLemmas
 pub mod FaithfulLemmas
 pub mod FieldLemmas
@@ -18,6 +20,7 @@ pub mod RelsLemmas
 pub mod RewritingLemmas
 pub mod RisingLemmas
 pub mod SectionLemmas
+pub mod SeenObjects
 pub mod SymbolLemmas
 pub mod SymbolsLemmas
 pub mod TargetLemmas
