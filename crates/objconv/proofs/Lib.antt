@@ -20,6 +20,7 @@ pub mod RelsLemmas
 pub mod RewritingLemmas
 pub mod RisingLemmas
 pub mod SectionLemmas
+pub mod SeenFields
 pub mod SeenObjects
 pub mod SymbolLemmas
 pub mod SymbolsLemmas
