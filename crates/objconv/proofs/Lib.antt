@@ -22,6 +22,8 @@ pub mod RisingLemmas
 pub mod SectionLemmas
 pub mod SeenFields
 pub mod SeenObjects
+pub mod SeenShows
+pub mod StandingLemmas
 pub mod SymbolLemmas
 pub mod SymbolsLemmas
 pub mod TargetLemmas
