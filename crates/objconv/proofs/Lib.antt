@@ -1,5 +1,7 @@
 pub mod AlikeLemmas
 pub mod BelowLemmas
+pub mod CodedLemmas
+pub mod CodedObjects
 pub mod CodedPlain
 pub mod ConvertedPlain
 pub mod EmitLemmas
@@ -32,6 +34,10 @@ pub mod RelsLemmas
 pub mod RewritingLemmas
 pub mod RisingLemmas
 pub mod SectionLemmas
+pub mod SeenFields
+pub mod SeenObjects
+pub mod SeenShows
+pub mod StandingLemmas
 pub mod SymbolLemmas
 pub mod SymbolsLemmas
 pub mod TargetLemmas
