@@ -15,6 +15,8 @@ pub mod FittingParts
 pub mod FoundLemmas
 pub mod Gathered
 pub mod HeaderLemmas
+pub mod Judged
+pub mod KeptAlike
 pub mod KeyLemmas
 pub mod ListedLemmas
 pub mod NeutralBytes
