@@ -22,6 +22,7 @@ pub mod ListedLemmas
 pub mod NeutralBytes
 pub mod NeutralEntries
 pub mod NeutralFields
+pub mod NeutralObject
 pub mod NeutralShows
 pub mod NeutralSymbols
 pub mod ObjectLemmas
