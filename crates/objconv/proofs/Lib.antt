@@ -4,9 +4,12 @@ pub mod EmitLemmas
 pub mod FaithfulLemmas
 pub mod FieldLemmas
 pub mod FittingBlank
+pub mod FittingConditions
 pub mod FittingFit
 pub mod FittingObject
 pub mod FittingParts
+pub mod FittingReady
+pub mod FittingTaken
 pub mod FoundLemmas
 pub mod HeaderLemmas
 pub mod KeyLemmas
