@@ -1,23 +1,20 @@
 -- What a plain object of ELF becomes in COFF is that object in the target.
-use Rattle.std.proofs.Common.{◌≡◌, ℕ, zero, suc, ◌<◌, ◌≤◌, ◌^◌, ◌+◌, Bool, true, false, ◌||◌, List, [], ◌∷◌, length, map, get_or, Option, Some, None, refl, sym, ◌∙◌, ap, subst, arith}
+use Rattle.std.proofs.Common.{◌≡◌, ℕ, ◌<◌, ◌≤◌, ◌^◌, ◌+◌, Bool, true, false, ◌||◌, List, [], ◌∷◌, map, get_or, Some, None, refl, sym, ◌∙◌, ap, subst, arith}
 use mathlib.Core.Path.{fun_ext}
-use Rattle.std.specs.Prelude.{nat_eq, nat_lt, if◌then◌else◌, slice_get}
-use Rattle.std.specs.List.{AllByRecursion, list_all}
+use Rattle.std.specs.Prelude.{nat_eq, nat_lt}
+use Rattle.std.specs.List.{list_all}
 use Rattle.std.specs.Option.{option_map, option_map_or}
-use Rattle.std.proofs.lemmas.Bool.{true≢false, eqb-true, le-ltb, and_parts, agree_below, agree_below_at}
-use Rattle.std.proofs.lemmas.List.{get_or_past}
+use Rattle.std.proofs.lemmas.Bool.{true≢false, eqb-true, le-ltb, and_parts, agree_below_at}
 use Rattle.oc_base.specs.declared.format.Format.TheVariants.{Elf32, Coff32}
-use Rattle.oc_base.specs.Formats.{word_for}
 use Rattle.oc_linking.specs.declared.terms.Patch.{Patch}
-use Rattle.oc_linking.specs.declared.terms.Value.TheVariants as value
 use Rattle.oc_linking.specs.declared.terms.Binding.{Binding}
 use Rattle.oc_linking.specs.declared.terms.Binding.TheVariants.{Local, Global, Undefined, Common, Weak}
 use Rattle.oc_linking.specs.Fits.{bytes_of}
 use Rattle.oc_linking.specs.Placing.{Placement}
 use Rattle.oc_linking.specs.Values.{Valuation}
-use Rattle.oc_linking.specs.Images.{overlays, overlay}
+use Rattle.oc_linking.specs.Images.{overlays}
 use Rattle.oc_linking.specs.Linking.{patch_of}
-use Rattle.oc_linking.specs.Shows.{under_of, unders, lives}
+use Rattle.oc_linking.specs.Shows.{unders}
 use Rattle.oc_chains.specs.Lists.{Lists, list_of}
 use Rattle.oc_neutral.specs.declared.section.Section.{Section}
 use Rattle.oc_neutral.specs.declared.symbol.Symbol.{Symbol}
@@ -27,8 +24,8 @@ use Rattle.oc_neutral.specs.Invariants.{IsAlign, IsObject}
 use Rattle.oc_neutral.specs.Alignments.{output_align, power_upto}
 use Rattle.oc_neutral.specs.HomeNames.{output_names, wanted_names, output_tag}
 use Rattle.oc_neutral.specs.Faces.{contents_of, field_of, shown_sections}
-use Rattle.oc_neutral.specs.Shows.{frame_of, looks_of, patches_of}
-use Rattle.oc_neutral.specs.Fitted.{fitted_binding, fitted_symbol, fitted_frames, is_stored_at, FitsAt, IsFit}
+use Rattle.oc_neutral.specs.Shows.{frame_of, patches_of}
+use Rattle.oc_neutral.specs.Fitted.{fitted_binding, fitted_symbol, fitted_frames, is_stored_at, IsFit}
 use Rattle.oc_neutral.proofs.FitLinks.{from_mapped}
 use Rattle.objconv.specs.Coded.{plain_tag, code_tag, is_plain_binding, is_plain_symbol}
 use Rattle.objconv.specs.Recoded.{recoded}

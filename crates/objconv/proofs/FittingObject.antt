@@ -1,5 +1,5 @@
 -- A plain object of ELF is an object in COFF too.
-use Rattle.std.proofs.Common.{◌≡◌, ℕ, zero, suc, ◌≤◌, List, [], ◌∷◌, Some, refl, sym, subst, arith}
+use Rattle.std.proofs.Common.{◌≡◌, ℕ, zero, suc, ◌≤◌, List, Some, refl, sym, subst, arith}
 use Rattle.std.specs.Prelude.{slice_get}
 use Rattle.std.specs.List.{AllByRecursion}
 use Rattle.std.proofs.lemmas.Option.{none-some, same_Some}
@@ -20,7 +20,7 @@ use Rattle.oc_neutral.specs.declared.reloc.Target.{Target}
 use Rattle.oc_neutral.specs.declared.reloc.Target.TheVariants as target
 use Rattle.oc_neutral.specs.declared.reloc.Reloc.{Reloc}
 use Rattle.oc_neutral.specs.Objects.{Object}
-use Rattle.oc_neutral.specs.Invariants.{HasOffset, IsValue, IsFallback, IsBinding, IsSymbol, IsThere, IsLessThere, IsNormal, IsHeld, HoldsFields, AreFew, IsBuilt, IsComplete, IsObject, IsSection, WithinLimits}
+use Rattle.oc_neutral.specs.Invariants.{HasOffset, IsValue, IsFallback, IsBinding, IsSymbol, IsThere, IsLessThere, IsHeld, HoldsFields, IsObject, IsSection}
 use Rattle.oc_neutral.proofs.Positions.{each_weaker}
 use Rattle.objconv.specs.Coded.{plain_tag, code_tag}
 use Rattle.objconv.proofs.FittingParts.{text_with, made}
@@ -109,7 +109,7 @@ module _ (s : Section) (symbols : List Symbol) (relocs : Lists Reloc) where
     complete = record {
       aligns = is.complete.aligns;
       symbols = each_weaker (IsSymbol from) (IsSymbol to)
-      (λ x h. record { named = h.named; name = h.name; binding = is_binding x.binding h.binding; size = h.size; number = h.number }) symbols is.complete.symbols;
+          (λ x h. record { named = h.named; name = h.name; binding = is_binding x.binding h.binding; size = h.size; number = h.number }) symbols is.complete.symbols;
       hints = is.complete.hints;
       originals = is.complete.originals;
     };

@@ -1,6 +1,6 @@
 -- What the conditions of a plain object say of its parts.
-use Rattle.std.proofs.Common.{◌≡◌, ℕ, ◌≤◌, Bool, true, false, List, [], ◌∷◌, length, refl, sym, ◌∙◌, ap}
-use Rattle.std.specs.Prelude.{◌&&◌, nat_eq, nat_le, bytes_eq, codes}
+use Rattle.std.proofs.Common.{◌≡◌, ℕ, ◌≤◌, Bool, true, List, [], ◌∷◌, length, refl, sym, ◌∙◌, ap}
+use Rattle.std.specs.Prelude.{nat_eq, nat_le, codes}
 use Rattle.std.specs.List.{AllByRecursion, list_all}
 use Rattle.std.proofs.lemmas.Bool.{true≢false, leb-true, le-leb, eqb-true, eq-eqb, and_parts, and_from}
 use Rattle.std.proofs.lemmas.Slice.Eq.{bytes_eq-Decides}
@@ -43,11 +43,10 @@ section_is tag s e =
     let a = and_parts _ _ e in
     let b = and_parts _ _ a.0 in
     let c = and_parts _ _ b.0 in
-    let with : List ℕ → Kind → ℕ → Section = λ name kind tag. record { name = name; kind = kind; align = s.align; size = s.size; bytes = s.bytes; tag = tag; number = s.number } in
-    (
+    let with : List ℕ → Kind → ℕ → Section = λ name kind tag. record { name = name; kind = kind; align = s.align; size = s.size; bytes = s.bytes; tag = tag; number = s.number } in (
       ap (λ name. with name s.kind s.tag) ((bytes_eq-Decides s.name (codes ".text")).0 c.1)
-      ∙ ap (λ kind. with (codes ".text") kind s.tag) (kind_of s.kind c.0)
-      ∙ ap (λ t. with (codes ".text") Code t) (eqb-true s.tag tag a.1),
+          ∙ ap (λ kind. with (codes ".text") kind s.tag) (kind_of s.kind c.0)
+          ∙ ap (λ t. with (codes ".text") Code t) (eqb-true s.tag tag a.1),
       leb-true s.align 8192 b.1,
     )
 

@@ -9,9 +9,12 @@ pub mod FaithfulLemmas
 pub mod FieldLemmas
 pub mod FilledPlain
 pub mod FittingBlank
+pub mod FittingConditions
 pub mod FittingFit
 pub mod FittingObject
 pub mod FittingParts
+pub mod FittingReady
+pub mod FittingTaken
 pub mod FoundLemmas
 pub mod Gathered
 pub mod HeaderLemmas

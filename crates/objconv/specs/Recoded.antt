@@ -1,5 +1,5 @@
 -- A plain object of ELF in COFF for i386 (PE/COFF, "Section Flags" and "Special Sections"; our profile).
-use Rattle.std.specs.Prelude.{List, map, codes}
+use Rattle.std.specs.Prelude.{map, codes}
 use Rattle.oc_base.specs.declared.format.Format.TheVariants.{Coff32}
 use Rattle.oc_neutral.specs.declared.section.Section.{Section}
 use Rattle.oc_neutral.specs.Objects.{Object}
