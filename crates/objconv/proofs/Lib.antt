@@ -2,6 +2,7 @@ pub mod AlikeLemmas
 pub mod BelowLemmas
 pub mod CodedLemmas
 pub mod CodedObjects
+pub mod CodedWritten
 pub mod EmitLemmas
 pub mod FaithfulLemmas
 pub mod FieldLemmas
@@ -20,6 +21,7 @@ pub mod RelsLemmas
 pub mod RewritingLemmas
 pub mod RisingLemmas
 pub mod SectionLemmas
+pub mod SeenAlike
 pub mod SeenFields
 pub mod SeenObjects
 pub mod SeenShows
