@@ -7,6 +7,7 @@ pub mod Links
 pub mod Neutral
 pub mod Plain
 pub mod Raising
+pub mod Recoded
 pub mod Refusals
 pub mod Rewriting
 pub mod Runs

@@ -24,7 +24,7 @@ pub or_left : (a b : Bool) → (a || b) ≡ false → a ≡ false
 or_left false b e = refl
 or_left true b e = absurd (true≢false e)
 
-or_right : (a b : Bool) → (a || b) ≡ false → b ≡ false
+pub or_right : (a b : Bool) → (a || b) ≡ false → b ≡ false
 or_right false b e = e
 or_right true b e = absurd (true≢false e)
 
@@ -129,22 +129,23 @@ have_common at width x k = nat_lt x (at + width) && nat_lt at (x + k)
 pub met-reloc : (d : Draft) (s at : ℕ) (q : Reloc) → s < length d.object.relocs
     → (t x k : ℕ) → is_met (with_reloc d s at q) t x k ≡ (nat_eq t s && have_common at (bytes_of q.form.width) x k || is_met d t x k)
 met-reloc d s at q lt t x k =
-    ap (λ xs. list_any (meets x k) xs || list_any (meets x k) (d.folded t)) (list_of-with_field d.object.relocs s at (bytes_of q.form.width) q lt t)
+    ap (λ xs. list_any (meets x k) xs || list_any (meets x k) (list_of d.folded t)) (list_of-with_field d.object.relocs s at (bytes_of q.form.width) q lt t)
     ∙ by (eqb t s) refl
   where
     by : (b : Bool) → eqb t s ≡ b
-        → (list_any (meets x k) (cond b (placed (field at (bytes_of q.form.width) q) (list_of d.object.relocs s)) (list_of d.object.relocs t)) || list_any (meets x k) (d.folded t))
+        → (list_any (meets x k) (cond b (placed (field at (bytes_of q.form.width) q) (list_of d.object.relocs s)) (list_of d.object.relocs t)) || list_any (meets x k) (list_of d.folded t))
         ≡ (b && have_common at (bytes_of q.form.width) x k || is_met d t x k)
     by true e = rw (eqb-true t s e, list_any-placed (meets x k) (field at (bytes_of q.form.width) q) (list_of d.object.relocs s)) (or_assoc (have_common at (bytes_of q.form.width) x k) _ _)
     by false e = refl
 
 -- and where one was folded
-pub met-constant : (d : Draft) (s at width number : ℕ) → (t x k : ℕ)
+pub met-constant : (d : Draft) (s at width number : ℕ) → s < length d.folded → (t x k : ℕ)
     → is_met (with_constant d s at width number) t x k ≡ (nat_eq t s && have_common at width x k || is_met d t x k)
-met-constant d s at width number t x k = by (eqb t s) refl
+met-constant d s at width number lt t x k =
+    ap (λ xs. is_taken d.object.relocs t x k || list_any (meets x k) xs) (list_of-with_field d.folded s at width (record {}) lt t) ∙ by (eqb t s) refl
   where
     by : (b : Bool) → eqb t s ≡ b
-        → (is_taken d.object.relocs t x k || list_any (meets x k) (cond b (placed (field at width (record {})) (d.folded t)) (d.folded t)))
+        → (is_taken d.object.relocs t x k || list_any (meets x k) (cond b (placed (field at width (record {})) (list_of d.folded s)) (list_of d.folded t)))
         ≡ (b && have_common at width x k || is_met d t x k)
-    by true e = rw (list_any-placed (meets x k) (field at width (record {})) (d.folded t)) (or-left_comm (is_taken d.object.relocs t x k) (have_common at width x k) _)
+    by true e = rw (eqb-true t s e, list_any-placed (meets x k) (field at width (record {})) (list_of d.folded s)) (or-left_comm (is_taken d.object.relocs s x k) (have_common at width x k) _)
     by false e = refl

@@ -3,11 +3,18 @@ pub mod Added
 pub mod Adding
 mod AlignmentRows
 mod ConditionRows
+pub mod Dressing
 pub mod FitLinks
 pub mod GivenLaws
+pub mod HeldLemmas
 mod KindRows
+pub mod Likeness
 pub mod Linked
 pub mod Looking
+pub mod MoreRelocs
+pub mod MoreSections
+pub mod MoreSymbols
+pub mod NameLemmas
 mod NameRows
 pub mod NormalLemmas
 mod NormalRows
@@ -26,3 +33,4 @@ mod SpellingRows
 pub mod Standing
 pub mod Truth
 pub mod WrittenBytes
+pub mod WrittenLemmas

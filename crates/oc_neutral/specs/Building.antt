@@ -1,5 +1,5 @@
 -- What a Builder holds, and what each of its calls makes of it (our profile).
-use Rattle.std.specs.Prelude.{ℕ, zero, suc, ◌+◌, ◌/◌, ◌%◌, Bool, true, false, not, ◌&&◌, ◌||◌, nat_eq, nat_lt, bytes_eq, if◌then◌else◌, List, [], ◌∷◌, ◌++◌, slice_get, slice_set, Option, Some, None, Result, Ok, Err}
+use Rattle.std.specs.Prelude.{ℕ, zero, suc, ◌+◌, ◌/◌, ◌%◌, Bool, true, false, not, ◌&&◌, ◌||◌, nat_lt, bytes_eq, if◌then◌else◌, List, [], ◌∷◌, ◌++◌, slice_get, slice_set, Option, Some, None, Result, Ok, Err}
 use Rattle.std.specs.List.{list_any, sum_by}
 use Rattle.oc_base.specs.declared.code.Code.{Code}
 use Rattle.oc_base.specs.declared.code.Code.TheVariants.{LimitSection, LimitSum, LimitBytes}
@@ -10,8 +10,6 @@ use Rattle.oc_linking.specs.declared.terms.Kind.TheVariants.{Code as CodeKind, R
 use Rattle.oc_linking.specs.Fits.{bytes_of}
 use Rattle.oc_linking.specs.Parts.{is_local}
 use Rattle.oc_algebra.specs.Folds.{fold_of}
-use Rattle.oc_chains.specs.declared.field.Field.{Field}
-use Rattle.oc_chains.specs.Fields.{field, meets, placed}
 use Rattle.oc_chains.specs.Lists.{Lists, with_field, is_taken}
 use Rattle.oc_neutral.specs.declared.section.Section.{Section}
 use Rattle.oc_neutral.specs.declared.symbol.Symbol.{Symbol}
@@ -27,11 +25,11 @@ use Rattle.oc_neutral.specs.Normal.{normal_of}
 -- what a Builder holds: the object so far, and for each section the fields that were folded into its bytes
 pub record Draft : Type 0 where
   pub object : Object
-  pub folded : ℕ → List (Field Folded)
+  pub folded : Lists Folded
 
 -- nothing was added yet
 abbrev pub empty_draft : Format → Draft
-empty_draft format = record { object = empty_object format; folded = λ s. [] }
+empty_draft format = record { object = empty_object format; folded = [] }
 
 -- sections of this kind have no bytes
 abbrev pub is_zero : Kind → Bool
@@ -61,12 +59,16 @@ stored_sum sections = sum_by stored_size sections
 abbrev pub passed : Code → ℕ → BuildFault
 passed code counted = fault.Limit code counted
 
+-- the first limit that one more section passes, where those before have these sums
+abbrev pub limit_by : ℕ → ℕ → Section → Option BuildFault
+limit_by sizes stored s =
+    if nat_lt 2147483647 s.size then Some (passed LimitSection s.size)
+    else (if nat_lt 2147483648 (sizes + s.size) then Some (passed LimitSum (sizes + s.size))
+    else (if nat_lt 67108864 (stored + stored_size s) then Some (passed LimitBytes (stored + stored_size s)) else None))
+
 -- the first limit that one more section passes
 abbrev pub limit_passed : List Section → Section → Option BuildFault
-limit_passed sections s =
-    if nat_lt 2147483647 s.size then Some (passed LimitSection s.size)
-    else (if nat_lt 2147483648 (size_sum sections + s.size) then Some (passed LimitSum (size_sum sections + s.size))
-    else (if nat_lt 67108864 (stored_sum sections + stored_size s) then Some (passed LimitBytes (stored_sum sections + stored_size s)) else None))
+limit_passed sections s = limit_by (size_sum sections) (stored_sum sections) s
 
 -- the object with one more section, which has no relocations
 abbrev pub with_section : Object → Section → Object
@@ -74,7 +76,7 @@ with_section n s = record { format = n.format; sections = n.sections ++ s ∷ []
 
 -- adding a section
 abbrev pub section_by : Draft → Section → Option BuildFault → Result Draft BuildFault
-section_by d s None = Ok (record { object = with_section d.object s; folded = d.folded })
+section_by d s None = Ok (record { object = with_section d.object s; folded = d.folded ++ [] ∷ [] })
 section_by d s (Some f) = Err f
 
 unfoldable pub section_added : Draft → Section → Result Draft BuildFault
@@ -125,13 +127,9 @@ with_bytes n relocs s at k number = record {
   relocs = relocs;
 }
 
--- the folded fields with one more in section s
-abbrev pub with_folded : (ℕ → List (Field Folded)) → ℕ → ℕ → ℕ → ℕ → List (Field Folded)
-with_folded folded s at k t = if nat_eq t s then placed (field at k (record {})) (folded t) else folded t
-
 -- whether a field of the k bytes from an offset of section s on meets one that was added before
 abbrev pub is_met : Draft → ℕ → ℕ → ℕ → Bool
-is_met d s at k = is_taken d.object.relocs s at k || list_any (meets at k) (d.folded s)
+is_met d s at k = is_taken d.object.relocs s at k || is_taken d.folded s at k
 
 -- a relocation remains: the bytes under its field are zero
 abbrev pub with_reloc : Draft → ℕ → ℕ → Reloc → Draft
@@ -142,7 +140,7 @@ with_reloc d s at r =
 -- a constant is stored in the bytes of its field
 abbrev pub with_constant : Draft → ℕ → ℕ → ℕ → ℕ → Draft
 with_constant d s at k number =
-    record { object = with_bytes d.object d.object.relocs s at k number; folded = with_folded d.folded s at k }
+    record { object = with_bytes d.object d.object.relocs s at k number; folded = with_field d.folded s at k (record {}) }
 
 -- what is left of a relocation of this normal form
 abbrev pub normal_added : Draft → ℕ → ℕ → Reloc → Normal → Result Draft BuildFault

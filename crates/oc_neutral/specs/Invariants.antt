@@ -1,6 +1,6 @@
 -- What holds of each neutral object, and of what a Builder holds (our profile).
 use Rattle.std.specs.Prelude.{◌≡◌, ℕ, ◌+◌, ◌^◌, ◌<◌, ◌≤◌, ◌≢◌, Bool, true, false, List, [], length, slice_get, get_or, Some, None}
-use Rattle.std.specs.List.{AllByRecursion, list_any}
+use Rattle.std.specs.List.{AllByRecursion}
 use Rattle.oc_base.specs.Formats.{word_for}
 use Rattle.oc_linking.specs.declared.terms.Width.TheVariants.{Four}
 use Rattle.oc_linking.specs.declared.terms.Hint.TheVariants.{Call}
@@ -18,13 +18,14 @@ use Rattle.oc_algebra.specs.declared.form.Less.{Less}
 use Rattle.oc_algebra.specs.declared.form.Less.TheVariants as less
 use Rattle.oc_algebra.specs.Residues.{reduced_number}
 use Rattle.oc_chains.specs.declared.field.Field.{Field}
-use Rattle.oc_chains.specs.Fields.{FollowFrom, meets}
-use Rattle.oc_chains.specs.Lists.{list_of, held_in}
+use Rattle.oc_chains.specs.Fields.{FollowFrom}
+use Rattle.oc_chains.specs.Lists.{list_of, held_in, is_taken}
 use Rattle.oc_neutral.specs.declared.section.Section.{Section}
 use Rattle.oc_neutral.specs.declared.symbol.Symbol.{Symbol}
 use Rattle.oc_neutral.specs.declared.reloc.Target.{Target}
 use Rattle.oc_neutral.specs.declared.reloc.Target.TheVariants as target
 use Rattle.oc_neutral.specs.declared.reloc.Reloc.{Reloc}
+use Rattle.oc_neutral.specs.declared.normal.Folded.{Folded}
 use Rattle.oc_neutral.specs.Objects.{Object}
 use Rattle.oc_neutral.specs.Faces.{number_of}
 use Rattle.oc_neutral.specs.Normal.{Place, place_among, cancels, takes_section}
@@ -163,10 +164,12 @@ pub record IsBuilt (n : Object) : Type 0 where
   pub fields : HoldsFields n
   pub few : AreFew n
 
--- no folded field meets another, or one of a relocation
+-- the folded fields of each section lie in its bytes, and none meets another, or one of a relocation
 pub record AreFolded (d : Draft) : Type 0 where
-  pub apart : (s : ℕ) → FollowFrom 0 (d.folded s)
-  pub beside : (s : ℕ) → AllByRecursion (λ (x : Field Reloc). list_any (meets x.at x.width) (d.folded s) ≡ false) (list_of d.object.relocs s)
+  pub counted : length d.folded ≡ length d.object.sections
+  pub inside : (s : ℕ) (x : Section) → slice_get d.object.sections s ≡ Some x → AllByRecursion (λ (y : Field Folded). y.at + y.width ≤ length x.bytes) (list_of d.folded s)
+  pub apart : (s : ℕ) → FollowFrom 0 (list_of d.folded s)
+  pub beside : (s : ℕ) → AllByRecursion (λ (x : Field Reloc). is_taken d.folded s x.at x.width ≡ false) (list_of d.object.relocs s)
 
 -- what holds of what a Builder holds
 pub record IsDraft (d : Draft) : Type 0 where

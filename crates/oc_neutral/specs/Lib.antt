@@ -5,6 +5,7 @@ pub mod CoffRelocs
 pub mod CoffStrings
 pub mod Constants
 pub mod Dialects
+pub mod Dressing
 pub mod ElfKinds
 pub mod ElfRelocs
 pub mod Expressible
@@ -14,6 +15,7 @@ pub mod Fitted
 pub mod GivenTags
 pub mod HomeNames
 pub mod Invariants
+pub mod Keeping
 pub mod KindRules
 pub mod Laws
 pub mod MachKinds

@@ -1,5 +1,6 @@
 //! Why a thing is not added to an object.
 use oc_base::{Code, NoMemory};
+use std::alloc::{AllocError, AllocFailed};
 use thiserror::Error;
 
 /// Why a section, a symbol or a relocation was not added.
@@ -25,4 +26,37 @@ pub enum BuildFault {
     /// Memory ran out.
     #[error("out of memory")]
     NoMemory,
+}
+
+impl From<AllocError> for BuildFault {
+    ghost use Rattle.std.specs.Prelude.{◌≡◌};
+    ghost use Rattle.oc_neutral.specs.declared.fault.BuildFault.TheVariants as fault;
+
+    ghost from_gives = { λ _ e. e ≡ fault.NoMemory };
+
+    fn from(_: AllocError) -> BuildFault {
+        BuildFault::NoMemory
+    }
+}
+
+impl<T: Drop> From<AllocFailed<T>> for BuildFault {
+    ghost use Rattle.std.specs.Prelude.{◌≡◌};
+    ghost use Rattle.oc_neutral.specs.declared.fault.BuildFault.TheVariants as fault;
+
+    ghost from_gives = { λ _ e. e ≡ fault.NoMemory };
+
+    fn from(_failed: AllocFailed<T>) -> BuildFault {
+        BuildFault::NoMemory
+    }
+}
+
+impl From<NoMemory> for BuildFault {
+    ghost use Rattle.std.specs.Prelude.{◌≡◌};
+    ghost use Rattle.oc_neutral.specs.declared.fault.BuildFault.TheVariants as fault;
+
+    ghost from_gives = { λ _ e. e ≡ fault.NoMemory };
+
+    fn from(_: NoMemory) -> BuildFault {
+        BuildFault::NoMemory
+    }
 }

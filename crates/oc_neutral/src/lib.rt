@@ -2,10 +2,14 @@
 //! one form for all formats; and what a reader and a writer of a format promise of it.
 #![tactic(auto)]
 
+mod builder;
 mod determined;
 mod fault;
+mod fields;
 mod fitted;
 mod laws;
+mod limits;
+mod names;
 mod neutral;
 mod normal;
 mod reads;
@@ -14,6 +18,7 @@ mod section;
 mod symbol;
 mod writes;
 
+pub use builder::Builder;
 pub use determined::shown_object_is_one;
 pub use fault::BuildFault;
 pub use fitted::Fitted;

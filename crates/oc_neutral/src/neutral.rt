@@ -1,12 +1,14 @@
 //! The neutral object.
 ghost use Rattle.std.specs.Prelude.{◌≡◌, ◌<◌, length, slice_get, Some};
+ghost use Rattle.oc_base.specs.Formats.{word_for};
 ghost use Rattle.oc_chains.specs.Lists.{list_of};
-ghost use Rattle.oc_neutral.specs.Invariants.{IsObject};
+ghost use Rattle.oc_neutral.specs.Dressing.{dressed, in_format};
+ghost use Rattle.oc_neutral.specs.Invariants.{AreBytes, IsAlign, IsObject};
 
 use crate::reloc::Reloc;
 use crate::section::Section;
 use crate::symbol::Symbol;
-use oc_base::Format;
+use oc_base::{Bytes, Format};
 use oc_chains::{Chains, Walk};
 use std::marker::Model;
 
@@ -35,6 +37,24 @@ impl Model for Neutral {
 }
 
 impl Neutral {
+    /// The object of these parts. Constant time, no memory.
+    pub(crate) fn new(
+        format: Format,
+        sections: Vec<Section>,
+        symbols: Vec<Symbol>,
+        relocs: Chains<Reloc>,
+    ) -> Neutral
+        requires { IsObject (record { format = format; sections = sections.items; symbols = symbols.items; relocs = relocs.lists }) }
+        ensures { result ≡ record { format = format; sections = sections.items; symbols = symbols.items; relocs = relocs.lists } }
+    {
+        Neutral {
+            format,
+            sections,
+            symbols,
+            relocs,
+        }
+    }
+
     /// The format whose names and tags the sections have. Constant time, no memory.
     pub fn format(&self) -> Format
         ensures { result ≡ self.now.format }
@@ -87,4 +107,34 @@ impl Neutral {
     {
         let _ = &self.symbols;
     }
+
+    /// Gives the object another format, whose addresses have as many bits. All else stays. Constant
+    /// time, no memory.
+    pub fn set_format(&mut self, format: Format)
+        requires { word_for format ≡ word_for self.old.format }
+        ensures { self.new ≡ in_format self.old format }
+    {
+        self.format = format;
+    }
+
+    /// Gives the section at a position another name, tag and alignment, a power of two up to 2^20.
+    /// All else stays. Constant time, no memory; the old name's memory is given back.
+    pub fn dress_section(&mut self, index: u32, name: Bytes, tag: u64, align: u32)
+        requires there { index < length self.old.sections }
+        requires align { IsAlign align }
+        ensures { self.new ≡ dressed self.old index name tag align }
+    {
+        are_bytes(name.as_slice());
+        let section = &mut self.sections[index as usize];
+        section.name = name;
+        section.tag = tag;
+        section.align = align;
+    }
+}
+
+/// What holds of each of the bytes, for callers to cite. It does nothing.
+fn are_bytes(bytes: &[u8])
+    ensures { AreBytes bytes.now }
+{
+    let _ = bytes;
 }

@@ -1,0 +1,75 @@
+-- A set of names with one more.
+use Rattle.std.proofs.Common.{◌≡◌, ℕ, Bool, true, false, not, ◌||◌, List, [], ◌∷◌, refl, sym, ◌∙◌, ap, bytes_eq}
+use Rattle.std.specs.declared.vec.Vec.{Vec}
+use Rattle.std.specs.declared.cmp.Ordering.{Ordering}
+use Rattle.std.specs.declared.cmp.Ordering.TheVariants.{Less, Equal, Greater}
+use Rattle.std.specs.List.{list_any}
+use Rattle.std.specs.Bool.{one_answer}
+use Rattle.std.specs.BTreeSet.{BTreeSet, insert_key}
+use Rattle.std.specs.Ordering.{nat_cmp, match_ordering, is_eq}
+use Rattle.std.specs.Cmp.Lexicographic.{slice_cmp}
+use Rattle.std.proofs.lemmas.Map.Lookups.{exact_bytes}
+use Rattle.std.proofs.lemmas.Map.Text.{is_eq-slice_cmp}
+use Rattle.std.proofs.lemmas.Slice.Eq.{bytes_eq-Decides}
+use Rattle.oc_neutral.specs.Keeping.{is_among}
+
+either_again : (s t l : Bool) → s ≡ t → (t || l) ≡ (s || (t || l))
+either_again true true l e = refl
+either_again true false l e = cc
+either_again false true l e = cc
+either_again false false l e = refl
+
+either_swap : (s t l m : Bool) → m ≡ (s || l) → (t || m) ≡ (s || (t || l))
+either_swap true true l m e = refl
+either_swap true false l m e = e
+either_swap false true l m e = refl
+either_swap false false l m e = e
+
+module _ {K : Type 0} where
+  -- two tests that agree
+  pub any_alike : (p q : K → Bool) → ((x : K) → p x ≡ q x) → (xs : List K) → list_any p xs ≡ list_any q xs
+  any_alike p q same [] = refl
+  any_alike p q same (x ∷ xs) = rw (same x, any_alike p q same xs) refl
+
+  -- what passes a test after a key was inserted: the test does not tell equal keys apart
+  pub any_inserted : (cmp : K → K → Ordering) (p : K → Bool) → ((k x : K) → cmp k x ≡ Equal → p k ≡ p x) → (xs : List K) (k : K)
+      → list_any p (insert_key cmp xs k) ≡ (p k || list_any p xs)
+  any_inserted cmp p same [] k = refl
+  any_inserted cmp p same (x ∷ xs) k = by (cmp k x) refl (any_inserted cmp p same xs k)
+    where
+      by : (o : Ordering) → cmp k x ≡ o → list_any p (insert_key cmp xs k) ≡ (p k || list_any p xs)
+          → list_any p (match_ordering o (k ∷ x ∷ xs) (x ∷ xs) (x ∷ insert_key cmp xs k)) ≡ (p k || (p x || list_any p xs))
+      by Less e rest = refl
+      by Equal e rest = either_again (p k) (p x) (list_any p xs) (same k x e)
+      by Greater e rest = either_swap (p k) (p x) (list_any p xs) (list_any p (insert_key cmp xs k)) rest
+
+-- what a test is, whose opposite is known
+pub not_true : (t : Bool) → not t ≡ true → t ≡ false
+not_true true e = cc
+not_true false e = refl
+
+pub not_false : (t : Bool) → not t ≡ false → t ≡ true
+not_false true e = refl
+not_false false e = cc
+
+-- the names that are equal to one are those that compare equal
+same_names : (a b : List ℕ) → is_eq (slice_cmp nat_cmp a b) ≡ bytes_eq b a
+same_names a b =
+    let d = bytes_eq-Decides b a in
+    is_eq-slice_cmp a b ∙ one_answer {P = a ≡ b} (bytes_eq a b) (bytes_eq b a) (bytes_eq-Decides a b) ((λ e. sym (d.0 e)), (λ p. d.1 (sym p)))
+
+module _ {Z : Type 0} where
+  -- a name compares equal to one of the set exactly where it is among them
+  pub among_by_cmp : (names : BTreeSet (Vec ℕ Z)) (key : Vec ℕ Z) (name : List ℕ) → key.items ≡ name
+      → list_any (λ (x : Vec ℕ Z). is_eq (slice_cmp nat_cmp key.items x.items)) names.keys ≡ is_among names name
+  among_by_cmp names key name is = any_alike _ _ (λ x. same_names key.items x.items ∙ ap (bytes_eq x.items) is) names.keys
+
+  -- the names with one more
+  pub among_more : (old new : BTreeSet (Vec ℕ Z)) (key : Vec ℕ Z) (name : List ℕ) → key.items ≡ name
+      → new.keys ≡ insert_key (λ (x y : Vec ℕ Z). slice_cmp nat_cmp x.items y.items) old.keys key
+      → (q : List ℕ) → is_among new q ≡ (bytes_eq name q || is_among old q)
+  among_more old new key name is keys q =
+      ap (list_any (λ (x : Vec ℕ Z). bytes_eq x.items q)) keys
+      ∙ any_inserted (λ (x y : Vec ℕ Z). slice_cmp nat_cmp x.items y.items) (λ (x : Vec ℕ Z). bytes_eq x.items q)
+      (λ k x e. ap (λ (xs : List ℕ). bytes_eq xs q) (exact_bytes k.items x.items e)) old.keys key
+      ∙ ap (λ (xs : List ℕ). bytes_eq xs q || is_among old q) is

@@ -1,0 +1,72 @@
+-- What a Builder keeps beside the object (our profile): running sums, and the names of nonlocal symbols.
+use Rattle.std.specs.Prelude.{◌≡◌, ℕ, ◌≤◌, Bool, not, ◌&&◌, bytes_eq, List, [], length, take, Result, Ok, Err}
+use Rattle.std.specs.declared.vec.Vec.{Vec}
+use Rattle.std.specs.List.{list_any}
+use Rattle.std.specs.BTreeSet.{BTreeSet}
+use Rattle.oc_base.specs.declared.format.Format.{Format}
+use Rattle.oc_base.specs.declared.format.Word.{Word}
+use Rattle.oc_linking.specs.Fits.{bytes_of}
+use Rattle.oc_linking.specs.Parts.{is_local}
+use Rattle.oc_algebra.specs.declared.form.Form.{Form}
+use Rattle.oc_algebra.specs.Folds.{fold_of}
+use Rattle.oc_chains.specs.declared.fault.ChainFault.{ChainFault}
+use Rattle.oc_chains.specs.declared.fault.ChainFault.TheVariants as chain
+use Rattle.oc_chains.specs.Lists.{Lists, list_of, with_field}
+use Rattle.oc_neutral.specs.declared.section.Section.{Section}
+use Rattle.oc_neutral.specs.declared.symbol.Symbol.{Symbol}
+use Rattle.oc_neutral.specs.declared.reloc.Reloc.{Reloc}
+use Rattle.oc_neutral.specs.declared.normal.Normal.{Normal}
+use Rattle.oc_neutral.specs.declared.normal.Normal.TheVariants as normal
+use Rattle.oc_neutral.specs.declared.normal.Folded.{Folded}
+use Rattle.oc_neutral.specs.declared.fault.BuildFault.{BuildFault}
+use Rattle.oc_neutral.specs.declared.fault.BuildFault.TheVariants as fault
+use Rattle.oc_neutral.specs.Building.{Draft, has_name, size_sum, stored_sum}
+use Rattle.oc_neutral.specs.Invariants.{IsDraft}
+
+-- a set of names has this one
+abbrev pub is_among : {Z : Type 0} → BTreeSet (Vec ℕ Z) → List ℕ → Bool
+is_among names name = list_any (λ k. bytes_eq k.items name) names.keys
+
+-- a nonlocal symbol has this name
+abbrev pub is_named : List ℕ → Symbol → Bool
+is_named name s = not (is_local s.binding) && bytes_eq s.name name
+
+-- a nonlocal symbol has a name of the set
+abbrev pub is_again : {Z : Type 0} → BTreeSet (Vec ℕ Z) → Symbol → Bool
+is_again names s = not (is_local s.binding) && is_among names s.name
+
+-- what is built from these parts: a list of folded fields past the last section does not count
+abbrev pub draft_of : Format → List Section → List Symbol → Lists Reloc → Lists Folded → Draft
+draft_of format sections symbols relocs folded = record {
+  object = record { format = format; sections = sections; symbols = symbols; relocs = relocs };
+  folded = take (length sections) folded;
+}
+
+-- no field is folded into a section that is not there; the sums are those of the sections, and the names those of the nonlocal symbols
+pub record IsKept {Z : Type 0} (sections : List Section) (symbols : List Symbol) (folded : Lists Folded) (sizes stored : ℕ) (names : BTreeSet (Vec ℕ Z)) : Type 0 where
+  pub room : length sections ≤ length folded
+  pub beyond : (k : ℕ) → length sections ≤ k → list_of folded k ≡ []
+  pub sizes_are : sizes ≡ size_sum sections
+  pub stored_are : stored ≡ stored_sum sections
+  pub named : (name : List ℕ) → is_among names name ≡ has_name symbols name
+
+-- why a field is not inserted is why its relocation is not added
+abbrev pub fault_of : ChainFault → BuildFault
+fault_of chain.Overlap = fault.Overlap
+fault_of chain.NoMemory = fault.NoMemory
+
+-- the number that a field stores, and the fields of relocations and of constants with it
+pub record Held : Type 0 where
+  pub number : ℕ
+  pub relocs : Lists Reloc
+  pub folded : Lists Folded
+
+-- a constant is kept in the k bytes from an offset of section s on
+abbrev pub constant_by : {E : Type 0} → Lists Reloc → Lists Folded → ℕ → ℕ → ℕ → Result ℕ E → Result Held BuildFault
+constant_by relocs folded s at k (Ok number) = Ok (record { number = number; relocs = relocs; folded = with_field folded s at k (record {}) })
+constant_by relocs folded s at k (Err e) = Err fault.FoldTooWide
+
+-- what remains of a relocation is kept at an offset of section s
+abbrev pub held_by : Word → Form → Lists Reloc → Lists Folded → ℕ → ℕ → Normal → Result Held BuildFault
+held_by w form relocs folded s at (normal.Kept q) = Ok (record { number = 0; relocs = with_field relocs s at (bytes_of form.width) q; folded = folded })
+held_by w form relocs folded s at (normal.Constant c) = constant_by relocs folded s at (bytes_of form.width) (fold_of w form.width form.check c)
