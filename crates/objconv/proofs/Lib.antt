@@ -3,6 +3,7 @@ pub mod BelowLemmas
 pub mod CodedLemmas
 pub mod CodedObjects
 pub mod CodedPlain
+pub mod CodedWritten
 pub mod ConvertedPlain
 pub mod EmitLemmas
 pub mod FaithfulLemmas
@@ -40,6 +41,7 @@ pub mod RelsLemmas
 pub mod RewritingLemmas
 pub mod RisingLemmas
 pub mod SectionLemmas
+pub mod SeenAlike
 pub mod SeenFields
 pub mod SeenObjects
 pub mod SeenShows
