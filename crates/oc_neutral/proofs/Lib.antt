@@ -3,6 +3,7 @@ pub mod Added
 pub mod Adding
 mod AlignmentRows
 mod ConditionRows
+pub mod CanAddLemmas
 pub mod FitLinks
 pub mod GivenLaws
 pub mod HeldLemmas
