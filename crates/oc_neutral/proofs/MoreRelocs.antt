@@ -323,11 +323,11 @@ module _ (d : Draft) (s at k number : ℕ) (x : Section) (draft : IsDraft d) (th
     };
   }
 
--- there are no more folded fields than bytes
-pub few_folded : (ss : List Section) (fs : Lists Folded) → ((k : ℕ) (x : Section) → slice_get ss k ≡ Some x → length (list_of fs k) ≤ stored_size x)
+-- there are no more fields than bytes
+pub few_fields : {T : Type 0} (ss : List Section) (fs : Lists T) → ((k : ℕ) (x : Section) → slice_get ss k ≡ Some x → length (list_of fs k) ≤ stored_size x)
     → ((k : ℕ) → length ss ≤ k → list_of fs k ≡ []) → held_in fs ≤ stored_sum ss
-few_folded ss [] each beyond = omega arith
-few_folded [] (f ∷ fs) each beyond =
-    omega (arith, sum_by-cons length f fs, ap length (beyond 0 (omega arith)), few_folded [] fs (λ k x here. absurd (none-some x here)) (λ k le. beyond (suc k) (omega arith)))
-few_folded (x ∷ ss) (f ∷ fs) each beyond =
-    omega (arith, sum_by-cons length f fs, sum_by-cons stored_size x ss, each 0 x refl, few_folded ss fs (λ k z here. each (suc k) z here) (λ k le. beyond (suc k) (omega arith)))
+few_fields ss [] each beyond = omega arith
+few_fields [] (f ∷ fs) each beyond =
+    omega (arith, sum_by-cons length f fs, ap length (beyond 0 (omega arith)), few_fields [] fs (λ k x here. absurd (none-some x here)) (λ k le. beyond (suc k) (omega arith)))
+few_fields (x ∷ ss) (f ∷ fs) each beyond =
+    omega (arith, sum_by-cons length f fs, sum_by-cons stored_size x ss, each 0 x refl, few_fields ss fs (λ k z here. each (suc k) z here) (λ k le. beyond (suc k) (omega arith)))

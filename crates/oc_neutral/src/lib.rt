@@ -12,6 +12,7 @@ mod limits;
 mod names;
 mod neutral;
 mod normal;
+mod presence;
 mod reads;
 mod reloc;
 mod section;
