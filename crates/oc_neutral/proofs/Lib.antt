@@ -2,6 +2,7 @@ pub mod Addable
 pub mod Added
 pub mod Adding
 mod AlignmentRows
+pub mod Blank
 mod ConditionRows
 pub mod Dressing
 pub mod FitLinks
