@@ -9,6 +9,7 @@ mod SpellingRows
 pub mod Addable
 pub mod Added
 pub mod Adding
+pub mod Blank
 pub mod CanAddLemmas
 pub mod Dressing
 pub mod FitLinks

@@ -54,6 +54,15 @@ pub record IsLike (n m : Object) : Type 0 where
   pub symbols : map plain m.symbols ≡ map plain n.symbols
   pub relocs : m.relocs ≡ n.relocs
 
+-- what is like a thing that is like another is like it
+pub like_trans : (n m k : Object) → IsLike n m → IsLike m k → IsLike n k
+like_trans n m k one two = record {
+  word = two.word ∙ one.word;
+  sections = two.sections ∙ one.sections;
+  symbols = two.symbols ∙ one.symbols;
+  relocs = two.relocs ∙ one.relocs;
+}
+
 -- the alignment of a common is one
 abbrev pub HasAlign : Binding → Type 0
 HasAlign (Local v) = Unit {0}
@@ -166,10 +175,10 @@ found-plain None = refl
 found-plain (Some s) = place-plain s.binding
 
 module _ (n m : Object) (like : IsLike n m) where
-  sections_long : length m.sections ≡ length n.sections
+  pub sections_long : length m.sections ≡ length n.sections
   sections_long = lengths_same bare bare m.sections n.sections like.sections
 
-  symbols_long : length m.symbols ≡ length n.symbols
+  pub symbols_long : length m.symbols ≡ length n.symbols
   symbols_long = lengths_same plain plain m.symbols n.symbols like.symbols
 
   -- the symbols at one position are the same, but for the alignment
