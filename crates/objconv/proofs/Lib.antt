@@ -34,6 +34,7 @@ pub mod OneSectionLemmas
 pub mod PaddingLemmas
 pub mod PatchLemmas
 pub mod PlainLemmas
+pub mod PlannedPlain
 pub mod PlainNeutral
 pub mod RaisingLemmas
 pub mod RefusalLemmas
