@@ -1,8 +1,9 @@
 //! The neutral object.
-ghost use Rattle.std.specs.Prelude.{◌≡◌, ◌<◌, length, slice_get, Some};
+ghost use Rattle.std.specs.Prelude.{◌≡◌, ◌<◌, true, length, slice_get, Some};
 ghost use Rattle.oc_base.specs.Formats.{word_for};
 ghost use Rattle.oc_chains.specs.Lists.{list_of};
-ghost use Rattle.oc_neutral.specs.Dressing.{dressed, in_format};
+ghost use Rattle.oc_neutral.specs.Dressing as dressing;
+ghost use Rattle.oc_neutral.specs.Dressing.{dressed, in_format, is_common_at, realigned};
 ghost use Rattle.oc_neutral.specs.Invariants.{AreBytes, IsAlign, IsObject};
 
 use crate::reloc::Reloc;
@@ -10,6 +11,7 @@ use crate::section::Section;
 use crate::symbol::Symbol;
 use oc_base::{Bytes, Format};
 use oc_chains::{Chains, Walk};
+use oc_linking::Binding;
 use std::marker::Model;
 
 /// An object in the one form that all formats share. It comes from a `Builder` alone. Contracts see
@@ -129,6 +131,27 @@ impl Neutral {
         section.name = name;
         section.tag = tag;
         section.align = align;
+    }
+
+    /// Gives the common at a position another alignment, a power of two up to 2^20. All else stays.
+    /// Constant time, no memory.
+    pub fn set_common_align(&mut self, index: u32, align: u32)
+        requires common { is_common_at self.old.symbols index ≡ true }
+        requires align { IsAlign align }
+        ensures { self.new ≡ realigned self.old index align }
+    {
+        let symbol = &mut self.symbols[index as usize];
+        symbol.binding = aligned_binding(symbol.binding, align);
+    }
+}
+
+/// The binding with another alignment, where it is a common. Constant time, no memory.
+fn aligned_binding(binding: Binding, align: u32) -> Binding
+    ensures { result ≡ dressing.aligned_binding align binding }
+{
+    match binding {
+        Binding::Common { size, .. } => Binding::Common { size, align },
+        _ => binding,
     }
 }
 
