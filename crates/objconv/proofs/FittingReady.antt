@@ -1,6 +1,6 @@
 -- What a plain object of ELF becomes in COFF is ready to be written.
-use Rattle.std.proofs.Common.{◌≡◌, ℕ, zero, suc, ◌≤◌, ◌^◌, true, List, length, Some, refl, sym, subst}
-use Rattle.std.specs.Prelude.{slice_get}
+use Rattle.std.proofs.Common.{◌≡◌, ℕ, zero, suc, ◌≤◌, ◌^◌, true, List, length, Some, refl, sym, subst, arith}
+use Rattle.std.specs.Prelude.{codes, slice_get}
 use Rattle.std.specs.List.{AllByRecursion, list_all}
 use Rattle.std.proofs.lemmas.Bool.{true≢false}
 use Rattle.std.proofs.lemmas.Option.{none-some, same_Some}
@@ -10,14 +10,15 @@ use Rattle.oc_neutral.specs.declared.section.Section.{Section}
 use Rattle.oc_neutral.specs.declared.symbol.Symbol.{Symbol}
 use Rattle.oc_neutral.specs.declared.reloc.Reloc.{Reloc}
 use Rattle.oc_neutral.specs.Objects.{Object}
+use Rattle.oc_neutral.specs.Dressing.{dressed}
 use Rattle.oc_neutral.specs.Invariants.{IsObject}
 use Rattle.oc_neutral.specs.HomeNames.{is_home}
 use Rattle.oc_neutral.specs.Fitted.{IsNamed, IsFitted, fitted_binding}
+use Rattle.oc_neutral.proofs.Dressing.{in_format-object, dressed-object}
 use Rattle.oc_neutral.proofs.Positions.{each_weaker}
 use Rattle.objconv.specs.Coded.{plain_tag, code_tag, is_plain_symbol, IsWritable}
 use Rattle.objconv.specs.Recoded.{recoded}
 use Rattle.objconv.proofs.FittingParts.{every, text_with, made, is_made, has_plain_form, Plain, plain_passes}
-use Rattle.objconv.proofs.FittingObject.{object_recoded}
 use Rattle.objconv.proofs.FittingFit.{align_stays, binding_of, binding_stays}
 use Rattle.objconv.proofs.FittingConditions.{made_expressible}
 
@@ -36,12 +37,18 @@ module _ (s : Section) (symbols : List Symbol) (relocs : Lists Reloc) where
   named zero x here = subst (λ (y : Section). IsNamed Coff32 zero y) (same_Some (text_with code_tag s) x here) refl
   named (suc k) x here = absurd (none-some x here)
 
+  -- it is an object: that in ELF, with its section dressed and in another format
+  object_recoded : IsObject from → IsObject to
+  object_recoded is =
+      in_format-object (dressed from 0 (codes ".text") code_tag s.align) Coff32
+      (dressed-object from 0 (codes ".text") code_tag s.align is is.built.sections.0.name (omega arith) is.complete.aligns.0) refl
+
   -- it is ready
   pub made_ready : IsObject from → s.align ≤ 8192 → length symbols ≤ 2 ^ 24 → list_all is_plain_symbol symbols ≡ true → list_all has_plain_form (list_of relocs 0) ≡ true → IsFitted Coff32 to
   made_ready is low few plain forms =
       let each : AllByRecursion (λ x. is_plain_symbol x ≡ true) symbols = every is_plain_symbol symbols plain in
       record {
-        object = object_recoded s symbols relocs is;
+        object = object_recoded is;
         format = refl;
         expressible = made_expressible s symbols relocs low few each is.built.fields.counted (every has_plain_form (list_of relocs 0) forms);
         few_symbols = few;

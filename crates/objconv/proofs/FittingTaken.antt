@@ -44,6 +44,16 @@ format_is Mac32 e = absurd (cc)
 format_is Mac64 e = absurd (cc)
 format_is Omf e = absurd (cc)
 
+-- an object that is not fit is refused
+pub refused_by : (n : Object) → is_fit_for_coff n ≡ false → unfit_for_coff n ≡ Some unwritten
+unfolding unfit_for_coff
+refused_by n e = rw e refl
+
+-- and one that is fit is not
+pub taken_by : (n : Object) → is_fit_for_coff n ≡ true → unfit_for_coff n ≡ None
+unfolding unfit_for_coff
+taken_by n e = rw e refl
+
 -- an object that is not refused is a plain object of ELF
 pub not_refused : (n : Object) → unfit_for_coff n ≡ None → is_fit_for_coff n ≡ true
 unfolding unfit_for_coff

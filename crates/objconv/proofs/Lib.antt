@@ -12,10 +12,11 @@ pub mod FilledPlain
 pub mod FittingBlank
 pub mod FittingConditions
 pub mod FittingFit
-pub mod FittingObject
 pub mod FittingParts
+pub mod FittingPlace
 pub mod FittingReady
 pub mod FittingTaken
+pub mod FittingTests
 pub mod FoundLemmas
 pub mod Gathered
 pub mod HeaderLemmas

@@ -6,6 +6,7 @@ mod convert;
 mod distinct;
 mod emit;
 mod fields;
+mod fitter;
 mod headers;
 mod job;
 mod laws;
@@ -19,5 +20,6 @@ mod tests;
 mod words;
 
 pub use command::run;
+pub use fitter::CoffFitter;
 pub use laws::{conversions_are_faithful, plain_objects_have_files};
 pub use words::Words;
