@@ -2,12 +2,15 @@
 #![tactic(auto)]
 
 mod command;
+mod contents;
 mod convert;
 mod distinct;
+mod emission;
 mod emit;
 mod fields;
 mod headers;
 mod job;
+mod layout;
 mod laws;
 mod plain;
 mod raising;
