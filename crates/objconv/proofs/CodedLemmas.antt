@@ -1,8 +1,9 @@
 -- What the conditions of an object that is written say.
-use Rattle.std.proofs.Common.{◌≡◌, ℕ, ◌≤◌, ◌⊎◌, inl, inr, Bool, true, false, true≢false, List, [], ◌∷◌, length, refl, sym}
-use Rattle.std.specs.Prelude.{bytes_eq, codes}
+use Rattle.std.proofs.Common.{◌≡◌, ℕ, ◌≤◌, ◌⊎◌, inl, inr, Bool, true, false, true≢false, List, [], ◌∷◌, length, Some, refl, sym, ◌∙◌, ap, subst}
+use Rattle.std.specs.Prelude.{bytes_eq, codes, slice_get}
 use Rattle.std.specs.List.{AllByRecursion, list_all}
 use Rattle.std.proofs.lemmas.Bool.{eqb-true, leb-true, not-true}
+use Rattle.std.proofs.lemmas.Option.{same_Some}
 use Rattle.std.proofs.lemmas.Slice.Eq.{bytes_eq-Decides}
 use Rattle.oc_linking.specs.declared.terms.Width.{Width}
 use Rattle.oc_linking.specs.declared.terms.Width.TheVariants.{One, Two, Four, Eight}
@@ -146,3 +147,9 @@ coded_is m e =
   where
     named_text : (name : List ℕ) → bytes_eq name (codes ".text") ≡ true → name ≡ codes ".text"
     named_text name e = (bytes_eq-Decides name (codes ".text")).0 e
+
+-- the section that stands first is that one
+pub coded_at : (m : Object) (s : Section) → is_plain_object code_tag m ≡ true → slice_get m.sections 0 ≡ Some s → IsCoded m s
+coded_at m s e here =
+    let one = coded_is m e in
+    subst (λ t. IsCoded m t) (same_Some one.0 s (sym (ap (λ xs. slice_get xs 0) one.1.sections) ∙ here)) one.1

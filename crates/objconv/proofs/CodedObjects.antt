@@ -63,7 +63,7 @@ type_small l is = elim is [
 ]
 
 -- and so does a target's place in the symbol table
-entry_small : (m : Object) (t : Target) → IsThere m t → length m.symbols ≤ 2 ^ 24 → entry_of t < 2 ^ 32
+pub entry_small : (m : Object) (t : Target) → IsThere m t → length m.symbols ≤ 2 ^ 24 → entry_of t < 2 ^ 32
 entry_small m (target.Section k) there few = omega arith
 entry_small m (target.Symbol k) there few = omega (arith, there, few)
 

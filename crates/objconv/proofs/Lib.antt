@@ -4,7 +4,9 @@ pub mod CodedLemmas
 pub mod CodedObjects
 pub mod CodedPlain
 pub mod CodedWritten
+pub mod ContentsLemmas
 pub mod ConvertedPlain
+pub mod EmissionLemmas
 pub mod EmitLemmas
 pub mod FaithfulLemmas
 pub mod FieldLemmas

@@ -1,8 +1,10 @@
 pub mod Coded
+pub mod Contents
 pub mod Converted
 pub mod Dialects
 pub mod Jobs
 pub mod Keys
+pub mod Layouts
 pub mod Links
 pub mod Neutral
 pub mod Plain

@@ -2,13 +2,16 @@
 #![tactic(auto)]
 
 mod command;
+mod contents;
 mod convert;
 mod distinct;
+mod emission;
 mod emit;
 mod fields;
 mod fitter;
 mod headers;
 mod job;
+mod layout;
 mod laws;
 mod plain;
 mod raising;
