@@ -21,6 +21,7 @@ mod symbols;
 #[cfg(test)]
 mod tests;
 mod words;
+mod writing;
 
 pub use command::run;
 pub use fitter::CoffFitter;
