@@ -11,6 +11,7 @@ mod job;
 mod laws;
 mod plain;
 mod raising;
+mod reader;
 mod report;
 mod structures;
 mod symbols;
