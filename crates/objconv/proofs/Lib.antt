@@ -26,11 +26,14 @@ pub mod Judged
 pub mod KeptAlike
 pub mod KeyLemmas
 pub mod ListedLemmas
+pub mod NeutralBuilding
 pub mod NeutralBytes
 pub mod NeutralEntries
 pub mod NeutralFields
+pub mod NeutralNext
 pub mod NeutralObject
 pub mod NeutralShows
+pub mod NeutralSizes
 pub mod NeutralSymbols
 pub mod ObjectLemmas
 pub mod OneSectionLemmas

@@ -7,7 +7,6 @@ use Rattle.std.proofs.lemmas.Bool.{cases_lt}
 use Rattle.std.proofs.lemmas.Grind.{same_number_lists}
 use Rattle.std.proofs.lemmas.List.{get_or-set_same, length-set}
 use Rattle.std.proofs.lemmas.Option.{none-some, same_Some}
-use Rattle.oc_linking.specs.declared.terms.Width.{Width}
 use Rattle.oc_linking.specs.declared.terms.Width.TheVariants.{Four}
 use Rattle.oc_linking.specs.declared.terms.Patch.{Patch}
 use Rattle.oc_linking.specs.Fits.{bytes_of}

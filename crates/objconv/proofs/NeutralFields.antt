@@ -1,11 +1,11 @@
 -- The fields of a plain object, and the relocations of its neutral object.
-use Rattle.std.proofs.Common.{◌≡◌, ℕ, zero, suc, ◌+◌, ◌-◌, ◌%◌, ◌^◌, ◌<◌, ◌≤◌, ◌⊎◌, inl, inr, Bool, true, false, cond, eqb, List, [], ◌∷◌, map, Option, Some, None, refl, sym, ◌∙◌, ap, subst, arith, pos}
+use Rattle.std.proofs.Common.{◌≡◌, ℕ, suc, ◌+◌, ◌-◌, ◌%◌, ◌^◌, ◌<◌, ◌≤◌, ◌⊎◌, inl, inr, Bool, true, false, cond, eqb, List, [], ◌∷◌, map, Option, Some, None, refl, sym, ◌∙◌, ap, subst, arith, pos}
 use Rattle.std.specs.Prelude.{find, slice_get}
 use Rattle.std.specs.Option.{option_map, option_and_then, unwrap_or}
 use Rattle.std.specs.Ordering.{nat_cmp}
 use Rattle.std.specs.Map.{lookup}
 use Rattle.std.specs.BTreeMap.{is_at}
-use Rattle.std.proofs.lemmas.Bool.{eqb-true, eq-eqb, ne_eqb, cases_eq}
+use Rattle.std.proofs.lemmas.Bool.{eqb-true, ne_eqb, cases_eq}
 use Rattle.std.proofs.lemmas.Bool.Decides.{nat_tests}
 use borrow.Author.Differences.{ints}
 use Rattle.oc_base.specs.declared.format.Word.TheVariants.{W32}
@@ -14,12 +14,12 @@ use Rattle.oc_linking.specs.declared.terms.Keep.{Keep}
 use Rattle.oc_linking.specs.declared.terms.Width.TheVariants.{Four}
 use Rattle.oc_linking.specs.declared.terms.Check.TheVariants.{Wrap}
 use Rattle.oc_linking.specs.declared.terms.Hint.TheVariants.{Plain}
-use Rattle.oc_linking.specs.Keeping.{keeps, kept_flags}
+use Rattle.oc_linking.specs.Keeping.{kept_flags}
 use Rattle.oc_linking.specs.Numbers.{reduced, minus}
 use Rattle.oc_linking.specs.Parts as parts
 use Rattle.oc_linking.specs.Placing.{Placement}
-use Rattle.oc_linking.specs.Values.{Valuation, worthless, own_site}
-use Rattle.oc_linking.specs.Rules.{Field, Sectional, Symbolic}
+use Rattle.oc_linking.specs.Values.{Valuation, worthless}
+use Rattle.oc_linking.specs.Rules.{Field, Symbolic}
 use Rattle.oc_linking.specs.Targets.{Target}
 use Rattle.oc_linking.specs.Linking.{patch_of}
 use Rattle.oc_algebra.specs.declared.form.Base.TheVariants.{Address}
@@ -32,22 +32,21 @@ use Rattle.oc_elf_read.specs.Rel.{rel_sym, rel_type}
 use Rattle.oc_elf_read.specs.Sections.{sections_of, relocations_of}
 use Rattle.oc_elf_read.specs.Fields as elf
 use Rattle.oc_neutral.specs.declared.symbol.Symbol.{Symbol}
-use Rattle.oc_neutral.specs.declared.reloc.Reloc.{Reloc}
 use Rattle.oc_neutral.specs.declared.reloc.Target.{Target as NeutralTarget}
 use Rattle.oc_neutral.specs.declared.reloc.Target.TheVariants as target
 use Rattle.oc_neutral.specs.Objects.{reloc_among, reloc_at}
 use Rattle.oc_neutral.specs.Normal.{cancels, takes_section}
 use Rattle.oc_neutral.specs.Worth.{target_worth, less_of, residue_at}
-use Rattle.oc_neutral.specs.Faces.{named_of, field_of, number_of}
-use Rattle.oc_neutral.specs.Dialects.{Shape, kept_fields, look_of, less_in, target_by}
+use Rattle.oc_neutral.specs.Faces.{named_of, field_of}
+use Rattle.oc_neutral.specs.Dialects.{kept_fields, look_of}
 use Rattle.oc_neutral.specs.Shows.{reloc_look}
 use Rattle.objconv.specs.declared.headers.Headers.{Headers}
 use Rattle.objconv.specs.Plain.{headers_in, symbol_count, field_at}
 use Rattle.objconv.specs.Links.{text_in, AreFields}
 use Rattle.objconv.specs.Dialects.{address_less, elf_shape, elf_shapes, plain_dialect}
-use Rattle.objconv.specs.Neutral.{neutral_target, neutral_less, neutral_reloc, neutral_field, neutral_symbol, neutral_of}
+use Rattle.objconv.specs.Neutral.{neutral_target, neutral_less, neutral_reloc, neutral_field, neutral_of}
 use Rattle.objconv.proofs.HeaderLemmas.{IsPlain}
-use Rattle.objconv.proofs.SectionLemmas.{text_section, sections_of-plain}
+use Rattle.objconv.proofs.SectionLemmas.{sections_of-plain}
 use Rattle.objconv.proofs.FoundLemmas.{IsRel, IsFound, is_found, find-plain, fields_of-plain, swapped}
 use Rattle.objconv.proofs.TargetLemmas.{symbolic, sectional, target_of-own, target_of-symbol}
 use Rattle.objconv.proofs.NeutralSymbols.{symbols, symbol_at, number-symbol, number_of-symbol}

@@ -1,5 +1,5 @@
 -- The neutral object of a plain object has what a finished object is to have, and what readers give.
-use Rattle.std.proofs.Common.{◌≡◌, ◌≢◌, ℕ, zero, suc, ◌+◌, ◌-◌, ◌*◌, ◌^◌, ◌<◌, ◌≤◌, inl, inr, Bool, true, false, cond, eqb, List, [], ◌∷◌, length, map, get_or, take, drop, codes, Option, Some, None, refl, sym, ◌∙◌, ap, subst, arith}
+use Rattle.std.proofs.Common.{◌≡◌, ℕ, zero, suc, ◌+◌, ◌-◌, ◌*◌, ◌^◌, ◌<◌, ◌≤◌, inl, inr, Bool, true, false, cond, eqb, List, [], ◌∷◌, length, map, get_or, take, drop, codes, Option, Some, None, refl, sym, ◌∙◌, ap, subst, arith}
 use Rattle.std.specs.Prelude.{slice_get}
 use Rattle.std.specs.List.{AllByRecursion, range_with_len}
 use Rattle.std.specs.Option.{option_map, unwrap_or}
@@ -9,7 +9,6 @@ use Rattle.oc_base.specs.declared.format.Format.TheVariants.{Elf32}
 use Rattle.oc_base.specs.Numbers.{number_at}
 use Rattle.oc_linking.specs.declared.terms.Kind.TheVariants.{Code}
 use Rattle.oc_linking.specs.declared.terms.Value.TheVariants.{Place}
-use Rattle.oc_linking.specs.declared.terms.Binding.{Binding}
 use Rattle.oc_linking.specs.declared.terms.Binding.TheVariants.{Global, Undefined}
 use Rattle.oc_chains.specs.declared.field.Field.{Field}
 use Rattle.oc_chains.specs.Lists.{list_of}
@@ -23,20 +22,15 @@ use Rattle.oc_elf_read.specs.Sym.{sym_in}
 use Rattle.oc_neutral.specs.declared.section.Section.{Section}
 use Rattle.oc_neutral.specs.declared.reloc.Reloc.{Reloc}
 use Rattle.oc_neutral.specs.declared.reloc.Target.TheVariants as target
-use Rattle.oc_neutral.specs.Alignments.{output_align, common_align}
 use Rattle.oc_neutral.specs.ElfKinds.{elf_kind}
-use Rattle.oc_neutral.specs.Faces.{number_of}
 use Rattle.oc_neutral.specs.GivenTags.{elf_gives, family_gives, can_have, is_blank_type}
-use Rattle.oc_neutral.specs.Invariants.{AreBytes, IsAlign, IsBinding, IsSymbol as IsNeutralSymbol, IsHinted, IsOriginal, NamesOriginal, IsComplete}
+use Rattle.oc_neutral.specs.Invariants.{AreBytes, IsBinding, IsSymbol as IsNeutralSymbol, IsHinted, NamesOriginal, IsComplete}
 use Rattle.oc_neutral.specs.Readable.{IsBlankWhereTyped, IsReadable}
-use Rattle.oc_neutral.specs.Targets.{IsDialect}
 use Rattle.objconv.specs.declared.headers.Headers.{Headers}
-use Rattle.objconv.specs.Plain.{headers_in, symbol_count, symbol_in, name_of, exponent_of}
+use Rattle.objconv.specs.Plain.{headers_in, is_plain, symbol_count, symbol_in, name_of, exponent_of}
 use Rattle.objconv.specs.Links.{text_in, AreFields}
-use Rattle.objconv.specs.Dialects.{plain_dialect}
-use Rattle.objconv.specs.Neutral.{binding_of, neutral_symbol, neutral_target, neutral_reloc, neutral_field, neutral_section, neutral_of}
-use Rattle.objconv.proofs.FoundLemmas.{IsFound}
-use Rattle.objconv.proofs.HeaderLemmas.{IsPlain}
+use Rattle.objconv.specs.Neutral.{binding_of, neutral_symbol, neutral_symbols, neutral_target, neutral_reloc, neutral_field, neutral_section, neutral_of, neutral_draft}
+use Rattle.objconv.proofs.HeaderLemmas.{IsPlain, plain_is}
 use Rattle.objconv.proofs.ObjectLemmas.{exponent_is}
 use Rattle.objconv.proofs.SymbolLemmas.{IsSymbol, plain_symbol, name_of-plain}
 use Rattle.objconv.proofs.NeutralEntries.{entry_found}
@@ -177,7 +171,9 @@ readable b is entries = record {
         (true≢false (sym typed ∙ ap (λ (y : Section). is_blank_type Elf32 y.tag) (sym (same_Some (neutral_section b (headers_in b) entries) x here)) ∙ tag_filled (headers_in b).text is.types.text is.types.text_flags))
     blanks (suc s) x here typed = absurd (none-some x here)
 
--- the dialect is one
-pub plain_is_dialect : IsDialect plain_dialect
-unfolding output_align common_align
-plain_is_dialect = record { word = refl; output_align = λ align. refl; common_align = λ size align. refl }
+-- what was built is complete, where the headers are those of the file
+pub complete_built : (b : List ℕ) (h : Headers) (entries : List (ℕ × Rel)) → is_plain b ≡ true → h ≡ headers_in b → AreFields b h entries → length b ≤ 67108864 → AreBytes b
+    → IsComplete (neutral_draft b h (neutral_symbols b h) entries).object
+complete_built b h entries plain same fields small are =
+    subst (λ (g : Headers). IsComplete (neutral_draft b g (neutral_symbols b g) entries).object) (sym same)
+    (complete b (plain_is b plain) small are entries (subst (λ (g : Headers). AreFields b g entries) same fields))

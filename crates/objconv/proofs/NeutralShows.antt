@@ -1,5 +1,5 @@
 -- The neutral object of a plain object shows it.
-use Rattle.std.proofs.Common.{◌≡◌, ℕ, zero, suc, ◌+◌, ◌^◌, ◌<◌, ◌≤◌, ◌⊎◌, inl, inr, Bool, true, false, cond, List, [], ◌∷◌, map, Option, Some, None, refl, sym, ◌∙◌, ap, subst, arith, max}
+use Rattle.std.proofs.Common.{◌≡◌, ℕ, zero, suc, ◌^◌, ◌<◌, ◌⊎◌, inl, inr, false, cond, List, [], ◌∷◌, map, Option, Some, None, refl, sym, ◌∙◌, ap, arith, max}
 use Rattle.std.specs.Prelude.{slice_get}
 use Rattle.std.specs.Option.{option_map, unwrap_or}
 use Rattle.std.proofs.Math.Pow.{pow_pos}
@@ -10,7 +10,7 @@ use Rattle.oc_linking.specs.declared.terms.Kind.TheVariants.{Code}
 use Rattle.oc_linking.specs.declared.terms.Patch.{Patch}
 use Rattle.oc_linking.specs.declared.terms.Width.TheVariants.{Four}
 use Rattle.oc_linking.specs.Fits.{bytes_of}
-use Rattle.oc_linking.specs.Images.{overlay, overlays}
+use Rattle.oc_linking.specs.Images.{overlays}
 use Rattle.oc_linking.specs.Linking.{patch_of}
 use Rattle.oc_linking.specs.Parts as parts
 use Rattle.oc_linking.specs.Placing.{Placement}
@@ -20,22 +20,20 @@ use Rattle.oc_linking.specs.Values.{Valuation}
 use Rattle.oc_elf_read.specs.declared.rel.Rel.{Rel}
 use Rattle.oc_elf_read.specs.Rel.{rel_type}
 use Rattle.oc_elf_read.specs.Sections.{sections_of, section_name, tag_of}
-use Rattle.oc_neutral.specs.declared.reloc.Reloc.{Reloc}
-use Rattle.oc_neutral.specs.Objects.{reloc_at}
-use Rattle.oc_neutral.specs.Faces.{field_of, fields_of, shown_sections, contents_of}
-use Rattle.oc_neutral.specs.Dialects.{Shape, is_difference, is_folded, kept_fields, look_by, looks_in, patches_in, target_by}
+use Rattle.oc_neutral.specs.Faces.{field_of, shown_sections}
+use Rattle.oc_neutral.specs.Dialects.{is_difference, is_folded, kept_fields, look_by, looks_in, patches_in, target_by}
 use Rattle.oc_neutral.specs.Shows.{frame_of, reloc_look, looks_of, patches_of, ShowsAt, Shows}
 use Rattle.objconv.specs.declared.headers.Headers.{Headers}
-use Rattle.objconv.specs.Plain.{headers_in, exponent_of, field_at, is_plain}
+use Rattle.objconv.specs.Plain.{headers_in, exponent_of, field_at}
 use Rattle.objconv.specs.Links.{text_in, AreFields}
-use Rattle.objconv.specs.Dialects.{address_less, elf_shapes, plain_dialect}
-use Rattle.objconv.specs.Neutral.{blanked, neutral_less, neutral_reloc, neutral_of}
-use Rattle.objconv.proofs.HeaderLemmas.{IsPlain, plain_is}
+use Rattle.objconv.specs.Dialects.{elf_shapes, plain_dialect}
+use Rattle.objconv.specs.Neutral.{neutral_of}
+use Rattle.objconv.proofs.HeaderLemmas.{IsPlain}
 use Rattle.objconv.proofs.SectionLemmas.{section_name-text, sections_of-plain}
 use Rattle.objconv.proofs.ObjectLemmas.{exponent_is, length-text}
 use Rattle.objconv.proofs.NeutralBytes.{AreZeros, overlay-blanked}
 use Rattle.objconv.proofs.NeutralEntries.{entry_at, entry_found, at_entry, found_apart}
-use Rattle.objconv.proofs.NeutralFields.{IsFree, IsTaken, text_cases, kept_fields-none, reloc_at-none, cancels-plain}
+use Rattle.objconv.proofs.NeutralFields.{IsFree, IsTaken, text_cases, kept_fields-none, cancels-plain}
 use Rattle.objconv.proofs.NeutralSymbols.{shown_symbols-plain, numbered-plain}
 
 module _ (b : List ℕ) (is : IsPlain b) (entries : List (ℕ × Rel)) (fields : AreFields b (headers_in b) entries) (keep : Keep) where

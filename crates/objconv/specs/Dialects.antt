@@ -1,5 +1,5 @@
 -- The two formats of the first path, each as a dialect of its own (i386 psABI, "Relocation Types"; PE/COFF, "Type Indicators"; our profile).
-use Rattle.std.specs.Prelude.{ℕ, nat_eq, if◌then◌else◌, List, find, slice_get, Option, Some, None}
+use Rattle.std.specs.Prelude.{refl, ℕ, nat_eq, if◌then◌else◌, List, find, slice_get, Option, Some, None}
 use Rattle.std.specs.Option.{option_and_then}
 use Rattle.oc_base.specs.declared.format.Format.TheVariants.{Elf32, Coff32}
 use Rattle.oc_linking.specs.declared.terms.Keep.{Keep}
@@ -8,7 +8,9 @@ use Rattle.oc_linking.specs.Rules.{Rules}
 use Rattle.oc_algebra.specs.declared.form.Base.TheVariants.{Address}
 use Rattle.oc_algebra.specs.declared.form.Less.{Less}
 use Rattle.oc_algebra.specs.declared.form.Less.TheVariants.{Zero, Place}
+use Rattle.oc_neutral.specs.Alignments.{output_align, common_align}
 use Rattle.oc_neutral.specs.Dialects.{Shape, Dialect}
+use Rattle.oc_neutral.specs.Targets.{IsDialect}
 use Rattle.oc_elf_read.specs.declared.constants.TheConstants.{R_386_32, R_386_PC32}
 use Rattle.oc_elf_read.specs.Elf32.{elf32_rules}
 use Rattle.oc_elf_read.specs.Rel.{rel_type}
@@ -50,6 +52,11 @@ plain_rules = record {
 -- what the first path reads
 abbrev pub plain_dialect : Dialect
 plain_dialect = record { format = Elf32; rules = plain_rules; shapes = elf_shapes }
+
+-- its word and its alignments are those of ELF32
+pub plain_is_dialect : IsDialect plain_dialect
+unfolding output_align common_align
+plain_is_dialect = record { word = refl; output_align = λ align. refl; common_align = λ size align. refl }
 
 -- the shape of a type of relocation of COFF for i386: DIR32 is S + F, and REL32 is S + F - (P + 4)
 abbrev pub coff_shape : ℕ → Option Shape

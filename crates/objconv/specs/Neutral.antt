@@ -22,7 +22,7 @@ use Rattle.oc_neutral.specs.declared.reloc.Target.{Target}
 use Rattle.oc_neutral.specs.declared.reloc.Target.TheVariants as target
 use Rattle.oc_neutral.specs.declared.reloc.Reloc.{Reloc}
 use Rattle.oc_neutral.specs.Objects.{Object}
-use Rattle.oc_neutral.specs.Building.{written}
+use Rattle.oc_neutral.specs.Building.{Draft, written}
 use Rattle.oc_elf_read.specs.declared.sym.Sym.{Sym}
 use Rattle.oc_elf_read.specs.declared.rel.Rel.{Rel}
 use Rattle.oc_elf_read.specs.Rel.{rel_sym, rel_type}
@@ -91,4 +91,16 @@ neutral_of b entries = record {
   sections = neutral_section b (headers_in b) entries ∷ [];
   symbols = neutral_symbols b (headers_in b);
   relocs = map (neutral_field (text_in b (headers_in b))) entries ∷ [];
+}
+
+-- what a Builder holds once it has `.text`, these symbols, and relocations for these entries
+abbrev pub neutral_draft : List ℕ → Headers → List Symbol → List (ℕ × Rel) → Draft
+neutral_draft b h symbols entries = record {
+  object = record {
+    format = Elf32;
+    sections = neutral_section b h entries ∷ [];
+    symbols = symbols;
+    relocs = map (neutral_field (text_in b h)) entries ∷ [];
+  };
+  folded = [] ∷ [];
 }

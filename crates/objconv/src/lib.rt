@@ -15,6 +15,7 @@ mod layout;
 mod laws;
 mod plain;
 mod raising;
+mod reader;
 mod report;
 mod structures;
 mod symbols;
