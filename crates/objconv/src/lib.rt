@@ -13,6 +13,7 @@ mod job;
 mod layout;
 mod laws;
 mod plain;
+mod planned;
 mod raising;
 mod report;
 mod structures;
@@ -20,6 +21,7 @@ mod symbols;
 #[cfg(test)]
 mod tests;
 mod words;
+mod writer;
 
 pub use command::run;
 pub use laws::{conversions_are_faithful, plain_objects_have_files};

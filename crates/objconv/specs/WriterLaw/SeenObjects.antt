@@ -28,8 +28,8 @@ use Rattle.oc_neutral.proofs.Standing.{ends_by, wide_in}
 use Rattle.oc_coff_read.specs.declared.relocation.Relocation.{Relocation}
 use Rattle.oc_coff_read.specs.Fields.{relocates}
 use Rattle.objconv.specs.Coded.{code_tag, entry_of, type_of, relocation_of}
-use Rattle.objconv.proofs.CodedLemmas.{IsPlainLess, IsPlainForm, IsCoded}
-use Rattle.objconv.proofs.CodedObjects.{section_here, fields_held}
+use Rattle.objconv.specs.WriterLaw.CodedLemmas.{IsPlainLess, IsPlainForm, IsCoded}
+use Rattle.objconv.specs.WriterLaw.CodedObjects.{section_here, fields_held}
 
 -- a relocation, of which COFF gives no hint
 abbrev pub seen_reloc : Reloc → Reloc

@@ -46,9 +46,9 @@ use Rattle.oc_coff_read.specs.Seen.{seen_target, seen_fields}
 use Rattle.oc_coff_read.proofs.SeenLaws.{reads_back}
 use Rattle.oc_coff_read.proofs.TargetLaws.{seen_target-section, seen_target-external, field_by-dir32, field_by-rel32}
 use Rattle.objconv.specs.Coded.{field_number, field_patch, filled, entry_of, type_of, relocation_of, external_of, coded_with}
-use Rattle.objconv.proofs.CodedLemmas.{IsPlainLess, IsPlainForm, IsCoded}
-use Rattle.objconv.proofs.CodedObjects.{code_object}
-use Rattle.objconv.proofs.SeenObjects.{seen_reloc, renumbered, renumbered_from, seen_object, slice_get-renumbered, number_of-renumbered, entry_at, find-relocations, reloc_among-seen, IsPut, found_put, apart_of}
+use Rattle.objconv.specs.WriterLaw.CodedLemmas.{IsPlainLess, IsPlainForm, IsCoded}
+use Rattle.objconv.specs.WriterLaw.CodedObjects.{code_object}
+use Rattle.objconv.specs.WriterLaw.SeenObjects.{seen_reloc, renumbered, renumbered_from, seen_object, slice_get-renumbered, number_of-renumbered, entry_at, find-relocations, reloc_among-seen, IsPut, found_put, apart_of}
 
 -- the number in a field, by what is taken and the addend
 abbrev number_by : Less → ℤ → ℕ

@@ -38,11 +38,11 @@ use Rattle.oc_neutral.proofs.FitLinks.{from_mapped}
 use Rattle.oc_neutral.proofs.Positions.{there_at}
 use Rattle.oc_neutral.proofs.SortedFields.{found_held}
 use Rattle.oc_neutral.proofs.Truth.{values-own}
-use Rattle.objconv.proofs.CodedLemmas.{IsCoded}
-use Rattle.objconv.proofs.CodedObjects.{IsPlaced, symbol_placed}
-use Rattle.objconv.proofs.SeenObjects.{seen_reloc, renumbered, renumbered_from, seen_object, slice_get-renumbered, found_put}
-use Rattle.objconv.proofs.SeenFields.{reloc_seen}
-use Rattle.objconv.proofs.SeenShows.{numbered_seen}
+use Rattle.objconv.specs.WriterLaw.CodedLemmas.{IsCoded}
+use Rattle.objconv.specs.WriterLaw.CodedObjects.{IsPlaced, symbol_placed}
+use Rattle.objconv.specs.WriterLaw.SeenObjects.{seen_reloc, renumbered, renumbered_from, seen_object, slice_get-renumbered, found_put}
+use Rattle.objconv.specs.WriterLaw.SeenFields.{reloc_seen}
+use Rattle.objconv.specs.WriterLaw.SeenShows.{numbered_seen}
 
 -- what symbols give by name, where each gives the same whatever its number is
 by_name-renumbered : {X : Type 0} (f g : parts.Symbol → Option X) (us ws : List Symbol) (i : ℕ) (xs : List Symbol)

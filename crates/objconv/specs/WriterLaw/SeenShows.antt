@@ -52,11 +52,11 @@ use Rattle.oc_coff_read.proofs.PlaceLaws.{header_of-code, relocations_of-code}
 use Rattle.oc_coff_read.proofs.SeenLaws.{reads_back}
 use Rattle.objconv.specs.Coded.{is_plain_mark, field_patch, filled, type_of, section_of, is_function, external_of, coded_with}
 use Rattle.objconv.specs.Dialects.{coff_shape, coff_shapes, coff_dialect}
-use Rattle.objconv.proofs.CodedLemmas.{IsPlainLess, IsPlainForm, IsPlainSymbol, IsCoded}
-use Rattle.objconv.proofs.CodedObjects.{IsPlaced, symbol_placed, section_size, section_power, length-filled, code_object}
-use Rattle.objconv.proofs.SeenObjects.{seen_reloc, renumbered, renumbered_from, seen_object, from_renumbered, entry_at, find-relocations, IsPut, found_put, apart_of}
-use Rattle.objconv.proofs.SeenFields.{reloc_seen, fields_seen}
-use Rattle.objconv.proofs.StandingLemmas.{overlay-stands, overlay-over}
+use Rattle.objconv.specs.WriterLaw.CodedLemmas.{IsPlainLess, IsPlainForm, IsPlainSymbol, IsCoded}
+use Rattle.objconv.specs.WriterLaw.CodedObjects.{IsPlaced, symbol_placed, section_size, section_power, length-filled, code_object}
+use Rattle.objconv.specs.WriterLaw.SeenObjects.{seen_reloc, renumbered, renumbered_from, seen_object, from_renumbered, entry_at, find-relocations, IsPut, found_put, apart_of}
+use Rattle.objconv.specs.WriterLaw.SeenFields.{reloc_seen, fields_seen}
+use Rattle.objconv.specs.WriterLaw.StandingLemmas.{overlay-stands, overlay-over}
 
 -- ... symbols
 
