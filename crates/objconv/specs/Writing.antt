@@ -1,14 +1,12 @@
 -- What the writer of COFF promises of its files: the lemmas stand in `WriterLaw` (our profile).
-use Rattle.std.proofs.Common.{◌≡◌, ℕ, List, refl, sym, ◌∙◌, ap, subst}
-use Rattle.oc_base.specs.declared.format.Format.TheVariants.{Coff32}
+use Rattle.std.proofs.Common.{◌≡◌, refl, sym, ap, subst}
 use Rattle.oc_neutral.specs.declared.section.Section.{Section}
 use Rattle.oc_neutral.specs.Alignments as neutral
 use Rattle.oc_neutral.specs.Objects.{Object}
-use Rattle.oc_neutral.specs.Fitted.{IsFitted}
 use Rattle.oc_neutral.specs.Targets.{IsDialect, WritesCanonical}
 use Rattle.oc_neutral.specs.Written.{IsWritten}
 use Rattle.oc_coff_read.specs.Alignments as coff
-use Rattle.oc_coff_read.specs.Canonical.{CodeObject, code_file}
+use Rattle.oc_coff_read.specs.Canonical.{code_file}
 use Rattle.objconv.specs.Coded.{IsWritable, coded_with, coded_by, coded, coff_file}
 use Rattle.objconv.specs.Dialects.{coff_dialect}
 use Rattle.objconv.specs.WriterLaw.CodedLemmas.{IsCoded, coded_is}

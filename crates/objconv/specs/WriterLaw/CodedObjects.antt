@@ -1,5 +1,5 @@
 -- What is written of an object has a canonical file.
-use Rattle.std.proofs.Common.{◌≡◌, ℕ, zero, suc, ◌+◌, ◌*◌, ◌^◌, ◌<◌, ◌≤◌, ◌≢◌, ◌⊎◌, inl, inr, Bool, true, false, cond, true≢false, eqb, List, [], ◌∷◌, length, get_or, map, Option, Some, None, refl, sym, ◌∙◌, ap, subst, arith}
+use Rattle.std.proofs.Common.{◌≡◌, ℕ, zero, suc, ◌^◌, ◌<◌, ◌≤◌, ◌≢◌, ◌⊎◌, inl, inr, true, false, cond, true≢false, eqb, List, [], ◌∷◌, length, get_or, map, Some, None, refl, sym, ◌∙◌, ap, subst, arith}
 use Rattle.std.specs.Prelude.{◌||◌, All, slice_get}
 use Rattle.std.specs.List.{AllByRecursion, list_any}
 use Rattle.std.specs.Option.{is_some, option_map, unwrap_or}
@@ -10,7 +10,6 @@ use Rattle.std.proofs.lemmas.List.{length-map}
 use Rattle.std.proofs.lemmas.List.Elements.{All-cons, All-map}
 use Rattle.oc_base.specs.declared.format.Format.TheVariants.{Coff32}
 use Rattle.oc_linking.specs.declared.terms.Kind.{Kind}
-use Rattle.oc_linking.specs.declared.terms.Value.{Value}
 use Rattle.oc_linking.specs.declared.terms.Value.TheVariants as value
 use Rattle.oc_linking.specs.declared.terms.Binding.{Binding}
 use Rattle.oc_linking.specs.declared.terms.Binding.TheVariants.{Local, Global, Undefined, Common, Weak}
@@ -18,7 +17,6 @@ use Rattle.oc_linking.proofs.FirstFaultLaws.{first_upto_none}
 use Rattle.oc_linking.proofs.Overlay.{length-overlay}
 use Rattle.oc_linking.proofs.Upto.{first_upto_from}
 use Rattle.oc_algebra.specs.declared.form.Less.{Less}
-use Rattle.oc_algebra.specs.declared.form.Less.TheVariants as less
 use Rattle.oc_chains.specs.declared.field.Field.{Field}
 use Rattle.oc_chains.specs.Lists.{list_of}
 use Rattle.oc_neutral.specs.declared.section.Section.{Section}
@@ -27,12 +25,12 @@ use Rattle.oc_neutral.specs.declared.reloc.Target.{Target}
 use Rattle.oc_neutral.specs.declared.reloc.Target.TheVariants as target
 use Rattle.oc_neutral.specs.declared.reloc.Reloc.{Reloc}
 use Rattle.oc_neutral.specs.Objects.{Object, reloc_at}
-use Rattle.oc_neutral.specs.Invariants.{IsAlign, HasOffset, IsBinding, IsSymbol, IsThere, IsHeld}
+use Rattle.oc_neutral.specs.Invariants.{IsAlign, HasOffset, IsBinding, IsThere, IsHeld}
 use Rattle.oc_neutral.specs.Fitted.{IsFitted}
 use Rattle.oc_neutral.specs.Building.{is_zero, stored_sum}
 use Rattle.oc_neutral.specs.GivenTags.{has_nul}
 use Rattle.oc_neutral.proofs.Positions.{each_at}
-use Rattle.oc_coff_read.specs.Canonical.{External, CodeObject, FitsEntry, IsExternal, IsCodeObject}
+use Rattle.oc_coff_read.specs.Canonical.{FitsEntry, IsExternal, IsCodeObject}
 use Rattle.objconv.specs.Plain.{exponent_of}
 use Rattle.objconv.specs.Coded.{is_plain_binding, field_patch, filled, entry_of, type_of, relocation_of, offset_of, section_of, external_of, coded_with}
 use Rattle.objconv.specs.WriterLaw.CodedLemmas.{IsPlainLess, IsPlainForm, IsPlainSymbol, IsCoded}
@@ -200,13 +198,13 @@ module _ (m : Object) (s : Section) (fits : IsFitted Coff32 m) (is : IsCoded m s
         exponent = section_power.small;
         relocs = omega (arith, relocs, few);
         entries = All-map FitsEntry relocation_of (list_of m.relocs 0) (λ i d low.
-        let here : slice_get (list_of m.relocs 0) i ≡ Some (get_or (list_of m.relocs 0) i d) = slice_get-get_or (list_of m.relocs 0) i d low in
-        entry_fits (get_or (list_of m.relocs 0) i d) (each_at _ (list_of m.relocs 0) i _ fields_held here) (each_at _ (list_of m.relocs 0) i _ is.forms here));
+            let here : slice_get (list_of m.relocs 0) i ≡ Some (get_or (list_of m.relocs 0) i d) = slice_get-get_or (list_of m.relocs 0) i d low in
+            entry_fits (get_or (list_of m.relocs 0) i d) (each_at _ (list_of m.relocs 0) i _ fields_held here) (each_at _ (list_of m.relocs 0) i _ is.forms here));
         externals = All-map (IsExternal (length (filled m s))) external_of m.symbols (λ i d low.
-        let here : slice_get m.symbols i ≡ Some (get_or m.symbols i d) = slice_get-get_or m.symbols i d low in
-        let size : s.size ≡ length (filled m s) = sym section_size ∙ sym long in
-        placed_external (length (filled m s)) (get_or m.symbols i d) (each_at _ m.symbols i _ is.symbols here)
-        (subst (λ n. IsPlaced n (get_or m.symbols i d).binding) size (symbol_placed i _ here))
-        (each_at _ m.symbols i _ fits.object.complete.symbols here).named);
+            let here : slice_get m.symbols i ≡ Some (get_or m.symbols i d) = slice_get-get_or m.symbols i d low in
+            let size : s.size ≡ length (filled m s) = sym section_size ∙ sym long in
+            placed_external (length (filled m s)) (get_or m.symbols i d) (each_at _ m.symbols i _ is.symbols here)
+            (subst (λ n. IsPlaced n (get_or m.symbols i d).binding) size (symbol_placed i _ here))
+            (each_at _ m.symbols i _ fits.object.complete.symbols here).named);
         length = omega (arith, long, relocs, externals, few, symbols, small);
       }
