@@ -1,5 +1,5 @@
 -- Numbers put one after another are in all their fields.
-use Rattle.std.proofs.Common.{◌≡◌, ℕ, ◌+◌, ◌/◌, ◌%◌, ◌^◌, ◌<◌, ◌≤◌, inl, inr, true, false, cond, eqb, List, [], ◌∷◌, length, get_or, Option, Some, None, refl, sym, ◌∙◌, ap, subst, arith}
+use Rattle.std.proofs.Common.{◌≡◌, ℕ, ◌+◌, ◌/◌, ◌%◌, ◌^◌, ◌<◌, ◌≤◌, inl, inr, true, false, cond, eqb, List, [], ◌∷◌, length, get_or, Option, Some, refl, sym, ◌∙◌, ap, subst, arith}
 use Rattle.std.specs.List.{AllByRecursion}
 use Rattle.std.specs.Option.{option_map}
 use Rattle.std.proofs.lemmas.Bool.{eq-eqb, eqb-true, cases_lt}
@@ -22,9 +22,9 @@ use Rattle.oc_neutral.proofs.FitLinks.{from_mapped}
 use Rattle.oc_neutral.proofs.WrittenBytes.{length-written, written-before, written-behind, written-inside}
 use Rattle.objconv.specs.Coded.{field_number, field_patch, filled, entry_of}
 use Rattle.objconv.specs.Contents.{with_numbers, LieIn}
-use Rattle.objconv.proofs.CodedLemmas.{IsPlainForm, IsCoded}
-use Rattle.objconv.proofs.CodedObjects.{fields_held, entry_small}
-use Rattle.objconv.proofs.StandingLemmas.{overlay-stands}
+use Rattle.objconv.specs.WriterLaw.CodedLemmas.{IsPlainForm, IsCoded}
+use Rattle.objconv.specs.WriterLaw.CodedObjects.{fields_held, entry_small}
+use Rattle.objconv.specs.WriterLaw.StandingLemmas.{overlay-stands}
 
 -- what follows of each from two things that hold of each
 each_with : {X : Type 0} (P Q R : X → Type 0) → ((x : X) → P x → Q x → R x) → (xs : List X) → AllByRecursion P xs → AllByRecursion Q xs → AllByRecursion R xs

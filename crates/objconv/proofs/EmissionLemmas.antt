@@ -4,7 +4,7 @@ use Rattle.std.specs.Prelude.{flat_map, slice_get}
 use Rattle.std.specs.List.{AllByRecursion}
 use Rattle.std.proofs.lemmas.Option.{none-some, same_Some}
 use Rattle.oc_neutral.specs.declared.symbol.Symbol.{Symbol}
-use Rattle.objconv.proofs.CodedLemmas.{IsPlainSymbol}
+use Rattle.objconv.specs.WriterLaw.CodedLemmas.{IsPlainSymbol}
 
 -- an entry goes from what is left to what is put
 pub moved : {X : Type 0} (bytes : X → List ℕ) (before now : List ℕ) (x : X) (xs : List X) → now ≡ before ++ bytes x → now ++ flat_map bytes xs ≡ before ++ flat_map bytes (x ∷ xs)

@@ -1,9 +1,6 @@
 pub mod AlikeLemmas
 pub mod BelowLemmas
-pub mod CodedLemmas
-pub mod CodedObjects
 pub mod CodedPlain
-pub mod CodedWritten
 pub mod ContentsLemmas
 pub mod ConvertedPlain
 pub mod EmissionLemmas
@@ -48,11 +45,6 @@ pub mod RelsLemmas
 pub mod RewritingLemmas
 pub mod RisingLemmas
 pub mod SectionLemmas
-pub mod SeenAlike
-pub mod SeenFields
-pub mod SeenObjects
-pub mod SeenShows
-pub mod StandingLemmas
 pub mod SymbolLemmas
 pub mod SymbolsLemmas
 pub mod TargetLemmas

@@ -13,3 +13,5 @@ pub mod Recoded
 pub mod Refusals
 pub mod Rewriting
 pub mod Runs
+pub mod WriterLaw
+pub mod Writing

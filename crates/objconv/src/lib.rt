@@ -11,9 +11,10 @@ mod fields;
 mod fitter;
 mod headers;
 mod job;
-mod layout;
 mod laws;
+mod layout;
 mod plain;
+mod planned;
 mod raising;
 mod reader;
 mod report;
@@ -22,6 +23,7 @@ mod symbols;
 #[cfg(test)]
 mod tests;
 mod words;
+mod writer;
 mod writing;
 
 pub use command::run;

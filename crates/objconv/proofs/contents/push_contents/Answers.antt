@@ -5,7 +5,7 @@ use Rattle.oc_chains.specs.Lists.{list_of}
 use Rattle.oc_neutral.specs.declared.section.Section.{Section}
 use Rattle.oc_neutral.specs.Objects.{Object}
 use Rattle.objconv.specs.Contents.{with_numbers, LieIn}
-use Rattle.objconv.proofs.CodedLemmas.{IsCoded, coded_at}
+use Rattle.objconv.specs.WriterLaw.CodedLemmas.{IsCoded, coded_at}
 use Rattle.objconv.proofs.ContentsLemmas.{fields_lie, filled_is}
 use Rattle.objconv.proofs.contents.push_contents.Goals as goal
 

@@ -1,11 +1,11 @@
 -- The parts stand one behind another.
-use Rattle.std.proofs.Common.{◌≡◌, ℕ, List, length, sym, ◌∙◌, ap, append_assoc, arith}
+use Rattle.std.proofs.Common.{◌≡◌, List, length, ap, append_assoc, arith}
 use Rattle.oc_coff_read.specs.Canonical.{CodeObject, code_file}
 use Rattle.oc_neutral.specs.declared.section.Section.{Section}
 use Rattle.oc_neutral.specs.Objects.{Object}
-use Rattle.objconv.specs.Coded.{coded_with, coff_file}
-use Rattle.objconv.proofs.CodedLemmas.{IsCoded, coded_is, coded_at}
-use Rattle.objconv.proofs.CodedWritten.{coff_file-coded}
+use Rattle.objconv.specs.Coded.{coded_with}
+use Rattle.objconv.specs.WriterLaw.CodedLemmas.{IsCoded, coded_is, coded_at}
+use Rattle.objconv.specs.Writing.{coff_file-coded}
 use Rattle.objconv.proofs.ContentsLemmas.{fields_aim}
 use Rattle.objconv.proofs.EmissionLemmas.{short_names}
 use Rattle.objconv.proofs.emission.emit_object.Goals as goal

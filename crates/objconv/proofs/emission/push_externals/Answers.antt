@@ -1,5 +1,5 @@
 -- One symbol goes from what is left to what is put.
-use Rattle.std.proofs.Common.{◌≡◌, ℕ, ◌+◌, List, [], ◌++◌, length, drop, map, sym, ◌∙◌, ap, arith}
+use Rattle.std.proofs.Common.{◌+◌, List, ◌++◌, drop, map, sym, ◌∙◌, ap, arith}
 use Rattle.std.specs.Prelude.{flat_map}
 use Rattle.std.proofs.lemmas.List.{append-nil}
 use Rattle.oc_neutral.specs.declared.symbol.Symbol.{Symbol}

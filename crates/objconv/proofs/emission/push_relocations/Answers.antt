@@ -1,5 +1,5 @@
 -- One entry goes from what is left to what is put.
-use Rattle.std.proofs.Common.{◌≡◌, ℕ, ◌^◌, ◌<◌, List, ◌++◌, map, sym, ◌∙◌, ap, subst}
+use Rattle.std.proofs.Common.{◌^◌, ◌<◌, List, ◌++◌, map, sym, ◌∙◌, ap, subst}
 use Rattle.std.specs.Prelude.{flat_map}
 use Rattle.std.specs.List.{AllByRecursion}
 use Rattle.std.proofs.lemmas.List.{append-nil}

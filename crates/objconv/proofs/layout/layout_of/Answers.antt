@@ -7,8 +7,8 @@ use Rattle.oc_neutral.specs.declared.section.Section.{Section}
 use Rattle.oc_neutral.specs.Objects.{Object}
 use Rattle.objconv.specs.Coded.{relocation_of, external_of}
 use Rattle.objconv.specs.Plain.{exponent_of}
-use Rattle.objconv.proofs.CodedLemmas.{IsCoded, coded_at}
-use Rattle.objconv.proofs.CodedObjects.{section_size, section_small, section_power, length-filled}
+use Rattle.objconv.specs.WriterLaw.CodedLemmas.{IsCoded, coded_at}
+use Rattle.objconv.specs.WriterLaw.CodedObjects.{section_size, section_small, section_power, length-filled}
 use Rattle.objconv.proofs.layout.layout_of.Goals as goal
 
 pub reloc_count-requires : goal.reloc_count-requires

@@ -1,6 +1,6 @@
 -- What the conditions of an object that is written say.
 use Rattle.std.proofs.Common.{◌≡◌, ℕ, ◌≤◌, ◌⊎◌, inl, inr, Bool, true, false, true≢false, List, [], ◌∷◌, length, Some, refl, sym, ◌∙◌, ap, subst}
-use Rattle.std.specs.Prelude.{bytes_eq, codes, slice_get}
+use Rattle.std.specs.Prelude.{◌&&◌, bytes_eq, codes, slice_get}
 use Rattle.std.specs.List.{AllByRecursion, list_all}
 use Rattle.std.proofs.lemmas.Bool.{eqb-true, leb-true, not-true}
 use Rattle.std.proofs.lemmas.Option.{same_Some}
@@ -26,7 +26,11 @@ use Rattle.oc_neutral.specs.Rows.{same_base, same_width, same_check}
 use Rattle.oc_neutral.specs.KindRules.{same_kind}
 use Rattle.oc_neutral.specs.GivenTags.{has_nul}
 use Rattle.objconv.specs.Coded.{is_plain_less, is_plain_form, is_plain_binding, is_plain_mark, is_plain_symbol, is_plain_section, has_one_section, is_plain_object, code_tag}
-use Rattle.objconv.proofs.PlainLemmas.{both}
+
+-- two tests that hold together hold each
+both : (x y : Bool) → (x && y) ≡ true → (x ≡ true) × (y ≡ true)
+both true y e = (refl, e)
+both false y e = absurd (true≢false (sym e))
 
 -- a test that failed holds
 never : {X : Type 0} → false ≡ true → X

@@ -1,12 +1,11 @@
 -- The object that the file of an object shows: its symbols are numbered from 2 on, and nothing is said that COFF does not say.
-use Rattle.std.proofs.Common.{◌≡◌, ℕ, zero, suc, ◌+◌, ◌<◌, ◌≤◌, inl, inr, true, false, cond, eqb, List, [], ◌∷◌, length, get_or, map, Option, Some, None, refl, sym, ◌∙◌, ap, subst, arith}
+use Rattle.std.proofs.Common.{◌≡◌, ℕ, zero, suc, ◌+◌, ◌<◌, ◌≤◌, inl, inr, true, false, cond, eqb, List, [], ◌∷◌, length, get_or, map, Some, refl, sym, ◌∙◌, ap, subst, arith}
 use Rattle.std.specs.Prelude.{◌&&◌, not, codes, find, slice_get}
 use Rattle.std.specs.List.{AllByRecursion}
-use Rattle.std.specs.Option.{option_map, option_map_or}
+use Rattle.std.specs.Option.{option_map}
 use Rattle.std.proofs.lemmas.Bool.{eqb-true}
 use Rattle.std.proofs.lemmas.Option.{none-some, same_Some}
 use Rattle.oc_base.specs.declared.format.Format.TheVariants.{Coff32}
-use Rattle.oc_linking.specs.declared.terms.Width.{Width}
 use Rattle.oc_linking.specs.declared.terms.Hint.TheVariants.{Plain}
 use Rattle.oc_linking.specs.declared.terms.Kind.TheVariants.{Code}
 use Rattle.oc_linking.specs.declared.terms.Visibility.TheVariants.{Default}
@@ -28,8 +27,8 @@ use Rattle.oc_neutral.proofs.Standing.{ends_by, wide_in}
 use Rattle.oc_coff_read.specs.declared.relocation.Relocation.{Relocation}
 use Rattle.oc_coff_read.specs.Fields.{relocates}
 use Rattle.objconv.specs.Coded.{code_tag, entry_of, type_of, relocation_of}
-use Rattle.objconv.proofs.CodedLemmas.{IsPlainLess, IsPlainForm, IsCoded}
-use Rattle.objconv.proofs.CodedObjects.{section_here, fields_held}
+use Rattle.objconv.specs.WriterLaw.CodedLemmas.{IsPlainLess, IsPlainForm, IsCoded}
+use Rattle.objconv.specs.WriterLaw.CodedObjects.{section_here, fields_held}
 
 -- a relocation, of which COFF gives no hint
 abbrev pub seen_reloc : Reloc → Reloc
@@ -105,7 +104,7 @@ find-relocations [] at forms = refl
 find-relocations (x ∷ xs) at forms =
     ap (λ t. cond (eqb x.at at && t) (Some (relocation_of x)) (find (relocates at) (map relocation_of xs))) (type_says x.item.form.less forms.0.less)
     ∙ (elim (eqb x.at at) as (λ b. eqb x.at at ≡ b → cond (b && true) (Some (relocation_of x)) (find (relocates at) (map relocation_of xs))
-        ≡ option_map (entry_at at) (cond b (Some x.item) (reloc_among xs at))) [
+    ≡ option_map (entry_at at) (cond b (Some x.item) (reloc_among xs at))) [
       | true ↦ λ e. ap (λ k. Some (entry_at k x.item)) (eqb-true x.at at e)
       | false ↦ λ e. find-relocations xs at forms.1
     ] refl)

@@ -1,23 +1,22 @@
 -- What is written of an object has a canonical file.
-use Rattle.std.proofs.Common.{◌≡◌, ℕ, zero, suc, ◌+◌, ◌*◌, ◌^◌, ◌<◌, ◌≤◌, ◌≢◌, ◌⊎◌, inl, inr, Bool, true, false, cond, true≢false, eqb, List, [], ◌∷◌, length, get_or, map, Option, Some, None, refl, sym, ◌∙◌, ap, subst, arith}
+use Rattle.std.proofs.Common.{◌≡◌, ℕ, zero, suc, ◌^◌, ◌<◌, ◌≤◌, ◌≢◌, ◌⊎◌, inl, inr, true, false, cond, true≢false, eqb, List, [], ◌∷◌, length, get_or, map, Some, None, refl, sym, ◌∙◌, ap, subst, arith}
 use Rattle.std.specs.Prelude.{◌||◌, All, slice_get}
 use Rattle.std.specs.List.{AllByRecursion, list_any}
 use Rattle.std.specs.Option.{is_some, option_map, unwrap_or}
-use Rattle.std.proofs.lemmas.Bool.{eq-eqb, eqb-false, cases_lt}
+use Rattle.std.proofs.lemmas.Bool.{eq-eqb, eqb-false, eqb-true, cases_lt}
 use Rattle.std.proofs.lemmas.Nat.{pow_below}
 use Rattle.std.proofs.lemmas.Option.{none-some, same_Some, slice_get-get_or}
 use Rattle.std.proofs.lemmas.List.{length-map}
 use Rattle.std.proofs.lemmas.List.Elements.{All-cons, All-map}
 use Rattle.oc_base.specs.declared.format.Format.TheVariants.{Coff32}
 use Rattle.oc_linking.specs.declared.terms.Kind.{Kind}
-use Rattle.oc_linking.specs.declared.terms.Value.{Value}
 use Rattle.oc_linking.specs.declared.terms.Value.TheVariants as value
 use Rattle.oc_linking.specs.declared.terms.Binding.{Binding}
 use Rattle.oc_linking.specs.declared.terms.Binding.TheVariants.{Local, Global, Undefined, Common, Weak}
 use Rattle.oc_linking.proofs.FirstFaultLaws.{first_upto_none}
 use Rattle.oc_linking.proofs.Overlay.{length-overlay}
+use Rattle.oc_linking.proofs.Upto.{first_upto_from}
 use Rattle.oc_algebra.specs.declared.form.Less.{Less}
-use Rattle.oc_algebra.specs.declared.form.Less.TheVariants as less
 use Rattle.oc_chains.specs.declared.field.Field.{Field}
 use Rattle.oc_chains.specs.Lists.{list_of}
 use Rattle.oc_neutral.specs.declared.section.Section.{Section}
@@ -26,17 +25,15 @@ use Rattle.oc_neutral.specs.declared.reloc.Target.{Target}
 use Rattle.oc_neutral.specs.declared.reloc.Target.TheVariants as target
 use Rattle.oc_neutral.specs.declared.reloc.Reloc.{Reloc}
 use Rattle.oc_neutral.specs.Objects.{Object, reloc_at}
-use Rattle.oc_neutral.specs.Invariants.{IsAlign, HasOffset, IsBinding, IsSymbol, IsThere, IsHeld}
+use Rattle.oc_neutral.specs.Invariants.{IsAlign, HasOffset, IsBinding, IsThere, IsHeld}
 use Rattle.oc_neutral.specs.Fitted.{IsFitted}
 use Rattle.oc_neutral.specs.Building.{is_zero, stored_sum}
 use Rattle.oc_neutral.specs.GivenTags.{has_nul}
 use Rattle.oc_neutral.proofs.Positions.{each_at}
-use Rattle.oc_coff_read.specs.Canonical.{External, CodeObject, FitsEntry, IsExternal, IsCodeObject}
+use Rattle.oc_coff_read.specs.Canonical.{FitsEntry, IsExternal, IsCodeObject}
 use Rattle.objconv.specs.Plain.{exponent_of}
 use Rattle.objconv.specs.Coded.{is_plain_binding, field_patch, filled, entry_of, type_of, relocation_of, offset_of, section_of, external_of, coded_with}
-use Rattle.objconv.proofs.CodedLemmas.{IsPlainLess, IsPlainForm, IsPlainSymbol, IsCoded}
-use Rattle.objconv.proofs.ObjectLemmas.{IsPower, exponent_is}
-use Rattle.objconv.proofs.SymbolLemmas.{either}
+use Rattle.objconv.specs.WriterLaw.CodedLemmas.{IsPlainLess, IsPlainForm, IsPlainSymbol, IsCoded}
 
 -- an alignment up to 8,192 has an exponent
 has_exponent : (align k : ℕ) → align ≡ 2 ^ k → k < 14 → is_some (exponent_of align) ≡ true
@@ -46,6 +43,30 @@ has_exponent align k power low = elim (exponent_of align) as (λ o. exponent_of 
   | Some j ↦ λ e. refl
 ] refl
 
+-- a power of two up to 8,192, with its exponent
+pub record IsPower (align exponent : ℕ) : Type 0 where
+  pub small : exponent ≤ 13
+  pub power : align ≡ 2 ^ exponent
+
+-- one that was found is that
+power_found : (align exponent k : ℕ) → k < 14 → cond (eqb align (2 ^ k)) (Some k) None ≡ Some exponent → IsPower align exponent
+power_found align exponent k low here =
+    elim (eqb align (2 ^ k)) as (λ t. eqb align (2 ^ k) ≡ t → cond t (Some k) None ≡ Some exponent → IsPower align exponent) [
+      | true ↦ λ t e. subst (IsPower align) (same_Some k exponent e) (record { small = omega arith; power = eqb-true align (2 ^ k) t })
+      | false ↦ λ t e. absurd (none-some exponent e)
+    ] refl here
+
+-- the exponent of an alignment
+exponent_is : (align : ℕ) → is_some (exponent_of align) ≡ true → IsPower align (unwrap_or (exponent_of align) 0)
+unfolding exponent_of
+exponent_is align some = elim (exponent_of align) as (λ o. exponent_of align ≡ o → is_some o ≡ true → IsPower align (unwrap_or o 0)) [
+  | None ↦ λ e s. absurd (true≢false (sym s))
+  | Some exponent ↦ λ e s.
+      let m = first_upto_from (λ k. cond (eqb align (2 ^ k)) (Some k) None) 14 exponent e in
+      power_found align exponent m.0 m.1 m.2
+] refl some
+
+-- that of an alignment of an object
 power_of : (align : ℕ) → IsAlign align → align ≤ 8192 → IsPower align (unwrap_or (exponent_of align) 0)
 power_of align is small =
     let k : ℕ = is.0 in
@@ -177,13 +198,13 @@ module _ (m : Object) (s : Section) (fits : IsFitted Coff32 m) (is : IsCoded m s
         exponent = section_power.small;
         relocs = omega (arith, relocs, few);
         entries = All-map FitsEntry relocation_of (list_of m.relocs 0) (λ i d low.
-        let here : slice_get (list_of m.relocs 0) i ≡ Some (get_or (list_of m.relocs 0) i d) = slice_get-get_or (list_of m.relocs 0) i d low in
-        entry_fits (get_or (list_of m.relocs 0) i d) (each_at _ (list_of m.relocs 0) i _ fields_held here) (each_at _ (list_of m.relocs 0) i _ is.forms here));
+            let here : slice_get (list_of m.relocs 0) i ≡ Some (get_or (list_of m.relocs 0) i d) = slice_get-get_or (list_of m.relocs 0) i d low in
+            entry_fits (get_or (list_of m.relocs 0) i d) (each_at _ (list_of m.relocs 0) i _ fields_held here) (each_at _ (list_of m.relocs 0) i _ is.forms here));
         externals = All-map (IsExternal (length (filled m s))) external_of m.symbols (λ i d low.
-        let here : slice_get m.symbols i ≡ Some (get_or m.symbols i d) = slice_get-get_or m.symbols i d low in
-        let size : s.size ≡ length (filled m s) = sym section_size ∙ sym long in
-        placed_external (length (filled m s)) (get_or m.symbols i d) (each_at _ m.symbols i _ is.symbols here)
-        (subst (λ n. IsPlaced n (get_or m.symbols i d).binding) size (symbol_placed i _ here))
-        (each_at _ m.symbols i _ fits.object.complete.symbols here).named);
+            let here : slice_get m.symbols i ≡ Some (get_or m.symbols i d) = slice_get-get_or m.symbols i d low in
+            let size : s.size ≡ length (filled m s) = sym section_size ∙ sym long in
+            placed_external (length (filled m s)) (get_or m.symbols i d) (each_at _ m.symbols i _ is.symbols here)
+            (subst (λ n. IsPlaced n (get_or m.symbols i d).binding) size (symbol_placed i _ here))
+            (each_at _ m.symbols i _ fits.object.complete.symbols here).named);
         length = omega (arith, long, relocs, externals, few, symbols, small);
       }

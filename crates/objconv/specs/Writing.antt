@@ -1,20 +1,18 @@
--- The file of every object that is written has what it is to have.
-use Rattle.std.proofs.Common.{◌≡◌, ℕ, List, refl, sym, ◌∙◌, ap, subst}
-use Rattle.oc_base.specs.declared.format.Format.TheVariants.{Coff32}
+-- What the writer of COFF promises of its files: the lemmas stand in `WriterLaw` (our profile).
+use Rattle.std.proofs.Common.{◌≡◌, refl, sym, ap, subst}
 use Rattle.oc_neutral.specs.declared.section.Section.{Section}
 use Rattle.oc_neutral.specs.Alignments as neutral
 use Rattle.oc_neutral.specs.Objects.{Object}
-use Rattle.oc_neutral.specs.Fitted.{IsFitted}
 use Rattle.oc_neutral.specs.Targets.{IsDialect, WritesCanonical}
 use Rattle.oc_neutral.specs.Written.{IsWritten}
 use Rattle.oc_coff_read.specs.Alignments as coff
-use Rattle.oc_coff_read.specs.Canonical.{CodeObject, code_file}
+use Rattle.oc_coff_read.specs.Canonical.{code_file}
 use Rattle.objconv.specs.Coded.{IsWritable, coded_with, coded_by, coded, coff_file}
 use Rattle.objconv.specs.Dialects.{coff_dialect}
-use Rattle.objconv.proofs.CodedLemmas.{IsCoded, coded_is}
-use Rattle.objconv.proofs.SeenObjects.{seen_object}
-use Rattle.objconv.proofs.SeenShows.{shows_seen}
-use Rattle.objconv.proofs.SeenAlike.{alike_seen}
+use Rattle.objconv.specs.WriterLaw.CodedLemmas.{IsCoded, coded_is}
+use Rattle.objconv.specs.WriterLaw.SeenObjects.{seen_object}
+use Rattle.objconv.specs.WriterLaw.SeenShows.{shows_seen}
+use Rattle.objconv.specs.WriterLaw.SeenAlike.{alike_seen}
 
 -- COFF for i386 has the words and the alignments of its format
 pub coff_is_dialect : IsDialect coff_dialect
@@ -26,7 +24,7 @@ pub coff_file-coded : (m : Object) (s : Section) → IsCoded m s → coff_file m
 unfolding coded coff_file
 coff_file-coded m s is = ap (λ xs. code_file (coded_by m xs)) is.sections
 
--- the law of the writer
+-- every object of one section of code that is ready for COFF is written: its file is well formed, and shows an object that looks like it
 pub writes_coff : WritesCanonical coff_dialect IsWritable coff_file
 writes_coff = record {
   dialect = coff_is_dialect;

@@ -11,13 +11,13 @@ use Rattle.oc_base.specs.Formats.{word_for}
 use Rattle.oc_linking.specs.declared.terms.Kind.{Kind}
 use Rattle.oc_linking.specs.declared.terms.Patch.{Patch}
 use Rattle.oc_linking.specs.declared.terms.Binding.{Binding}
-use Rattle.oc_linking.specs.Faithful.{sort_of, names_of, shape_of}
+use Rattle.oc_linking.specs.Faithful.{sort_of, shape_of}
 use Rattle.oc_linking.specs.Linking.{patch_of, export_at, export_of, exports}
 use Rattle.oc_linking.specs.Numbers.{or_else, minus}
 use Rattle.oc_linking.specs.Parts as parts
 use Rattle.oc_linking.specs.Placing.{Placement, Outside}
 use Rattle.oc_linking.specs.Shows.{object_patches}
-use Rattle.oc_linking.specs.Values.{Valued, Valuation, worthless, numbered, site_of, value_of, values}
+use Rattle.oc_linking.specs.Values.{Valued, Valuation, worthless, numbered, value_of, values}
 use Rattle.oc_linking.proofs.Worth.{numbered-first, values-edited}
 use Rattle.oc_algebra.specs.Residues.{residue_of}
 use Rattle.oc_chains.specs.declared.field.Field.{Field}
@@ -30,7 +30,7 @@ use Rattle.oc_neutral.specs.declared.reloc.Reloc.{Reloc}
 use Rattle.oc_neutral.specs.Objects.{Object, reloc_among, reloc_at}
 use Rattle.oc_neutral.specs.Building.{is_zero}
 use Rattle.oc_neutral.specs.Invariants.{IsThere, IsOriginal, NamesOriginal}
-use Rattle.oc_neutral.specs.Faces.{number_of, shown_binding, shown_symbol, shown_symbols, shown_section, shown_sections, contents_of, field_of, fields_of, linked_object}
+use Rattle.oc_neutral.specs.Faces.{shown_binding, shown_symbol, shown_symbols, shown_section, contents_of, field_of, linked_object}
 use Rattle.oc_neutral.specs.Worth.{worth_at, target_worth, base_of, less_of, residue_at}
 use Rattle.oc_neutral.specs.Fitted.{IsFitted}
 use Rattle.oc_neutral.specs.Written.{LooksAlike}
@@ -38,11 +38,11 @@ use Rattle.oc_neutral.proofs.FitLinks.{from_mapped}
 use Rattle.oc_neutral.proofs.Positions.{there_at}
 use Rattle.oc_neutral.proofs.SortedFields.{found_held}
 use Rattle.oc_neutral.proofs.Truth.{values-own}
-use Rattle.objconv.proofs.CodedLemmas.{IsCoded}
-use Rattle.objconv.proofs.CodedObjects.{IsPlaced, symbol_placed}
-use Rattle.objconv.proofs.SeenObjects.{seen_reloc, renumbered, renumbered_from, seen_object, slice_get-renumbered, found_put}
-use Rattle.objconv.proofs.SeenFields.{reloc_seen}
-use Rattle.objconv.proofs.SeenShows.{numbered_seen}
+use Rattle.objconv.specs.WriterLaw.CodedLemmas.{IsCoded}
+use Rattle.objconv.specs.WriterLaw.CodedObjects.{IsPlaced, symbol_placed}
+use Rattle.objconv.specs.WriterLaw.SeenObjects.{seen_reloc, renumbered, renumbered_from, seen_object, slice_get-renumbered, found_put}
+use Rattle.objconv.specs.WriterLaw.SeenFields.{reloc_seen}
+use Rattle.objconv.specs.WriterLaw.SeenShows.{numbered_seen}
 
 -- what symbols give by name, where each gives the same whatever its number is
 by_name-renumbered : {X : Type 0} (f g : parts.Symbol → Option X) (us ws : List Symbol) (i : ℕ) (xs : List Symbol)
@@ -108,10 +108,10 @@ module _ (m : Object) (s : Section) (fits : IsFitted Coff32 m) (is : IsCoded m s
         = numbered-first (shown_symbols m) k (shown_symbol m.symbols x.0) displayed (λ j t before here same.
         let z = from_mapped (shown_symbol m.symbols) (slice_get m.symbols j) t (sym (slice_get-map (shown_symbol m.symbols) m.symbols j) ∙ here) in
         original j before (
-          ap (λ o. option_map_or (λ (u : Symbol). u.number) o 0) z.1
-          ∙ ap (λ (u : parts.Symbol). u.number) z.2
-          ∙ same
-          ∙ sym (ap (λ o. option_map_or (λ (u : Symbol). u.number) o 0) x.1)
+        ap (λ o. option_map_or (λ (u : Symbol). u.number) o 0) z.1
+        ∙ ap (λ (u : parts.Symbol). u.number) z.2
+        ∙ same
+        ∙ sym (ap (λ o. option_map_or (λ (u : Symbol). u.number) o 0) x.1)
         )) in
         ap (λ o. unwrap_or (option_map (λ (u : Symbol). given u.number) o) worthless) first
         ∙ values-own W32 (shown_symbols seen) (numbered_seen m s fits is) p e k (shown_symbol seen.symbols y) shown
@@ -144,7 +144,7 @@ module _ (m : Object) (s : Section) (fits : IsFitted Coff32 m) (is : IsCoded m s
         ] refl)
         ∙ ap (λ w. option_map (patch_by m w (values w (shown_symbols m) (shown_symbols m) p e) 0 at) (reloc_at m 0 at)) word_same
         ∙ (elim (reloc_at m 0 at) as (λ q. option_map (patch_by m (word_for m.format) (values (word_for m.format) (shown_symbols m) (shown_symbols m) p e) 0 at) q
-            ≡ option_map (patch_of p (values (word_for m.format) (shown_symbols m) (shown_symbols m) p e)) (option_map (field_of m 0 at) q)) [ None ↦ refl | Some r ↦ refl ])
+        ≡ option_map (patch_of p (values (word_for m.format) (shown_symbols m) (shown_symbols m) p e)) (option_map (field_of m 0 at) q)) [ None ↦ refl | Some r ↦ refl ])
     patches_same (suc i) at =
         let one : length m.sections ≡ 1 = ap (λ (xs : List Section). length xs) is.sections in
         let counted = fits.object.built.fields.counted in

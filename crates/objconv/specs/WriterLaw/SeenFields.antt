@@ -1,7 +1,7 @@
 -- The fields of the file of an object are those of the object that it shows.
-use Rattle.std.proofs.Common.{◌≡◌, ℕ, zero, suc, ◌+◌, ◌%◌, ◌^◌, ◌<◌, ◌≤◌, inl, inr, List, [], ◌∷◌, length, map, Option, Some, None, refl, sym, ◌∙◌, ap, subst, arith}
+use Rattle.std.proofs.Common.{◌≡◌, ℕ, zero, suc, ◌+◌, ◌%◌, ◌^◌, ◌<◌, inl, inr, List, length, Option, Some, None, refl, sym, ◌∙◌, ap, subst, arith}
 use mathlib.Core.Path.{fun_ext}
-use Rattle.std.specs.Prelude.{ℤ, find, slice_get}
+use Rattle.std.specs.Prelude.{ℤ}
 use Rattle.std.specs.Option.{option_map, option_and_then, unwrap_or}
 use Rattle.std.proofs.lemmas.List.{length-map}
 use Rattle.oc_base.specs.declared.format.Format.TheVariants.{Coff32}
@@ -33,22 +33,20 @@ use Rattle.oc_neutral.specs.declared.reloc.Target.TheVariants as target
 use Rattle.oc_neutral.specs.declared.reloc.Reloc.{Reloc}
 use Rattle.oc_neutral.specs.Objects.{Object, reloc_at}
 use Rattle.oc_neutral.specs.Invariants.{IsThere}
-use Rattle.oc_neutral.specs.Faces.{number_of, named_of, field_of, fields_of}
+use Rattle.oc_neutral.specs.Faces.{named_of, field_of, fields_of}
 use Rattle.oc_neutral.specs.Worth.{target_worth, base_of, less_of, residue_at}
 use Rattle.oc_neutral.specs.Fitted.{IsFitted}
 use Rattle.oc_neutral.proofs.Positions.{there_at}
-use Rattle.oc_coff_read.specs.declared.relocation.Relocation.{Relocation}
-use Rattle.oc_coff_read.specs.declared.constants.TheConstants.{IMAGE_REL_I386_DIR32, IMAGE_REL_I386_REL32}
 use Rattle.oc_coff_read.specs.Canonical.{CodeObject, code_file}
 use Rattle.oc_coff_read.specs.Coff32.{coff32_rules}
 use Rattle.oc_coff_read.specs.Fields.{field_by, field_among}
-use Rattle.oc_coff_read.specs.Seen.{seen_target, seen_fields}
+use Rattle.oc_coff_read.specs.Seen.{seen_target}
 use Rattle.oc_coff_read.proofs.SeenLaws.{reads_back}
 use Rattle.oc_coff_read.proofs.TargetLaws.{seen_target-section, seen_target-external, field_by-dir32, field_by-rel32}
-use Rattle.objconv.specs.Coded.{field_number, field_patch, filled, entry_of, type_of, relocation_of, external_of, coded_with}
-use Rattle.objconv.proofs.CodedLemmas.{IsPlainLess, IsPlainForm, IsCoded}
-use Rattle.objconv.proofs.CodedObjects.{code_object}
-use Rattle.objconv.proofs.SeenObjects.{seen_reloc, renumbered, renumbered_from, seen_object, slice_get-renumbered, number_of-renumbered, entry_at, find-relocations, reloc_among-seen, IsPut, found_put, apart_of}
+use Rattle.objconv.specs.Coded.{field_patch, filled, entry_of, type_of, external_of, coded_with}
+use Rattle.objconv.specs.WriterLaw.CodedLemmas.{IsPlainLess, IsPlainForm, IsCoded}
+use Rattle.objconv.specs.WriterLaw.CodedObjects.{code_object}
+use Rattle.objconv.specs.WriterLaw.SeenObjects.{seen_reloc, seen_object, slice_get-renumbered, number_of-renumbered, entry_at, find-relocations, reloc_among-seen, IsPut, found_put, apart_of}
 
 -- the number in a field, by what is taken and the addend
 abbrev number_by : Less → ℤ → ℕ
@@ -181,7 +179,7 @@ module _ (m : Object) (s : Section) (fits : IsFitted Coff32 m) (is : IsCoded m s
       (reads_back o (code_object m s fits is)).fields all 0 at
       ∙ ap (option_and_then (field_by (seen_target o) 0 o.contents)) (find-relocations (list_of m.relocs 0) at is.forms)
       ∙ (elim (reloc_at m 0 at) as (λ q. reloc_at m 0 at ≡ q → option_and_then (field_by (seen_target o) 0 o.contents) (option_map (entry_at at) q)
-          ≡ option_map (field_of seen 0 at) (option_map seen_reloc q)) [
+      ≡ option_map (field_of seen 0 at) (option_map seen_reloc q)) [
         | None ↦ λ e. refl
         | Some r ↦ λ e. field_found at r e
       ] refl)

@@ -1,28 +1,25 @@
 -- The file of an object shows the object that is seen.
-use Rattle.std.proofs.Common.{◌≡◌, ℕ, zero, suc, ◌+◌, ◌/◌, ◌%◌, ◌^◌, ◌<◌, inl, inr, Bool, true, false, true≢false, cond, eqb, List, [], ◌∷◌, length, get_or, map, Option, Some, None, refl, sym, ◌∙◌, ap, subst, arith}
+use Rattle.std.proofs.Common.{◌≡◌, ℕ, zero, suc, ◌+◌, ◌/◌, ◌%◌, ◌^◌, inl, inr, true, false, true≢false, cond, List, [], ◌∷◌, map, Option, Some, None, refl, sym, ◌∙◌, ap, subst, arith}
 use mathlib.Core.Path.{fun_ext}
 use Rattle.std.specs.Prelude.{codes, find, slice_get}
 use Rattle.std.specs.List.{AllByRecursion}
 use Rattle.std.specs.Option.{option_map, option_and_then, unwrap_or}
 use Rattle.std.proofs.Math.Nat.{zero-div}
-use Rattle.std.proofs.lemmas.Option.{none-some, same_Some, slice_get-map}
+use Rattle.std.proofs.lemmas.Option.{none-some, slice_get-map}
 use Rattle.oc_base.specs.declared.format.Format.TheVariants.{Coff32}
 use Rattle.oc_linking.specs.declared.terms.Mark.{Mark}
 use Rattle.oc_linking.specs.declared.terms.Mark.TheVariants.{NoType, Object as ObjectMark, Function}
 use Rattle.oc_linking.specs.declared.terms.Kind.TheVariants.{Code}
 use Rattle.oc_linking.specs.declared.terms.Patch.{Patch}
 use Rattle.oc_linking.specs.declared.terms.Visibility.TheVariants.{Default}
-use Rattle.oc_linking.specs.declared.terms.Value.TheVariants as value
 use Rattle.oc_linking.specs.declared.terms.Binding.{Binding}
-use Rattle.oc_linking.specs.declared.terms.Binding.TheVariants.{Local, Global, Undefined, Common, Weak}
 use Rattle.oc_linking.specs.Fits.{bytes_of}
 use Rattle.oc_linking.specs.Images.{Patches, overlay, overlays}
 use Rattle.oc_linking.specs.Keeping.{all, kept_flags}
 use Rattle.oc_linking.specs.Linking.{patch_of}
 use Rattle.oc_linking.specs.Parts as parts
 use Rattle.oc_linking.specs.Placing.{Placement}
-use Rattle.oc_linking.specs.Rules.{Field}
-use Rattle.oc_linking.specs.Shows.{Apart, blank, under_of, live_of, lives, unders}
+use Rattle.oc_linking.specs.Shows.{Apart, blank, under_of, live_of, unders}
 use Rattle.oc_linking.specs.Values.{Valuation}
 use Rattle.oc_algebra.specs.declared.form.Base.{Base}
 use Rattle.oc_algebra.specs.declared.form.Base.TheVariants as base
@@ -38,25 +35,24 @@ use Rattle.oc_neutral.specs.Objects.{Object, reloc_at}
 use Rattle.oc_neutral.specs.Faces.{shown_binding, shown_symbol, shown_symbols, shown_sections, field_of, fields_of, named_of, contents_of}
 use Rattle.oc_neutral.specs.Fitted.{IsFitted}
 use Rattle.oc_neutral.specs.Normal.{cancels}
-use Rattle.oc_neutral.specs.Dialects.{Shape, Look, is_kept, kept_fields, is_difference, is_folded, target_by, less_in, look_of, look_by, looks_in, patches_in}
+use Rattle.oc_neutral.specs.Dialects.{Shape, is_kept, kept_fields, is_difference, is_folded, target_by, less_in, look_by, looks_in, patches_in}
 use Rattle.oc_neutral.specs.Shows.{frame_of, reloc_look, looks_of, patches_of, AreNumbered, ShowsAt, Shows}
 use Rattle.oc_neutral.proofs.FitLinks.{from_mapped}
-use Rattle.oc_neutral.proofs.Positions.{each_at}
 use Rattle.oc_coff_read.specs.declared.relocation.Relocation.{Relocation}
 use Rattle.oc_coff_read.specs.declared.section_header.SectionHeader.{SectionHeader}
-use Rattle.oc_coff_read.specs.Canonical.{External, CodeObject, code_file, code_section}
+use Rattle.oc_coff_read.specs.Canonical.{CodeObject, code_file}
 use Rattle.oc_coff_read.specs.Fields.{relocates}
 use Rattle.oc_coff_read.specs.Sections.{header_of, relocations_of, sections_of}
-use Rattle.oc_coff_read.specs.Seen.{seen_section, seen_binding, seen_symbol, externals_from, ReadsBack}
+use Rattle.oc_coff_read.specs.Seen.{seen_binding, seen_symbol, externals_from, ReadsBack}
 use Rattle.oc_coff_read.proofs.PlaceLaws.{header_of-code, relocations_of-code}
 use Rattle.oc_coff_read.proofs.SeenLaws.{reads_back}
-use Rattle.objconv.specs.Coded.{is_plain_mark, field_patch, filled, type_of, section_of, is_function, external_of, coded_with}
+use Rattle.objconv.specs.Coded.{is_plain_mark, field_patch, filled, type_of, is_function, external_of, coded_with}
 use Rattle.objconv.specs.Dialects.{coff_shape, coff_shapes, coff_dialect}
-use Rattle.objconv.proofs.CodedLemmas.{IsPlainLess, IsPlainForm, IsPlainSymbol, IsCoded}
-use Rattle.objconv.proofs.CodedObjects.{IsPlaced, symbol_placed, section_size, section_power, length-filled, code_object}
-use Rattle.objconv.proofs.SeenObjects.{seen_reloc, renumbered, renumbered_from, seen_object, from_renumbered, entry_at, find-relocations, IsPut, found_put, apart_of}
-use Rattle.objconv.proofs.SeenFields.{reloc_seen, fields_seen}
-use Rattle.objconv.proofs.StandingLemmas.{overlay-stands, overlay-over}
+use Rattle.objconv.specs.WriterLaw.CodedLemmas.{IsPlainLess, IsPlainForm, IsPlainSymbol, IsCoded}
+use Rattle.objconv.specs.WriterLaw.CodedObjects.{IsPlaced, symbol_placed, section_size, section_power, length-filled, code_object}
+use Rattle.objconv.specs.WriterLaw.SeenObjects.{seen_reloc, renumbered, renumbered_from, seen_object, from_renumbered, entry_at, find-relocations, found_put, apart_of}
+use Rattle.objconv.specs.WriterLaw.SeenFields.{reloc_seen, fields_seen}
+use Rattle.objconv.specs.WriterLaw.StandingLemmas.{overlay-stands, overlay-over}
 
 -- ... symbols
 
