@@ -115,19 +115,24 @@ relocates-elf h at r is = elim is.type [
   | inr relative ↦ ap (λ (t : ℕ). eqb r.r_offset at && not (eqb t 0)) relative ∙ and-true (eqb r.r_offset at)
 ]
 
+-- the first relocation that counts at an offset is that of the field there
+pub find-plain : (b : List ℕ) (is : IsPlain b) (at : ℕ) → find (elf.relocates at) (relocations_of b 1) ≡ field_at b (headers_in b) at
+unfolding field_at
+find-plain b is at =
+    let h : Headers = headers_in b in
+    ap (find (elf.relocates at)) (relocations_of-text b is)
+    ∙ find-range (elf.relocates at) (entry_in b h) (at_offset b h at) (rel_count h)
+    (λ i low. ap (λ t. cond t (Some (entry_in b h i)) None) (relocates-elf h at (entry_in b h i) (each_rel b h i is.rels low)))
+
 -- the field of a plain object at an offset is that of the relocation there
 pub fields_of-plain : (b : List ℕ) (keep : Keep) (is : IsPlain b) (at : ℕ)
     → elf.fields_of b keep 0 at ≡ option_and_then (elf.field_by (elf.target_of b keep) 0 (text_in b (headers_in b))) (field_at b (headers_in b) at)
-unfolding elf.fields_of elf.field_among field_at
+unfolding elf.fields_of elf.field_among
 fields_of-plain b keep is at =
-    let h : Headers = headers_in b in
     ap (λ (xs : List Section). option_and_then (λ section. elf.field_among (elf.target_of b keep) 0 section.contents (relocations_of b section.number) at) (slice_get xs 0)) (sections_of-plain b is)
-    ∙ ap (λ (rs : List Rel). option_and_then (elf.field_by (elf.target_of b keep) 0 (text_in b h)) (find (elf.relocates at) rs)) (relocations_of-text b is)
-    ∙ ap (option_and_then (elf.field_by (elf.target_of b keep) 0 (text_in b h)))
-    (find-range (elf.relocates at) (entry_in b h) (at_offset b h at) (rel_count h)
-    (λ i low. ap (λ t. cond t (Some (entry_in b h i)) None) (relocates-elf h at (entry_in b h i) (each_rel b h i is.rels low))))
+    ∙ ap (option_and_then (elf.field_by (elf.target_of b keep) 0 (text_in b (headers_in b)))) (find-plain b is at)
 
-swapped : (x y : ℕ) → is_eq (nat_cmp x y) ≡ eqb y x
+pub swapped : (x y : ℕ) → is_eq (nat_cmp x y) ≡ eqb y x
 swapped x y = grind (arith, nat_tests)
 
 relocates-coff : (at : ℕ) (e : ℕ × Rel) → coff.relocates at (relocation_for e) ≡ eqb e.0 at

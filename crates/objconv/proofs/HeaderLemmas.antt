@@ -1,10 +1,11 @@
 -- What the section headers of a plain object say.
-use Rattle.std.proofs.Common.{◌≡◌, ℕ, true, List, refl}
+use Rattle.std.proofs.Common.{◌≡◌, ℕ, true, List, codes, refl}
 use Rattle.std.proofs.lemmas.Bool.{eqb-true}
 use Rattle.oc_elf_read.specs.Ehdr.{ehdr_in}
+use Rattle.oc_elf_read.specs.Names.{name_in}
 use Rattle.oc_elf_read.specs.Sections.{header_of}
 use Rattle.objconv.specs.declared.headers.Headers.{Headers}
-use Rattle.objconv.specs.Plain.{has_header, headers_in, are_plain, has_headers, AreLaid, has_symbols, has_rels, is_plain}
+use Rattle.objconv.specs.Plain.{has_header, headers_in, is_named, are_plain, has_headers, AreLaid, has_symbols, has_rels, is_plain}
 use Rattle.objconv.proofs.PlainLemmas.{both, are_laid}
 
 -- the types of the section headers, and what else is known of them
@@ -53,11 +54,24 @@ have_types b h e =
       section_names = eqb-true _ _ (both _ _ text.0).0;
     }
 
+-- the name of the text
+text_named : (b : List ℕ) (h : Headers) → are_plain b h ≡ true → is_named (name_in b h.section_names h.text.sh_name) (codes ".text") ≡ true
+unfolding are_plain
+text_named b h e =
+    let names2 = both _ _ e in
+    let symbols = both _ _ names2.0 in
+    let rels = both _ _ symbols.0 in
+    let text = both _ _ rels.0 in
+    let text_align = both _ _ text.1 in
+    (both _ _ text_align.0).1
+
 -- what the parts of a plain object are
 pub record IsPlain (b : List ℕ) : Type 0 where
   pub count : (ehdr_in b).e_shnum ≡ 6
+  pub names : (ehdr_in b).e_shstrndx ≡ 5
   pub laid : AreLaid b (headers_in b)
   pub types : HaveTypes (headers_in b)
+  pub named : is_named (name_in b (headers_in b).section_names (headers_in b).text.sh_name) (codes ".text") ≡ true
   pub symbols : has_symbols b (headers_in b) ≡ true
   pub rels : has_rels b (headers_in b) ≡ true
 
@@ -73,8 +87,10 @@ plain_is b e =
     let count = both _ _ index.0 in
     record {
       count = eqb-true _ _ count.1;
+      names = eqb-true _ _ index.1;
       laid = are_laid b (headers_in b) headers.1;
       types = have_types b (headers_in b) headers.1;
+      named = text_named b (headers_in b) headers.1;
       symbols = symbols.1;
       rels = rels.1;
     }

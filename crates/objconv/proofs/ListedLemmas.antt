@@ -54,7 +54,7 @@ nothing f (suc n) a none =
     ap (λ (o : Option Symbol). cons_option o (filter_map f (range_with_len (a + 1) n))) here ∙ nothing f n (a + 1) later
 
 -- the entry of a symbol
-entry_of-symbol : (b : List ℕ) (k : ℕ) → entry_of b (headers_in b).symbols k ≡ symbol_in b (headers_in b) k
+pub entry_of-symbol : (b : List ℕ) (k : ℕ) → entry_of b (headers_in b).symbols k ≡ symbol_in b (headers_in b) k
 unfolding entry_of symbol_in
 entry_of-symbol b k = refl
 
@@ -66,11 +66,11 @@ symbol_name-there b is s name there =
     ∙ ap (λ (t : Shdr). unwrap_or (name_in b t s.st_name) []) (header_of-names b)
     ∙ ap (λ (o : Option (List ℕ)). unwrap_or o []) there
 
-symbol_name-plain : (b : List ℕ) (is : IsPlain b) (s : Sym) → (named : IsSymbol b (headers_in b) s) → symbol_name b (headers_in b).symbols s ≡ name_of b (headers_in b) s
+pub symbol_name-plain : (b : List ℕ) (is : IsPlain b) (s : Sym) → (named : IsSymbol b (headers_in b) s) → symbol_name b (headers_in b).symbols s ≡ name_of b (headers_in b) s
 symbol_name-plain b is s named = symbol_name-there b is s named.name named.named.there ∙ sym (name_of-plain b (headers_in b) s named)
 
 -- a plain symbol's binding
-abbrev binding_for : Sym → Binding
+abbrev pub binding_for : Sym → Binding
 binding_for s = cond (eqb s.st_shndx 0) Undefined (Global (Place 0 s.st_value))
 
 binding_for-firm : (s : Sym) → IsFirm (binding_for s)
@@ -108,21 +108,21 @@ like b is k symbol =
       firm = subst IsFirm (sym (seen_binding-for b h k)) (binding_for-firm (symbol_in b h k));
     }
 
-symbol_of-plain : (b : List ℕ) (is : IsPlain b) (k : ℕ) → IsSymbol b (headers_in b) (symbol_in b (headers_in b) k)
+pub symbol_of-plain : (b : List ℕ) (is : IsPlain b) (k : ℕ) → IsSymbol b (headers_in b) (symbol_in b (headers_in b) k)
     → symbol_of b (headers_in b).symbols k ≡ Some (symbol_with b (headers_in b).symbols k (binding_for (symbol_in b (headers_in b) k)))
 unfolding symbol_of
 symbol_of-plain b is k symbol =
     ap (λ (s : Sym). option_map (symbol_with b (headers_in b).symbols k) (binding_of b s)) (entry_of-symbol b k)
     ∙ ap (option_map (symbol_with b (headers_in b).symbols k)) (binding_of-plain b is (symbol_in b (headers_in b) k) symbol)
 
-symbol_of-own : (b : List ℕ) (is : IsPlain b) → symbol_of b (headers_in b).symbols 1 ≡ None
+pub symbol_of-own : (b : List ℕ) (is : IsPlain b) → symbol_of b (headers_in b).symbols 1 ≡ None
 unfolding symbol_of
 symbol_of-own b is =
     ap (λ (s : Sym). option_map (symbol_with b (headers_in b).symbols 1) (binding_of b s)) (entry_of-symbol b 1)
     ∙ ap (option_map (symbol_with b (headers_in b).symbols 1)) (binding_of-own b (symbol_in b (headers_in b) 1) (own_symbol b (headers_in b) is.symbols))
 
 -- the symbols behind symbol 0 are symbol 1 and those behind it
-count-split : (b : List ℕ) → IsPlain b → (headers_in b).symbols.sh_size / 16 - 1 ≡ suc (symbol_count (headers_in b) - 2)
+pub count-split : (b : List ℕ) → IsPlain b → (headers_in b).symbols.sh_size / 16 - 1 ≡ suc (symbol_count (headers_in b) - 2)
 count-split b is = let two = is.laid.two_symbols in omega (arith, two)
 
 -- the symbols are like those of what the object becomes

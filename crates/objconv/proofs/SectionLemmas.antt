@@ -1,14 +1,17 @@
 -- What a plain object says by the rules of ELF: its one section, its symbol table, and its relocations.
-use Rattle.std.proofs.Common.{◌≡◌, ℕ, List, [], ◌∷◌, map, Some, None, refl, max}
+use Rattle.std.proofs.Common.{◌≡◌, ℕ, true, List, [], ◌∷◌, map, codes, Option, Some, None, refl, max}
 use Rattle.std.specs.List.{range_with_len}
+use Rattle.std.specs.Option.{unwrap_or}
+use Rattle.std.proofs.lemmas.Slice.Eq.{bytes_eq-Decides}
 use Rattle.oc_linking.specs.declared.terms.Kind.TheVariants.{Code}
 use Rattle.oc_linking.specs.Parts.{Section}
 use Rattle.oc_elf_read.specs.declared.shdr.Shdr.{Shdr}
 use Rattle.oc_elf_read.specs.Ehdr.{ehdr_in}
+use Rattle.oc_elf_read.specs.Names.{name_in}
 use Rattle.oc_elf_read.specs.Sections.{header_of, headers_of, kind_of, section_name, tag_of, section_of, first_sections, sections_of, position_of, entries_of, relocations_of}
 use Rattle.oc_elf_read.specs.Symbols.{symtab_of}
 use Rattle.objconv.specs.declared.headers.Headers.{Headers}
-use Rattle.objconv.specs.Plain.{headers_in, rel_count, entry_in}
+use Rattle.objconv.specs.Plain.{headers_in, is_named, rel_count, entry_in}
 use Rattle.objconv.specs.Links.{text_in}
 use Rattle.objconv.proofs.HeaderLemmas.{IsPlain, header_of-text, header_of-rels, header_of-symbols, header_of-names, header_of-section_names}
 
@@ -67,6 +70,14 @@ module _ (b : List ℕ) (is : IsPlain b) where
         section_of-none b 4 (headers_in b).names (header_of-names b) (kind_of-names (headers_in b).names is.types.names),
         section_of-none b 5 (headers_in b).section_names (header_of-section_names b) (kind_of-names (headers_in b).section_names is.types.section_names),
       ) refl
+
+  -- its name
+  pub section_name-text : section_name b (headers_in b).text ≡ codes ".text"
+  section_name-text = rw (is.names, header_of-section_names b) (by (name_in b (headers_in b).section_names (headers_in b).text.sh_name) is.named)
+    where
+      by : (o : Option (List ℕ)) → is_named o (codes ".text") ≡ true → unwrap_or o [] ≡ codes ".text"
+      by None named = absurd (cc)
+      by (Some name) named = (bytes_eq-Decides name (codes ".text")).0 named
 
   -- it is the first
   pub position_of-text : position_of b 1 ≡ Some 0

@@ -63,7 +63,7 @@ section_target-own b h = refl
 
 module _ (b : List ℕ) (keep : Keep) (is : IsPlain b) where
   -- symbol 1 stands for the section
-  target_of-own : target_of b keep 1 ≡ Some sectional
+  pub target_of-own : target_of b keep 1 ≡ Some sectional
   unfolding target_among
   target_of-own =
       let h : Headers = headers_in b in
@@ -72,7 +72,7 @@ module _ (b : List ℕ) (keep : Keep) (is : IsPlain b) where
       ∙ ap (λ (o : Option Target). or_else o (option_and_then symbol_target (numbered (symbols_of b keep) 1))) (section_target-own b h)
 
   -- each further symbol stands for itself
-  target_of-symbol : (k : ℕ) → 2 ≤ k → k < symbol_count (headers_in b) → target_of b keep k ≡ Some (symbolic k)
+  pub target_of-symbol : (k : ℕ) → 2 ≤ k → k < symbol_count (headers_in b) → target_of b keep k ≡ Some (symbolic k)
   unfolding target_among
   target_of-symbol k high low =
       let h : Headers = headers_in b in

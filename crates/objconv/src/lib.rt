@@ -2,12 +2,16 @@
 #![tactic(auto)]
 
 mod command;
+mod contents;
 mod convert;
 mod distinct;
+mod emission;
 mod emit;
 mod fields;
+mod fitter;
 mod headers;
 mod job;
+mod layout;
 mod laws;
 mod plain;
 mod raising;
@@ -19,5 +23,6 @@ mod tests;
 mod words;
 
 pub use command::run;
+pub use fitter::CoffFitter;
 pub use laws::{conversions_are_faithful, plain_objects_have_files};
 pub use words::Words;

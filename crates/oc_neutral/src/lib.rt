@@ -20,7 +20,7 @@ mod symbol;
 mod writes;
 
 pub use builder::Builder;
-pub use determined::shown_object_is_one;
+pub use determined::{fit_is_one, shown_object_is_one};
 pub use fault::BuildFault;
 pub use fitted::Fitted;
 pub use laws::normal_form_keeps_values;

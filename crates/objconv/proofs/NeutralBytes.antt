@@ -1,0 +1,123 @@
+-- The bytes of a plain object's neutral object: those of `.text`, with zeros in the fields.
+use Rattle.std.proofs.Common.{◌≡◌, ℕ, zero, suc, ◌+◌, ◌-◌, ◌/◌, ◌%◌, ◌^◌, ◌<◌, ◌≤◌, inl, inr, List, [], ◌∷◌, length, get_or, set, Option, Some, None, refl, sym, ◌∙◌, ap, subst, arith}
+use Rattle.std.specs.Prelude.{slice_get}
+use Rattle.std.specs.Option.{unwrap_or}
+use Rattle.std.proofs.Math.Nat.{zero-div}
+use Rattle.std.proofs.lemmas.Bool.{cases_lt}
+use Rattle.std.proofs.lemmas.Grind.{same_number_lists}
+use Rattle.std.proofs.lemmas.List.{get_or-set_same, length-set}
+use Rattle.std.proofs.lemmas.Option.{none-some, same_Some}
+use Rattle.oc_linking.specs.declared.terms.Width.{Width}
+use Rattle.oc_linking.specs.declared.terms.Width.TheVariants.{Four}
+use Rattle.oc_linking.specs.declared.terms.Patch.{Patch}
+use Rattle.oc_linking.specs.Fits.{bytes_of}
+use Rattle.oc_linking.specs.Images.{byte_by, byte_upto, overlay}
+use Rattle.oc_linking.proofs.Apart.{byte_from}
+use Rattle.oc_linking.proofs.Overlay.{length-overlay}
+use Rattle.oc_linking.proofs.Storing.{byte_of_image, byte_of_field}
+use Rattle.oc_linking.proofs.Upto.{first_upto_from}
+use Rattle.oc_elf_read.specs.declared.rel.Rel.{Rel}
+use Rattle.oc_neutral.specs.Building.{written}
+use Rattle.oc_neutral.proofs.WrittenBytes.{length-written, written-before, written-behind}
+use Rattle.objconv.specs.Neutral.{blanked}
+use Rattle.objconv.proofs.FieldLemmas.{none_before}
+
+-- a zero stays where zeros are written
+zero_set : (xs : List ℕ) (at i : ℕ) → get_or xs i 0 ≡ 0 → get_or (set xs at 0) i 0 ≡ 0
+zero_set [] at i e = e
+zero_set (x ∷ xs) zero zero e = refl
+zero_set (x ∷ xs) zero (suc i) e = e
+zero_set (x ∷ xs) (suc at) zero e = e
+zero_set (x ∷ xs) (suc at) (suc i) e = zero_set xs at i e
+
+zero_stays : (k at : ℕ) (xs : List ℕ) (i : ℕ) → get_or xs i 0 ≡ 0 → get_or (written k 0 at xs) i 0 ≡ 0
+zero_stays zero at xs i e = e
+zero_stays (suc k) at xs i e = zero_stays k (at + 1) (set xs at 0) i (zero_set xs at i e)
+
+-- and stands where one is written
+zero_inside : (k at : ℕ) (xs : List ℕ) (i : ℕ) → at + k ≤ length xs → at ≤ i → i < at + k → get_or (written k 0 at xs) i 0 ≡ 0
+zero_inside zero at xs i room low high = absurd (omega arith)
+zero_inside (suc k) at xs i room low high = elim (cases_lt at i) [
+  | inl above ↦ zero_inside k (at + 1) (set xs at 0) i (omega (arith, length-set xs at 0, room)) (omega arith) (omega (arith, high))
+  | inr first ↦ let same : at ≡ i = omega (arith, low, first) in
+      subst (λ (n : ℕ). get_or (written k 0 (at + 1) (set xs at 0)) n 0 ≡ 0) same (zero_stays k (at + 1) (set xs at 0) at (get_or-set_same xs at 0 0 (omega (arith, room))))
+]
+
+pub length-blanked : (entries : List (ℕ × Rel)) (xs : List ℕ) → length (blanked entries xs) ≡ length xs
+length-blanked [] xs = refl
+length-blanked (e ∷ entries) xs = length-blanked entries (written 4 0 e.0 xs) ∙ length-written 4 0 e.0 xs
+
+blanked-zero : (entries : List (ℕ × Rel)) (xs : List ℕ) (i : ℕ) → get_or xs i 0 ≡ 0 → get_or (blanked entries xs) i 0 ≡ 0
+blanked-zero [] xs i e = e
+blanked-zero (x ∷ entries) xs i e = blanked-zero entries (written 4 0 x.0 xs) i (zero_stays 4 x.0 xs i e)
+
+-- a byte of a field is zero
+blanked-inside : (entries : List (ℕ × Rel)) (xs : List ℕ) (j i : ℕ) (e : ℕ × Rel) → slice_get entries j ≡ Some e → e.0 + 4 ≤ length xs → e.0 ≤ i → i < e.0 + 4
+    → get_or (blanked entries xs) i 0 ≡ 0
+blanked-inside [] xs j i e here room low high = absurd (none-some e here)
+blanked-inside (x ∷ entries) xs zero i e here room low high =
+    let own : get_or (written 4 0 e.0 xs) i 0 ≡ 0 = zero_inside 4 e.0 xs i room low high in
+    blanked-zero entries (written 4 0 x.0 xs) i (subst (λ (y : ℕ × Rel). get_or (written 4 0 y.0 xs) i 0 ≡ 0) (sym (same_Some x e here)) own)
+blanked-inside (x ∷ entries) xs (suc j) i e here room low high =
+    blanked-inside entries (written 4 0 x.0 xs) j i e here (omega (arith, length-written 4 0 x.0 xs, room)) low high
+
+-- and any other is as it was
+blanked-outside : (entries : List (ℕ × Rel)) (xs : List ℕ) (i : ℕ) → ((j : ℕ) (e : ℕ × Rel) → slice_get entries j ≡ Some e → e.0 ≤ i → i < e.0 + 4 → ⊥)
+    → get_or (blanked entries xs) i 0 ≡ get_or xs i 0
+blanked-outside [] xs i free = refl
+blanked-outside (x ∷ entries) xs i free =
+    blanked-outside entries (written 4 0 x.0 xs) i (λ j. free (suc j))
+    ∙ (elim (cases_lt i x.0) [
+      | inl before ↦ written-before 4 0 x.0 xs i before
+      | inr from ↦ elim (cases_lt i (x.0 + 4)) [
+        | inl inside ↦ absurd (free 0 x refl (omega (arith, from)) inside)
+        | inr behind ↦ written-behind 4 0 x.0 xs i (omega (arith, behind))
+      ]
+    ])
+
+-- fields of zeros in four bytes, at the offsets of entries
+pub record AreZeros (o : ℕ → Option Patch) (entries : List (ℕ × Rel)) (xs : List ℕ) : Type 0 where
+  pub place : (at : ℕ) (q : Patch) → o at ≡ Some q → (j : ℕ) × (e : ℕ × Rel) × (slice_get entries j ≡ Some e) × (e.0 ≡ at)
+  pub width : (at : ℕ) (q : Patch) → o at ≡ Some q → q.width ≡ Four
+  pub residue : (at : ℕ) (q : Patch) → o at ≡ Some q → q.residue ≡ 0
+  pub there : (j : ℕ) (e : ℕ × Rel) → slice_get entries j ≡ Some e → (q : Patch) × (o e.0 ≡ Some q)
+  pub room : (j : ℕ) (e : ℕ × Rel) → slice_get entries j ≡ Some e → e.0 + 4 ≤ length xs
+
+-- each byte of 0 is 0
+zero_byte : (r n : ℕ) → r ≡ 0 → r / n % 256 ≡ 0
+zero_byte r n e = ap (λ x. x / n % 256) e ∙ ap (λ x. x % 256) (zero-div n)
+
+module _ (o : ℕ → Option Patch) (entries : List (ℕ × Rel)) (xs : List ℕ) (are : AreZeros o entries xs) where
+  -- a byte that a field stores
+  filled : (i y : ℕ) → byte_upto o i 8 ≡ Some y → y ≡ get_or (blanked entries xs) i 0
+  filled i y e =
+      let m = first_upto_from (byte_by o i) 8 y e in
+      let n = byte_from o i m.0 y m.2 in
+      let place = are.place (i - m.0) n.1 n.2 in
+      let width : bytes_of n.1.width ≡ 4 = ap bytes_of (are.width (i - m.0) n.1 n.2) in
+      let at : i - m.0 + m.0 ≡ i = omega (arith, n.0) in
+      let byte : byte_by o i m.0 ≡ Some (n.1.residue / 256 ^ m.0 % 256)
+      = ap (λ (k : ℕ). byte_by o k m.0) (sym at) ∙ byte_of_field o (i - m.0) m.0 n.1 n.2 n.3 in
+      let none : n.1.residue / 256 ^ m.0 % 256 ≡ 0 = zero_byte n.1.residue (256 ^ m.0) (are.residue (i - m.0) n.1 n.2) in
+      same_Some y (n.1.residue / 256 ^ m.0 % 256) (sym m.2 ∙ byte) ∙ none
+      ∙ sym (blanked-inside entries xs place.0 i place.1 place.2 (are.room place.0 place.1 place.2) (omega (arith, place.3)) (omega (arith, place.3, n.0, n.3, width)))
+
+  -- a byte that none stores
+  left : (i : ℕ) → byte_upto o i 8 ≡ None → get_or (blanked entries xs) i 0 ≡ get_or xs i 0
+  left i e = blanked-outside entries xs i (λ j x here low high.
+      let there = are.there j x here in
+      let width : bytes_of there.0.width ≡ 4 = ap bytes_of (are.width x.0 there.0 there.1) in
+      let at : x.0 + (i - x.0) ≡ i = omega (arith, low) in
+      let byte : byte_by o i (i - x.0) ≡ Some (there.0.residue / 256 ^ (i - x.0) % 256)
+      = ap (λ (k : ℕ). byte_by o k (i - x.0)) (sym at) ∙ byte_of_field o x.0 (i - x.0) there.0 there.1 (omega (arith, width, low, high)) in
+      none-some (there.0.residue / 256 ^ (i - x.0) % 256) (sym (none_before (byte_by o i) 8 (i - x.0) e (omega (arith, low, high))) ∙ byte))
+
+  -- the bytes with zeros in the fields
+  pub overlay-blanked : overlay o 0 xs ≡ blanked entries xs
+  overlay-blanked = same_number_lists (overlay o 0 xs) (blanked entries xs) (length-overlay o 0 xs ∙ sym (length-blanked entries xs)) (λ i low.
+      let inside : i < length xs = omega (arith, low, length-overlay o 0 xs) in
+      byte_of_image o i xs inside
+      ∙ (elim (byte_upto o i 8) as (λ q. byte_upto o i 8 ≡ q → unwrap_or q (get_or xs i 0) ≡ get_or (blanked entries xs) i 0) [
+        | Some y ↦ λ e. filled i y e
+        | None ↦ λ e. sym (left i e)
+      ] refl))
