@@ -13,15 +13,10 @@ use Rattle.oc_neutral.specs.Objects.{Object}
 use Rattle.oc_neutral.specs.Dressing.{in_format, dressed, dressed_among, dressed_section, is_common, is_common_at, aligned_binding, aligned_symbol, aligned_among, realigned}
 use Rattle.oc_neutral.specs.Invariants.{AreBytes, IsAlign, IsSection, IsObject}
 use Rattle.oc_neutral.proofs.Positions.{each_at}
+use Rattle.oc_neutral.proofs.WrittenLemmas.{all_set}
 use Rattle.oc_neutral.proofs.Likeness.{bare, plain_binding, plain, HasAlign, IsLike, object_like, commons_aligned}
 
 module _ {X : Type 0} where
-  -- what holds of each element holds of each after a write
-  all_set : (P : X → Type 0) (xs : List X) (k : ℕ) (y : X) → AllByRecursion P xs → P y → AllByRecursion P (set xs k y)
-  all_set P [] k y all is = all
-  all_set P (x ∷ xs) zero y all is = (is, all.1)
-  all_set P (x ∷ xs) (suc k) y all is = (all.0, all_set P xs k y all.1 is)
-
   -- an element with the same image leaves the images
   map_set-same : {Y : Type 0} (f : X → Y) (xs : List X) (k : ℕ) (x y : X) → slice_get xs k ≡ Some x → f y ≡ f x → map f (set xs k y) ≡ map f xs
   map_set-same f [] k x y here same = refl

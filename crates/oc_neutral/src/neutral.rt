@@ -4,8 +4,9 @@ ghost use Rattle.oc_base.specs.Formats.{word_for};
 ghost use Rattle.oc_chains.specs.Lists.{list_of};
 ghost use Rattle.oc_neutral.specs.Dressing as dressing;
 ghost use Rattle.oc_neutral.specs.Dressing.{dressed, in_format, is_common_at, realigned};
-ghost use Rattle.oc_neutral.specs.Invariants.{AreBytes, IsAlign, IsObject};
+ghost use Rattle.oc_neutral.specs.Invariants.{IsAlign, IsObject};
 
+use crate::limits::are_bytes;
 use crate::reloc::Reloc;
 use crate::section::Section;
 use crate::symbol::Symbol;
@@ -153,11 +154,4 @@ fn aligned_binding(binding: Binding, align: u32) -> Binding
         Binding::Common { size, .. } => Binding::Common { size, align },
         _ => binding,
     }
-}
-
-/// What holds of each of the bytes, for callers to cite. It does nothing.
-fn are_bytes(bytes: &[u8])
-    ensures { AreBytes bytes.now }
-{
-    let _ = bytes;
 }
