@@ -1,5 +1,5 @@
 -- What was held of a relocation, and what its draft becomes.
-use Rattle.std.proofs.Common.{◌≡◌, ◌⊎◌, ℕ, zero, suc, ◌+◌, ◌-◌, ◌^◌, ◌<◌, ◌≤◌, Bool, true, false, ◌||◌, cond, nat_lt, eqb, List, [], ◌∷◌, length, get_or, set, take, inl, inr, refl, sym, ◌∙◌, ap, subst, arith, Option, Some, None, slice_get, Result, Ok, Err}
+use Rattle.std.proofs.Common.{◌≡◌, ℕ, ◌+◌, ◌-◌, ◌^◌, ◌<◌, ◌≤◌, Bool, true, false, ◌||◌, cond, nat_lt, eqb, List, [], ◌∷◌, length, get_or, set, take, refl, sym, ◌∙◌, ap, subst, arith, Option, Some, slice_get, Result, Ok, Err}
 use Rattle.std.specs.Prelude.{ℤ}
 use Rattle.std.specs.List.{AllByRecursion, list_any, sum_by}
 use Rattle.std.proofs.lemmas.List.Sums.{sum_by-set}
@@ -28,13 +28,13 @@ use Rattle.oc_neutral.specs.declared.fault.BuildFault.{BuildFault}
 use Rattle.oc_neutral.specs.declared.fault.BuildFault.TheVariants as fault
 use Rattle.oc_neutral.specs.Objects.{Object}
 use Rattle.oc_neutral.specs.Normal.{normal_of}
-use Rattle.oc_neutral.specs.Building.{Draft, is_met, is_zero, normal_added, numbered_in, reloc_added, stored_size, stored_sum, with_constant, with_number, with_reloc, written}
+use Rattle.oc_neutral.specs.Building.{Draft, is_met, is_zero, normal_added, numbered_in, reloc_added, stored_size, with_constant, with_number, with_reloc, written}
 use Rattle.oc_neutral.specs.Invariants.{CanAdd, HasItsBytes, IsBuilt, IsDraft, IsHeld}
 use Rattle.oc_neutral.specs.Keeping.{constant_by, draft_of, Held, held_by}
 use Rattle.oc_neutral.proofs.Adding.{or_left, or_right, wide_enough}
-use Rattle.oc_neutral.proofs.NormalLemmas.{IsLeft, kept_left, kept_normal}
+use Rattle.oc_neutral.proofs.NormalLemmas.{kept_left, kept_normal}
 use Rattle.oc_neutral.proofs.MoreSections.{drafted, lists_past}
-use Rattle.oc_neutral.proofs.MoreRelocs.{at_place, constant_draft, few_fields, few_within, other_list, reloc_draft, this_list, with_parts}
+use Rattle.oc_neutral.proofs.MoreRelocs.{at_place, constant_draft, few_fields, few_within, other_list, reloc_draft}
 
 -- the lists of the sections that are there
 pub front_lists : {T : Type 0} (lists : Lists T) (n : ℕ) → ((k : ℕ) → n ≤ k → list_of lists k ≡ []) → (k : ℕ) → list_of (take n lists) k ≡ list_of lists k

@@ -27,7 +27,6 @@ use Rattle.oc_neutral.specs.declared.fault.BuildFault.{BuildFault}
 use Rattle.oc_neutral.specs.declared.fault.BuildFault.TheVariants as fault
 use Rattle.oc_neutral.specs.Building.{Draft, has_name, size_sum, stored_size, stored_sum}
 use Rattle.oc_neutral.specs.Normal.{Place, place_among}
-use Rattle.oc_neutral.specs.Invariants.{IsDraft}
 
 -- a set of names has this one
 abbrev pub is_among : {Z : Type 0} → BTreeSet (Vec ℕ Z) → List ℕ → Bool

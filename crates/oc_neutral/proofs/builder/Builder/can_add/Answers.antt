@@ -1,4 +1,4 @@
-use Rattle.std.proofs.Common.{◌≡◌, ◌∙◌, ◌<◌, ◌^◌, ◌-◌, ap, arith, subst}
+use Rattle.std.proofs.Common.{◌∙◌, ◌<◌, ◌^◌, ◌-◌, ap, arith, subst}
 use Rattle.std.specs.Prelude.{IsTrue, ◌↔◌}
 use Rattle.oc_chains.specs.Lists.{held_in}
 use Rattle.oc_neutral.specs.Building.{Draft}
