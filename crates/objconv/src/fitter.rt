@@ -5,8 +5,6 @@ ghost use Rattle.oc_chains.specs.Lists.{list_of};
 ghost use Rattle.oc_neutral.specs.GivenTags.{has_nul};
 ghost use Rattle.oc_neutral.specs.Families.{same_format};
 ghost use Rattle.oc_neutral.specs.Rows.{same_base, same_width, same_check};
-ghost use Rattle.oc_neutral.specs.KindRules.{same_kind};
-ghost use Rattle.oc_linking.specs.declared.terms.Check.TheVariants as check;
 ghost use Rattle.objconv.specs.Coded as coded;
 ghost use Rattle.objconv.specs.Recoded.{recoded};
 
