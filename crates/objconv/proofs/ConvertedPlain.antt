@@ -18,7 +18,7 @@ use Rattle.objconv.proofs.CodedPlain.{each-gathered, relocs-plain, symbols-plain
 use Rattle.objconv.proofs.FilledPlain.{contents_raised}
 
 -- the bytes of `.text` are bytes
-text-bytes : (b : List ℕ) (h : Headers) → ((k : ℕ) → get_or b k 0 < 256) → (k : ℕ) → get_or (text_in b h) k 0 < 256
+pub text-bytes : (b : List ℕ) (h : Headers) → ((k : ℕ) → get_or b k 0 < 256) → (k : ℕ) → get_or (text_in b h) k 0 < 256
 text-bytes b h bytes k = elim (cases_lt k h.text.sh_size) [
   | inl inside ↦ subst (λ x. x < 256) (sym (get_or-take h.text.sh_size (drop h.text.sh_offset b) k 0 inside ∙ get_or-drop h.text.sh_offset b k 0)) (bytes (h.text.sh_offset + k))
   | inr past ↦ subst (λ x. x < 256) (sym (get_or_past (text_in b h) k 0 (let l = length-take h.text.sh_size (drop h.text.sh_offset b) in omega (arith, past, l)))) (omega arith)

@@ -1,5 +1,5 @@
 -- What the first path refuses is what is no plain object.
-use Rattle.std.proofs.Common.{◌≡◌, ℕ, ◌+◌, ◌-◌, ◌<◌, ◌≤◌, inl, inr, Bool, true, false, cond, List, length, Option, None, Some, refl, sym, ◌∙◌, ap, subst, arith}
+use Rattle.std.proofs.Common.{◌≡◌, ℕ, ◌+◌, ◌-◌, ◌≤◌, inl, inr, true, false, cond, List, length, Option, None, Some, refl, sym, ◌∙◌, ap, arith}
 use Rattle.std.specs.Prelude.{nat_lt}
 use Rattle.std.proofs.lemmas.Bool.Decides.{nat_tests}
 use Rattle.std.proofs.lemmas.List.FromFn.{length-map-range_with_len}
@@ -8,13 +8,12 @@ use Rattle.oc_base.specs.declared.fault.Fault.{Fault}
 use Rattle.oc_linking.specs.Keeping.{all}
 use Rattle.oc_neutral.specs.Objects.{Object}
 use Rattle.oc_neutral.specs.Invariants.{IsObject}
-use Rattle.oc_neutral.specs.Shows.{Shows}
 use Rattle.oc_neutral.proofs.OneObject.{shown_is_one}
 use Rattle.oc_convert.specs.Refusals.{IsFirstRefusal, symbols_refusal, object_refusal}
 use Rattle.objconv.specs.Plain.{headers_in, is_plain, rel_count, symbol_count}
 use Rattle.objconv.specs.Refusals.{not_built, plain_refusal}
 use Rattle.objconv.specs.Dialects.{plain_dialect}
-use Rattle.objconv.specs.Neutral.{neutral_of, neutral_symbol, neutral_symbols}
+use Rattle.objconv.specs.Neutral.{neutral_of, neutral_symbol}
 use Rattle.objconv.specs.Coded.{is_fit_for_coff, unfit_for_coff}
 use Rattle.objconv.proofs.HeaderLemmas.{IsPlain, plain_is}
 use Rattle.objconv.proofs.Gathered.{gathered, gathered_fields}

@@ -1,7 +1,5 @@
 -- Where the same is kept of a file, it is linked the same, and what is faithful to it stays so.
-use Rattle.std.proofs.Common.{◌≡◌, ℕ, Bool, List, [], ◌∷◌, map, Some, refl, sym, ◌∙◌, ap, subst}
-use Rattle.std.proofs.lemmas.Option.{none-some, same_Some}
-use Rattle.std.specs.Prelude.{slice_get}
+use Rattle.std.proofs.Common.{◌≡◌, ℕ, Bool, List, [], ◌∷◌, map, refl, sym, ◌∙◌, ap, subst}
 use Rattle.oc_linking.specs.declared.terms.Keep.{Keep}
 use Rattle.oc_linking.specs.declared.terms.Kind.TheVariants.{Code}
 use Rattle.oc_linking.specs.Parts.{Section, Symbol}
@@ -10,9 +8,7 @@ use Rattle.oc_linking.specs.Placing.{Placement, Outside, IsPlacement, IsOutside,
 use Rattle.oc_linking.specs.Values.{values}
 use Rattle.oc_linking.specs.Rules.{Fields, Rules}
 use Rattle.oc_linking.specs.Linking.{Linked, exports, flags_in, link, link_of, patches_of, sections_in, spread_in}
-use Rattle.oc_linking.specs.Faithful.{shape_of, SameOutline, Faithful}
-use Rattle.oc_linking.proofs.Whole.{flags-all, flags-kept}
-
+use Rattle.oc_linking.specs.Faithful.{shape_of, Faithful}
 use Rattle.oc_elf_read.specs.Elf32.{elf32_rules}
 use Rattle.oc_elf_read.specs.Fields.{fields_of}
 use Rattle.oc_elf_read.specs.Sections.{sections_of}

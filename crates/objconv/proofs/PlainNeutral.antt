@@ -1,14 +1,13 @@
 -- The neutral object of a plain object is refused for nothing.
-use Rattle.std.proofs.Common.{◌≡◌, ◌≢◌, ℕ, zero, suc, ◌+◌, ◌-◌, ◌*◌, ◌%◌, ◌^◌, ◌<◌, ◌≤◌, Bool, true, false, cond, List, [], ◌∷◌, length, map, get_or, Option, None, Some, refl, sym, ◌∙◌, ap, subst, arith}
-use Rattle.std.specs.Prelude.{◌&&◌, not, eqb, nat_eq, nat_le, nat_lt, bytes_eq, codes, All}
-use Rattle.std.specs.List.{list_all, list_any, range_with_len}
+use Rattle.std.proofs.Common.{◌≡◌, ◌≢◌, ℕ, zero, suc, ◌+◌, ◌-◌, ◌^◌, ◌<◌, ◌≤◌, Bool, true, false, cond, List, [], ◌∷◌, length, map, get_or, refl, sym, ◌∙◌, ap, subst, arith}
+use Rattle.std.specs.Prelude.{◌&&◌, eqb, nat_eq, nat_le, All}
+use Rattle.std.specs.List.{list_all, range_with_len}
 use Rattle.std.specs.Option.{unwrap_or}
 use Rattle.std.proofs.Math.Nat.{pow-le-pow_right}
 use Rattle.std.proofs.lemmas.Bool.{le-leb}
 use Rattle.std.proofs.lemmas.Bool.Decides.{nat_tests}
 use Rattle.std.proofs.lemmas.List.{length-map}
 use Rattle.std.proofs.lemmas.List.Folds.{list_any_none}
-use Rattle.std.proofs.lemmas.List.FromFn.{length-map-range_with_len}
 use Rattle.oc_linking.specs.declared.terms.Binding.TheVariants.{Global, Undefined}
 use Rattle.oc_linking.specs.declared.terms.Mark.TheVariants.{NoType, Function}
 use Rattle.oc_linking.specs.declared.terms.Value.TheVariants as value
@@ -18,7 +17,6 @@ use Rattle.oc_algebra.specs.declared.form.Base.TheVariants.{Address}
 use Rattle.oc_algebra.specs.declared.form.Less.TheVariants as less
 use Rattle.oc_neutral.specs.GivenTags.{has_nul}
 use Rattle.oc_elf_read.specs.declared.sym.Sym.{Sym}
-use Rattle.oc_elf_read.specs.declared.rel.Rel.{Rel}
 use Rattle.oc_elf_read.specs.Sym.{type_of}
 use Rattle.oc_elf_read.specs.Rel.{rel_type}
 use Rattle.oc_elf_read.specs.Symbols.{mark_of}
@@ -28,8 +26,8 @@ use Rattle.objconv.specs.Plain.{exponent_of, headers_in, name_of, rel_count, sym
 use Rattle.oc_chains.specs.declared.field.Field.{Field}
 use Rattle.oc_neutral.specs.declared.reloc.Reloc.{Reloc}
 use Rattle.objconv.specs.Links.{text_in}
-use Rattle.objconv.specs.Neutral.{binding_of, neutral_section, neutral_symbol, neutral_symbols, neutral_less, neutral_reloc, neutral_field, neutral_of}
-use Rattle.objconv.specs.Coded.{is_plain_binding, is_plain_form, is_plain_mark, is_plain_object, is_plain_section, is_plain_symbol, plain_tag, unfit_for_coff}
+use Rattle.objconv.specs.Neutral.{binding_of, neutral_section, neutral_symbol, neutral_symbols, neutral_reloc, neutral_field, neutral_of}
+use Rattle.objconv.specs.Coded.{is_plain_binding, is_plain_form, is_plain_mark, is_plain_object, is_plain_section, is_plain_symbol, plain_tag}
 use Rattle.objconv.proofs.HeaderLemmas.{IsPlain}
 use Rattle.objconv.proofs.ObjectLemmas.{IsPower, exponent_is}
 use Rattle.objconv.proofs.Gathered.{Entry}

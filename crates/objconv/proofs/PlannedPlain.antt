@@ -1,20 +1,19 @@
 -- What is planned for a plain object is what it becomes.
-use Rattle.std.proofs.Common.{◌≡◌, ℕ, ◌+◌, ◌-◌, ◌^◌, ◌<◌, ◌≤◌, true, List, length, get_or, refl, sym, ◌∙◌, ap, subst, arith}
+use Rattle.std.proofs.Common.{◌≡◌, ℕ, ◌+◌, ◌-◌, ◌^◌, ◌<◌, ◌≤◌, List, length, get_or, refl, sym, ◌∙◌, ap, subst, arith}
 use Rattle.std.proofs.lemmas.List.FromFn.{length-map-range_with_len}
 use Rattle.oc_base.specs.declared.format.Format.TheVariants.{Coff32}
 use Rattle.oc_linking.specs.Keeping.{all}
 use Rattle.oc_neutral.specs.Objects.{Object}
-use Rattle.oc_neutral.specs.Invariants.{IsObject}
 use Rattle.oc_neutral.specs.Fitted.{IsFit}
 use Rattle.oc_neutral.proofs.OneObject.{shown_is_one, fit_is_one}
 use Rattle.oc_convert.specs.Converted.{IsPlanned}
-use Rattle.objconv.specs.Plain.{headers_in, is_plain, rel_count, symbol_count}
+use Rattle.objconv.specs.Plain.{headers_in, rel_count, symbol_count}
 use Rattle.objconv.specs.Links.{AreFields, IsConverted}
 use Rattle.objconv.specs.Dialects.{plain_dialect, coff_dialect}
 use Rattle.objconv.specs.Neutral.{neutral_of, neutral_symbol}
 use Rattle.objconv.specs.Coded.{coded, coff_file, plain_tag}
 use Rattle.objconv.specs.Recoded.{recoded}
-use Rattle.objconv.proofs.HeaderLemmas.{IsPlain, plain_is}
+use Rattle.objconv.proofs.HeaderLemmas.{IsPlain}
 use Rattle.objconv.proofs.Gathered.{Entry, gathered, gathered_fields}
 use Rattle.objconv.proofs.NeutralShows.{shows}
 use Rattle.objconv.proofs.PlainNeutral.{object-fits}
@@ -52,5 +51,5 @@ module _ (b : List ℕ) (is : IsPlain b) (small : length b ≤ 67108864) (fine :
       = shown_is_one plain_dialect b all p.object n p.is_object (fine is small) p.shows (shows b is (gathered b (headers_in b) (rel_count (headers_in b))) fields all) in
       let fit : IsFit Coff32 n p.fitted = subst (λ x. IsFit Coff32 x p.fitted) same p.fit in
       let one : p.fitted ≡ recoded n = fit_is_one Coff32 n p.fitted (recoded n) p.is_fitted.object (fitted_recoded n parts (fine is small) refl few).object fit
-          (fit_recoded n (fine is small) refl parts) in
+      (fit_recoded n (fine is small) refl parts) in
       subst (λ x. IsConverted b x) (sym (p.file ∙ ap coff_file one ∙ recoded-same b (gathered b (headers_in b) (rel_count (headers_in b))))) (converted-plain b is bytes)

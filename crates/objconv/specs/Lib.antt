@@ -11,7 +11,6 @@ pub mod Plain
 pub mod Raising
 pub mod Recoded
 pub mod Refusals
-pub mod Rewriting
 pub mod Runs
 pub mod WriterLaw
 pub mod Writing
