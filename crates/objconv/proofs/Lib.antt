@@ -14,7 +14,6 @@ pub mod NeutralFields
 pub mod NeutralNext
 pub mod NeutralObject
 pub mod NeutralShows
-pub mod NeutralSizes
 pub mod NeutralSymbols
 pub mod ObjectLemmas
 pub mod OneSectionLemmas
