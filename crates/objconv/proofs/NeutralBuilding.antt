@@ -30,7 +30,7 @@ use Rattle.oc_base.specs.declared.format.Format.TheVariants.{Elf32}
 -- ... the section
 
 -- no limit is passed
-limits : (b : List ℕ) (h : Headers) → h.text.sh_size ≤ 67108864 → limit_by 0 0 (neutral_section b h []) ≡ None
+pub limits : (b : List ℕ) (h : Headers) → h.text.sh_size ≤ 67108864 → limit_by 0 0 (neutral_section b h []) ≡ None
 limits b h small =
     let size : nat_lt 2147483647 h.text.sh_size ≡ false = grind (arith, nat_tests) in
     let sum : nat_lt 2147483648 (0 + h.text.sh_size) ≡ false = grind (arith, nat_tests) in
@@ -67,7 +67,7 @@ unused b h j all low i before = by (bytes_eq (symbol_name b h (i + 2)) (symbol_n
         let used : is_used b h j (symbol_name b h (j + 2)) ≡ true = any_below_hit (λ k. bytes_eq (symbol_name b h (k + 2)) (symbol_name b h (j + 2))) i j e before in
         absurd (true≢false (sym never ∙ ap not used))
 
-and-false : (x y : Bool) → y ≡ false → (x && y) ≡ false
+pub and-false : (x y : Bool) → y ≡ false → (x && y) ≡ false
 and-false true y e = e
 and-false false y e = refl
 
@@ -75,7 +75,7 @@ name-neutral : (b : List ℕ) (h : Headers) (k : ℕ) → (neutral_symbol b h k)
 unfolding neutral_symbol
 name-neutral b h k = refl
 
-nameless : (b : List ℕ) (h : Headers) (j : ℕ) → has_symbols b h ≡ true → j < symbol_count h - 2 → has_name (first_symbols b h j) (neutral_symbol b h (j + 2)).name ≡ false
+pub nameless : (b : List ℕ) (h : Headers) (j : ℕ) → has_symbols b h ≡ true → j < symbol_count h - 2 → has_name (first_symbols b h j) (neutral_symbol b h (j + 2)).name ≡ false
 nameless b h j all low = none_listed _ (λ i. neutral_symbol b h (i + 2)) j 0 (λ i before.
     let same : 0 + i ≡ i = omega arith in
     and-false _ _
@@ -91,12 +91,12 @@ symbol_more b h j all low = rw (and-false _ _ (nameless b h j all low), ← map-
 
 -- ... the relocations
 
-blanked-more : (done : List (ℕ × Rel)) (e : ℕ × Rel) (xs : List ℕ) → blanked (done ++ e ∷ []) xs ≡ written 4 0 e.0 (blanked done xs)
+pub blanked-more : (done : List (ℕ × Rel)) (e : ℕ × Rel) (xs : List ℕ) → blanked (done ++ e ∷ []) xs ≡ written 4 0 e.0 (blanked done xs)
 blanked-more [] e xs = refl
 blanked-more (x ∷ done) e xs = blanked-more done e (written 4 0 x.0 xs)
 
 -- a field behind all others is placed last, and meets none
-placed-more : (text : List ℕ) (done : List (ℕ × Rel)) (e : ℕ × Rel) → ((i : ℕ) (x : ℕ × Rel) → slice_get done i ≡ Some x → x.0 + 4 ≤ e.0)
+pub placed-more : (text : List ℕ) (done : List (ℕ × Rel)) (e : ℕ × Rel) → ((i : ℕ) (x : ℕ × Rel) → slice_get done i ≡ Some x → x.0 + 4 ≤ e.0)
     → placed (neutral_field text e) (map (neutral_field text) done) ≡ map (neutral_field text) (done ++ e ∷ [])
 placed-more text [] e behind = refl
 placed-more text (x ∷ done) e behind =
@@ -104,7 +104,7 @@ placed-more text (x ∷ done) e behind =
     let later : nat_lt e.0 x.0 ≡ false = grind (arith, nat_tests) in
     rw later (ap (λ xs. neutral_field text x ∷ xs) (placed-more text done e (λ i. behind (suc i))))
 
-meets_none : (text : List ℕ) (done : List (ℕ × Rel)) (at : ℕ) → ((i : ℕ) (x : ℕ × Rel) → slice_get done i ≡ Some x → x.0 + 4 ≤ at) → list_any (meets at 4) (map (neutral_field text) done) ≡ false
+pub meets_none : (text : List ℕ) (done : List (ℕ × Rel)) (at : ℕ) → ((i : ℕ) (x : ℕ × Rel) → slice_get done i ≡ Some x → x.0 + 4 ≤ at) → list_any (meets at 4) (map (neutral_field text) done) ≡ false
 meets_none text [] at behind = refl
 meets_none text (x ∷ done) at behind =
     let far : x.0 + 4 ≤ at = behind 0 x refl in

@@ -93,18 +93,18 @@ module _ (b : List ℕ) (is : IsPlain b) (done : List (ℕ × Rel)) (e : ℕ × 
   found : IsFound b (headers_in b) e.0 e.1
   found = entry_found b is entries fields (length done) e (next_at done e rest)
 
-  behind : (i : ℕ) (x : ℕ × Rel) → slice_get done i ≡ Some x → x.0 + 4 ≤ e.0
+  pub behind : (i : ℕ) (x : ℕ × Rel) → slice_get done i ≡ Some x → x.0 + 4 ≤ e.0
   behind i x here =
       found_apart b is x.0 e.0 x.1 e.1 (entry_at b is entries fields i x (done_at done (e ∷ rest) i x here)) (entry_at b is entries fields (length done) e (next_at done e rest))
       (rises done e rest fields.ordered i x here)
 
-  inside : e.0 + 4 ≤ (headers_in b).text.sh_size
+  pub inside : e.0 + 4 ≤ (headers_in b).text.sh_size
   inside = let lies = found.plain.lies in let offset = found.offset in omega (arith, lies, offset)
 
-  unplaced_target : place_among (symbols b is) (neutral_target (rel_sym e.1)) ≡ None
+  pub unplaced_target : place_among (symbols b is) (neutral_target (rel_sym e.1)) ≡ None
   unplaced_target = place_none b is (rel_sym e.1) found.plain.some found.plain.there
 
-  target_there : IsThere (neutral_draft b (headers_in b) (symbols b is) done).object (neutral_target (rel_sym e.1))
+  pub target_there : IsThere (neutral_draft b (headers_in b) (symbols b is) done).object (neutral_target (rel_sym e.1))
   target_there = elim (cases_eq (rel_sym e.1) 1) [
     | inl one ↦ subst (IsThere (neutral_draft b (headers_in b) (symbols b is) done).object) (sym (ap (λ t. cond t (target.Section 0) (target.Symbol (rel_sym e.1 - 2))) (eq-eqb (rel_sym e.1) 1 one))) (omega arith)
     | inr more ↦
@@ -114,7 +114,7 @@ module _ (b : List ℕ) (is : IsPlain b) (done : List (ℕ × Rel)) (e : ℕ × 
         subst (IsThere (neutral_draft b (headers_in b) (symbols b is) done).object) (sym (ap (λ t. cond t (target.Section 0) (target.Symbol (rel_sym e.1 - 2))) (ne_eqb (rel_sym e.1) 1 more))) inside
   ]
 
-  less_there : IsLessThere (neutral_draft b (headers_in b) (symbols b is) done).object (neutral_less (rel_type e.1))
+  pub less_there : IsLessThere (neutral_draft b (headers_in b) (symbols b is) done).object (neutral_less (rel_type e.1))
   less_there = elim (eqb (rel_type e.1) 2) as (λ t. IsLessThere (neutral_draft b (headers_in b) (symbols b is) done).object (cond t less.Place less.Zero)) [ true ↦ tt | false ↦ tt ]
 
   can_add : CanAdd (neutral_draft b (headers_in b) (symbols b is) done).object 0 e.0 (neutral_reloc (text_in b (headers_in b)) e)

@@ -5,6 +5,7 @@ use Rattle.std.specs.Option.{option_map, unwrap_or}
 use Rattle.oc_base.specs.declared.code.Code.TheVariants.{NotBuilt}
 use Rattle.oc_base.specs.declared.fault.Phase.TheVariants.{TargetSection}
 use Rattle.oc_base.specs.declared.fault.Fault.{Fault}
+use Rattle.oc_base.specs.declared.format.Format.TheVariants.{Elf32}
 use Rattle.oc_base.specs.declared.format.Word.TheVariants.{W32}
 use Rattle.oc_linking.specs.declared.terms.Width.TheVariants.{Four}
 use Rattle.oc_linking.specs.declared.terms.Check.TheVariants as check
@@ -29,6 +30,7 @@ use Rattle.oc_neutral.specs.declared.reloc.Target.{Target}
 use Rattle.oc_neutral.specs.declared.reloc.Target.TheVariants as target
 use Rattle.oc_neutral.specs.declared.reloc.Reloc.{Reloc}
 use Rattle.oc_neutral.specs.Objects.{Object, reloc_at}
+use Rattle.oc_neutral.specs.Families.{same_format}
 use Rattle.oc_neutral.specs.Rows.{same_base, same_width, same_check}
 use Rattle.oc_neutral.specs.KindRules.{same_kind}
 use Rattle.oc_neutral.specs.GivenTags.{has_nul}
@@ -96,9 +98,13 @@ plain_tag = elf_tag 1 6
 abbrev pub unwritten : Fault
 unwritten = record { phase = TargetSection; index = 0; code = NotBuilt; place = 0 }
 
+-- a plain object of ELF for i386
+unfoldable pub is_fit_for_coff : Object → Bool
+is_fit_for_coff n = same_format n.format Elf32 && is_plain_object plain_tag n
+
 -- what an object is refused for on the first path
 unfoldable pub unfit_for_coff : Object → Option Fault
-unfit_for_coff n = if is_plain_object plain_tag n then None else Some unwritten
+unfit_for_coff n = if is_fit_for_coff n then None else Some unwritten
 
 -- the tag of `.text` in COFF: code that can be executed and read
 abbrev pub code_tag : ℕ

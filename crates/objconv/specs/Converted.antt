@@ -1,5 +1,5 @@
 -- What a plain object becomes in COFF (PE/COFF, "Type Indicators" and "COFF Symbol Table"; our profile).
-use Rattle.std.specs.Prelude.{◌≡◌, ℕ, ◌+◌, ◌-◌, eqb, if◌then◌else◌, List, length, map}
+use Rattle.std.specs.Prelude.{ℕ, ◌+◌, ◌-◌, eqb, if◌then◌else◌, List, map}
 use Rattle.std.specs.List.{range_with_len}
 use Rattle.std.specs.Option.{unwrap_or}
 use Rattle.oc_elf_read.specs.declared.sym.Sym.{Sym}
@@ -9,7 +9,6 @@ use Rattle.oc_elf_read.specs.Rel.{rel_sym, rel_type}
 use Rattle.oc_coff_read.specs.declared.relocation.Relocation.{Relocation}
 use Rattle.oc_coff_read.specs.declared.constants.TheConstants.{IMAGE_REL_I386_DIR32, IMAGE_REL_I386_REL32}
 use Rattle.oc_coff_read.specs.Canonical.{External, CodeObject}
-use Rattle.objconv.specs.declared.emit.Layout.{Layout}
 use Rattle.objconv.specs.declared.headers.Headers.{Headers}
 use Rattle.objconv.specs.Plain.{exponent_of, name_of, symbol_count, symbol_in}
 
@@ -43,10 +42,3 @@ object_for b h contents entries = record {
   relocs = map relocation_for entries;
   symbols = externals_for b h;
 }
-
--- the numbers of a layout are those of the object
-pub record IsLayout (l : Layout) (o : CodeObject) : Type 0 where
-  pub exponent : o.exponent ≡ l.exponent
-  pub size : length o.contents ≡ l.size
-  pub relocs : length o.relocs ≡ l.relocs
-  pub symbols : length o.symbols ≡ l.symbols

@@ -1,12 +1,16 @@
 pub mod Coded
+pub mod Contents
 pub mod Converted
 pub mod Dialects
 pub mod Jobs
 pub mod Keys
+pub mod Layouts
 pub mod Links
 pub mod Neutral
 pub mod Plain
 pub mod Raising
+pub mod Recoded
 pub mod Refusals
-pub mod Rewriting
 pub mod Runs
+pub mod WriterLaw
+pub mod Writing

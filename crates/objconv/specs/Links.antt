@@ -43,7 +43,3 @@ PlainHasObject = (b text : List ℕ) (entries : List (ℕ × Rel)) → is_plain 
 -- c, read as COFF for i386, links as b, read as ELF for i386, whatever is kept; nothing is edited
 abbrev pub LinksAlike : List ℕ → List ℕ → Type 0
 LinksAlike b c = (keep : Keep) → Faithful elf32_rules b keep (symbols_of b keep) coff32_rules c
-
--- the canonical file of what a plain object becomes links as the object does
-abbrev pub ConvertedIsFaithful : Type 0
-ConvertedIsFaithful = (b c : List ℕ) → is_plain b ≡ true → length b ≤ 67108864 → IsConverted b c → LinksAlike b c

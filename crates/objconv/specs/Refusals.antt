@@ -6,8 +6,8 @@ use Rattle.oc_base.specs.declared.fault.Class.{Class}
 use Rattle.oc_base.specs.declared.fault.Class.TheVariants.{Malformed, Refused, Limit}
 use Rattle.oc_base.specs.declared.fault.Fault.{Fault}
 use Rattle.oc_base.specs.Codes.{class_of}
-use Rattle.objconv.specs.declared.convert.ConvertFault.{ConvertFault}
-use Rattle.objconv.specs.declared.convert.ConvertFault.TheVariants as fault
+use Rattle.oc_convert.specs.declared.fault.ConvertFault.{ConvertFault}
+use Rattle.oc_convert.specs.declared.fault.ConvertFault.TheVariants as fault
 use Rattle.objconv.specs.Plain.{is_plain}
 
 -- the refusal of what is not built yet

@@ -8,12 +8,15 @@ ghost use Rattle.objconv.specs.Jobs.{job_of, input_of, output_of, word_message};
 ghost use Rattle.objconv.specs.Refusals.{first_refusal, too_long};
 ghost use Rattle.objconv.specs.Runs as runs;
 
-use crate::convert::{ConvertFault, convert};
+use crate::convert::convert_plain;
 use crate::job::job_of;
+use crate::planned::PlannedFile;
 use crate::report::{report, tell, word_words};
 use crate::words::Words;
+use crate::writing::write_plan;
 use oc_base::{Code, Fault, Phase, Spot};
-use oc_outside::{Console, Files, LIMIT, ReadFault, read_file, write_file};
+use oc_convert::ConvertFault;
+use oc_outside::{Console, Files, LIMIT, ReadFault, read_file};
 use std::alloc::Global;
 
 /// Why a conversion was not done.
@@ -42,8 +45,8 @@ fn too_long() -> RunFault
 }
 
 // reads and converts the input
-fn plan<F: Files>(alloc: Global, files: &mut F, input: &str) -> Result<Vec<u8>, RunFault>
-    ensures planned { IfOk result (λ c. runs.IsPlanned input.now (F.held files.old) c.items) }
+fn plan<F: Files>(alloc: Global, files: &mut F, input: &str) -> Result<PlannedFile, RunFault>
+    ensures planned { IfOk result (λ plan. runs.IsPlanned input.now (F.held files.old) plan.bytes.items) }
     ensures fault { IfErr result
         (runs.Explains F.held F.read_faults F.write_faults input.now input.now files.old files.new) }
     ensures same { F.held files.new ≡ F.held files.old }
@@ -58,8 +61,8 @@ fn plan<F: Files>(alloc: Global, files: &mut F, input: &str) -> Result<Vec<u8>, 
     if bytes.len() as u64 > LIMIT {
         return Err(too_long());
     }
-    match convert(alloc, bytes.as_slice()) {
-        Ok(file) => Ok(file),
+    match convert_plain(alloc, bytes.as_slice()) {
+        Ok(plan) => Ok(plan),
         Err(ConvertFault::Refused(fault)) => Err(RunFault::Refused(fault)),
         Err(ConvertFault::NoMemory) => Err(RunFault::NoMemory),
     }
@@ -79,11 +82,11 @@ fn convert_file<F: Files>(
     ensures reads { F.read_faults files.old ≤ F.read_faults files.new }
     ensures writes { F.write_faults files.old ≤ F.write_faults files.new }
 {
-    let file = match plan(alloc, files, input) {
-        Ok(file) => file,
+    let plan = match plan(alloc, files, input) {
+        Ok(plan) => plan,
         Err(fault) => return Err(fault),
     };
-    match write_file(files, output, file.as_slice()) {
+    match write_plan(files, output, &plan) {
         Ok(()) => Ok(()),
         Err(_) => Err(RunFault::Output),
     }

@@ -2,15 +2,18 @@
 #![tactic(auto)]
 
 mod command;
+mod contents;
 mod convert;
 mod distinct;
-mod emit;
+mod emission;
 mod fields;
+mod fitter;
 mod headers;
 mod job;
 mod laws;
+mod layout;
 mod plain;
-mod raising;
+mod planned;
 mod reader;
 mod report;
 mod structures;
@@ -18,7 +21,9 @@ mod symbols;
 #[cfg(test)]
 mod tests;
 mod words;
+mod writer;
+mod writing;
 
 pub use command::run;
-pub use laws::{conversions_are_faithful, plain_objects_have_files};
+pub use laws::plain_objects_have_files;
 pub use words::Words;

@@ -1,7 +1,7 @@
 -- What was held of a relocation, and what its draft becomes.
-use Rattle.std.proofs.Common.{◌≡◌, ◌⊎◌, ℕ, zero, suc, ◌+◌, ◌-◌, ◌^◌, ◌<◌, ◌≤◌, Bool, true, false, ◌||◌, cond, nat_lt, eqb, List, [], ◌∷◌, length, get_or, set, take, inl, inr, refl, sym, ◌∙◌, ap, subst, arith, Option, Some, None, slice_get, Result, Ok, Err}
+use Rattle.std.proofs.Common.{◌≡◌, ℕ, ◌+◌, ◌-◌, ◌^◌, ◌<◌, ◌≤◌, Bool, true, false, ◌||◌, cond, nat_lt, eqb, List, [], ◌∷◌, length, get_or, set, take, refl, sym, ◌∙◌, ap, subst, arith, Option, Some, slice_get, Result, Ok, Err}
 use Rattle.std.specs.Prelude.{ℤ}
-use Rattle.std.specs.List.{list_any, sum_by}
+use Rattle.std.specs.List.{AllByRecursion, list_any, sum_by}
 use Rattle.std.proofs.lemmas.List.Sums.{sum_by-set}
 use Rattle.std.proofs.lemmas.Bool.Decides.{nat_tests}
 use Rattle.std.proofs.lemmas.List.{get_or-take, length-set, length-take}
@@ -28,13 +28,13 @@ use Rattle.oc_neutral.specs.declared.fault.BuildFault.{BuildFault}
 use Rattle.oc_neutral.specs.declared.fault.BuildFault.TheVariants as fault
 use Rattle.oc_neutral.specs.Objects.{Object}
 use Rattle.oc_neutral.specs.Normal.{normal_of}
-use Rattle.oc_neutral.specs.Building.{Draft, is_met, is_zero, normal_added, numbered_in, reloc_added, stored_size, stored_sum, with_constant, with_number, with_reloc, written}
-use Rattle.oc_neutral.specs.Invariants.{CanAdd, HasItsBytes, IsDraft}
+use Rattle.oc_neutral.specs.Building.{Draft, is_met, is_zero, normal_added, numbered_in, reloc_added, stored_size, with_constant, with_number, with_reloc, written}
+use Rattle.oc_neutral.specs.Invariants.{CanAdd, HasItsBytes, IsBuilt, IsDraft, IsHeld}
 use Rattle.oc_neutral.specs.Keeping.{constant_by, draft_of, Held, held_by}
 use Rattle.oc_neutral.proofs.Adding.{or_left, or_right, wide_enough}
-use Rattle.oc_neutral.proofs.NormalLemmas.{IsLeft, kept_left, kept_normal}
+use Rattle.oc_neutral.proofs.NormalLemmas.{kept_left, kept_normal}
 use Rattle.oc_neutral.proofs.MoreSections.{drafted, lists_past}
-use Rattle.oc_neutral.proofs.MoreRelocs.{at_place, constant_draft, few_folded, few_within, other_list, reloc_draft, this_list, with_parts}
+use Rattle.oc_neutral.proofs.MoreRelocs.{at_place, constant_draft, few_fields, few_within, other_list, reloc_draft}
 
 -- the lists of the sections that are there
 pub front_lists : {T : Type 0} (lists : Lists T) (n : ℕ) → ((k : ℕ) → n ≤ k → list_of lists k ≡ []) → (k : ℕ) → list_of (take n lists) k ≡ list_of lists k
@@ -100,7 +100,7 @@ module _ (f : Format) (ss : List Section) (ys : List Symbol) (rs : Lists Reloc) 
 
   -- there is room for a folded field more
   pub folded_few : held_in fs ≤ 67108864
-  folded_few = omega (arith, few_folded ss fs each beyond, draft.built.limits.bytes)
+  folded_few = omega (arith, few_fields ss fs each beyond, draft.built.limits.bytes)
     where
       each : (k : ℕ) (x : Section) → slice_get ss k ≡ Some x → length (list_of fs k) ≤ stored_size x
       each k x here =
@@ -239,3 +239,19 @@ pub sum_numbered : (g : Section → ℕ) (ss : List Section) (s at k number : �
     → sum_by g (set ss s (with_number k number at x)) ≡ sum_by g ss
 sum_numbered g ss s at k number x here same =
     omega (arith, sum_by-set g ss s (with_number k number at x) x (slice_get_within ss s x here), ap g (get_or_from_slice_get ss s x x here), same)
+
+-- there are no more relocations than bytes
+count_held : (n : Object) (s : ℕ) (bytes : List ℕ) (xs : List (Field Reloc)) → AllByRecursion (IsHeld n s bytes) xs → AllByRecursion (λ (y : Field Reloc). y.at + y.width ≤ length bytes) xs
+count_held n s bytes [] all = tt
+count_held n s bytes (x ∷ xs) all = (all.0.inside, count_held n s bytes xs all.1)
+
+pub relocs_few : (n : Object) → IsBuilt n → held_in n.relocs ≤ 67108864
+relocs_few n built = omega (arith, few_fields n.sections n.relocs each past, built.limits.bytes)
+  where
+    each : (k : ℕ) (x : Section) → slice_get n.sections k ≡ Some x → length (list_of n.relocs k) ≤ stored_size x
+    each k x here =
+        let has : HasItsBytes x = at_place HasItsBytes n.sections built.bytes k x here in
+        omega (arith, few_within 0 (list_of n.relocs k) (length x.bytes) (built.fields.apart k) (count_held n k x.bytes (list_of n.relocs k) (built.fields.each k x here)) (omega arith))
+
+    past : (k : ℕ) → length n.sections ≤ k → list_of n.relocs k ≡ []
+    past k le = lists_past n.relocs k (omega (arith, built.fields.counted))

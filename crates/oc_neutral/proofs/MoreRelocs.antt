@@ -1,12 +1,11 @@
 -- What a relocation more makes of a draft: one remains, or a constant is stored.
-use Rattle.std.proofs.Common.{◌≡◌, ◌≢◌, ◌⊎◌, ℕ, zero, suc, ◌+◌, ◌-◌, ◌^◌, ◌<◌, ◌≤◌, Bool, true, false, not, ◌&&◌, ◌||◌, cond, nat_eq, nat_lt, eqb, true≢false, List, [], ◌∷◌, ◌++◌, length, get_or, set, take, inl, inr, refl, sym, ◌∙◌, ap, subst, arith, Option, Some, None, slice_get}
+use Rattle.std.proofs.Common.{◌≡◌, ℕ, zero, suc, ◌+◌, ◌-◌, ◌^◌, ◌<◌, ◌≤◌, Bool, true, false, ◌&&◌, cond, nat_lt, eqb, true≢false, List, [], ◌∷◌, length, get_or, set, refl, sym, ◌∙◌, ap, subst, arith, Some, slice_get}
 use Rattle.std.specs.List.{AllByRecursion, list_any, sum_by}
 use Rattle.std.proofs.lemmas.Bool.{eqb-true}
 use Rattle.std.proofs.lemmas.Bool.Decides.{nat_tests}
-use Rattle.std.proofs.lemmas.List.{get_or-set_same, get_or-set_other, length-set}
+use Rattle.std.proofs.lemmas.List.{get_or-set_same, length-set}
 use Rattle.std.proofs.lemmas.List.Sums.{sum_by-cons, sum_by-set}
 use Rattle.std.proofs.lemmas.Option.{get_or_from_slice_get, none-some, same_Some, slice_get_within}
-use Rattle.oc_base.specs.declared.format.Format.{Format}
 use Rattle.oc_linking.specs.Fits.{bytes_of}
 use Rattle.oc_algebra.specs.declared.form.Less.{Less}
 use Rattle.oc_algebra.specs.declared.form.Less.TheVariants as less
@@ -14,14 +13,13 @@ use Rattle.oc_chains.specs.declared.field.Field.{Field}
 use Rattle.oc_chains.specs.Fields.{end_of, field, FollowFrom, meets, placed}
 use Rattle.oc_chains.specs.Lists.{Lists, held_in, is_taken, list_of, with_field}
 use Rattle.oc_neutral.specs.declared.section.Section.{Section}
-use Rattle.oc_neutral.specs.declared.symbol.Symbol.{Symbol}
 use Rattle.oc_neutral.specs.declared.reloc.Target.{Target}
 use Rattle.oc_neutral.specs.declared.reloc.Target.TheVariants as target
 use Rattle.oc_neutral.specs.declared.reloc.Reloc.{Reloc}
 use Rattle.oc_neutral.specs.declared.normal.Folded.{Folded}
 use Rattle.oc_neutral.specs.Objects.{Object}
-use Rattle.oc_neutral.specs.Building.{Draft, size_sum, stored_size, stored_sum, with_number, written}
-use Rattle.oc_neutral.specs.Invariants.{AreBytes, HasItsBytes, IsBlank, IsDraft, IsHeld, IsLessThere, IsNormal, IsSection, IsThere, WithinLimits}
+use Rattle.oc_neutral.specs.Building.{Draft, stored_size, stored_sum, with_number, written}
+use Rattle.oc_neutral.specs.Invariants.{HasItsBytes, IsBlank, IsDraft, IsHeld, IsLessThere, IsNormal, IsSection, IsThere, WithinLimits}
 use Rattle.oc_neutral.proofs.Adding.{list_of-with_field, or_left, or_right}
 use Rattle.oc_neutral.proofs.WrittenBytes.{length-written, slice_get-set, written-before, written-behind}
 use Rattle.oc_neutral.proofs.WrittenLemmas.{all_set, written_bytes, written_zero}
@@ -323,11 +321,11 @@ module _ (d : Draft) (s at k number : ℕ) (x : Section) (draft : IsDraft d) (th
     };
   }
 
--- there are no more folded fields than bytes
-pub few_folded : (ss : List Section) (fs : Lists Folded) → ((k : ℕ) (x : Section) → slice_get ss k ≡ Some x → length (list_of fs k) ≤ stored_size x)
+-- there are no more fields than bytes
+pub few_fields : {T : Type 0} (ss : List Section) (fs : Lists T) → ((k : ℕ) (x : Section) → slice_get ss k ≡ Some x → length (list_of fs k) ≤ stored_size x)
     → ((k : ℕ) → length ss ≤ k → list_of fs k ≡ []) → held_in fs ≤ stored_sum ss
-few_folded ss [] each beyond = omega arith
-few_folded [] (f ∷ fs) each beyond =
-    omega (arith, sum_by-cons length f fs, ap length (beyond 0 (omega arith)), few_folded [] fs (λ k x here. absurd (none-some x here)) (λ k le. beyond (suc k) (omega arith)))
-few_folded (x ∷ ss) (f ∷ fs) each beyond =
-    omega (arith, sum_by-cons length f fs, sum_by-cons stored_size x ss, each 0 x refl, few_folded ss fs (λ k z here. each (suc k) z here) (λ k le. beyond (suc k) (omega arith)))
+few_fields ss [] each beyond = omega arith
+few_fields [] (f ∷ fs) each beyond =
+    omega (arith, sum_by-cons length f fs, ap length (beyond 0 (omega arith)), few_fields [] fs (λ k x here. absurd (none-some x here)) (λ k le. beyond (suc k) (omega arith)))
+few_fields (x ∷ ss) (f ∷ fs) each beyond =
+    omega (arith, sum_by-cons length f fs, sum_by-cons stored_size x ss, each 0 x refl, few_fields ss fs (λ k z here. each (suc k) z here) (λ k le. beyond (suc k) (omega arith)))

@@ -1,10 +1,9 @@
 -- What a section more makes of a draft.
-use Rattle.std.proofs.Common.{◌≡◌, ◌⊎◌, ℕ, zero, suc, ◌+◌, ◌-◌, ◌^◌, ◌<◌, ◌≤◌, Bool, true, false, cond, nat_lt, List, [], ◌∷◌, ◌++◌, length, length-append, take, get_or, inl, inr, refl, sym, ◌∙◌, ap, subst, arith, Option, Some, None, slice_get, Result, Ok, Err}
+use Rattle.std.proofs.Common.{◌≡◌, ◌⊎◌, ℕ, zero, suc, ◌+◌, ◌-◌, ◌^◌, ◌<◌, ◌≤◌, Bool, true, false, cond, nat_lt, List, [], ◌∷◌, ◌++◌, length, length-append, take, inl, inr, refl, sym, ◌∙◌, ap, subst, arith, Some, None, slice_get, Ok, Err}
 use Rattle.std.specs.List.{AllByRecursion, list_any, sum_by}
 use Rattle.std.proofs.lemmas.Bool.Decides.{nat_tests}
 use Rattle.std.proofs.lemmas.List.{take-append-le, take_more}
 use Rattle.std.proofs.lemmas.List.Sums.{sum_by-append, sum_by-cons}
-use Rattle.std.proofs.lemmas.Option.{slice_get_within}
 use Rattle.oc_base.specs.declared.code.Code.TheVariants.{LimitSection, LimitSum, LimitBytes}
 use Rattle.oc_base.specs.declared.format.Format.{Format}
 use Rattle.oc_chains.specs.declared.field.Field.{Field}
@@ -15,9 +14,8 @@ use Rattle.oc_neutral.specs.declared.symbol.Symbol.{Symbol}
 use Rattle.oc_neutral.specs.declared.reloc.Reloc.{Reloc}
 use Rattle.oc_neutral.specs.declared.normal.Folded.{Folded}
 use Rattle.oc_neutral.specs.declared.fault.BuildFault.{BuildFault}
-use Rattle.oc_neutral.specs.Objects.{Object}
 use Rattle.oc_neutral.specs.Building.{Draft, limit_by, limit_passed, passed, section_added, section_by, size_sum, stored_size, stored_sum, with_section}
-use Rattle.oc_neutral.specs.Invariants.{AreFew, AreFolded, HasItsBytes, HoldsFields, IsBuilt, IsDraft, IsHeld, IsSection, WithinLimits}
+use Rattle.oc_neutral.specs.Invariants.{HasItsBytes, IsDraft, IsHeld, IsSection}
 use Rattle.oc_neutral.specs.Keeping.{draft_of}
 use Rattle.oc_neutral.proofs.NormalLemmas.{all_held-section, slice_get-more}
 

@@ -1,7 +1,8 @@
--- Objects with the same symbols have the same relocation at an offset, where it looks alike and has the same value.
-use Rattle.std.proofs.Common.{◌≡◌, ℕ, ◌+◌, ◌<◌, Option, Some, None, List, refl, sym, ◌∙◌, ap, arith}
+-- Objects with the same symbols have the same relocation at an offset, where it names no alias, looks alike and has the same value.
+use Rattle.std.proofs.Common.{◌≡◌, ℕ, ◌+◌, ◌<◌, Option, Some, None, List, inl, inr, refl, sym, ◌∙◌, ap, subst, arith}
 use Rattle.std.specs.Prelude.{ℤ}
 use Rattle.std.specs.Option.{option_map}
+use Rattle.std.proofs.lemmas.Bool.{cases_lt}
 use Rattle.std.proofs.lemmas.Option.{none-some, same_Some}
 use Rattle.oc_base.specs.declared.format.Word.{Word}
 use Rattle.oc_base.specs.declared.format.Word.TheVariants.{W32, W64}
@@ -17,14 +18,14 @@ use Rattle.oc_algebra.specs.Residues.{residue_of, reduced_number}
 use Rattle.oc_algebra.proofs.Laws.{residue_small, reduced_same}
 use Rattle.oc_neutral.specs.declared.symbol.Symbol.{Symbol}
 use Rattle.oc_neutral.specs.declared.reloc.Target.{Target}
+use Rattle.oc_neutral.specs.declared.reloc.Target.TheVariants as target
 use Rattle.oc_neutral.specs.declared.reloc.Reloc.{Reloc}
 use Rattle.oc_neutral.specs.Objects.{Object}
-use Rattle.oc_neutral.specs.Invariants.{IsNormal}
+use Rattle.oc_neutral.specs.Invariants.{IsOriginal, NamesOriginal, IsNormal}
 use Rattle.oc_neutral.specs.Worth.{base_of, less_of, target_worth, residue_at}
-use Rattle.oc_neutral.specs.Faces.{shown_symbols, field_of}
+use Rattle.oc_neutral.specs.Faces.{number_of, named_of, field_of}
 use Rattle.oc_neutral.specs.Dialects.{Look}
-use Rattle.oc_neutral.specs.Shows.{AreNumbered, reloc_look}
-use Rattle.oc_neutral.proofs.SameSymbols.{targets_same}
+use Rattle.oc_neutral.specs.Shows.{reloc_look}
 
 -- residues that give the same value, with the same added and the same taken, are the same
 residues_same : (w : Word) (b l x y : ℕ) → x < modulus w → y < modulus w → minus w (b + x) l ≡ minus w (b + y) l → x ≡ y
@@ -45,13 +46,31 @@ abbrev residue_by : Placement → Valuation → ℕ → ℕ → Word → List Sy
 residue_by p v s at w symbols t base less addend =
     minus w (base_of p (target_worth symbols p v t) base + residue_of w addend) (less_of p s at (target_worth symbols p v t) less)
 
-module _ (n m : Object) (format : n.format ≡ m.format) (symbols : n.symbols ≡ m.symbols) (shown : shown_symbols n ≡ shown_symbols m) (differ : AreNumbered (shown_symbols n)) where
+-- originals with the same number are one
+originals_same : (symbols : List Symbol) (k j : ℕ) → IsOriginal symbols k → IsOriginal symbols j → number_of symbols k ≡ number_of symbols j → k ≡ j
+originals_same symbols k j first only same = elim (cases_lt k j) [
+  | inl l ↦ absurd (only k l same)
+  | inr l ↦ elim (cases_lt j k) [
+    | inl i ↦ absurd (first j i (sym same))
+    | inr i ↦ omega (arith, l, i)
+  ]
+]
+
+-- targets that are no aliases and are named as the same are the same
+targets_same : (xs ys : List Symbol) → xs ≡ ys → (t u : Target) → NamesOriginal xs t → NamesOriginal ys u → named_of xs t ≡ named_of ys u → t ≡ u
+targets_same xs ys symbols (target.Section k) (target.Section j) first only e = ap target.Section (cc)
+targets_same xs ys symbols (target.Symbol k) (target.Symbol j) first only e =
+    let numbers : number_of xs k ≡ number_of ys j = cc in
+    ap target.Symbol (originals_same ys k j (subst (λ zs. IsOriginal zs k) symbols first) only (ap (λ zs. number_of zs k) (sym symbols) ∙ numbers))
+targets_same xs ys symbols t u first only e = cc
+
+module _ (n m : Object) (format : n.format ≡ m.format) (symbols : n.symbols ≡ m.symbols) where
   -- a relocation in normal form is determined by its look and its value at one placement and valuation
-  pub relocs_same : (p : Placement) (v : Valuation) (s at : ℕ) (r q : Reloc) → IsNormal n s r → IsNormal m s q → reloc_look n r ≡ reloc_look m q
+  pub relocs_same : (p : Placement) (v : Valuation) (s at : ℕ) (r q : Reloc) → IsNormal n s r → IsNormal m s q → NamesOriginal n.symbols r.target → NamesOriginal m.symbols q.target → reloc_look n r ≡ reloc_look m q
       → residue_at (word_for n.format) n.symbols p v s at r ≡ residue_at (word_for m.format) m.symbols p v s at q → r ≡ q
   unfolding residue_at
-  relocs_same p v s at r q fine well looks values =
-      let target : r.target ≡ q.target = targets_same n m shown differ r.target q.target fine.target well.target (ap (λ (l : Look). l.target) looks) in
+  relocs_same p v s at r q fine well first only looks values =
+      let target : r.target ≡ q.target = targets_same n.symbols m.symbols symbols r.target q.target first only (ap (λ (l : Look). l.target) looks) in
       let value = residue_by p v s at in
       let moved : value (word_for n.format) n.symbols r.target r.form.base r.form.less r.addend ≡ value (word_for m.format) m.symbols q.target q.form.base q.form.less r.addend
       = ap (λ f. value (word_for f) n.symbols r.target r.form.base r.form.less r.addend) format
@@ -66,12 +85,12 @@ module _ (n m : Object) (format : n.format ≡ m.format) (symbols : n.symbols �
       ∙ ap (looked (reloc_look m q) q.target) addend
 
   -- and so for what is found at an offset
-  pub found_same : (p : Placement) (v : Valuation) (s at : ℕ) (a b : Option Reloc) → ((r : Reloc) → a ≡ Some r → IsNormal n s r) → ((q : Reloc) → b ≡ Some q → IsNormal m s q)
+  pub found_same : (p : Placement) (v : Valuation) (s at : ℕ) (a b : Option Reloc) → ((r : Reloc) → a ≡ Some r → IsNormal n s r × NamesOriginal n.symbols r.target) → ((q : Reloc) → b ≡ Some q → IsNormal m s q × NamesOriginal m.symbols q.target)
       → option_map (reloc_look n) a ≡ option_map (reloc_look m) b
       → option_map (patch_of p v) (option_map (field_of n s at) a) ≡ option_map (patch_of p v) (option_map (field_of m s at) b) → a ≡ b
   found_same p v s at None None fine well looks patches = refl
   found_same p v s at None (Some q) fine well looks patches = absurd (none-some _ looks)
   found_same p v s at (Some r) None fine well looks patches = absurd (none-some _ (sym looks))
   found_same p v s at (Some r) (Some q) fine well looks patches =
-      ap Some (relocs_same p v s at r q (fine r refl) (well q refl) (same_Some (reloc_look n r) (reloc_look m q) looks)
+      ap Some (relocs_same p v s at r q (fine r refl).0 (well q refl).0 (fine r refl).1 (well q refl).1 (same_Some (reloc_look n r) (reloc_look m q) looks)
       (ap (λ (x : Patch). x.residue) (same_Some (patch_of p v (field_of n s at r)) (patch_of p v (field_of m s at q)) patches)))

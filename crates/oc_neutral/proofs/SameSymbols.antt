@@ -10,13 +10,11 @@ use Rattle.oc_linking.specs.declared.terms.Binding.{Binding}
 use Rattle.oc_linking.specs.declared.terms.Binding.TheVariants.{Local, Global, Undefined, Common, Weak}
 use Rattle.oc_linking.specs.Parts as parts
 use Rattle.oc_neutral.specs.declared.symbol.Symbol.{Symbol}
-use Rattle.oc_neutral.specs.declared.reloc.Target.{Target}
-use Rattle.oc_neutral.specs.declared.reloc.Target.TheVariants as target
 use Rattle.oc_neutral.specs.Objects.{Object}
-use Rattle.oc_neutral.specs.Invariants.{IsFallback, IsBinding, IsSymbol, IsThere, IsObject}
-use Rattle.oc_neutral.specs.Faces.{number_of, shown_fallback, shown_binding, shown_symbol, shown_symbols, named_of}
+use Rattle.oc_neutral.specs.Invariants.{IsFallback, IsBinding, IsSymbol, IsObject}
+use Rattle.oc_neutral.specs.Faces.{number_of, shown_fallback, shown_binding, shown_symbol, shown_symbols}
 use Rattle.oc_neutral.specs.Shows.{AreNumbered}
-use Rattle.oc_neutral.proofs.Positions.{each_at, there_at, images_same, lengths_same, lists_same}
+use Rattle.oc_neutral.proofs.Positions.{each_at, images_same, lengths_same, lists_same}
 
 -- a symbol is shown at its position
 shown_at : (n : Object) (k : ℕ) (s : Symbol) → slice_get n.symbols k ≡ Some s → slice_get (shown_symbols n) k ≡ Some (shown_symbol n.symbols s)
@@ -56,15 +54,6 @@ module _ (n m : Object) (same : shown_symbols n ≡ shown_symbols m) (differ : A
   bindings_same (Common size align) (Common large wide) fine well e = e
   bindings_same (Weak f) (Weak g) fine well e = ap Weak (fallbacks_same f g fine well (cc))
   bindings_same b c fine well e = cc
-
-  -- targets that are there and are named as the same are the same
-  pub targets_same : (t u : Target) → IsThere n t → IsThere m u → named_of n.symbols t ≡ named_of m.symbols u → t ≡ u
-  targets_same (target.Section k) (target.Section j) fine well e = ap target.Section (cc)
-  targets_same (target.Symbol k) (target.Symbol j) fine well e =
-      let a = there_at n.symbols k fine in
-      let b = there_at m.symbols j well in
-      ap target.Symbol (positions_same k j a.0 b.0 a.1 b.1 (cc))
-  targets_same t u fine well e = cc
 
   -- a symbol with what is shown of it, and its binding
   abbrev bound : parts.Symbol → Binding → Symbol

@@ -1,5 +1,6 @@
 -- Laws of neutral objects (our profile).
 use Rattle.std.specs.Prelude.{◌≡◌, ℕ, List}
+use Rattle.oc_base.specs.declared.format.Format.{Format}
 use Rattle.oc_base.specs.declared.format.Word.{Word}
 use Rattle.oc_linking.specs.declared.terms.Keep.{Keep}
 use Rattle.oc_linking.specs.Placing.{Placement}
@@ -13,6 +14,7 @@ use Rattle.oc_neutral.specs.Objects.{Object}
 use Rattle.oc_neutral.specs.Invariants.{IsObject}
 use Rattle.oc_neutral.specs.Dialects.{Dialect}
 use Rattle.oc_neutral.specs.Shows.{Shows}
+use Rattle.oc_neutral.specs.Fitted.{IsFit}
 use Rattle.oc_neutral.specs.Normal.{normal_of}
 use Rattle.oc_neutral.specs.Worth.{residue_at, IsTrueToLocals}
 
@@ -30,3 +32,7 @@ NormalFormKeepsValues = (w : Word) (symbols : List Symbol) (s at : ℕ) (r : Rel
 -- an object is determined by the file that it shows
 abbrev pub ShownObjectIsOne : Type 0
 ShownObjectIsOne = (f : Dialect) (b : List ℕ) (keep : Keep) (n m : Object) → IsObject n → IsObject m → Shows f b keep n → Shows f b keep m → n ≡ m
+
+-- what an object becomes in a target is determined by the object
+abbrev pub FitIsOne : Type 0
+FitIsOne = (target : Format) (n m k : Object) → IsObject m → IsObject k → IsFit target n m → IsFit target n k → m ≡ k

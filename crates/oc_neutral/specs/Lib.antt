@@ -5,6 +5,7 @@ pub mod CoffRelocs
 pub mod CoffStrings
 pub mod Constants
 pub mod Dialects
+pub mod Dressing
 pub mod ElfKinds
 pub mod ElfRelocs
 pub mod Expressible

@@ -1,5 +1,5 @@
 //! Building neutral objects.
-ghost use Rattle.std.specs.Prelude.{◌≡◌, ◌-◌, ◌^◌, ◌<◌, ◌≤◌, ◌⊎◌, ℕ, true, false, ◌||◌, List, [], ◌∷◌, ◌++◌, length, IfErr, IfOk, OnErr, OnOk};
+ghost use Rattle.std.specs.Prelude.{◌≡◌, ◌-◌, ◌^◌, ◌<◌, ◌≤◌, ◌⊎◌, ◌↔◌, ℕ, true, false, ◌||◌, List, [], ◌∷◌, ◌++◌, length, IfErr, IfOk, IsTrue, OnErr, OnOk};
 ghost use Rattle.oc_linking.specs.Parts as parts;
 ghost use Rattle.oc_chains.specs.Lists.{held_in};
 ghost use Rattle.oc_neutral.specs.Building.{empty_draft, reloc_added, section_added, symbol_added};
@@ -12,6 +12,7 @@ use crate::limits::{is_section, limit_passed, stored_size};
 use crate::names::add_name;
 use crate::neutral::Neutral;
 use crate::normal::{Folded, normalize};
+use crate::presence;
 use crate::reloc::Reloc;
 use crate::section::Section;
 use crate::symbol::Symbol;
@@ -21,6 +22,9 @@ use oc_linking::Binding;
 use std::alloc::Global;
 use std::collections::BTreeSet;
 use std::marker::Model;
+
+#[cfg(test)]
+mod tests;
 
 /// Builds a neutral object. Contracts see the object so far, and the fields that were folded.
 ///
@@ -160,6 +164,31 @@ impl Builder {
         let entry = &mut self.sections[section as usize];
         put(&mut entry.bytes, at, width, number);
         Ok(())
+    }
+
+    /// Whether a relocation can be added at an offset in bytes of a section: its section is there
+    /// and has the bytes of its field, and its target and a section that it takes are there, also
+    /// the section of a Local that it is against. There is always room. Constant time, no memory.
+    pub fn can_add(&self, section: u32, at: u32, reloc: Reloc) -> bool
+        ensures can { IsTrue result ↔ CanAdd self.now.object section at reloc }
+        ensures room { held_in self.now.object.relocs < 2 ^ 31 - 1 }
+    {
+        let (sections, symbols) = (self.sections.as_slice(), self.symbols.as_slice());
+        presence::can_add(sections, symbols, section, at, reloc)
+    }
+
+    /// How many sections were added. Constant time, no memory.
+    pub fn section_count(&self) -> u32
+        ensures { result ≡ length self.now.object.sections }
+    {
+        self.sections.len() as u32
+    }
+
+    /// How many symbols were added. Constant time, no memory.
+    pub fn symbol_count(&self) -> u32
+        ensures { result ≡ length self.now.object.symbols }
+    {
+        self.symbols.len() as u32
     }
 
     /// What was built. Constant time, no memory.

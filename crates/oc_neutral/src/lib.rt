@@ -12,6 +12,7 @@ mod limits;
 mod names;
 mod neutral;
 mod normal;
+mod presence;
 mod reads;
 mod reloc;
 mod section;
@@ -19,7 +20,7 @@ mod symbol;
 mod writes;
 
 pub use builder::Builder;
-pub use determined::shown_object_is_one;
+pub use determined::{fit_is_one, shown_object_is_one};
 pub use fault::BuildFault;
 pub use fitted::Fitted;
 pub use laws::normal_form_keeps_values;

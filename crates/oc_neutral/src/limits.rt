@@ -57,7 +57,7 @@ fn passed(code: Code, counted: u64) -> BuildFault
 }
 
 /// What holds of each of the bytes, for callers to cite. It does nothing.
-fn are_bytes(bytes: &[u8])
+pub(crate) fn are_bytes(bytes: &[u8])
     ensures { AreBytes bytes.now }
 {
     let _ = bytes;

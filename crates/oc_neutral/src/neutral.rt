@@ -1,13 +1,18 @@
 //! The neutral object.
-ghost use Rattle.std.specs.Prelude.{◌≡◌, ◌<◌, length, slice_get, Some};
+ghost use Rattle.std.specs.Prelude.{◌≡◌, ◌<◌, true, length, slice_get, Some};
+ghost use Rattle.oc_base.specs.Formats.{word_for};
 ghost use Rattle.oc_chains.specs.Lists.{list_of};
-ghost use Rattle.oc_neutral.specs.Invariants.{IsObject};
+ghost use Rattle.oc_neutral.specs.Dressing as dressing;
+ghost use Rattle.oc_neutral.specs.Dressing.{dressed, in_format, is_common_at, realigned};
+ghost use Rattle.oc_neutral.specs.Invariants.{IsAlign, IsObject};
 
+use crate::limits::are_bytes;
 use crate::reloc::Reloc;
 use crate::section::Section;
 use crate::symbol::Symbol;
-use oc_base::Format;
+use oc_base::{Bytes, Format};
 use oc_chains::{Chains, Walk};
+use oc_linking::Binding;
 use std::marker::Model;
 
 /// An object in the one form that all formats share. It comes from a `Builder` alone. Contracts see
@@ -104,5 +109,49 @@ impl Neutral {
         ensures { IsObject self.now }
     {
         let _ = &self.symbols;
+    }
+
+    /// Gives the object another format, whose addresses have as many bits. All else stays. Constant
+    /// time, no memory.
+    pub fn set_format(&mut self, format: Format)
+        requires { word_for format ≡ word_for self.old.format }
+        ensures { self.new ≡ in_format self.old format }
+    {
+        self.format = format;
+    }
+
+    /// Gives the section at a position another name, tag and alignment, a power of two up to 2^20.
+    /// All else stays. Constant time, no memory; the old name's memory is given back.
+    pub fn dress_section(&mut self, index: u32, name: Bytes, tag: u64, align: u32)
+        requires there { index < length self.old.sections }
+        requires align { IsAlign align }
+        ensures { self.new ≡ dressed self.old index name tag align }
+    {
+        are_bytes(name.as_slice());
+        let section = &mut self.sections[index as usize];
+        section.name = name;
+        section.tag = tag;
+        section.align = align;
+    }
+
+    /// Gives the common at a position another alignment, a power of two up to 2^20. All else stays.
+    /// Constant time, no memory.
+    pub fn set_common_align(&mut self, index: u32, align: u32)
+        requires common { is_common_at self.old.symbols index ≡ true }
+        requires align { IsAlign align }
+        ensures { self.new ≡ realigned self.old index align }
+    {
+        let symbol = &mut self.symbols[index as usize];
+        symbol.binding = aligned_binding(symbol.binding, align);
+    }
+}
+
+/// The binding with another alignment, where it is a common. Constant time, no memory.
+fn aligned_binding(binding: Binding, align: u32) -> Binding
+    ensures { result ≡ dressing.aligned_binding align binding }
+{
+    match binding {
+        Binding::Common { size, .. } => Binding::Common { size, align },
+        _ => binding,
     }
 }

@@ -47,7 +47,7 @@ fn local_place(binding: Binding) -> Option<(u32, u32)>
 /// The section and the offset in it where a target lies, if it is a Local whose value is a place.
 /// Constant time, no memory.
 #[tactic(auto, unfolding(crate::specs::Normal::place_among))]
-fn place_among(symbols: &[Symbol], target: Target) -> Option<(u32, u32)>
+pub(crate) fn place_among(symbols: &[Symbol], target: Target) -> Option<(u32, u32)>
     ensures { result ≡ forms.place_among symbols.now target }
 {
     match target {

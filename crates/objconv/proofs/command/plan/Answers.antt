@@ -5,7 +5,6 @@ use Rattle.objconv.specs.Plain.{is_plain}
 use Rattle.objconv.specs.Links.{IsConverted, LinksAlike}
 use Rattle.objconv.specs.Refusals.{plain_refusal}
 use Rattle.objconv.specs.Runs.{Explains}
-use Rattle.objconv.proofs.FaithfulLemmas.{converted_is_faithful}
 use Rattle.objconv.proofs.RefusalLemmas.{some_and, longer_refused, whole_judged, plain_accepted}
 use Rattle.objconv.proofs.command.plan.Goals as goal
 
@@ -18,17 +17,17 @@ returns-then-len-gt-LIMIT-clause-fault g c =
       record { held = λ m told. some_and _ (λ (file : List ℕ) read. longer_refused c.in-Ok.bytes.items file read long) (c.in-Ok.ensures.bytes m told) },
     )
 
-pub returns-in-Ok-convert-clause-planned : goal.returns-in-Ok-convert-clause-planned
-returns-in-Ok-convert-clause-planned g c =
+pub returns-in-Ok-convert_plain-clause-planned : goal.returns-in-Ok-convert_plain-clause-planned
+returns-in-Ok-convert_plain-clause-planned g c =
     let bytes : List ℕ = c.in-Ok.bytes.items in
     let short : length bytes ≤ 67108864 = omega (arith, c.in-Ok.bytes.ok.0) in
-    let plain : is_plain bytes ≡ true = subst (λ (b : List ℕ). is_plain b ≡ true) c.as_slice.ensures.value c.in-Ok-convert.ensures.plain in
-    let converted : IsConverted bytes c.in-Ok-convert.file.items = subst (λ (b : List ℕ). IsConverted b c.in-Ok-convert.file.items) c.as_slice.ensures.value c.in-Ok-convert.ensures.converted in
-    let links : LinksAlike bytes c.in-Ok-convert.file.items = converted_is_faithful bytes c.in-Ok-convert.file.items plain short converted in
+    let plain : is_plain bytes ≡ true = subst (λ (b : List ℕ). is_plain b ≡ true) c.as_slice.ensures.value c.in-Ok-convert_plain.ensures.plain in
+    let converted : IsConverted bytes c.in-Ok-convert_plain.plan.bytes.items = subst (λ (b : List ℕ). IsConverted b c.in-Ok-convert_plain.plan.bytes.items) c.as_slice.ensures.value c.in-Ok-convert_plain.ensures.converted in
+    let links : LinksAlike bytes c.in-Ok-convert_plain.plan.bytes.items = subst (λ (b : List ℕ). LinksAlike b c.in-Ok-convert_plain.plan.bytes.items) c.as_slice.ensures.value c.in-Ok-convert_plain.ensures.links in
     record {
       accepted = record { held = λ m told. some_and _ (λ (file : List ℕ) read. whole_judged bytes file read short ∙ plain_accepted bytes plain) (c.in-Ok.ensures.bytes m told) };
-      links = λ m told. some_and _ (λ (file : List ℕ) read. subst (λ (b : List ℕ). LinksAlike b c.in-Ok-convert.file.items) (read.whole short) links) (c.in-Ok.ensures.bytes m told);
-      converted = λ m told. some_and _ (λ (file : List ℕ) read. subst (λ (b : List ℕ). IsConverted b c.in-Ok-convert.file.items) (read.whole short) converted) (c.in-Ok.ensures.bytes m told);
+      links = λ m told. some_and _ (λ (file : List ℕ) read. subst (λ (b : List ℕ). LinksAlike b c.in-Ok-convert_plain.plan.bytes.items) (read.whole short) links) (c.in-Ok.ensures.bytes m told);
+      converted = λ m told. some_and _ (λ (file : List ℕ) read. subst (λ (b : List ℕ). IsConverted b c.in-Ok-convert_plain.plan.bytes.items) (read.whole short) converted) (c.in-Ok.ensures.bytes m told);
     }
 
 pub returns-in-Err-Refused-clause-fault : goal.returns-in-Err-Refused-clause-fault

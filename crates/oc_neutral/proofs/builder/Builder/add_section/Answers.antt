@@ -1,9 +1,9 @@
 use Rattle.std.proofs.Common.{◌≡◌, ◌∙◌, ◌∷◌, [], ◌<◌, ◌^◌, ◌-◌, None, Err, Ok, ap, arith, inr, length, length-append, rules, sym, subst}
-use Rattle.oc_neutral.specs.Building.{Draft, limit_passed, section_added, size_sum, stored_size, stored_sum}
+use Rattle.oc_neutral.specs.Building.{Draft, section_added, size_sum, stored_size, stored_sum}
 use Rattle.oc_neutral.specs.Invariants.{IsDraft}
 use Rattle.oc_neutral.specs.Keeping.{draft_of}
 use Rattle.oc_neutral.specs.declared.section.Section.{Section}
-use Rattle.oc_neutral.proofs.MoreSections.{grown_lists, limit_is, section_draft, section_refused, section_taken, sectioned, sectioned_is, sum_more}
+use Rattle.oc_neutral.proofs.MoreSections.{grown_lists, limit_is, section_draft, section_refused, section_taken, sectioned_is, sum_more}
 use Rattle.oc_neutral.proofs.builder.Builder.add_section.Goals as goal
 
 pub returns-in-Some-clause-refused : goal.returns-in-Some-clause-refused

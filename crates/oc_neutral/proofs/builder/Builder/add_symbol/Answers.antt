@@ -1,4 +1,4 @@
-use Rattle.std.proofs.Common.{◌≡◌, ◌∙◌, ◌⊎◌, ◌<◌, ◌^◌, ◌-◌, ◌++◌, ◌∷◌, [], Err, Ok, List, ap, length, not, sym, subst, ◌&&◌}
+use Rattle.std.proofs.Common.{◌≡◌, ◌∙◌, ◌⊎◌, ◌<◌, ◌^◌, ◌-◌, Err, Ok, List, ap, length, not, sym, subst, ◌&&◌}
 use Rattle.std.proofs.lemmas.Result.{err_from_is_err_and}
 use Rattle.oc_linking.specs.Parts.{is_local}
 use Rattle.oc_neutral.specs.Building.{Draft, has_name, symbol_added}

@@ -1,0 +1,65 @@
+-- What the first path refuses is what is no plain object.
+use Rattle.std.proofs.Common.{◌≡◌, ℕ, ◌+◌, ◌-◌, ◌≤◌, inl, inr, true, false, cond, List, length, Option, None, Some, refl, sym, ◌∙◌, ap, arith}
+use Rattle.std.specs.Prelude.{nat_lt}
+use Rattle.std.proofs.lemmas.Bool.Decides.{nat_tests}
+use Rattle.std.proofs.lemmas.List.FromFn.{length-map-range_with_len}
+use Rattle.std.proofs.lemmas.Option.{none-some}
+use Rattle.oc_base.specs.declared.fault.Fault.{Fault}
+use Rattle.oc_linking.specs.Keeping.{all}
+use Rattle.oc_neutral.specs.Objects.{Object}
+use Rattle.oc_neutral.specs.Invariants.{IsObject}
+use Rattle.oc_neutral.proofs.OneObject.{shown_is_one}
+use Rattle.oc_convert.specs.Refusals.{IsFirstRefusal, symbols_refusal, object_refusal}
+use Rattle.objconv.specs.Plain.{headers_in, is_plain, rel_count, symbol_count}
+use Rattle.objconv.specs.Refusals.{not_built, plain_refusal}
+use Rattle.objconv.specs.Dialects.{plain_dialect}
+use Rattle.objconv.specs.Neutral.{neutral_of, neutral_symbol}
+use Rattle.objconv.specs.Coded.{is_fit_for_coff, unfit_for_coff}
+use Rattle.objconv.proofs.HeaderLemmas.{IsPlain, plain_is}
+use Rattle.objconv.proofs.Gathered.{gathered, gathered_fields}
+use Rattle.objconv.specs.Links.{AreFields}
+use Rattle.objconv.proofs.NeutralShows.{shows}
+use Rattle.objconv.proofs.PlainNeutral.{object-fits}
+
+-- what is refused for nothing is plain
+pub plain_from : (b : List ℕ) → plain_refusal b ≡ None → is_plain b ≡ true
+unfolding plain_refusal
+plain_from b e = elim (is_plain b) as (λ t. is_plain b ≡ t → cond t None (Some not_built) ≡ None → t ≡ true) [
+  | true ↦ λ t e. refl
+  | false ↦ λ t e. absurd (none-some not_built (sym e))
+] refl e
+
+module _ (b : List ℕ) (is : IsPlain b) (small : length b ≤ 67108864) where
+  -- its neutral object
+  abbrev pub object : Object
+  object = neutral_of b (gathered b (headers_in b) (rel_count (headers_in b)))
+
+  -- has few symbols
+  few : symbols_refusal object ≡ None
+  few =
+      let n = length-map-range_with_len (λ j. neutral_symbol b (headers_in b) (j + 2)) 0 (symbol_count (headers_in b) - 2) in
+      let laid = is.laid.symbols in
+      let whole = is.laid.symbol_table in
+      let low : nat_lt 16777216 (length object.symbols) ≡ false = grind (arith, nat_tests, n, laid, whole, small) in
+      rw low refl
+
+  -- and is not refused
+  pub object_accepted : object_refusal unfit_for_coff object ≡ None
+  unfolding unfit_for_coff is_fit_for_coff
+  object_accepted =
+      let fits = object-fits b is (gathered b (headers_in b) (rel_count (headers_in b))) (gathered_fields b (headers_in b) is.rels).count in
+      rw (few, fits) refl
+
+-- the neutral object of each plain object is one (proved where the reader is)
+abbrev pub ObjectsFine : List ℕ → Type 0
+ObjectsFine b = (is : IsPlain b) (small : length b ≤ 67108864) → IsObject (object b is small)
+
+-- the first refusal of the first path is that of what is no plain object
+pub refusal_is_plain : (b : List ℕ) (x : Option Fault) → length b ≤ 67108864 → ObjectsFine b → IsFirstRefusal plain_dialect unfit_for_coff b x → plain_refusal b ≡ x
+refusal_is_plain b x small fine (inl p) = p.1 ∙ sym p.2
+refusal_is_plain b x small fine (inr p) =
+    let is : IsPlain b = plain_is b (plain_from b p.well_formed) in
+    let fields : AreFields b (headers_in b) (gathered b (headers_in b) (rel_count (headers_in b))) = gathered_fields b (headers_in b) is.rels in
+    let same : p.object ≡ object b is small
+    = shown_is_one plain_dialect b all p.object (object b is small) p.is_object (fine is small) p.shows (shows b is (gathered b (headers_in b) (rel_count (headers_in b))) fields all) in
+    p.well_formed ∙ sym (object_accepted b is small) ∙ ap (object_refusal unfit_for_coff) (sym same) ∙ sym p.refusal_is

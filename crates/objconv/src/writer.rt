@@ -1,0 +1,32 @@
+//! The writer of COFF for i386, of objects of one section of code.
+ghost use Rattle.objconv.specs.Coded.{IsWritable, coff_file};
+ghost use Rattle.objconv.specs.Dialects.{coff_dialect};
+ghost use Rattle.objconv.specs.Writing.{writes_coff};
+
+use crate::emission::emit_object;
+use crate::planned::PlannedFile;
+use oc_base::NoMemory;
+use oc_neutral::{Fitted, Writes};
+use std::alloc::Global;
+
+/// Writes COFF for i386: an object of one section of code, as its canonical file.
+#[derive(Clone, Copy, Debug)]
+pub struct CoffWriter;
+
+impl Writes for CoffWriter {
+    type Plan = PlannedFile;
+
+    ghost dialect = { coff_dialect };
+
+    ghost accepts = { IsWritable };
+
+    ghost canonical = { coff_file };
+
+    fn plan(&self, alloc: Global, fitted: Fitted) -> Result<PlannedFile, NoMemory> {
+        fitted.is_fitted();
+        let bytes = emit_object(alloc, fitted.neutral())?;
+        Ok(PlannedFile::new(bytes))
+    }
+
+    ghost law = { writes_coff };
+}
