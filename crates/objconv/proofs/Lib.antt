@@ -30,7 +30,6 @@ pub mod NeutralIs
 pub mod NeutralNext
 pub mod NeutralObject
 pub mod NeutralShows
-pub mod NeutralSizes
 pub mod NeutralSymbols
 pub mod ObjectLemmas
 pub mod PaddingLemmas

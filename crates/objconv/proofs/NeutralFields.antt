@@ -65,21 +65,17 @@ among text (e ∷ entries) at =
     ] refl)
     ∙ ap (λ t. option_map (λ (r : Rel). neutral_reloc text (at, r)) (cond t (Some e.1) (lookup (is_at (nat_cmp at)) entries))) (sym (swapped at e.0))
 
-module _ (b : List ℕ) (entries : List (ℕ × Rel)) where
-  pub reloc_at-text : AreFields b (headers_in b) entries → (at : ℕ)
-      → reloc_at (neutral_of b entries) 0 at ≡ option_map (λ (r : Rel). neutral_reloc (text_in b (headers_in b)) (at, r)) (field_at b (headers_in b) at)
-  reloc_at-text fields at =
-      among (text_in b (headers_in b)) entries at ∙ ap (option_map (λ (r : Rel). neutral_reloc (text_in b (headers_in b)) (at, r))) (fields.at at)
-
-  pub reloc_at-none : (s at : ℕ) → reloc_at (neutral_of b entries) (suc s) at ≡ None
-  reloc_at-none s at = refl
+reloc_at-text : (b : List ℕ) (entries : List (ℕ × Rel)) → AreFields b (headers_in b) entries → (at : ℕ)
+    → reloc_at (neutral_of b entries) 0 at ≡ option_map (λ (r : Rel). neutral_reloc (text_in b (headers_in b)) (at, r)) (field_at b (headers_in b) at)
+reloc_at-text b entries fields at =
+    among (text_in b (headers_in b)) entries at ∙ ap (option_map (λ (r : Rel). neutral_reloc (text_in b (headers_in b)) (at, r))) (fields.at at)
 
 module _ (b : List ℕ) (keep : Keep) (is : IsPlain b) where
   flags : kept_flags keep (sections_of b) ≡ true ∷ []
   flags = ap (kept_flags keep) (sections_of-plain b is)
 
   -- the fields of `.text`
-  pub kept_fields-text : (at : ℕ)
+  kept_fields-text : (at : ℕ)
       → kept_fields plain_dialect b keep 0 at ≡ option_and_then (elf.field_by (elf.target_of b keep) 0 (text_in b (headers_in b))) (field_at b (headers_in b) at)
   kept_fields-text at = ap (λ (fs : List Bool). cond (unwrap_or (slice_get fs 0) true) (elf.fields_of b keep 0 at) None) flags ∙ fields_of-plain b keep is at
 
@@ -92,7 +88,7 @@ module _ (b : List ℕ) (keep : Keep) (is : IsPlain b) where
       (sections_of-plain b is)
 
   -- their shapes
-  pub shapes-text : (at : ℕ) → elf_shapes b keep 0 at ≡ option_and_then (λ r. elf_shape (rel_type r)) (field_at b (headers_in b) at)
+  shapes-text : (at : ℕ) → elf_shapes b keep 0 at ≡ option_and_then (λ r. elf_shape (rel_type r)) (field_at b (headers_in b) at)
   unfolding elf_shapes
   shapes-text at =
       ap (λ (xs : List parts.Section). option_and_then (λ (x : parts.Section). option_and_then (λ r. elf_shape (rel_type r)) (find (elf.relocates at) (relocations_of b x.number))) (slice_get xs 0))
@@ -133,11 +129,11 @@ relative : (S T F R P : ℕ) → S % 2 ^ 32 ≡ T % 2 ^ 32 → R ≡ F % 2 ^ 32 
 relative S T F R P e f = omega (arith, e, f)
 
 -- what a symbol's number stands for in the file and in the object
-pub record IsAimed (b : List ℕ) (keep : Keep) (xs : List Symbol) (k : ℕ) : Type 0 where
-  pub target : Target
-  pub there : elf.target_of b keep k ≡ Some target
-  pub named : target.named ≡ named_of xs (neutral_target k)
-  pub address : (p : Placement) (v : Valuation) → (target_worth xs p v (neutral_target k)).site.address % 2 ^ 32 ≡ target.address p v % 2 ^ 32
+record IsAimed (b : List ℕ) (keep : Keep) (xs : List Symbol) (k : ℕ) : Type 0 where
+  target : Target
+  there : elf.target_of b keep k ≡ Some target
+  named : target.named ≡ named_of xs (neutral_target k)
+  address : (p : Placement) (v : Valuation) → (target_worth xs p v (neutral_target k)).site.address % 2 ^ 32 ≡ target.address p v % 2 ^ 32
 
 module _ (b : List ℕ) (keep : Keep) (is : IsPlain b) where
   aimed-own : IsAimed b keep (symbols b is) 1
@@ -159,7 +155,7 @@ module _ (b : List ℕ) (keep : Keep) (is : IsPlain b) where
             ∙ ap (λ n. (v n).site.address % 2 ^ 32) (number-symbol b is (k + 2));
       }
 
-  pub aimed : (k : ℕ) → 1 ≤ k → k < symbol_count (headers_in b) → IsAimed b keep (symbols b is) k
+  aimed : (k : ℕ) → 1 ≤ k → k < symbol_count (headers_in b) → IsAimed b keep (symbols b is) k
   aimed k some low = elim (cases_eq k 1) [
     | inl one ↦ subst (IsAimed b keep (symbols b is)) (sym one) aimed-own
     | inr more ↦

@@ -93,11 +93,10 @@ module _ (b : List ℕ) (is : IsPlain b) (entries : List (ℕ × Rel)) (fields :
     patches_same (suc s) at = sym (ap (λ t. live_of t (patched (suc s) at)) (folded_none (suc s) at) ∙ patched_by (suc s) at None (kept_fields-none b keep is s at))
 
     -- a field that is there is a relocation's, and has four bytes
-    patched_is : (s at : ℕ) (q : Patch) → patched s at ≡ Some q → (s ≡ 0) × (q.width ≡ Four) × (r : Rel) × (field_at b (headers_in b) at ≡ Some r)
+    patched_is : (s at : ℕ) (q : Patch) → patched s at ≡ Some q → (q.width ≡ Four) × (r : Rel) × (field_at b (headers_in b) at ≡ Some r)
     patched_is zero at q e = elim (at_text at) [
       | inl free ↦ absurd (none-some q (sym (patched_by 0 at None free.field) ∙ e))
       | inr taken ↦ (
-        refl,
         ap (λ (x : Patch). x.width) (sym (same_Some (patch_of p v taken.seen.field) q (sym (patched_by 0 at (Some taken.seen.field) taken.seen.here) ∙ e))) ∙ taken.seen.width,
         taken.rel,
         taken.found,
@@ -109,8 +108,8 @@ module _ (b : List ℕ) (is : IsPlain b) (entries : List (ℕ × Rel)) (fields :
     apart s i j q r here there low =
         let m = patched_is s i q here in
         let n = patched_is s j r there in
-        let width : bytes_of q.width ≡ 4 = ap bytes_of m.1 in
-        let far = found_apart b is i j m.2 n.2 m.3 n.3 low in omega (arith, width, far)
+        let width : bytes_of q.width ≡ 4 = ap bytes_of m.0 in
+        let far = found_apart b is i j m.1 n.1 m.2 n.2 low in omega (arith, width, far)
 
     -- under each field there are zeros
     abbrev under : ℕ → Option Patch
@@ -138,8 +137,8 @@ module _ (b : List ℕ) (is : IsPlain b) (entries : List (ℕ × Rel)) (fields :
 
     zeros : AreZeros under entries (text_in b (headers_in b))
     zeros = record {
-      place = λ at q e. let m = under_is at q e in let n = patched_is 0 at m.0 m.1 in at_entry b is entries fields at n.2 n.3;
-      width = λ at q e. let m = under_is at q e in ap (λ (x : Patch). x.width) (sym m.2) ∙ (patched_is 0 at m.0 m.1).1;
+      place = λ at q e. let m = under_is at q e in let n = patched_is 0 at m.0 m.1 in at_entry b is entries fields at n.1 n.2;
+      width = λ at q e. let m = under_is at q e in ap (λ (x : Patch). x.width) (sym m.2) ∙ (patched_is 0 at m.0 m.1).0;
       residue = λ at q e. ap (λ (x : Patch). x.residue) (sym (under_is at q e).2);
       there = under_entry;
       room = λ j e here.
@@ -153,7 +152,7 @@ module _ (b : List ℕ) (is : IsPlain b) (entries : List (ℕ × Rel)) (fields :
       apart = apart;
       fit = λ s at q folded here. absurd (true≢false (sym folded ∙ folded_none s at));
       contents =
-          ap (λ (ys : List ℕ). ys ∷ []) (sym (overlay-blanked (unders (is_folded plain_dialect b keep) patched 0) entries (text_in b (headers_in b)) zeros))
+          ap (λ (ys : List ℕ). ys ∷ []) (sym (overlay-blanked under entries (text_in b (headers_in b)) zeros))
           ∙ ap (λ (xs : List parts.Section). overlays (unders (is_folded plain_dialect b keep) patched) 0 (map (λ (s : parts.Section). s.contents) xs)) (sym (sections_of-plain b is));
       patches = patches_same;
     }

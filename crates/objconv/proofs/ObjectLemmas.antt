@@ -1,10 +1,13 @@
 -- What a plain object becomes has a canonical file.
-use Rattle.std.proofs.Common.{◌≡◌, ℕ, ◌+◌, ◌-◌, ◌^◌, ◌<◌, ◌≤◌, ◌≢◌, inl, inr, true, false, cond, eqb, List, length, get_or, map, drop, Some, None, refl, sym, ◌∙◌, subst, arith, length-take, length-drop}
+use Rattle.std.proofs.Common.{◌≡◌, ℕ, zero, suc, ◌+◌, ◌-◌, ◌*◌, ◌^◌, ◌<◌, ◌≤◌, ◌≢◌, inl, inr, true, false, cond, eqb, List, length, get_or, map, drop, Some, None, refl, sym, ◌∙◌, ap, subst, arith, length-take, length-drop}
 use Rattle.std.specs.Prelude.{All, slice_get}
 use Rattle.std.specs.Option.{is_some, unwrap_or}
 use Rattle.std.specs.Ordering.{nat_cmp}
 use Rattle.std.specs.Map.{lookup}
 use Rattle.std.specs.BTreeMap.{is_at}
+use Rattle.std.proofs.Math.Nat.{mul-suc}
+use Rattle.std.proofs.Math.Pow.{pow_pos}
+use Rattle.std.proofs.lemmas.Nat.{pow-add}
 use Rattle.std.proofs.lemmas.Bool.{eqb-true}
 use Rattle.std.proofs.lemmas.Cmp.{nat_cmp_total, eq_by_cmp_equiv}
 use Rattle.std.proofs.lemmas.Map.Keys.{IsDistinct-from_sorted}
@@ -47,6 +50,19 @@ exponent_is align some = elim (exponent_of align) as (λ o. exponent_of align �
       let m = first_upto_from (λ k. cond (eqb align (2 ^ k)) (Some k) None) 14 exponent e in
       power_found align exponent m.0 m.1 m.2
 ] refl some
+
+-- an alignment is small
+pub align_small : (align : ℕ) → is_some (exponent_of align) ≡ true → align ≤ 8192
+align_small align some =
+    let power = exponent_is align some in
+    let e : ℕ = unwrap_or (exponent_of align) 0 in
+    let rest : e + (13 - e) ≡ 13 = let small = power.small in omega (arith, small) in
+    let product : 2 ^ e * 2 ^ (13 - e) ≡ 8192 = sym (pow-add 2 e (13 - e)) ∙ ap (λ (n : ℕ). 2 ^ n) rest in
+    rw power.power (below (2 ^ e) (2 ^ (13 - e)) (pow_pos (13 - e)) product)
+  where
+    below : (x y : ℕ) → 0 < y → x * y ≡ 8192 → x ≤ 8192
+    below x zero some is = absurd (omega (arith, some))
+    below x (suc y) some is = omega (arith, is, mul-suc x y)
 
 -- the contents are as long as the section says
 pub length-text : (b : List ℕ) (h : Headers) → AreLaid b h → length (text_in b h) ≡ h.text.sh_size

@@ -3,7 +3,9 @@
 ghost use Rattle.std.specs.Prelude.{◌-◌, ◌^◌, None};
 
 use super::*;
+use crate::reader::PlainReader;
 use oc_base::NoMemory;
+use oc_neutral::{Binding, Keep, Mark, Reads, Target};
 use oc_outside::{Failed, Files, MemConsole, MemFiles};
 use std::alloc::Global;
 use std::test::Fail;
@@ -265,5 +267,34 @@ fn words_at_fault(rt: HostRuntime) -> Result<(), Fail> {
     assert!(rt; are_no_job(rt.alloc(), &["-fcoff32", "a", "-b"])?);
     assert!(rt; are_no_job(rt.alloc(), &["-fcoff64", "a", "b"])?);
     assert!(rt; are_no_job(rt.alloc(), &["-fcoff32", "a", "b", "c"])?);
+    Ok(())
+}
+
+/// The object of `call foo`, from the file by hand: zeros under the field, whose addend is -4.
+#[test]
+fn elf32_call_is_read(rt: HostRuntime) -> Result<(), Fail> {
+    let keep = Keep {
+        debug: true,
+        exceptions: true,
+        notes: true,
+    };
+    let object = PlainReader.read(rt.alloc(), &CALL, &keep)?;
+    assert_eq!(rt; object.section_count(), 1);
+    let text = object.section(0);
+    assert_eq!(rt; text.name.as_slice(), b".text".as_slice());
+    assert_eq!(rt; text.bytes.as_slice(), [0xE8, 0, 0, 0, 0, 0xC3].as_slice());
+    assert_eq!(rt; (text.align, text.size, text.tag), (16, 6, 14));
+    assert_eq!(rt; object.symbol_count(), 2);
+    let main = object.symbol(0);
+    assert_eq!(rt; main.name.as_slice(), b"main".as_slice());
+    assert_eq!(rt; (main.mark, main.number), (Mark::Function, 2));
+    let foo = object.symbol(1);
+    assert_eq!(rt; foo.name.as_slice(), b"foo".as_slice());
+    assert_eq!(rt; (foo.binding, foo.number), (Binding::Undefined, 3));
+    let call = object.relocs(0).next().ok_or("one relocation")?;
+    assert_eq!(rt;
+        (call.at, call.item.target, call.item.addend),
+        (1, Target::Symbol(1), -4)
+    );
     Ok(())
 }

@@ -1,6 +1,6 @@
 -- The alignment fits.
 use Rattle.std.proofs.Common.{arith}
-use Rattle.objconv.proofs.NeutralSizes.{align_small}
+use Rattle.objconv.proofs.ObjectLemmas.{align_small}
 use Rattle.objconv.proofs.reader.section_of.Goals as goal
 
 pub overflow_cast-result : goal.overflow_cast-result
