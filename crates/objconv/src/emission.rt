@@ -75,7 +75,11 @@ fn offset_of(binding: Binding) -> u32
 {
     match binding {
         Binding::Global(Value::Place { offset, .. }) => offset,
-        _ => 0,
+        Binding::Global(Value::Absolute(_))
+        | Binding::Local(_)
+        | Binding::Undefined
+        | Binding::Common { .. }
+        | Binding::Weak(_) => 0,
     }
 }
 
@@ -85,7 +89,7 @@ fn section_of(binding: Binding) -> u16
 {
     match binding {
         Binding::Global(_) => 1,
-        _ => 0,
+        Binding::Local(_) | Binding::Undefined | Binding::Common { .. } | Binding::Weak(_) => 0,
     }
 }
 
