@@ -2,13 +2,17 @@
 ghost use Rattle.std.specs.Prelude.{◌≡◌, ◌<◌, IfOk, length, slice_set, string_bytes};
 
 use crate::answers::NoMemory;
+use smallvec::SmallVec;
 use std::alloc::Global;
 use std::marker::Model;
 
-/// Bytes that own their memory. Contracts see a list of bytes.
+/// How many bytes need no memory beside the value: names of symbols are mostly as short.
+const INLINE: usize = 15;
+
+/// Bytes that own their memory; up to fifteen need none. Contracts see a list of bytes.
 #[derive(Debug, Drop)]
 pub struct Bytes {
-    items: Vec<u8>,
+    items: SmallVec<u8, INLINE>,
 }
 
 impl Model for Bytes {
@@ -20,11 +24,12 @@ impl Model for Bytes {
 }
 
 impl Bytes {
-    /// A copy of the bytes, in memory of its own. Time and memory are those of the copy.
+    /// A copy of the bytes, in memory of its own where they are more than fifteen. Time and memory
+    /// are those of the copy.
     pub fn from_slice(alloc: Global, from: &[u8]) -> Result<Bytes, NoMemory>
         ensures { IfOk result (λ b. b ≡ from.now) }
     {
-        let items = from.to_vec(alloc)?;
+        let items = SmallVec::from_slice(alloc, from)?;
         Ok(Bytes { items })
     }
 
@@ -32,7 +37,9 @@ impl Bytes {
     pub fn from_vec(from: Vec<u8>) -> Bytes
         ensures { result ≡ from.items }
     {
-        Bytes { items: from }
+        Bytes {
+            items: SmallVec::from_vec(from),
+        }
     }
 
     /// The bytes. Constant time, no memory.
