@@ -31,6 +31,7 @@ pub mod SameRelocs
 pub mod SameSections
 pub mod SameSymbols
 pub mod ShiftLemmas
+pub mod ShortNames
 pub mod SortedFields
 pub mod Standing
 pub mod Truth

@@ -1,5 +1,5 @@
 -- A set of names with one more.
-use Rattle.std.proofs.Common.{◌≡◌, ℕ, Bool, true, false, not, ◌||◌, List, [], ◌∷◌, refl, sym, ◌∙◌, ap, bytes_eq}
+use Rattle.std.proofs.Common.{◌≡◌, ℕ, nat_eq, nat_lt, Bool, true, false, cond, arith, not, ◌||◌, List, [], ◌∷◌, refl, sym, ◌∙◌, ap, bytes_eq}
 use Rattle.std.specs.declared.vec.Vec.{Vec}
 use Rattle.std.specs.declared.cmp.Ordering.{Ordering}
 use Rattle.std.specs.declared.cmp.Ordering.TheVariants.{Less, Equal, Greater}
@@ -8,10 +8,11 @@ use Rattle.std.specs.Bool.{one_answer}
 use Rattle.std.specs.BTreeSet.{BTreeSet, insert_key}
 use Rattle.std.specs.Ordering.{nat_cmp, match_ordering, is_eq}
 use Rattle.std.specs.Cmp.Lexicographic.{slice_cmp}
-use Rattle.std.proofs.lemmas.Map.Lookups.{exact_bytes}
+use Rattle.std.proofs.lemmas.Bool.Decides.{nat_tests}
+use Rattle.std.proofs.lemmas.Map.Lookups.{exact_bytes, exact_unsigned}
 use Rattle.std.proofs.lemmas.Map.Text.{is_eq-slice_cmp}
 use Rattle.std.proofs.lemmas.Slice.Eq.{bytes_eq-Decides}
-use Rattle.oc_neutral.specs.Keeping.{is_among}
+use Rattle.oc_neutral.specs.Names.{has_key, has_text}
 
 either_again : (s t l : Bool) → s ≡ t → (t || l) ≡ (s || (t || l))
 either_again true true l e = refl
@@ -61,15 +62,38 @@ same_names a b =
 module _ {Z : Type 0} where
   -- a name compares equal to one of the set exactly where it is among them
   pub among_by_cmp : (names : BTreeSet (Vec ℕ Z)) (key : Vec ℕ Z) (name : List ℕ) → key.items ≡ name
-      → list_any (λ (x : Vec ℕ Z). is_eq (slice_cmp nat_cmp key.items x.items)) names.keys ≡ is_among names name
+      → list_any (λ (x : Vec ℕ Z). is_eq (slice_cmp nat_cmp key.items x.items)) names.keys ≡ has_text names name
   among_by_cmp names key name is = any_alike _ _ (λ x. same_names key.items x.items ∙ ap (bytes_eq x.items) is) names.keys
 
   -- the names with one more
   pub among_more : (old new : BTreeSet (Vec ℕ Z)) (key : Vec ℕ Z) (name : List ℕ) → key.items ≡ name
       → new.keys ≡ insert_key (λ (x y : Vec ℕ Z). slice_cmp nat_cmp x.items y.items) old.keys key
-      → (q : List ℕ) → is_among new q ≡ (bytes_eq name q || is_among old q)
+      → (q : List ℕ) → has_text new q ≡ (bytes_eq name q || has_text old q)
   among_more old new key name is keys q =
       ap (list_any (λ (x : Vec ℕ Z). bytes_eq x.items q)) keys
       ∙ any_inserted (λ (x y : Vec ℕ Z). slice_cmp nat_cmp x.items y.items) (λ (x : Vec ℕ Z). bytes_eq x.items q)
       (λ k x e. ap (λ (xs : List ℕ). bytes_eq xs q) (exact_bytes k.items x.items e)) old.keys key
-      ∙ ap (λ (xs : List ℕ). bytes_eq xs q || is_among old q) is
+      ∙ ap (λ (xs : List ℕ). bytes_eq xs q || has_text old q) is
+
+-- the numbers that are equal to one are those that compare equal
+same_keys : (k x : ℕ) → is_eq (nat_cmp k x) ≡ nat_eq k x
+same_keys k x = by (nat_lt k x) refl
+  where
+    below : nat_lt k x ≡ true → nat_eq k x ≡ false
+    below e = grind (arith, nat_tests, e)
+
+    equal : (t : Bool) → is_eq (cond t Equal Greater) ≡ t
+    equal true = refl
+    equal false = refl
+
+    by : (t : Bool) → nat_lt k x ≡ t → is_eq (cond t Less (cond (nat_eq k x) Equal Greater)) ≡ nat_eq k x
+    by true e = sym (below e)
+    by false e = equal (nat_eq k x)
+
+-- a number compares equal to one of the set exactly where it is among them
+pub key_by_cmp : (short : BTreeSet ℕ) (key : ℕ) → list_any (λ x. is_eq (nat_cmp key x)) short.keys ≡ has_key short key
+key_by_cmp short key = any_alike _ _ (λ x. same_keys key x) short.keys
+
+-- the numbers with one more
+pub keys_more : (old new : BTreeSet ℕ) (key : ℕ) → new.keys ≡ insert_key nat_cmp old.keys key → (k : ℕ) → has_key new k ≡ (nat_eq k key || has_key old k)
+keys_more old new key keys k = ap (list_any (nat_eq k)) keys ∙ any_inserted nat_cmp (nat_eq k) (λ a b e. ap (nat_eq k) (exact_unsigned a b e)) old.keys key

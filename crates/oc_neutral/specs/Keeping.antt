@@ -1,9 +1,6 @@
 -- What a Builder keeps beside the object (our profile): running sums, and the names of nonlocal symbols.
 use Rattle.std.specs.Prelude.{◌≡◌, ℕ, ◌+◌, ◌≤◌, Bool, true, false, not, ◌&&◌, nat_le, nat_lt, bytes_eq, List, [], length, slice_get, take, Option, Some, None, Result, Ok, Err}
 use Rattle.std.specs.Option.{option_map_or}
-use Rattle.std.specs.declared.vec.Vec.{Vec}
-use Rattle.std.specs.List.{list_any}
-use Rattle.std.specs.BTreeSet.{BTreeSet}
 use Rattle.oc_base.specs.declared.format.Format.{Format}
 use Rattle.oc_base.specs.declared.format.Word.{Word}
 use Rattle.oc_linking.specs.Fits.{bytes_of}
@@ -25,19 +22,17 @@ use Rattle.oc_neutral.specs.declared.normal.Normal.TheVariants as normal
 use Rattle.oc_neutral.specs.declared.normal.Folded.{Folded}
 use Rattle.oc_neutral.specs.declared.fault.BuildFault.{BuildFault}
 use Rattle.oc_neutral.specs.declared.fault.BuildFault.TheVariants as fault
+use Rattle.oc_neutral.specs.declared.names.Names.{Names}
+use Rattle.oc_neutral.specs.Names.{is_among}
 use Rattle.oc_neutral.specs.Building.{Draft, has_name, size_sum, stored_size, stored_sum}
 use Rattle.oc_neutral.specs.Normal.{Place, place_among}
-
--- a set of names has this one
-abbrev pub is_among : {Z : Type 0} → BTreeSet (Vec ℕ Z) → List ℕ → Bool
-is_among names name = list_any (λ k. bytes_eq k.items name) names.keys
 
 -- a nonlocal symbol has this name
 abbrev pub is_named : List ℕ → Symbol → Bool
 is_named name s = not (is_local s.binding) && bytes_eq s.name name
 
 -- a nonlocal symbol has a name of the set
-abbrev pub is_again : {Z : Type 0} → BTreeSet (Vec ℕ Z) → Symbol → Bool
+abbrev pub is_again : Names → Symbol → Bool
 is_again names s = not (is_local s.binding) && is_among names s.name
 
 -- what is built from these parts: a list of folded fields past the last section does not count
@@ -48,7 +43,7 @@ draft_of format sections symbols relocs folded = record {
 }
 
 -- no field is folded into a section that is not there; the sums are those of the sections, and the names those of the nonlocal symbols
-pub record IsKept {Z : Type 0} (sections : List Section) (symbols : List Symbol) (folded : Lists Folded) (sizes stored : ℕ) (names : BTreeSet (Vec ℕ Z)) : Type 0 where
+pub record IsKept (sections : List Section) (symbols : List Symbol) (folded : Lists Folded) (sizes stored : ℕ) (names : Names) : Type 0 where
   pub room : length sections ≤ length folded
   pub beyond : (k : ℕ) → length sections ≤ k → list_of folded k ≡ []
   pub sizes_are : sizes ≡ size_sum sections

@@ -20,6 +20,7 @@ pub mod KindRules
 pub mod Laws
 pub mod MachKinds
 pub mod MachRelocs
+pub mod Names
 pub mod Normal
 pub mod Objects
 pub mod OmfKinds

@@ -4,12 +4,13 @@ ghost use Rattle.oc_linking.specs.Parts as parts;
 ghost use Rattle.oc_chains.specs.Lists.{held_in};
 ghost use Rattle.oc_neutral.specs.Building.{empty_draft, reloc_added, section_added, symbol_added};
 ghost use Rattle.oc_neutral.specs.Invariants.{CanAdd, HasItsBytes, IsComplete, IsDraft};
-ghost use Rattle.oc_neutral.specs.Keeping.{is_again, is_among, is_named};
+ghost use Rattle.oc_neutral.specs.Keeping.{is_again, is_named};
+ghost use Rattle.oc_neutral.specs.Names.{is_among};
 
 use crate::fault::BuildFault;
 use crate::fields::{hold, is_met, put};
 use crate::limits::{is_section, limit_passed, stored_size};
-use crate::names::add_name;
+use crate::names::Names;
 use crate::neutral::Neutral;
 use crate::normal::{Folded, normalize};
 use crate::presence;
@@ -20,7 +21,6 @@ use oc_base::{Format, NoMemory, word_of};
 use oc_chains::Chains;
 use oc_linking::Binding;
 use std::alloc::Global;
-use std::collections::BTreeSet;
 use std::marker::Model;
 
 #[cfg(test)]
@@ -40,7 +40,7 @@ pub struct Builder {
     folded: Chains<Folded>,
     sizes: u64,
     stored: u64,
-    names: BTreeSet<Vec<u8>>,
+    names: Names,
 }
 
 impl Model for Builder {
@@ -71,7 +71,7 @@ impl Builder {
             folded: Chains::new(alloc),
             sizes: 0,
             stored: 0,
-            names: BTreeSet::new(alloc),
+            names: Names::new(alloc),
         }
     }
 
@@ -110,7 +110,8 @@ impl Builder {
     ///
     /// `DuplicateName` exactly where it is not a Local, and neither is a symbol that was added with
     /// the same name. `NoMemory` where memory ran out. The time is that of comparing the name with
-    /// about log2(n) of n names, and of copying it; a Local takes constant time over many calls.
+    /// about log2(n) of n names, and of copying one of more than fifteen bytes; a Local takes constant
+    /// time over many calls.
     pub fn add_symbol(&mut self, symbol: Symbol) -> Result<u32, BuildFault>
         requires room { length self.old.object.symbols < 2 ^ 31 - 1 }
         ensures position { IfOk result (λ k. k ≡ length self.old.object.symbols) }
@@ -243,7 +244,7 @@ fn push_section(
 fn push_symbol(
     alloc: Global,
     symbols: &mut Vec<Symbol>,
-    names: &mut BTreeSet<Vec<u8>>,
+    names: &mut Names,
     symbol: Symbol,
 ) -> Result<(), BuildFault>
     ensures symbols { OnOk result (symbols.new.items ≡ symbols.old.items ++ symbol ∷ []) }
@@ -255,7 +256,7 @@ fn push_symbol(
 {
     symbols.reserve(1)?;
     if !is_local(symbol.binding) {
-        add_name(alloc, names, symbol.name.as_slice())?;
+        names.add(alloc, symbol.name.as_slice())?;
     }
     symbols.push(symbol).unwrap();
     Ok(())

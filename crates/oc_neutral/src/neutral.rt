@@ -104,6 +104,15 @@ impl Neutral {
         self.relocs.walk(section)
     }
 
+    /// The sections, the symbols, and the relocations of each section. Constant time, no memory.
+    pub fn into_parts(self) -> (Vec<Section>, Vec<Symbol>, Chains<Reloc>)
+        ensures sections { result.0.items ≡ self.sections }
+        ensures symbols { result.1.items ≡ self.symbols }
+        ensures relocs { result.2.lists ≡ self.relocs }
+    {
+        (self.sections, self.symbols, self.relocs)
+    }
+
     /// What holds of every object, for callers to cite. It does nothing.
     pub fn is_object(&self)
         ensures { IsObject self.now }

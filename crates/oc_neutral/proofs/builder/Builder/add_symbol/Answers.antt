@@ -3,7 +3,8 @@ use Rattle.std.proofs.lemmas.Result.{err_from_is_err_and}
 use Rattle.oc_linking.specs.Parts.{is_local}
 use Rattle.oc_neutral.specs.Building.{Draft, has_name, symbol_added}
 use Rattle.oc_neutral.specs.Invariants.{IsDraft}
-use Rattle.oc_neutral.specs.Keeping.{draft_of, is_again, is_among}
+use Rattle.oc_neutral.specs.Keeping.{draft_of, is_again}
+use Rattle.oc_neutral.specs.Names.{is_among}
 use Rattle.oc_neutral.specs.declared.fault.BuildFault.TheVariants.{NoMemory}
 use Rattle.oc_neutral.specs.declared.symbol.Symbol.{Symbol}
 use Rattle.oc_neutral.proofs.MoreSymbols.{names_more, symbol_draft, symbol_fault, symbol_taken}
