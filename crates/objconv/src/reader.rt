@@ -194,7 +194,7 @@ fn add_text(
     }
 }
 
-// adds the symbols behind symbol 1
+// adds the symbols behind symbol 1, whose names are known to differ
 fn add_symbols(
     builder: &mut Builder,
     alloc: Global,
@@ -211,10 +211,7 @@ fn add_symbols(
     let count = symbol_count(headers) - 2;
     for j in 0..count {
         let symbol = symbol_of(alloc, file, headers, j + 2)?;
-        match builder.add_symbol(symbol) {
-            Ok(_) => (),
-            Err(fault) => return Err(want_of_memory(fault)),
-        }
+        builder.add_new_symbol(symbol)?;
     }
     Ok(())
 }

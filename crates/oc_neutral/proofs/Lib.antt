@@ -22,6 +22,7 @@ pub mod MoreRelocs
 pub mod MoreSections
 pub mod MoreSymbols
 pub mod NameLemmas
+pub mod NamedLemmas
 pub mod NormalLemmas
 pub mod NormalValues
 pub mod OneObject

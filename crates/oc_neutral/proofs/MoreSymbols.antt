@@ -1,5 +1,5 @@
 -- What a symbol more makes of a draft.
-use Rattle.std.proofs.Common.{◌≡◌, ◌≢◌, ◌⊎◌, ℕ, zero, suc, ◌-◌, ◌^◌, ◌<◌, ◌≤◌, Bool, true, false, not, ◌&&◌, ◌||◌, nat_lt, true≢false, List, [], ◌∷◌, ◌++◌, length, length-append, inl, inr, refl, sym, ◌∙◌, ap, arith, Some, slice_get, Ok, Err, bytes_eq}
+use Rattle.std.proofs.Common.{◌≡◌, ◌≢◌, ◌⊎◌, ℕ, zero, suc, ◌-◌, ◌^◌, ◌<◌, ◌≤◌, Bool, true, false, not, ◌&&◌, ◌||◌, nat_lt, true≢false, List, [], ◌∷◌, ◌++◌, length, length-append, inl, inr, refl, sym, ◌∙◌, ap, arith, Some, slice_get, subst, Ok, Err, IsOk, bytes_eq}
 use Rattle.std.proofs.lemmas.Bool.Decides.{nat_tests}
 use Rattle.std.proofs.lemmas.List.Folds.{list_any-append}
 use Rattle.std.proofs.lemmas.Option.{none-some, same_Some, slice_get_within}
@@ -11,16 +11,12 @@ use Rattle.oc_neutral.specs.declared.fault.BuildFault.{BuildFault}
 use Rattle.oc_neutral.specs.declared.fault.BuildFault.TheVariants as fault
 use Rattle.oc_neutral.specs.Building.{Draft, has_name, symbol_added, with_symbol}
 use Rattle.oc_neutral.specs.Invariants.{AreDistinct, IsDraft}
-use Rattle.oc_neutral.specs.Keeping.{is_named}
+use Rattle.oc_neutral.specs.Keeping.{is_again, is_named}
 use Rattle.oc_neutral.proofs.NormalLemmas.{all_held-symbol, slice_get-more}
 
 -- a draft with one symbol more
 abbrev pub symboled : Draft → Symbol → Draft
 symboled d y = record { object = with_symbol d.object y; folded = d.folded }
-
--- adding the symbol is refused
-abbrev pub is_double : List Symbol → Symbol → Bool
-is_double symbols y = not (is_local y.binding) && has_name symbols y.name
 
 -- names with one more
 pub name_more : (symbols : List Symbol) (y : Symbol) (q : List ℕ) → has_name (symbols ++ y ∷ []) q ≡ (is_named q y || has_name symbols q)
@@ -57,7 +53,7 @@ last_is [] y z (suc k) le here = absurd (none-some z here)
 last_is (x ∷ xs) y z zero le here = absurd (omega arith)
 last_is (x ∷ xs) y z (suc k) le here = last_is xs y z k (omega arith) here
 
-module _ (d : Draft) (y : Symbol) (draft : IsDraft d) (single : is_double d.object.symbols y ≡ false) (room : length d.object.symbols < 2 ^ 31 - 1) where
+module _ (d : Draft) (y : Symbol) (draft : IsDraft d) (single : is_again d.object.symbols y ≡ false) (room : length d.object.symbols < 2 ^ 31 - 1) where
   -- nonlocal names differ still
   distinct_more : AreDistinct (d.object.symbols ++ y ∷ [])
   distinct_more i j s t lt at_i at_j own own' = by (nat_lt j (length d.object.symbols)) refl
@@ -102,21 +98,28 @@ module _ (d : Draft) (y : Symbol) (draft : IsDraft d) (single : is_double d.obje
     folded = record { counted = draft.folded.counted; inside = draft.folded.inside; apart = draft.folded.apart; beside = draft.folded.beside };
   }
 
-pub symbol_taken : (d : Draft) (y : Symbol) → is_double d.object.symbols y ≡ false → symbol_added d y ≡ Ok (symboled d y)
+pub symbol_taken : (d : Draft) (y : Symbol) → is_again d.object.symbols y ≡ false → symbol_added d y ≡ Ok (symboled d y)
 unfolding symbol_added
 symbol_taken d y e = rw e refl
 
-pub symbol_refused : (d : Draft) (y : Symbol) → is_double d.object.symbols y ≡ true → symbol_added d y ≡ Err fault.DuplicateName
+pub symbol_refused : (d : Draft) (y : Symbol) → is_again d.object.symbols y ≡ true → symbol_added d y ≡ Err fault.DuplicateName
 unfolding symbol_added
 symbol_refused d y e = rw e refl
 
+-- what is not refused is new
+pub symbol_new : (d : Draft) (y : Symbol) → IsOk (symbol_added d y) → is_again d.object.symbols y ≡ false
+unfolding symbol_added
+symbol_new d y ok = by (is_again d.object.symbols y) refl
+  where
+    no : {t : Bool} → IsOk {T = Draft} (Err fault.DuplicateName) → t ≡ false
+    no e = cc
+
+    by : (t : Bool) → is_again d.object.symbols y ≡ t → t ≡ false
+    by false e = refl
+    by true e = no (subst (λ r. IsOk r) (symbol_refused d y e) ok)
+
 -- why the symbol is refused
-pub symbol_fault : (d : Draft) (y : Symbol) (again : Bool) (e : BuildFault) → again ≡ is_double d.object.symbols y
+pub symbol_fault : (d : Draft) (y : Symbol) (again : Bool) (e : BuildFault) → again ≡ is_again d.object.symbols y
     → (e ≡ fault.NoMemory) ⊎ ((e ≡ fault.DuplicateName) × (again ≡ true)) → (e ≡ fault.NoMemory) ⊎ (symbol_added d y ≡ Err e)
 symbol_fault d y again e is (inl none) = inl none
 symbol_fault d y again e is (inr double) = inr (symbol_refused d y (sym is ∙ double.1) ∙ ap (λ (f : BuildFault). Err f) (sym double.0))
-
--- the names of one symbol more
-pub names_more : (symbols : List Symbol) (y : Symbol) (old new : List ℕ → Bool) → ((q : List ℕ) → old q ≡ has_name symbols q) → ((q : List ℕ) → new q ≡ (is_named q y || old q))
-    → (q : List ℕ) → new q ≡ has_name (symbols ++ y ∷ []) q
-names_more symbols y old new were are q = are q ∙ ap (λ t. is_named q y || t) (were q) ∙ sym (name_more symbols y q)

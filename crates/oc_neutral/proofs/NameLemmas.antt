@@ -1,18 +1,18 @@
 -- A set of names with one more.
-use Rattle.std.proofs.Common.{◌≡◌, ℕ, nat_eq, nat_lt, Bool, true, false, cond, arith, not, ◌||◌, List, [], ◌∷◌, refl, sym, ◌∙◌, ap, bytes_eq}
+use Rattle.std.proofs.Common.{◌≡◌, ℕ, nat_eq, nat_lt, Bool, true, false, cond, arith, not, ◌&&◌, ◌||◌, List, [], ◌∷◌, refl, sym, ◌∙◌, ap, bytes_eq}
 use Rattle.std.specs.declared.vec.Vec.{Vec}
 use Rattle.std.specs.declared.cmp.Ordering.{Ordering}
 use Rattle.std.specs.declared.cmp.Ordering.TheVariants.{Less, Equal, Greater}
 use Rattle.std.specs.List.{list_any}
 use Rattle.std.specs.Bool.{one_answer}
 use Rattle.std.specs.BTreeSet.{BTreeSet, insert_key}
-use Rattle.std.specs.Ordering.{nat_cmp, match_ordering, is_eq}
+use Rattle.std.specs.Ordering.{nat_cmp, match_ordering, is_eq, ordering_then}
 use Rattle.std.specs.Cmp.Lexicographic.{slice_cmp}
 use Rattle.std.proofs.lemmas.Bool.Decides.{nat_tests}
-use Rattle.std.proofs.lemmas.Map.Lookups.{exact_bytes, exact_unsigned}
+use Rattle.std.proofs.lemmas.Map.Lookups.{exact_bytes, exact_pairs, exact_unsigned}
 use Rattle.std.proofs.lemmas.Map.Text.{is_eq-slice_cmp}
 use Rattle.std.proofs.lemmas.Slice.Eq.{bytes_eq-Decides}
-use Rattle.oc_neutral.specs.Names.{has_key, has_text}
+use Rattle.oc_neutral.specs.Names.{has_key, has_text, mix_of}
 
 either_again : (s t l : Bool) → s ≡ t → (t || l) ≡ (s || (t || l))
 either_again true true l e = refl
@@ -59,22 +59,6 @@ same_names a b =
     let d = bytes_eq-Decides b a in
     is_eq-slice_cmp a b ∙ one_answer {P = a ≡ b} (bytes_eq a b) (bytes_eq b a) (bytes_eq-Decides a b) ((λ e. sym (d.0 e)), (λ p. d.1 (sym p)))
 
-module _ {Z : Type 0} where
-  -- a name compares equal to one of the set exactly where it is among them
-  pub among_by_cmp : (names : BTreeSet (Vec ℕ Z)) (key : Vec ℕ Z) (name : List ℕ) → key.items ≡ name
-      → list_any (λ (x : Vec ℕ Z). is_eq (slice_cmp nat_cmp key.items x.items)) names.keys ≡ has_text names name
-  among_by_cmp names key name is = any_alike _ _ (λ x. same_names key.items x.items ∙ ap (bytes_eq x.items) is) names.keys
-
-  -- the names with one more
-  pub among_more : (old new : BTreeSet (Vec ℕ Z)) (key : Vec ℕ Z) (name : List ℕ) → key.items ≡ name
-      → new.keys ≡ insert_key (λ (x y : Vec ℕ Z). slice_cmp nat_cmp x.items y.items) old.keys key
-      → (q : List ℕ) → has_text new q ≡ (bytes_eq name q || has_text old q)
-  among_more old new key name is keys q =
-      ap (list_any (λ (x : Vec ℕ Z). bytes_eq x.items q)) keys
-      ∙ any_inserted (λ (x y : Vec ℕ Z). slice_cmp nat_cmp x.items y.items) (λ (x : Vec ℕ Z). bytes_eq x.items q)
-      (λ k x e. ap (λ (xs : List ℕ). bytes_eq xs q) (exact_bytes k.items x.items e)) old.keys key
-      ∙ ap (λ (xs : List ℕ). bytes_eq xs q || has_text old q) is
-
 -- the numbers that are equal to one are those that compare equal
 same_keys : (k x : ℕ) → is_eq (nat_cmp k x) ≡ nat_eq k x
 same_keys k x = by (nat_lt k x) refl
@@ -89,6 +73,68 @@ same_keys k x = by (nat_lt k x) refl
     by : (t : Bool) → nat_lt k x ≡ t → is_eq (cond t Less (cond (nat_eq k x) Equal Greater)) ≡ nat_eq k x
     by true e = sym (below e)
     by false e = equal (nat_eq k x)
+
+nat_eq_swap : (a b : ℕ) → nat_eq a b ≡ nat_eq b a
+nat_eq_swap a b = by (nat_eq a b) (nat_eq b a) refl refl
+  where
+    by : (s t : Bool) → nat_eq a b ≡ s → nat_eq b a ≡ t → s ≡ t
+    by true true e f = refl
+    by false false e f = refl
+    by true false e f = grind (arith, nat_tests, e, f)
+    by false true e f = grind (arith, nat_tests, e, f)
+
+-- names that are the same have one mix
+mixed_alike : (a b : List ℕ) → (nat_eq (mix_of a) (mix_of b) && bytes_eq a b) ≡ bytes_eq a b
+mixed_alike a b = by (bytes_eq a b) refl
+  where
+    and_false : (t : Bool) → (t && false) ≡ false
+    and_false true = refl
+    and_false false = refl
+
+    refl_eq : (n : ℕ) → (nat_eq n n && true) ≡ true
+    refl_eq n = grind (arith, nat_tests)
+
+    by : (t : Bool) → bytes_eq a b ≡ t → (nat_eq (mix_of a) (mix_of b) && t) ≡ t
+    by false e = and_false (nat_eq (mix_of a) (mix_of b))
+    by true e = ap (λ c. nat_eq (mix_of a) (mix_of c) && true) (sym ((bytes_eq-Decides a b).0 e)) ∙ refl_eq (mix_of a)
+
+-- a mix and a text: as a pair they compare equal where both parts do
+abbrev cmp_long : {Z : Type 0} → ℕ × Vec ℕ Z → ℕ × Vec ℕ Z → Ordering
+cmp_long x y = ordering_then (nat_cmp x.0 y.0) (slice_cmp nat_cmp x.1.items y.1.items)
+
+then_eq : (a b : Ordering) → is_eq (ordering_then a b) ≡ (is_eq a && is_eq b)
+then_eq Less b = refl
+then_eq Equal b = refl
+then_eq Greater b = refl
+
+module _ {Z : Type 0} where
+  -- a name compares equal to one of the set exactly where it is among them
+  pub among_by_cmp : (names : BTreeSet (ℕ × Vec ℕ Z)) (key : ℕ × Vec ℕ Z) (name : List ℕ) → key.0 ≡ mix_of name → key.1.items ≡ name
+      → list_any (λ (x : ℕ × Vec ℕ Z). is_eq (cmp_long key x)) names.keys ≡ has_text names name
+  among_by_cmp names key name mix is =
+      any_alike _ _ (λ (x : ℕ × Vec ℕ Z).
+      then_eq (nat_cmp key.0 x.0) (slice_cmp nat_cmp key.1.items x.1.items)
+      ∙ ap (λ t. t && is_eq (slice_cmp nat_cmp key.1.items x.1.items)) (same_keys key.0 x.0 ∙ nat_eq_swap key.0 x.0)
+      ∙ ap (λ t. nat_eq x.0 key.0 && t) (same_names key.1.items x.1.items)
+      ∙ ap (λ k. nat_eq x.0 k && bytes_eq x.1.items key.1.items) mix
+      ∙ ap (λ ys. nat_eq x.0 (mix_of name) && bytes_eq x.1.items ys) is) names.keys
+
+  -- the names with one more
+  pub among_more : (old new : BTreeSet (ℕ × Vec ℕ Z)) (key : ℕ × Vec ℕ Z) (name : List ℕ) → key.0 ≡ mix_of name → key.1.items ≡ name
+      → new.keys ≡ insert_key cmp_long old.keys key
+      → (q : List ℕ) → has_text new q ≡ (bytes_eq name q || has_text old q)
+  among_more old new key name mix is keys q =
+      ap (list_any (λ (x : ℕ × Vec ℕ Z). nat_eq x.0 (mix_of q) && bytes_eq x.1.items q)) keys
+      ∙ any_inserted cmp_long (λ (x : ℕ × Vec ℕ Z). nat_eq x.0 (mix_of q) && bytes_eq x.1.items q) alike old.keys key
+      ∙ ap (λ t. t || has_text old q) (own ∙ mixed_alike name q)
+    where
+      own : (nat_eq key.0 (mix_of q) && bytes_eq key.1.items q) ≡ (nat_eq (mix_of name) (mix_of q) && bytes_eq name q)
+      own = ap (λ k. nat_eq k (mix_of q) && bytes_eq key.1.items q) mix ∙ ap (λ ys. nat_eq (mix_of name) (mix_of q) && bytes_eq ys q) is
+
+      alike : (k x : ℕ × Vec ℕ Z) → cmp_long k x ≡ Equal → (nat_eq k.0 (mix_of q) && bytes_eq k.1.items q) ≡ (nat_eq x.0 (mix_of q) && bytes_eq x.1.items q)
+      alike k x e =
+          let same = exact_pairs nat_cmp (slice_cmp nat_cmp) exact_unsigned exact_bytes (k.0, k.1.items) (x.0, x.1.items) e in
+          ap (λ (z : ℕ × List ℕ). nat_eq z.0 (mix_of q) && bytes_eq z.1 q) same
 
 -- a number compares equal to one of the set exactly where it is among them
 pub key_by_cmp : (short : BTreeSet ℕ) (key : ℕ) → list_any (λ x. is_eq (nat_cmp key x)) short.keys ≡ has_key short key

@@ -1,5 +1,5 @@
 -- Short names and their numbers are the same where one of the two is.
-use Rattle.std.proofs.Common.{◌≡◌, ◌⊎◌, inl, inr, ℕ, suc, ◌+◌, ◌*◌, ◌^◌, ◌<◌, ◌≤◌, Bool, true, false, cond, not, ◌||◌, List, [], ◌∷◌, ◌++◌, length, get_or, refl, sym, ◌∙◌, ap, subst, arith, bytes_eq}
+use Rattle.std.proofs.Common.{◌≡◌, ℕ, suc, ◌+◌, ◌*◌, ◌^◌, ◌<◌, ◌≤◌, Bool, true, false, cond, not, ◌||◌, List, [], ◌∷◌, ◌++◌, length, get_or, refl, sym, ◌∙◌, ap, subst, arith, bytes_eq}
 use Rattle.std.specs.Prelude.{◌&&◌, nat_eq, nat_le, nat_lt}
 use Rattle.std.specs.Bool.{one_answer}
 use Rattle.std.specs.List.{list_all}
@@ -10,8 +10,6 @@ use Rattle.std.proofs.lemmas.List.{ext_get_or, get_or_past}
 use Rattle.std.proofs.lemmas.List.Folds.{list_all_at}
 use Rattle.std.proofs.lemmas.List.FromFn.{length-map-range_with_len, map-range_with_len_more, get_or-map-range_with_len}
 use Rattle.std.proofs.lemmas.Slice.Eq.{bytes_eq-Decides}
-use Rattle.oc_neutral.specs.declared.fault.BuildFault.{BuildFault}
-use Rattle.oc_neutral.specs.declared.fault.BuildFault.TheVariants.{DuplicateName, NoMemory}
 use Rattle.oc_neutral.specs.declared.names.Names.{Names}
 use Rattle.oc_neutral.specs.Names.{digits, has_key, has_text, is_among, is_short, key_of, padded}
 
@@ -188,8 +186,3 @@ long_same old new short same q = by (is_short q) refl
     by : (t : Bool) → is_short q ≡ t → is_among new q ≡ is_among old q
     by true e = rw (among_short new q e, among_short old q e, short) refl
     by false e = rw (among_long new q e, among_long old q e, same q) refl
-
--- a refusal, where the names have it by another test
-pub refused_as : {s t : Bool} {e : BuildFault} → s ≡ t → (e ≡ NoMemory) ⊎ ((e ≡ DuplicateName) × (s ≡ true)) → (e ≡ NoMemory) ⊎ ((e ≡ DuplicateName) × (t ≡ true))
-refused_as same (inl p) = inl p
-refused_as same (inr p) = inr (p.0, sym same ∙ p.1)

@@ -22,7 +22,7 @@ use Rattle.oc_neutral.specs.declared.normal.Normal.TheVariants as normal
 use Rattle.oc_neutral.specs.declared.normal.Folded.{Folded}
 use Rattle.oc_neutral.specs.declared.fault.BuildFault.{BuildFault}
 use Rattle.oc_neutral.specs.declared.fault.BuildFault.TheVariants as fault
-use Rattle.oc_neutral.specs.declared.names.Names.{Names}
+use Rattle.oc_neutral.specs.declared.named.Named.{Named}
 use Rattle.oc_neutral.specs.Names.{is_among}
 use Rattle.oc_neutral.specs.Building.{Draft, has_name, size_sum, stored_size, stored_sum}
 use Rattle.oc_neutral.specs.Normal.{Place, place_among}
@@ -31,9 +31,14 @@ use Rattle.oc_neutral.specs.Normal.{Place, place_among}
 abbrev pub is_named : List ℕ → Symbol → Bool
 is_named name s = not (is_local s.binding) && bytes_eq s.name name
 
--- a nonlocal symbol has a name of the set
-abbrev pub is_again : Names → Symbol → Bool
-is_again names s = not (is_local s.binding) && is_among names s.name
+-- the symbol is nonlocal, and so is one of these with its name
+abbrev pub is_again : List Symbol → Symbol → Bool
+is_again symbols s = not (is_local s.binding) && has_name symbols s.name
+
+-- the names are those of the nonlocal ones among the first so many symbols
+pub record IsNamed (named : Named) (symbols : List Symbol) : Type 0 where
+  pub count : named.count ≤ length symbols
+  pub names : (name : List ℕ) → is_among named.names name ≡ has_name (take named.count symbols) name
 
 -- what is built from these parts: a list of folded fields past the last section does not count
 abbrev pub draft_of : Format → List Section → List Symbol → Lists Reloc → Lists Folded → Draft
@@ -42,13 +47,13 @@ draft_of format sections symbols relocs folded = record {
   folded = take (length sections) folded;
 }
 
--- no field is folded into a section that is not there; the sums are those of the sections, and the names those of the nonlocal symbols
-pub record IsKept (sections : List Section) (symbols : List Symbol) (folded : Lists Folded) (sizes stored : ℕ) (names : Names) : Type 0 where
+-- no field is folded into a section that is not there; the sums are those of the sections, and the names those of nonlocal symbols
+pub record IsKept (sections : List Section) (symbols : List Symbol) (folded : Lists Folded) (sizes stored : ℕ) (names : Named) : Type 0 where
   pub room : length sections ≤ length folded
   pub beyond : (k : ℕ) → length sections ≤ k → list_of folded k ≡ []
   pub sizes_are : sizes ≡ size_sum sections
   pub stored_are : stored ≡ stored_sum sections
-  pub named : (name : List ℕ) → is_among names name ≡ has_name symbols name
+  pub named : IsNamed names symbols
 
 -- why a field is not inserted is why its relocation is not added
 abbrev pub fault_of : ChainFault → BuildFault

@@ -1,5 +1,5 @@
--- The names of nonlocal symbols that a Builder keeps (our profile).
-use Rattle.std.specs.Prelude.{ℕ, ◌+◌, ◌*◌, Bool, ◌&&◌, nat_eq, nat_le, nat_lt, bytes_eq, if◌then◌else◌, List, [], ◌∷◌, length, map, get_or}
+-- The set of names that a Builder keeps (our profile).
+use Rattle.std.specs.Prelude.{ℕ, ◌+◌, ◌*◌, ◌%◌, ◌^◌, Bool, ◌&&◌, nat_eq, nat_le, nat_lt, bytes_eq, if◌then◌else◌, List, [], ◌∷◌, length, map, get_or}
 use Rattle.std.specs.List.{list_all, list_any, range_with_len}
 use Rattle.std.specs.BTreeSet.{BTreeSet}
 use Rattle.std.specs.declared.vec.Vec.{Vec}
@@ -26,10 +26,19 @@ is_short name = nat_le (length name) 15 && list_all (λ x. nat_lt x 256) name
 abbrev pub has_key : BTreeSet ℕ → ℕ → Bool
 has_key short key = list_any (nat_eq key) short.keys
 
--- the texts have this one
-abbrev pub has_text : {Z : Type 0} → BTreeSet (Vec ℕ Z) → List ℕ → Bool
-has_text long name = list_any (λ k. bytes_eq k.items name) long.keys
+-- a mix with further bytes
+abbrev pub mixed : ℕ → List ℕ → ℕ
+mixed a [] = a
+mixed a (x ∷ xs) = mixed ((a * 0x100000001B3 % 2 ^ 64 + x) % 2 ^ 64) xs
 
--- the names have this one: a short one by its number
+-- a number of 64 bits that names seldom share: the bytes are its digits, to the base of a prime (FNV, 64 bits)
+unfoldable pub mix_of : List ℕ → ℕ
+mix_of name = mixed 0 name
+
+-- the texts have this one, behind its mix
+abbrev pub has_text : {Z : Type 0} → BTreeSet (ℕ × Vec ℕ Z) → List ℕ → Bool
+has_text long name = list_any (λ k. nat_eq k.0 (mix_of name) && bytes_eq k.1.items name) long.keys
+
+-- the names have this one: a short one by its number alone
 unfoldable pub is_among : Names → List ℕ → Bool
 is_among names q = if is_short q then has_key names.short (key_of q) else has_text names.long q

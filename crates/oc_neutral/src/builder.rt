@@ -1,16 +1,14 @@
 //! Building neutral objects.
-ghost use Rattle.std.specs.Prelude.{◌≡◌, ◌-◌, ◌^◌, ◌<◌, ◌≤◌, ◌⊎◌, ◌↔◌, ℕ, true, false, ◌||◌, List, [], ◌∷◌, ◌++◌, length, IfErr, IfOk, IsTrue, OnErr, OnOk};
-ghost use Rattle.oc_linking.specs.Parts as parts;
+ghost use Rattle.std.specs.Prelude.{◌≡◌, ◌-◌, ◌^◌, ◌<◌, ◌≤◌, ◌⊎◌, ◌↔◌, ℕ, true, false, ◌||◌, List, [], ◌∷◌, ◌++◌, length, IfErr, IfOk, IsOk, IsTrue, OnErr, OnOk};
 ghost use Rattle.oc_chains.specs.Lists.{held_in};
 ghost use Rattle.oc_neutral.specs.Building.{empty_draft, reloc_added, section_added, symbol_added};
 ghost use Rattle.oc_neutral.specs.Invariants.{CanAdd, HasItsBytes, IsComplete, IsDraft};
-ghost use Rattle.oc_neutral.specs.Keeping.{is_again, is_named};
-ghost use Rattle.oc_neutral.specs.Names.{is_among};
+ghost use Rattle.oc_neutral.specs.Keeping.{IsNamed, is_again};
 
 use crate::fault::BuildFault;
 use crate::fields::{hold, is_met, put};
 use crate::limits::{is_section, limit_passed, stored_size};
-use crate::names::Names;
+use crate::named::Named;
 use crate::neutral::Neutral;
 use crate::normal::{Folded, normalize};
 use crate::presence;
@@ -19,7 +17,6 @@ use crate::section::Section;
 use crate::symbol::Symbol;
 use oc_base::{Format, NoMemory, word_of};
 use oc_chains::Chains;
-use oc_linking::Binding;
 use std::alloc::Global;
 use std::marker::Model;
 
@@ -40,7 +37,7 @@ pub struct Builder {
     folded: Chains<Folded>,
     sizes: u64,
     stored: u64,
-    names: Names,
+    named: Named,
 }
 
 impl Model for Builder {
@@ -54,7 +51,7 @@ impl Model for Builder {
 
     ghost invariant = { λ b.
         IsDraft (draft_of b.format b.sections.items b.symbols.items b.relocs.lists b.folded.lists)
-        × IsKept b.sections.items b.symbols.items b.folded.lists b.sizes b.stored b.names };
+        × IsKept b.sections.items b.symbols.items b.folded.lists b.sizes b.stored b.named };
 }
 
 impl Builder {
@@ -71,7 +68,7 @@ impl Builder {
             folded: Chains::new(alloc),
             sizes: 0,
             stored: 0,
-            names: Names::new(alloc),
+            named: Named::new(alloc),
         }
     }
 
@@ -110,8 +107,8 @@ impl Builder {
     ///
     /// `DuplicateName` exactly where it is not a Local, and neither is a symbol that was added with
     /// the same name. `NoMemory` where memory ran out. The time is that of comparing the name with
-    /// about log2(n) of n names, and of copying one of more than fifteen bytes; a Local takes constant
-    /// time over many calls.
+    /// about log2(n) of n names, as numbers of 128 bits, and of copying one of more than fifteen
+    /// bytes; it is also spent for each symbol that was added by `add_new_symbol` before.
     pub fn add_symbol(&mut self, symbol: Symbol) -> Result<u32, BuildFault>
         requires room { length self.old.object.symbols < 2 ^ 31 - 1 }
         ensures position { IfOk result (λ k. k ≡ length self.old.object.symbols) }
@@ -120,7 +117,23 @@ impl Builder {
         ensures same { OnErr result (self.new ≡ self.old) }
     {
         let index = self.symbols.len() as u32;
-        push_symbol(self.alloc, &mut self.symbols, &mut self.names, symbol)?;
+        push_symbol(self.alloc, &mut self.symbols, &mut self.named, symbol)?;
+        Ok(index)
+    }
+
+    /// Adds a symbol that is a Local, or whose name is known to be new, and gives its position.
+    ///
+    /// `NoMemory` where memory ran out. Constant time, taken over many calls: no name is compared or
+    /// copied.
+    pub fn add_new_symbol(&mut self, symbol: Symbol) -> Result<u32, NoMemory>
+        requires room { length self.old.object.symbols < 2 ^ 31 - 1 }
+        requires new { IsOk (symbol_added self.old symbol) }
+        ensures position { IfOk result (λ k. k ≡ length self.old.object.symbols) }
+        ensures added { OnOk result (symbol_added self.old symbol ≡ Ok self.new) }
+        ensures same { OnErr result (self.new ≡ self.old) }
+    {
+        let index = self.symbols.len() as u32;
+        self.symbols.push(symbol)?;
         Ok(index)
     }
 
@@ -239,35 +252,23 @@ fn push_section(
     }
 }
 
-/// Adds a symbol, and its name where it is not a Local. `DuplicateName` exactly where the name is
-/// held, and `NoMemory` where memory ran out; then both stay.
+/// Adds a symbol, and takes up its name. `DuplicateName` exactly where the name is there, and
+/// `NoMemory` where memory ran out; then the symbols stay.
 fn push_symbol(
     alloc: Global,
     symbols: &mut Vec<Symbol>,
-    names: &mut Names,
+    named: &mut Named,
     symbol: Symbol,
 ) -> Result<(), BuildFault>
+    requires { IsNamed named.old symbols.old.items }
     ensures symbols { OnOk result (symbols.new.items ≡ symbols.old.items ++ symbol ∷ []) }
-    ensures names { OnOk result ((q : List ℕ) → is_among names.new q ≡ (is_named q symbol || is_among names.old q)) }
-    ensures new { OnOk result (is_again names.old symbol ≡ false) }
-    ensures refused { IfErr result (λ e. (e ≡ BuildFault.NoMemory) ⊎ ((e ≡ BuildFault.DuplicateName) × (is_again names.old symbol ≡ true))) }
+    ensures named { IsNamed named.new symbols.new.items }
+    ensures new { OnOk result (is_again symbols.old.items symbol ≡ false) }
+    ensures refused { IfErr result (λ e. (e ≡ BuildFault.NoMemory) ⊎ ((e ≡ BuildFault.DuplicateName) × (is_again symbols.old.items symbol ≡ true))) }
     ensures same { OnErr result (symbols.new.items ≡ symbols.old.items) }
-    ensures same_names { OnErr result ((q : List ℕ) → is_among names.new q ≡ is_among names.old q) }
 {
     symbols.reserve(1)?;
-    if !is_local(symbol.binding) {
-        names.add(alloc, symbol.name.as_slice())?;
-    }
+    named.add(alloc, symbols.as_slice(), &symbol)?;
     symbols.push(symbol).unwrap();
     Ok(())
-}
-
-/// Whether a symbol is a Local. Constant time, no memory.
-fn is_local(binding: Binding) -> bool
-    ensures { result ≡ parts.is_local binding }
-{
-    match binding {
-        Binding::Local(_) => true,
-        _ => false,
-    }
 }

@@ -9,6 +9,7 @@ mod fields;
 mod fitted;
 mod laws;
 mod limits;
+mod named;
 mod names;
 mod neutral;
 mod normal;

@@ -1,19 +1,23 @@
-//! The names of nonlocal symbols.
-ghost use Rattle.std.specs.Prelude.{◌≡◌, ℕ, List, [], true, false, ◌||◌, ◌⊎◌, ◌≤◌, ◌<◌, ◌*◌, ◌^◌, bytes_eq, nat_eq, length, get_or, IfErr, OnErr, OnOk};
+//! Sets of names.
+ghost use Rattle.std.specs.Prelude.{◌≡◌, ℕ, List, [], true, false, not, ◌||◌, ◌≤◌, ◌<◌, ◌*◌, ◌^◌, bytes_eq, nat_eq, length, get_or, IfOk, OnErr, OnOk};
 ghost use Rattle.oc_neutral.specs.Names as names;
 
-use crate::fault::BuildFault;
+use oc_base::NoMemory;
 use std::alloc::Global;
 use std::collections::BTreeSet;
 
 /// How many bytes a short name may have.
 const SHORT: usize = 15;
 
-/// The names of nonlocal symbols. A short one is kept as a number, in no memory of its own.
+/// The factor of a mix: the prime of the Fowler-Noll-Vo hash of 64 bits.
+const FACTOR: u64 = 0x100_0000_01B3;
+
+/// A set of names. A short one is kept as a number, in no memory of its own; a long one as a copy,
+/// behind a number that is mixed of its bytes, so that few comparisons look at the bytes.
 #[derive(Drop)]
 pub(crate) struct Names {
     short: BTreeSet<u128>,
-    long: BTreeSet<Vec<u8>>,
+    long: BTreeSet<(u64, Vec<u8>)>,
 }
 
 // whether a name is short
@@ -43,33 +47,38 @@ fn key_of(name: &[u8]) -> u128
     key * 256 + name.len() as u128
 }
 
-// adds the number of a short name; `DuplicateName` exactly where it is held
-fn add_short(short: &mut BTreeSet<u128>, key: u128) -> Result<(), BuildFault>
-    ensures new { OnOk result (names.has_key short.old key ≡ false) }
-    ensures added { OnOk result ((k : ℕ) → names.has_key short.new k ≡ (nat_eq k key || names.has_key short.old k)) }
-    ensures refused { IfErr result (λ e. (e ≡ BuildFault.NoMemory) ⊎ ((e ≡ BuildFault.DuplicateName) × (names.has_key short.old key ≡ true))) }
-    ensures same { OnErr result ((k : ℕ) → names.has_key short.new k ≡ names.has_key short.old k) }
+// a number that names seldom share
+fn mix_of(name: &[u8]) -> u64
+    ensures { result ≡ names.mix_of name.now }
 {
-    if short.insert(key)? {
-        Ok(())
-    } else {
-        Err(BuildFault::DuplicateName)
+    let mut mix: u64 = 0;
+    for byte in name {
+        mix = mix.wrapping_mul(FACTOR).wrapping_add(u64::from(*byte));
     }
+    mix
 }
 
-// adds a copy of a name; `DuplicateName` exactly where it is held
-fn add_long(alloc: Global, long: &mut BTreeSet<Vec<u8>>, name: &[u8]) -> Result<(), BuildFault>
-    ensures new { OnOk result (names.has_text long.old name.now ≡ false) }
+// adds the number of a short name, and tells whether it was new
+fn insert_short(short: &mut BTreeSet<u128>, key: u128) -> Result<bool, NoMemory>
+    ensures new { IfOk result (λ new. new ≡ not (names.has_key short.old key)) }
+    ensures added { OnOk result ((k : ℕ) → names.has_key short.new k ≡ (nat_eq k key || names.has_key short.old k)) }
+    ensures same { OnErr result ((k : ℕ) → names.has_key short.new k ≡ names.has_key short.old k) }
+{
+    Ok(short.insert(key)?)
+}
+
+// adds a copy of a name, and tells whether it was new
+fn insert_long(
+    alloc: Global,
+    long: &mut BTreeSet<(u64, Vec<u8>)>,
+    name: &[u8],
+) -> Result<bool, NoMemory>
+    ensures new { IfOk result (λ new. new ≡ not (names.has_text long.old name.now)) }
     ensures added { OnOk result ((q : List ℕ) → names.has_text long.new q ≡ (bytes_eq name.now q || names.has_text long.old q)) }
-    ensures refused { IfErr result (λ e. (e ≡ BuildFault.NoMemory) ⊎ ((e ≡ BuildFault.DuplicateName) × (names.has_text long.old name.now ≡ true))) }
     ensures same { OnErr result ((q : List ℕ) → names.has_text long.new q ≡ names.has_text long.old q) }
 {
     let copy = name.to_vec(alloc)?;
-    if long.insert(copy)? {
-        Ok(())
-    } else {
-        Err(BuildFault::DuplicateName)
-    }
+    Ok(long.insert((mix_of(name), copy))?)
 }
 
 impl Names {
@@ -83,21 +92,20 @@ impl Names {
         }
     }
 
-    /// Adds a name to those that are held.
+    /// Adds a name, and tells whether it was new.
     ///
-    /// `DuplicateName` exactly where it is held, and `NoMemory` where memory ran out; then the names
-    /// stay. Time for comparing it with about log2(n) of n names, and for copying it where it has
-    /// more than fifteen bytes.
-    pub(crate) fn add(&mut self, alloc: Global, name: &[u8]) -> Result<(), BuildFault>
-        ensures new { OnOk result (names.is_among self.old name.now ≡ false) }
+    /// `NoMemory` where memory ran out; then the names stay. Time for comparing about log2(n) of n
+    /// numbers; that of a name of more than fifteen bytes is copied, and compared with those that
+    /// have its number.
+    pub(crate) fn insert(&mut self, alloc: Global, name: &[u8]) -> Result<bool, NoMemory>
+        ensures new { IfOk result (λ new. new ≡ not (names.is_among self.old name.now)) }
         ensures added { OnOk result ((q : List ℕ) → names.is_among self.new q ≡ (bytes_eq name.now q || names.is_among self.old q)) }
-        ensures refused { IfErr result (λ e. (e ≡ BuildFault.NoMemory) ⊎ ((e ≡ BuildFault.DuplicateName) × (names.is_among self.old name.now ≡ true))) }
         ensures same { OnErr result ((q : List ℕ) → names.is_among self.new q ≡ names.is_among self.old q) }
     {
         if is_short(name) {
-            add_short(&mut self.short, key_of(name))
+            insert_short(&mut self.short, key_of(name))
         } else {
-            add_long(alloc, &mut self.long, name)
+            insert_long(alloc, &mut self.long, name)
         }
     }
 }

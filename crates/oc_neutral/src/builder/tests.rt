@@ -212,6 +212,36 @@ fn names_differ(rt: HostRuntime) -> Result<(), Fail> {
     Ok(())
 }
 
+/// A new name is taken up before the next one is compared. Names of 15 bytes and of 16 are held in
+/// different ways.
+#[test]
+fn new_names_are_taken_up(rt: HostRuntime) -> Result<(), Fail> {
+    let alloc = rt.alloc();
+    let mut builder = Builder::new(alloc, Format::Elf32);
+    let new = symbol(alloc, b"a", Binding::Undefined)?;
+    assert_eq!(rt; builder.add_new_symbol(new), Ok(0));
+    let names = [
+        b"a".as_slice(),
+        b"123456789012345",
+        b"1234567890123456",
+        b"12345678901234567",
+    ];
+    let wanted = [Err(BuildFault::DuplicateName), Ok(1), Ok(2), Ok(3)];
+    for (name, want) in names.iter().zip(wanted) {
+        add_symbol(
+            &rt,
+            &mut builder,
+            symbol(alloc, name, Binding::Undefined)?,
+            want,
+        );
+    }
+    for name in names {
+        let again = symbol(alloc, name, Binding::Undefined)?;
+        add_symbol(&rt, &mut builder, again, Err(BuildFault::DuplicateName));
+    }
+    Ok(())
+}
+
 /// The bytes under a field become zero, the others stay, and no second field may meet it.
 #[test]
 fn bytes_under_a_field_are_zero(rt: HostRuntime) -> Result<(), Fail> {
