@@ -1,12 +1,12 @@
 //! Times the building of a neutral object of many relocations, or of many symbols.
 //!
 //! `bench_neutral KIND COUNT`, where KIND is `up` or `down` (relocations in ascending or in
-//! descending order of offset), `short` (symbols with names of seven bytes) or `long` (with names of
-//! sixty bytes, which begin alike). What was built goes to the standard output, times to standard
-//! error.
+//! descending order of offset), `new` (symbols whose names are known to differ), `short` (symbols
+//! with names of seven bytes, which are compared) or `long` (with names of sixty bytes, which begin
+//! alike). What was built goes to the standard output, times to standard error.
 #![tactic(auto)]
 
-ghost use Rattle.std.specs.Prelude.{◌<◌, ◌^◌, IfOk};
+ghost use Rattle.std.specs.Prelude.{◌≡◌, ◌<◌, ◌^◌, IfOk};
 ghost use Rattle.oc_neutral.specs.Invariants.{HasItsBytes};
 
 use anyhow::{Result, anyhow};
@@ -39,7 +39,9 @@ fn code(alloc: Global, size: u32) -> Result<Section, NoMemory>
 }
 
 /// An undefined symbol of that name.
-fn undefined(name: Bytes, number: u32) -> Symbol {
+fn undefined(name: Bytes, number: u32) -> Symbol
+    ensures { result.name ≡ name }
+{
     Symbol {
         name,
         binding: Binding::Undefined,
@@ -143,6 +145,18 @@ fn symbols(builder: &mut Builder, names: Vec<Bytes>) -> Result<()> {
     Ok(())
 }
 
+/// Symbols whose names are the bytes of their positions, so that no name is compared.
+fn new_symbols(alloc: Global, count: u32) -> Result<Builder>
+    requires { count < 2 ^ 30 }
+{
+    let mut builder = Builder::new(alloc, Format::Elf32);
+    for k in 0..count {
+        let name = Bytes::from_slice(alloc, k.to_le_bytes().as_slice())?;
+        builder.add_new_symbol(undefined(name, 1))?;
+    }
+    Ok(builder)
+}
+
 /// Builds the object, and tells how long it took.
 fn measure<R: Clock + Print + Eprint>(rt: &R, alloc: Global, kind: &str, count: u32) -> Result<()>
     requires { count < 2 ^ 30 }
@@ -150,12 +164,15 @@ fn measure<R: Clock + Print + Eprint>(rt: &R, alloc: Global, kind: &str, count: 
     let front = if kind == "long" { 53 } else { 0 };
     let relocs = kind == "up" || kind == "down";
     let mut builder = prepared(alloc, if relocs { count } else { 0 })?;
-    let names = names(alloc, front, if relocs { 0 } else { count })?;
+    let named = kind == "short" || kind == "long";
+    let names = names(alloc, front, if named { count } else { 0 })?;
     let start = Instant::now(rt)?;
     if kind == "up" {
         up(&mut builder, count)?;
     } else if kind == "down" {
         down(&mut builder, count)?;
+    } else if kind == "new" {
+        builder = new_symbols(alloc, count)?;
     } else {
         symbols(&mut builder, names)?;
     }
