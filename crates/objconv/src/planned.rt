@@ -8,6 +8,9 @@ use oc_neutral::Emits;
 use oc_outside::{Failed, PIECE, Sink};
 use std::marker::Model;
 
+#[cfg(test)]
+mod tests;
+
 /// A planned file, in memory as it is to be put: the headers, the contents of its section, and what
 /// stands behind them. Contracts see the file, which has fewer than 2^64 bytes.
 #[derive(Debug, Drop)]
@@ -66,34 +69,10 @@ impl PlannedFile {
     {
         let contents = self.contents.as_slice();
         let behind = at.saturating_sub(self.head.len());
+        let past = behind.saturating_sub(contents.len());
         let mut done = lay(self.head.as_slice(), at, to, 0);
         done = lay(contents, behind, to, done);
-        lay(
-            self.tail.as_slice(),
-            behind.saturating_sub(contents.len()),
-            to,
-            done,
-        )
-    }
-
-    // puts the file through a window: as many bytes at once as the window has, the last time fewer
-    fn put_through<S: Sink>(&self, window: &mut [u8], sink: &mut S) -> Result<(), Failed>
-        requires { 0 < length window.old }
-        ensures ok { OnOk result (S.taken sink.new ≡ grown self.now (S.taken sink.old)) }
-        ensures err { OnErr result (TakesPrefix self.now (S.taken sink.old) (S.taken sink.new)) }
-        ensures counts { S.faults sink.old ≤ S.faults sink.new }
-        ensures cause { OnErr result (Rose (S.faults sink.old) (S.faults sink.new)) }
-        ensures beside { S.beside sink.new ≡ S.beside sink.old }
-        ensures borrow { S.borrow sink.new ≡ S.borrow sink.old }
-    {
-        let mut at = 0;
-        'pieces: while (at as u64) < self.len() {
-            let count = self.window(at, window);
-            let piece = &window[..count];
-            let taken = sink.put(piece)?;
-            at += taken;
-        }
-        Ok(())
+        lay(self.tail.as_slice(), past, to, done)
     }
 }
 
@@ -105,6 +84,14 @@ impl Emits for PlannedFile {
     }
 
     fn emit<S: Sink>(&self, sink: &mut S) -> Result<(), Failed> {
-        self.put_through(&mut [0; PIECE], sink)
+        let mut window = [0; PIECE];
+        let mut at = 0;
+        'pieces: while (at as u64) < self.len() {
+            let count = self.window(at, &mut window);
+            let piece = &window[..count];
+            let taken = sink.put(piece)?;
+            at += taken;
+        }
+        Ok(())
     }
 }

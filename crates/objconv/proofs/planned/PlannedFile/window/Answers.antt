@@ -5,7 +5,7 @@ use Rattle.objconv.proofs.planned.PlannedFile.window.Goals as goal
 
 pub returns-clause-bytes : goal.returns-clause-bytes
 returns-clause-bytes c =
-    windowed (length c.args.to.now) (length c.lay-done.new.to) (length c.lay-done-2.new.to) c.args.at c.saturating_sub-behind.result c.saturating_sub.result
+    windowed (length c.args.to.now) (length c.lay-done.new.to) (length c.lay-done-2.new.to) c.args.at c.saturating_sub-behind.result c.saturating_sub-past.result
     c.self.inside.head.items c.self.inside.contents c.self.inside.tail.items
     (take c.lay-done.result c.lay-done.new.to) (take c.lay-done-2.result c.lay-done-2.new.to) (take c.lay.result c.lay.new.to)
     c.lay-done.ensures.length c.lay-done-2.ensures.length

@@ -2,12 +2,11 @@
 use Rattle.std.proofs.Common.{rules, sym, arith}
 use Rattle.oc_outside.proofs.TextLaws.{grown_nothing}
 use Rattle.objconv.proofs.WindowLemmas.{turn}
-use Rattle.objconv.proofs.planned.PlannedFile.put_through.Goals as goal
+use Rattle.objconv.proofs.planned.PlannedFileEmits.emit.Goals as goal
 
 pub pieces-init : goal.pieces-init
 pieces-init g c = record {
   within = search rules;
-  window = search rules;
   taken = sym (grown_nothing (g.S.Sink.taken c.args.sink.now));
   counts = search rules;
   beside = search rules;
@@ -17,7 +16,6 @@ pieces-init g c = record {
 pub pieces-preserved : goal.pieces-preserved
 pieces-preserved g c = record {
   within = search rules;
-  window = search rules;
   taken =
       turn (g.S.Sink.taken c.args.sink.now) (g.S.Sink.taken c.pieces.sink) (g.S.Sink.taken c.put.new.self)
       c.args.self.now c.window-count.new.to c.pieces.at _ c.window-count.result c.in_ok-taken.taken
