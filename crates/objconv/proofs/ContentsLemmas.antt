@@ -20,7 +20,7 @@ use Rattle.oc_neutral.specs.Invariants.{IsHeld}
 use Rattle.oc_neutral.specs.Fitted.{IsFitted}
 use Rattle.oc_neutral.proofs.FitLinks.{from_mapped}
 use Rattle.oc_neutral.proofs.WrittenBytes.{length-written, written-before, written-behind, written-inside}
-use Rattle.objconv.specs.Coded.{field_number, field_patch, filled, entry_of}
+use Rattle.objconv.specs.Coded.{field_number, field_patch, filled, entry_of, coded, coded_by, coded_with}
 use Rattle.objconv.specs.Contents.{with_numbers, LieIn}
 use Rattle.objconv.specs.WriterLaw.CodedLemmas.{IsPlainForm, IsCoded}
 use Rattle.objconv.specs.WriterLaw.CodedObjects.{fields_held, entry_small}
@@ -98,6 +98,11 @@ numbers_stored xs bytes follow wide lie =
       lengths = length-with_numbers xs bytes;
       bytes = λ i low free. byte_beside xs bytes i (λ at r here from to. free at (field_patch r) (ap (option_map field_patch) here) from to);
     })
+
+-- what is written is its section with what belongs to it
+pub coded-with : (m : Object) (s : Section) → IsCoded m s → coded m ≡ coded_with m s
+unfolding coded
+coded-with m s is = ap (coded_by m) is.sections
 
 module _ (m : Object) (s : Section) (fits : IsFitted Coff32 m) (is : IsCoded m s) where
   wide : (x : Field Reloc) → IsHeld m 0 s.bytes x → IsPlainForm x.item.form → IsFour x

@@ -43,3 +43,4 @@ pub mod SectionLemmas
 pub mod SymbolLemmas
 pub mod SymbolsLemmas
 pub mod TargetLemmas
+pub mod WindowLemmas

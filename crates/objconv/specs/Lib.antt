@@ -2,6 +2,7 @@ pub mod Coded
 pub mod Contents
 pub mod Converted
 pub mod Dialects
+pub mod Emission
 pub mod Jobs
 pub mod Keys
 pub mod Layouts

@@ -46,7 +46,7 @@ fn too_long() -> RunFault
 
 // reads and converts the input
 fn plan<F: Files>(alloc: Global, files: &mut F, input: &str) -> Result<PlannedFile, RunFault>
-    ensures planned { IfOk result (λ plan. runs.IsPlanned input.now (F.held files.old) plan.bytes.items) }
+    ensures planned { IfOk result (λ plan. runs.IsPlanned input.now (F.held files.old) plan) }
     ensures fault { IfErr result
         (runs.Explains F.held F.read_faults F.write_faults input.now input.now files.old files.new) }
     ensures same { F.held files.new ≡ F.held files.old }
@@ -103,7 +103,8 @@ fn convert_file<F: Files>(
 ///   of the planned file. 7: memory ran out, before anything was written.
 ///
 /// With every status but 0 and 5 no file is changed. Where telling a text fails, the status stays.
-/// Takes memory for the input, for the output and for tables of its symbols and relocations.
+/// Takes memory for the input, for the object with a copy of its contents and names, for the
+/// output's headers, relocations and symbols, and for tables of symbols and relocations.
 pub fn run<F: Files, C: Console>(alloc: Global, words: &Words, files: &mut F, console: &mut C) -> u8
     // when each status comes
     ensures words { (result ≡ 3) ↔ (job_of words.now ≡ None) }

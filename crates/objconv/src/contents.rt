@@ -1,5 +1,5 @@
 //! The contents of `.text`, with the numbers in its fields.
-ghost use Rattle.std.specs.Prelude.{◌≡◌, ◌+◌, ◌<◌, ◌≤◌, ◌++◌, length, take, drop, slice_get, Some, OnOk};
+ghost use Rattle.std.specs.Prelude.{◌≡◌, ◌+◌, ◌<◌, ◌≤◌, length};
 ghost use Rattle.oc_algebra.specs.Residues.{residue_of};
 ghost use Rattle.oc_chains.specs.Lists.{list_of};
 ghost use Rattle.oc_neutral.specs.Building.{written};
@@ -7,7 +7,8 @@ ghost use Rattle.oc_neutral.specs.Fitted.{IsFitted};
 ghost use Rattle.objconv.specs.Coded as coded;
 ghost use Rattle.objconv.specs.Contents.{with_numbers, LieIn};
 
-use oc_base::{Format, NoMemory, Word};
+use oc_base::{Bytes, Format, Word};
+use oc_chains::Chains;
 use oc_neutral::{Less, Neutral, Reloc, Section};
 
 /// How many bytes a field has. REL32 is taken from the end of the field.
@@ -33,55 +34,38 @@ fn field_number(reloc: Reloc) -> u32
 }
 
 // puts the four bytes of a number, the lowest first
-fn put_number(bytes: &mut [u8], at: usize, number: u32)
+fn put_number(bytes: &mut Bytes, at: u32, number: u32)
     requires { at + 4 ≤ length bytes.old }
     ensures { bytes.new ≡ written 4 number at bytes.old }
 {
     let b = number.to_le_bytes();
-    bytes[at] = b[0];
-    bytes[at + 1] = b[1];
-    bytes[at + 2] = b[2];
-    bytes[at + 3] = b[3];
+    let place = u64::from(at);
+    bytes.set(place, b[0]);
+    bytes.set(place + 1, b[1]);
+    bytes.set(place + 2, b[2]);
+    bytes.set(place + 3, b[3]);
 }
 
-// puts the number of each relocation into its field
-fn put_numbers(bytes: &mut [u8], neutral: &Neutral)
-    requires section { 0 < length neutral.now.sections }
-    requires inside { LieIn (length bytes.old) (list_of neutral.now.relocs 0) }
-    ensures numbers { bytes.new ≡ with_numbers (list_of neutral.now.relocs 0) bytes.old }
+// puts the number of each relocation of the first section into its field
+fn put_numbers(bytes: &mut Bytes, relocs: &Chains<Reloc>)
+    requires section { 0 < length relocs.now.lists }
+    requires inside { LieIn (length bytes.old) (list_of relocs.now.lists 0) }
+    ensures numbers { bytes.new ≡ with_numbers (list_of relocs.now.lists 0) bytes.old }
 {
-    for field in neutral.relocs(0) {
-        put_number(bytes, field.at as usize, field_number(field.item));
+    for field in relocs.walk(0) {
+        put_number(bytes, field.at, field_number(field.item));
     }
 }
 
-// puts them into the bytes from a place on
-fn put_behind(out: &mut [u8], start: usize, neutral: &Neutral)
-    requires start { start ≤ length out.old }
-    requires section { 0 < length neutral.now.sections }
-    requires inside { LieIn (length (drop start out.old)) (list_of neutral.now.relocs 0) }
-    ensures numbers { out.new ≡ take start out.old
-        ++ with_numbers (list_of neutral.now.relocs 0) (drop start out.old) }
-    ensures length { length out.new ≡ length out.old }
+/// The contents of the one section of an object that is written: its own bytes, with the numbers put
+/// into their fields. Linear in the relocations, no memory.
+pub fn contents_of(neutral: Neutral) -> Bytes
+    requires fitted { IsFitted Format.Coff32 neutral }
+    requires writable { coded.IsWritable neutral }
+    ensures { result ≡ (coded.coded neutral).contents }
 {
-    let bytes = &mut out[start..];
-    put_numbers(bytes, neutral);
-}
-
-/// Puts the contents of `section`, the one section of the object, behind `out`. Linear in them and in
-/// the relocations.
-pub fn push_contents(
-    out: &mut Vec<u8>,
-    neutral: &Neutral,
-    section: &Section,
-) -> Result<(), NoMemory>
-    requires fitted { IsFitted Format.Coff32 neutral.now }
-    requires writable { coded.IsWritable neutral.now }
-    requires section { slice_get neutral.now.sections 0 ≡ Some section.now }
-    ensures { OnOk result (out.new.items ≡ out.old.items ++ coded.filled neutral.now section.now) }
-{
-    let start = out.len();
-    out.extend_from_slice(section.bytes.as_slice())?;
-    put_behind(out.as_mut_slice(), start, neutral);
-    Ok(())
+    let (mut sections, _symbols, relocs) = neutral.into_parts();
+    let Section { mut bytes, .. } = sections.swap_remove(0);
+    put_numbers(&mut bytes, &relocs);
+    bytes
 }

@@ -3,12 +3,16 @@ ghost use Rattle.std.specs.Prelude.{◌≡◌, ◌+◌, ◌^◌, ◌<◌, ◌≤
 ghost use Rattle.std.specs.List.{AllByRecursion};
 ghost use Rattle.oc_chains.specs.Lists.{list_of};
 ghost use Rattle.oc_coff_read.specs.Canonical as canonical;
+ghost use Rattle.oc_coff_read.specs.Canonical.{CodeObject};
 ghost use Rattle.oc_coff_read.specs.Relocation.{relocation_bytes};
 ghost use Rattle.oc_neutral.specs.Fitted.{IsFitted};
 ghost use Rattle.objconv.specs.Coded as coded;
+ghost use Rattle.objconv.specs.Emission as emission;
+ghost use Rattle.objconv.specs.Layouts.{IsLayout};
 
-use crate::contents::push_contents;
-use crate::layout::{layout_of, section_symbol};
+use crate::contents::contents_of;
+use crate::layout::{Layout, layout_of, section_symbol};
+use crate::planned::PlannedFile;
 use crate::structures::{
     padded_name, push_file_header, push_relocation, push_section_aux, push_section_header,
     push_symbol,
@@ -19,7 +23,7 @@ use oc_coff_read::{
     IMAGE_REL_I386_DIR32, IMAGE_REL_I386_REL32, IMAGE_SYM_CLASS_EXTERNAL, IMAGE_SYM_TYPE_FUNCTION,
     Relocation, SymbolEntry,
 };
-use oc_neutral::{Binding, Less, Mark, Neutral, Reloc, Symbol, Target, Value};
+use oc_neutral::{Binding, Fitted, Less, Mark, Neutral, Reloc, Symbol, Target, Value};
 use std::alloc::Global;
 
 // a target's place in the symbol table: the section's symbol is the first, with an auxiliary entry
@@ -133,23 +137,47 @@ fn push_externals(out: &mut Vec<u8>, neutral: &Neutral) -> Result<(), NoMemory>
     Ok(())
 }
 
-/// The canonical COFF file of an object that is ready to be written. Takes memory for the file, all
-/// at once. Linear in the file.
-pub fn emit_object(alloc: Global, neutral: &Neutral) -> Result<Vec<u8>, NoMemory>
-    requires fitted { IsFitted Format.Coff32 neutral.now }
-    requires writable { coded.IsWritable neutral.now }
-    ensures { IfOk result (λ out. out.items ≡ coded.coff_file neutral.now) }
+// the headers of the file with these numbers
+fn head_of(alloc: Global, layout: Layout) -> Result<Vec<u8>, NoMemory>
+    requires size { layout.size ≤ 2 ^ 26 }
+    requires symbols { layout.symbols ≤ 2 ^ 26 }
+    requires exponent { layout.exponent ≤ 13 }
+    ensures { (o : CodeObject) → IsLayout layout o → IfOk result (λ head. head.items ≡ emission.head_of o) }
 {
-    let section = neutral.section(0);
-    let layout = layout_of(neutral, section);
-    let mut out = Vec::with_capacity(alloc, layout.file_size())?;
+    let mut out = Vec::with_capacity(alloc, layout.head_size())?;
     push_file_header(&mut out, &layout.file_header())?;
     push_section_header(&mut out, &layout.section_header())?;
-    push_contents(&mut out, neutral, section)?;
+    Ok(out)
+}
+
+// what stands behind the contents of an object with these numbers
+fn tail_of(alloc: Global, layout: Layout, neutral: &Neutral) -> Result<Vec<u8>, NoMemory>
+    requires fitted { IsFitted Format.Coff32 neutral.now }
+    requires writable { coded.IsWritable neutral.now }
+    requires layout { IsLayout layout (coded.coded neutral.now) }
+    ensures { IfOk result (λ tail. tail.items ≡ emission.tail_of (coded.coded neutral.now)) }
+{
+    let mut out = Vec::with_capacity(alloc, layout.tail_size())?;
     push_relocations(&mut out, neutral)?;
     push_symbol(&mut out, &section_symbol())?;
     push_section_aux(&mut out, &layout.section_aux())?;
     push_externals(&mut out, neutral)?;
     push_u32(&mut out, 4)?;
     Ok(out)
+}
+
+/// The plan of the canonical COFF file of an object that is ready to be written. The contents are
+/// the object's own; takes memory for the headers and for what stands behind the contents, each at
+/// once. Linear in the relocations and the symbols.
+pub fn plan_object(alloc: Global, fitted: Fitted) -> Result<PlannedFile, NoMemory>
+    requires format { fitted.format ≡ Format.Coff32 }
+    requires writable { coded.IsWritable fitted }
+    ensures { IfOk result (λ plan. plan ≡ coded.coff_file fitted) }
+{
+    fitted.is_fitted();
+    let neutral = fitted.into_neutral();
+    let layout = layout_of(&neutral);
+    let head = head_of(alloc, layout)?;
+    let tail = tail_of(alloc, layout, &neutral)?;
+    Ok(PlannedFile::new(head, contents_of(neutral), tail))
 }

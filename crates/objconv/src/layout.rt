@@ -1,9 +1,9 @@
 //! The headers of the canonical COFF file of an object, from the counts of its parts.
-ghost use Rattle.std.specs.Prelude.{◌≡◌, ◌+◌, ◌<◌, ◌≤◌, ◌^◌, length, slice_get, Some};
+ghost use Rattle.std.specs.Prelude.{◌≡◌, ◌+◌, ◌*◌, ◌<◌, ◌≤◌, ◌^◌, length};
 ghost use Rattle.oc_coff_read.specs.Canonical as canonical;
 ghost use Rattle.oc_chains.specs.Lists.{list_of};
 ghost use Rattle.oc_neutral.specs.Fitted.{IsFitted};
-ghost use Rattle.objconv.specs.Coded.{IsWritable, coded_with};
+ghost use Rattle.objconv.specs.Coded.{IsWritable, coded};
 ghost use Rattle.objconv.specs.Layouts.{IsLayout};
 
 use crate::plain::exponent;
@@ -13,7 +13,7 @@ use oc_coff_read::{
     FileHeader, IMAGE_FILE_MACHINE_I386, IMAGE_SCN_CNT_CODE, IMAGE_SCN_MEM_EXECUTE,
     IMAGE_SCN_MEM_READ, IMAGE_SYM_CLASS_STATIC, SectionAux, SectionHeader, SymbolEntry,
 };
-use oc_neutral::{Neutral, Section};
+use oc_neutral::Neutral;
 
 /// Where the contents of `.text` begin: behind the file header and the section header.
 const CODE_PLACE: u32 = 60;
@@ -39,17 +39,16 @@ fn reloc_count(neutral: &Neutral) -> usize
     neutral.relocs(0).count()
 }
 
-/// The layout of the file of an object, of which `section` is the one section. Linear in the
-/// relocations.
-pub fn layout_of(neutral: &Neutral, section: &Section) -> Layout
+/// The layout of the file of an object that is ready to be written. Linear in the relocations.
+pub fn layout_of(neutral: &Neutral) -> Layout
     requires fitted { IsFitted Format.Coff32 neutral.now }
     requires writable { IsWritable neutral.now }
-    requires section { slice_get neutral.now.sections 0 ≡ Some section.now }
-    ensures layout { IsLayout result (coded_with neutral.now section.now) }
+    ensures layout { IsLayout result (coded neutral.now) }
     ensures exponent { result.exponent ≤ 13 }
     ensures size { result.size ≤ 2 ^ 26 }
     ensures symbols { result.symbols ≤ 2 ^ 26 }
 {
+    let section = neutral.section(0);
     Layout {
         exponent: exponent(section.align.into()).unwrap_or(0),
         size: section.size,
@@ -76,10 +75,18 @@ fn flags(exponent: u32) -> u32
 impl Layout {
     ghost use Rattle.oc_coff_read.specs.Canonical.{CodeObject, code_header, code_section, code_aux};
 
-    /// How many bytes the file has. Constant time.
-    pub fn file_size(self) -> usize {
-        let entries = self.symbols as usize + 2;
-        CODE_PLACE as usize + self.size as usize + 10 * self.relocs as usize + 18 * entries + 4
+    /// How many bytes stand before the contents. Constant time.
+    pub fn head_size(self) -> usize
+        ensures { result ≡ 60 }
+    {
+        CODE_PLACE as usize
+    }
+
+    /// How many bytes stand behind the contents. Constant time.
+    pub fn tail_size(self) -> usize
+        ensures { result ≡ 10 * self.relocs + 18 * (self.symbols + 2) + 4 }
+    {
+        10 * self.relocs as usize + 18 * (self.symbols as usize + 2) + 4
     }
 
     /// The file header. Constant time.

@@ -3,7 +3,7 @@ ghost use Rattle.objconv.specs.Coded.{IsWritable, coff_file};
 ghost use Rattle.objconv.specs.Dialects.{coff_dialect};
 ghost use Rattle.objconv.specs.Writing.{writes_coff};
 
-use crate::emission::emit_object;
+use crate::emission::plan_object;
 use crate::planned::PlannedFile;
 use oc_base::NoMemory;
 use oc_neutral::{Fitted, Writes};
@@ -23,9 +23,7 @@ impl Writes for CoffWriter {
     ghost canonical = { coff_file };
 
     fn plan(&self, alloc: Global, fitted: Fitted) -> Result<PlannedFile, NoMemory> {
-        fitted.is_fitted();
-        let bytes = emit_object(alloc, fitted.neutral())?;
-        Ok(PlannedFile::new(bytes))
+        plan_object(alloc, fitted)
     }
 
     ghost law = { writes_coff };

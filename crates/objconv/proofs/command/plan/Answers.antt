@@ -22,12 +22,12 @@ returns-in-Ok-convert_plain-clause-planned g c =
     let bytes : List ℕ = c.in-Ok.bytes.items in
     let short : length bytes ≤ 67108864 = omega (arith, c.in-Ok.bytes.ok.0) in
     let plain : is_plain bytes ≡ true = subst (λ (b : List ℕ). is_plain b ≡ true) c.as_slice.ensures.value c.in-Ok-convert_plain.ensures.plain in
-    let converted : IsConverted bytes c.in-Ok-convert_plain.plan.bytes.items = subst (λ (b : List ℕ). IsConverted b c.in-Ok-convert_plain.plan.bytes.items) c.as_slice.ensures.value c.in-Ok-convert_plain.ensures.converted in
-    let links : LinksAlike bytes c.in-Ok-convert_plain.plan.bytes.items = subst (λ (b : List ℕ). LinksAlike b c.in-Ok-convert_plain.plan.bytes.items) c.as_slice.ensures.value c.in-Ok-convert_plain.ensures.links in
+    let converted : IsConverted bytes c.in-Ok-convert_plain.plan = subst (λ (b : List ℕ). IsConverted b c.in-Ok-convert_plain.plan) c.as_slice.ensures.value c.in-Ok-convert_plain.ensures.converted in
+    let links : LinksAlike bytes c.in-Ok-convert_plain.plan = subst (λ (b : List ℕ). LinksAlike b c.in-Ok-convert_plain.plan) c.as_slice.ensures.value c.in-Ok-convert_plain.ensures.links in
     record {
       accepted = record { held = λ m told. some_and _ (λ (file : List ℕ) read. whole_judged bytes file read short ∙ plain_accepted bytes plain) (c.in-Ok.ensures.bytes m told) };
-      links = λ m told. some_and _ (λ (file : List ℕ) read. subst (λ (b : List ℕ). LinksAlike b c.in-Ok-convert_plain.plan.bytes.items) (read.whole short) links) (c.in-Ok.ensures.bytes m told);
-      converted = λ m told. some_and _ (λ (file : List ℕ) read. subst (λ (b : List ℕ). IsConverted b c.in-Ok-convert_plain.plan.bytes.items) (read.whole short) converted) (c.in-Ok.ensures.bytes m told);
+      links = λ m told. some_and _ (λ (file : List ℕ) read. subst (λ (b : List ℕ). LinksAlike b c.in-Ok-convert_plain.plan) (read.whole short) links) (c.in-Ok.ensures.bytes m told);
+      converted = λ m told. some_and _ (λ (file : List ℕ) read. subst (λ (b : List ℕ). IsConverted b c.in-Ok-convert_plain.plan) (read.whole short) converted) (c.in-Ok.ensures.bytes m told);
     }
 
 pub returns-in-Err-Refused-clause-fault : goal.returns-in-Err-Refused-clause-fault

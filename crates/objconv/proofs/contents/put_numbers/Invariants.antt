@@ -6,6 +6,6 @@ use Rattle.objconv.proofs.contents.put_numbers.Given as goal
 
 abbrev pub invariant-loop-field : goal.invariant-loop-field
 invariant-loop-field l = record {
-  left : with_numbers l.field-iterator l.bytes ≡ with_numbers (list_of l.neutral.relocs 0) l.initial.bytes;
+  left : with_numbers l.field-iterator l.bytes ≡ with_numbers (list_of l.relocs.lists 0) l.initial.bytes;
   lie : LieIn (length l.bytes) l.field-iterator;
 }

@@ -15,11 +15,11 @@ returns-clause-plain c = accepted_plain c.args.file.now c.requires (λ k. omega 
 
 pub returns-clause-converted : goal.returns-clause-converted
 returns-clause-converted c =
-    planned_converted c.args.file.now c.requires (λ k. omega (arith, c.type_inv.file k)) (λ plan. plan.bytes.items) c.convert.result c.convert.ensures.accepted c.convert.ensures.planned
+    planned_converted c.args.file.now c.requires (λ k. omega (arith, c.type_inv.file k)) (λ plan. plan) c.convert.result c.convert.ensures.accepted c.convert.ensures.planned
 
 pub returns-clause-links : goal.returns-clause-links
 returns-clause-links c =
-    planned_links c.args.file.now c.requires (λ k. omega (arith, c.type_inv.file k)) (λ plan. plan.bytes.items) c.convert.result c.convert.ensures.accepted c.convert.ensures.faithful
+    planned_links c.args.file.now c.requires (λ k. omega (arith, c.type_inv.file k)) (λ plan. plan) c.convert.result c.convert.ensures.accepted c.convert.ensures.faithful
 
 pub returns-clause-refused : goal.returns-clause-refused
 returns-clause-refused c = refused_judged c.args.file.now c.requires (λ k. omega (arith, c.type_inv.file k)) c.convert.result c.convert.ensures.refused
