@@ -1,7 +1,5 @@
 //! Files that are planned.
-ghost use Rattle.std.specs.Prelude.{◌≡◌, ◌+◌, ◌-◌, ◌^◌, ◌<◌, ◌≤◌, ◌++◌, length, min, take, drop, OnOk, OnErr};
-ghost use Rattle.oc_outside.specs.Causes.{Rose};
-ghost use Rattle.oc_outside.specs.Texts.{grown, TakesPrefix};
+ghost use Rattle.std.specs.Prelude.{◌≡◌, ◌+◌, ◌-◌, ◌^◌, ◌<◌, ◌≤◌, ◌++◌, length, min, take, drop};
 
 use oc_base::Bytes;
 use oc_neutral::Emits;

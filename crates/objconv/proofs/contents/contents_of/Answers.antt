@@ -1,13 +1,13 @@
 -- The bytes are those of the one section, and its numbers give its contents.
-use Rattle.std.proofs.Common.{◌≡◌, ℕ, ◌≤◌, List, [], ◌∷◌, length, Some, refl, sym, ◌∙◌, ap, subst, arith}
+use Rattle.std.proofs.Common.{◌≡◌, List, length, sym, ◌∙◌, ap, arith}
 use Rattle.std.specs.Prelude.{slice_index_or}
 use Rattle.oc_chains.specs.Lists.{Lists, list_of}
 use Rattle.oc_neutral.specs.declared.reloc.Reloc.{Reloc}
 use Rattle.oc_neutral.specs.declared.section.Section.{Section}
 use Rattle.oc_neutral.specs.Objects.{Object}
 use Rattle.oc_coff_read.specs.Canonical.{CodeObject}
-use Rattle.objconv.specs.Contents.{with_numbers, LieIn}
-use Rattle.objconv.specs.WriterLaw.CodedLemmas.{IsCoded, coded_is, coded_at}
+use Rattle.objconv.specs.Contents.{with_numbers}
+use Rattle.objconv.specs.WriterLaw.CodedLemmas.{coded_is}
 use Rattle.objconv.proofs.ContentsLemmas.{fields_lie, filled_is, coded-with}
 use Rattle.objconv.proofs.contents.contents_of.Goals as goal
 

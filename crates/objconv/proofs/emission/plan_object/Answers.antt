@@ -1,7 +1,6 @@
 -- The head, the contents and the tail are the file.
-use Rattle.std.proofs.Common.{◌≡◌, List, ◌++◌, length, ◌∙◌, ap, subst, arith}
+use Rattle.std.proofs.Common.{◌≡◌, ◌++◌, length, ◌∙◌, ap, subst, arith}
 use Rattle.oc_base.specs.declared.format.Format.{Format}
-use Rattle.oc_base.specs.declared.format.Format.TheVariants.{Coff32}
 use Rattle.oc_neutral.specs.Fitted.{IsFitted}
 use Rattle.oc_neutral.specs.Objects.{Object}
 use Rattle.objconv.specs.Coded.{coded, coff_file}

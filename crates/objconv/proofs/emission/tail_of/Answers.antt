@@ -1,5 +1,5 @@
 -- The parts stand one behind another.
-use Rattle.std.proofs.Common.{◌≡◌, List, length, sym, ap, subst, append_assoc, arith}
+use Rattle.std.proofs.Common.{◌≡◌, List, length, ap, subst, append_assoc, arith}
 use Rattle.oc_coff_read.specs.Canonical.{CodeObject}
 use Rattle.oc_neutral.specs.declared.section.Section.{Section}
 use Rattle.oc_neutral.specs.Objects.{Object}

@@ -1,5 +1,5 @@
 -- The three parts stand one behind another.
-use Rattle.std.proofs.Common.{List, ℕ, ◌++◌, drop, length, take, ◌∙◌, ap, rules}
+use Rattle.std.proofs.Common.{List, ℕ, drop, length, take, ◌∙◌, ap, rules}
 use Rattle.objconv.proofs.WindowLemmas.{windowed}
 use Rattle.objconv.proofs.planned.PlannedFile.window.Goals as goal
 

@@ -1,5 +1,5 @@
 -- The sink takes a front of what the window shows.
-use Rattle.std.proofs.Common.{rules, sym, arith}
+use Rattle.std.proofs.Common.{rules, sym}
 use Rattle.oc_outside.proofs.TextLaws.{grown_nothing}
 use Rattle.objconv.proofs.WindowLemmas.{turn}
 use Rattle.objconv.proofs.planned.PlannedFileEmits.emit.Goals as goal
