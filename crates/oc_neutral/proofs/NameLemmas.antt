@@ -12,7 +12,7 @@ use Rattle.std.proofs.lemmas.Bool.Decides.{nat_tests}
 use Rattle.std.proofs.lemmas.Map.Lookups.{exact_bytes, exact_pairs, exact_unsigned}
 use Rattle.std.proofs.lemmas.Map.Text.{is_eq-slice_cmp}
 use Rattle.std.proofs.lemmas.Slice.Eq.{bytes_eq-Decides}
-use Rattle.oc_neutral.specs.Names.{has_key, has_text, mix_of}
+use Rattle.oc_neutral.specs.Names.{has_key, has_text, hash_of}
 
 either_again : (s t l : Bool) → s ≡ t → (t || l) ≡ (s || (t || l))
 either_again true true l e = refl
@@ -83,9 +83,9 @@ nat_eq_swap a b = by (nat_eq a b) (nat_eq b a) refl refl
     by true false e f = grind (arith, nat_tests, e, f)
     by false true e f = grind (arith, nat_tests, e, f)
 
--- names that are the same have one mix
-mixed_alike : (a b : List ℕ) → (nat_eq (mix_of a) (mix_of b) && bytes_eq a b) ≡ bytes_eq a b
-mixed_alike a b = by (bytes_eq a b) refl
+-- names that are the same have one hash
+hash_alike : (a b : List ℕ) → (nat_eq (hash_of a) (hash_of b) && bytes_eq a b) ≡ bytes_eq a b
+hash_alike a b = by (bytes_eq a b) refl
   where
     and_false : (t : Bool) → (t && false) ≡ false
     and_false true = refl
@@ -94,11 +94,11 @@ mixed_alike a b = by (bytes_eq a b) refl
     refl_eq : (n : ℕ) → (nat_eq n n && true) ≡ true
     refl_eq n = grind (arith, nat_tests)
 
-    by : (t : Bool) → bytes_eq a b ≡ t → (nat_eq (mix_of a) (mix_of b) && t) ≡ t
-    by false e = and_false (nat_eq (mix_of a) (mix_of b))
-    by true e = ap (λ c. nat_eq (mix_of a) (mix_of c) && true) (sym ((bytes_eq-Decides a b).0 e)) ∙ refl_eq (mix_of a)
+    by : (t : Bool) → bytes_eq a b ≡ t → (nat_eq (hash_of a) (hash_of b) && t) ≡ t
+    by false e = and_false (nat_eq (hash_of a) (hash_of b))
+    by true e = ap (λ c. nat_eq (hash_of a) (hash_of c) && true) (sym ((bytes_eq-Decides a b).0 e)) ∙ refl_eq (hash_of a)
 
--- a mix and a text: as a pair they compare equal where both parts do
+-- a hash and a text: as a pair they compare equal where both parts do
 abbrev cmp_long : {Z : Type 0} → ℕ × Vec ℕ Z → ℕ × Vec ℕ Z → Ordering
 cmp_long x y = ordering_then (nat_cmp x.0 y.0) (slice_cmp nat_cmp x.1.items y.1.items)
 
@@ -109,32 +109,32 @@ then_eq Greater b = refl
 
 module _ {Z : Type 0} where
   -- a name compares equal to one of the set exactly where it is among them
-  pub among_by_cmp : (names : BTreeSet (ℕ × Vec ℕ Z)) (key : ℕ × Vec ℕ Z) (name : List ℕ) → key.0 ≡ mix_of name → key.1.items ≡ name
+  pub among_by_cmp : (names : BTreeSet (ℕ × Vec ℕ Z)) (key : ℕ × Vec ℕ Z) (name : List ℕ) → key.0 ≡ hash_of name → key.1.items ≡ name
       → list_any (λ (x : ℕ × Vec ℕ Z). is_eq (cmp_long key x)) names.keys ≡ has_text names name
-  among_by_cmp names key name mix is =
+  among_by_cmp names key name hash is =
       any_alike _ _ (λ (x : ℕ × Vec ℕ Z).
       then_eq (nat_cmp key.0 x.0) (slice_cmp nat_cmp key.1.items x.1.items)
       ∙ ap (λ t. t && is_eq (slice_cmp nat_cmp key.1.items x.1.items)) (same_keys key.0 x.0 ∙ nat_eq_swap key.0 x.0)
       ∙ ap (λ t. nat_eq x.0 key.0 && t) (same_names key.1.items x.1.items)
-      ∙ ap (λ k. nat_eq x.0 k && bytes_eq x.1.items key.1.items) mix
-      ∙ ap (λ ys. nat_eq x.0 (mix_of name) && bytes_eq x.1.items ys) is) names.keys
+      ∙ ap (λ k. nat_eq x.0 k && bytes_eq x.1.items key.1.items) hash
+      ∙ ap (λ ys. nat_eq x.0 (hash_of name) && bytes_eq x.1.items ys) is) names.keys
 
   -- the names with one more
-  pub among_more : (old new : BTreeSet (ℕ × Vec ℕ Z)) (key : ℕ × Vec ℕ Z) (name : List ℕ) → key.0 ≡ mix_of name → key.1.items ≡ name
+  pub among_more : (old new : BTreeSet (ℕ × Vec ℕ Z)) (key : ℕ × Vec ℕ Z) (name : List ℕ) → key.0 ≡ hash_of name → key.1.items ≡ name
       → new.keys ≡ insert_key cmp_long old.keys key
       → (q : List ℕ) → has_text new q ≡ (bytes_eq name q || has_text old q)
-  among_more old new key name mix is keys q =
-      ap (list_any (λ (x : ℕ × Vec ℕ Z). nat_eq x.0 (mix_of q) && bytes_eq x.1.items q)) keys
-      ∙ any_inserted cmp_long (λ (x : ℕ × Vec ℕ Z). nat_eq x.0 (mix_of q) && bytes_eq x.1.items q) alike old.keys key
-      ∙ ap (λ t. t || has_text old q) (own ∙ mixed_alike name q)
+  among_more old new key name hash is keys q =
+      ap (list_any (λ (x : ℕ × Vec ℕ Z). nat_eq x.0 (hash_of q) && bytes_eq x.1.items q)) keys
+      ∙ any_inserted cmp_long (λ (x : ℕ × Vec ℕ Z). nat_eq x.0 (hash_of q) && bytes_eq x.1.items q) alike old.keys key
+      ∙ ap (λ t. t || has_text old q) (own ∙ hash_alike name q)
     where
-      own : (nat_eq key.0 (mix_of q) && bytes_eq key.1.items q) ≡ (nat_eq (mix_of name) (mix_of q) && bytes_eq name q)
-      own = ap (λ k. nat_eq k (mix_of q) && bytes_eq key.1.items q) mix ∙ ap (λ ys. nat_eq (mix_of name) (mix_of q) && bytes_eq ys q) is
+      own : (nat_eq key.0 (hash_of q) && bytes_eq key.1.items q) ≡ (nat_eq (hash_of name) (hash_of q) && bytes_eq name q)
+      own = ap (λ k. nat_eq k (hash_of q) && bytes_eq key.1.items q) hash ∙ ap (λ ys. nat_eq (hash_of name) (hash_of q) && bytes_eq ys q) is
 
-      alike : (k x : ℕ × Vec ℕ Z) → cmp_long k x ≡ Equal → (nat_eq k.0 (mix_of q) && bytes_eq k.1.items q) ≡ (nat_eq x.0 (mix_of q) && bytes_eq x.1.items q)
+      alike : (k x : ℕ × Vec ℕ Z) → cmp_long k x ≡ Equal → (nat_eq k.0 (hash_of q) && bytes_eq k.1.items q) ≡ (nat_eq x.0 (hash_of q) && bytes_eq x.1.items q)
       alike k x e =
           let same = exact_pairs nat_cmp (slice_cmp nat_cmp) exact_unsigned exact_bytes (k.0, k.1.items) (x.0, x.1.items) e in
-          ap (λ (z : ℕ × List ℕ). nat_eq z.0 (mix_of q) && bytes_eq z.1 q) same
+          ap (λ (z : ℕ × List ℕ). nat_eq z.0 (hash_of q) && bytes_eq z.1 q) same
 
 -- a number compares equal to one of the set exactly where it is among them
 pub key_by_cmp : (short : BTreeSet ℕ) (key : ℕ) → list_any (λ x. is_eq (nat_cmp key x)) short.keys ≡ has_key short key

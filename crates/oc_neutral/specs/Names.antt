@@ -26,18 +26,18 @@ is_short name = nat_le (length name) 15 && list_all (λ x. nat_lt x 256) name
 abbrev pub has_key : BTreeSet ℕ → ℕ → Bool
 has_key short key = list_any (nat_eq key) short.keys
 
--- a mix with further bytes
-abbrev pub mixed : ℕ → List ℕ → ℕ
-mixed a [] = a
-mixed a (x ∷ xs) = mixed ((a * 0x100000001B3 % 2 ^ 64 + x) % 2 ^ 64) xs
+-- a hash of further bytes
+abbrev pub hashed : ℕ → List ℕ → ℕ
+hashed a [] = a
+hashed a (x ∷ xs) = hashed ((a * 0x100000001B3 % 2 ^ 64 + x) % 2 ^ 64) xs
 
--- a number of 64 bits that names seldom share: the bytes are its digits, to the base of a prime (FNV, 64 bits)
-unfoldable pub mix_of : List ℕ → ℕ
-mix_of name = mixed 0 name
+-- the hash of a name: its bytes are digits to the base of the 64-bit FNV prime, modulo 2^64
+unfoldable pub hash_of : List ℕ → ℕ
+hash_of name = hashed 0 name
 
--- the texts have this one, behind its mix
+-- the texts have this one, behind its hash
 abbrev pub has_text : {Z : Type 0} → BTreeSet (ℕ × Vec ℕ Z) → List ℕ → Bool
-has_text long name = list_any (λ k. nat_eq k.0 (mix_of name) && bytes_eq k.1.items name) long.keys
+has_text long name = list_any (λ k. nat_eq k.0 (hash_of name) && bytes_eq k.1.items name) long.keys
 
 -- the names have this one: a short one by its number alone
 unfoldable pub is_among : Names → List ℕ → Bool

@@ -9,11 +9,11 @@ use std::collections::BTreeSet;
 /// How many bytes a short name may have.
 const SHORT: usize = 15;
 
-/// The factor of a mix: the prime of the Fowler-Noll-Vo hash of 64 bits.
-const FACTOR: u64 = 0x100_0000_01B3;
+/// The base of a hash: the prime of the Fowler-Noll-Vo hash of 64 bits.
+const BASE: u64 = 0x100_0000_01B3;
 
 /// A set of names. A short one is kept as a number, in no memory of its own; a long one as a copy,
-/// behind a number that is mixed of its bytes, so that few comparisons look at the bytes.
+/// behind its hash, so that few comparisons look at the bytes.
 #[derive(Drop)]
 pub(crate) struct Names {
     short: BTreeSet<u128>,
@@ -47,15 +47,15 @@ fn key_of(name: &[u8]) -> u128
     key * 256 + name.len() as u128
 }
 
-// a number that names seldom share
-fn mix_of(name: &[u8]) -> u64
-    ensures { result ≡ names.mix_of name.now }
+// the hash of a name; names that share it are told apart by their bytes
+fn hash_of(name: &[u8]) -> u64
+    ensures { result ≡ names.hash_of name.now }
 {
-    let mut mix: u64 = 0;
+    let mut hash: u64 = 0;
     for byte in name {
-        mix = mix.wrapping_mul(FACTOR).wrapping_add(u64::from(*byte));
+        hash = hash.wrapping_mul(BASE).wrapping_add(u64::from(*byte));
     }
-    mix
+    hash
 }
 
 // adds the number of a short name, and tells whether it was new
@@ -78,7 +78,7 @@ fn insert_long(
     ensures same { OnErr result ((q : List ℕ) → names.has_text long.new q ≡ names.has_text long.old q) }
 {
     let copy = name.to_vec(alloc)?;
-    Ok(long.insert((mix_of(name), copy))?)
+    Ok(long.insert((hash_of(name), copy))?)
 }
 
 impl Names {
@@ -94,9 +94,9 @@ impl Names {
 
     /// Adds a name, and tells whether it was new.
     ///
-    /// `NoMemory` where memory ran out; then the names stay. Time for comparing about log2(n) of n
-    /// numbers; that of a name of more than fifteen bytes is copied, and compared with those that
-    /// have its number.
+    /// `NoMemory` where memory ran out; then the names stay. Time for comparing about log2(n) numbers
+    /// of n names; a name of more than fifteen bytes is also copied, and compared with those that
+    /// share its hash.
     pub(crate) fn insert(&mut self, alloc: Global, name: &[u8]) -> Result<bool, NoMemory>
         ensures new { IfOk result (λ new. new ≡ not (names.is_among self.old name.now)) }
         ensures added { OnOk result ((q : List ℕ) → names.is_among self.new q ≡ (bytes_eq name.now q || names.is_among self.old q)) }
