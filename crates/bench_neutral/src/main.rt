@@ -163,8 +163,11 @@ fn measure<R: Clock + Print + Eprint>(rt: &R, alloc: Global, kind: &str, count: 
 {
     let front = if kind == "long" { 53 } else { 0 };
     let relocs = kind == "up" || kind == "down";
-    let mut builder = prepared(alloc, if relocs { count } else { 0 })?;
     let named = kind == "short" || kind == "long";
+    if !relocs && !named && kind != "new" {
+        return Err(anyhow!("KIND is up, down, new, short or long"));
+    }
+    let mut builder = prepared(alloc, if relocs { count } else { 0 })?;
     let names = names(alloc, front, if named { count } else { 0 })?;
     let start = Instant::now(rt)?;
     if kind == "up" {
