@@ -1,5 +1,5 @@
 -- Short names and their numbers are the same where one of the two is.
-use Rattle.std.proofs.Common.{◌≡◌, ℕ, suc, ◌+◌, ◌*◌, ◌^◌, ◌<◌, ◌≤◌, Bool, true, false, cond, not, ◌||◌, List, [], ◌∷◌, ◌++◌, length, get_or, refl, sym, ◌∙◌, ap, subst, arith, bytes_eq}
+use Rattle.std.proofs.Common.{◌≡◌, ℕ, suc, ◌+◌, ◌*◌, ◌^◌, ◌<◌, ◌≤◌, Bool, true, false, not, List, [], ◌∷◌, ◌++◌, length, get_or, refl, sym, ◌∙◌, ap, subst, arith, bytes_eq}
 use Rattle.std.specs.Prelude.{◌&&◌, nat_eq, nat_le, nat_lt}
 use Rattle.std.specs.Bool.{one_answer}
 use Rattle.std.specs.List.{list_all}
@@ -10,8 +10,7 @@ use Rattle.std.proofs.lemmas.List.{ext_get_or, get_or_past}
 use Rattle.std.proofs.lemmas.List.Folds.{list_all_at}
 use Rattle.std.proofs.lemmas.List.FromFn.{length-map-range_with_len, map-range_with_len_more, get_or-map-range_with_len}
 use Rattle.std.proofs.lemmas.Slice.Eq.{bytes_eq-Decides}
-use Rattle.oc_neutral.specs.declared.names.Names.{Names}
-use Rattle.oc_neutral.specs.Names.{digits, has_key, has_text, is_among, is_short, key_of, padded}
+use Rattle.oc_neutral.specs.Names.{digits, is_short, padded, short_number}
 
 -- one digit more
 digits_more : (xs : List ℕ) (a y : ℕ) → digits a (xs ++ y ∷ []) ≡ digits a xs * 256 + y
@@ -75,8 +74,8 @@ padded_low name n low k = by (nat_lt k n) refl
     by false e = subst (λ x. x < 256) (sym (get_or_past (padded name n) k 0 (let l = length-map-range_with_len (λ i. get_or name i 0) 0 n in let p = past k n e in omega (arith, l, p)))) (omega arith)
 
 -- short names with one number are the same
-pub same_short : (a b : List ℕ) → is_short a ≡ true → is_short b ≡ true → key_of a ≡ key_of b → a ≡ b
-unfolding key_of
+pub same_short : (a b : List ℕ) → is_short a ≡ true → is_short b ≡ true → short_number a ≡ short_number b → a ≡ b
+unfolding short_number
 same_short a b s t e =
     let few : length a ≤ 15 = short_few a s in
     let fewer : length b ≤ 15 = short_few b t in
@@ -91,10 +90,10 @@ same_short a b s t e =
     ∙ get_or-map-range_with_len (λ i. get_or b i 0) 0 15 i i 0 (omega (arith, low, few)) (omega arith))
 
 -- the tests say the same
-pub short_eq : (a b : List ℕ) → is_short a ≡ true → is_short b ≡ true → nat_eq (key_of b) (key_of a) ≡ bytes_eq a b
-short_eq a b s t = one_answer {P = a ≡ b} (nat_eq (key_of b) (key_of a)) (bytes_eq a b) ((λ e. same_short a b s t (keys e)), (λ p. subst (λ x. nat_eq (key_of x) (key_of a) ≡ true) p (refl_eq (key_of a)))) (bytes_eq-Decides a b)
+pub short_eq : (a b : List ℕ) → is_short a ≡ true → is_short b ≡ true → nat_eq (short_number b) (short_number a) ≡ bytes_eq a b
+short_eq a b s t = one_answer {P = a ≡ b} (nat_eq (short_number b) (short_number a)) (bytes_eq a b) ((λ e. same_short a b s t (keys e)), (λ p. subst (λ x. nat_eq (short_number x) (short_number a) ≡ true) p (refl_eq (short_number a)))) (bytes_eq-Decides a b)
   where
-    keys : nat_eq (key_of b) (key_of a) ≡ true → key_of a ≡ key_of b
+    keys : nat_eq (short_number b) (short_number a) ≡ true → short_number a ≡ short_number b
     keys e = grind (arith, nat_tests, e)
 
     refl_eq : (n : ℕ) → nat_eq n n ≡ true
@@ -124,26 +123,8 @@ bytes_short name low = sym (ap (λ t. nat_le (length name) 15 && t) (all_low nam
     all_low [] low = refl
     all_low (x ∷ xs) low = let first : nat_lt x 256 ≡ true = lt-ltb x 256 (low 0) in rw (first, all_low xs (λ k. low (suc k))) refl
 
--- no names
-pub none_among : (names : Names) → names.short.keys ≡ [] → names.long.keys ≡ [] → (q : List ℕ) → is_among names q ≡ false
-unfolding is_among
-none_among names short long q = rw (short, long) (same (is_short q))
-  where
-    same : (t : Bool) → cond t false false ≡ false
-    same true = refl
-    same false = refl
-
--- whether one of the names is short decides where it is
-pub among_short : (names : Names) (q : List ℕ) → is_short q ≡ true → is_among names q ≡ has_key names.short (key_of q)
-unfolding is_among
-among_short names q s = rw s refl
-
-pub among_long : (names : Names) (q : List ℕ) → is_short q ≡ false → is_among names q ≡ has_text names.long q
-unfolding is_among
-among_long names q s = rw s refl
-
 -- names are not the same where one of them is short
-not_same : (a b : List ℕ) (s : Bool) → is_short a ≡ s → is_short b ≡ not s → bytes_eq a b ≡ false
+pub not_same : (a b : List ℕ) (s : Bool) → is_short a ≡ s → is_short b ≡ not s → bytes_eq a b ≡ false
 not_same a b s e o = by (bytes_eq a b) refl
   where
     apart : (s : Bool) → ¬ s ≡ not s
@@ -153,36 +134,3 @@ not_same a b s e o = by (bytes_eq a b) refl
     by : (t : Bool) → bytes_eq a b ≡ t → t ≡ false
     by false p = refl
     by true p = absurd (apart s (sym e ∙ ap is_short ((bytes_eq-Decides a b).0 p) ∙ o))
-
--- one short name more
-pub short_more : (old new : Names) (name : List ℕ) → is_short name ≡ true → new.long ≡ old.long
-    → ((k : ℕ) → has_key new.short k ≡ (nat_eq k (key_of name) || has_key old.short k)) → (q : List ℕ) → is_among new q ≡ (bytes_eq name q || is_among old q)
-short_more old new name s long more q = by (is_short q) refl
-  where
-    by : (t : Bool) → is_short q ≡ t → is_among new q ≡ (bytes_eq name q || is_among old q)
-    by true e = rw (among_short new q e, among_short old q e, more (key_of q), short_eq name q s e) refl
-    by false e = rw (among_long new q e, among_long old q e, not_same name q true s e, long) refl
-
--- one long name more
-pub long_more : (old new : Names) (name : List ℕ) → is_short name ≡ false → new.short ≡ old.short
-    → ((q : List ℕ) → has_text new.long q ≡ (bytes_eq name q || has_text old.long q)) → (q : List ℕ) → is_among new q ≡ (bytes_eq name q || is_among old q)
-long_more old new name s short more q = by (is_short q) refl
-  where
-    by : (t : Bool) → is_short q ≡ t → is_among new q ≡ (bytes_eq name q || is_among old q)
-    by true e = rw (among_short new q e, among_short old q e, not_same name q false s e, short) refl
-    by false e = rw (among_long new q e, among_long old q e, more q) refl
-
--- the same names
-pub short_same : (old new : Names) → new.long ≡ old.long → ((k : ℕ) → has_key new.short k ≡ has_key old.short k) → (q : List ℕ) → is_among new q ≡ is_among old q
-short_same old new long same q = by (is_short q) refl
-  where
-    by : (t : Bool) → is_short q ≡ t → is_among new q ≡ is_among old q
-    by true e = rw (among_short new q e, among_short old q e, same (key_of q)) refl
-    by false e = rw (among_long new q e, among_long old q e, long) refl
-
-pub long_same : (old new : Names) → new.short ≡ old.short → ((q : List ℕ) → has_text new.long q ≡ has_text old.long q) → (q : List ℕ) → is_among new q ≡ is_among old q
-long_same old new short same q = by (is_short q) refl
-  where
-    by : (t : Bool) → is_short q ≡ t → is_among new q ≡ is_among old q
-    by true e = rw (among_short new q e, among_short old q e, short) refl
-    by false e = rw (among_long new q e, among_long old q e, same q) refl

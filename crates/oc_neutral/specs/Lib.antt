@@ -4,6 +4,7 @@ pub mod CoffKinds
 pub mod CoffRelocs
 pub mod CoffStrings
 pub mod Constants
+pub mod Crowds
 pub mod Dialects
 pub mod Dressing
 pub mod ElfKinds

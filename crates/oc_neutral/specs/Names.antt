@@ -1,8 +1,7 @@
 -- The set of names that a Builder keeps (our profile).
-use Rattle.std.specs.Prelude.{ℕ, ◌+◌, ◌*◌, ◌%◌, ◌^◌, Bool, ◌&&◌, nat_eq, nat_le, nat_lt, bytes_eq, if◌then◌else◌, List, [], ◌∷◌, length, map, get_or}
+use Rattle.std.specs.Prelude.{◌≡◌, ℕ, ◌+◌, ◌*◌, ◌%◌, ◌^◌, Bool, ◌&&◌, ◌||◌, nat_eq, nat_le, nat_lt, bytes_eq, if◌then◌else◌, List, [], ◌∷◌, length, map, get_or}
 use Rattle.std.specs.List.{list_all, list_any, range_with_len}
-use Rattle.std.specs.BTreeSet.{BTreeSet}
-use Rattle.std.specs.declared.vec.Vec.{Vec}
+use Rattle.oc_neutral.specs.declared.key.Key.{Key}
 use Rattle.oc_neutral.specs.declared.names.Names.{Names}
 
 -- a number with further digits of base 256, the highest first
@@ -15,16 +14,12 @@ abbrev pub padded : List ℕ → ℕ → List ℕ
 padded name n = map (λ i. get_or name i 0) (range_with_len 0 n)
 
 -- the number whose sixteen digits are fifteen bytes of a name, with zeros behind them, and its length
-unfoldable pub key_of : List ℕ → ℕ
-key_of name = digits 0 (padded name 15) * 256 + length name
+unfoldable pub short_number : List ℕ → ℕ
+short_number name = digits 0 (padded name 15) * 256 + length name
 
 -- at most fifteen bytes
 unfoldable pub is_short : List ℕ → Bool
 is_short name = nat_le (length name) 15 && list_all (λ x. nat_lt x 256) name
-
--- the numbers have this one
-abbrev pub has_key : BTreeSet ℕ → ℕ → Bool
-has_key short key = list_any (nat_eq key) short.keys
 
 -- a hash of further bytes
 abbrev pub hashed : ℕ → List ℕ → ℕ
@@ -35,10 +30,43 @@ hashed a (x ∷ xs) = hashed ((a * 0x100000001B3 % 2 ^ 64 + x) % 2 ^ 64) xs
 unfoldable pub hash_of : List ℕ → ℕ
 hash_of name = hashed 0 name
 
--- the texts have this one, behind its hash
-abbrev pub has_text : {Z : Type 0} → BTreeSet (ℕ × Vec ℕ Z) → List ℕ → Bool
-has_text long name = list_any (λ k. nat_eq k.0 (hash_of name) && bytes_eq k.1.items name) long.keys
+-- what a name is hashed by
+abbrev pub number_of : List ℕ → ℕ
+number_of name = if is_short name then short_number name else hash_of name
 
--- the names have this one: a short one by its number alone
+-- the bytes that its number does not tell
+abbrev pub rest_of : List ℕ → List ℕ
+rest_of name = if is_short name then [] else name
+
+-- the key stands for the name
+unfoldable pub is_key_of : List ℕ → Key → Bool
+is_key_of name key = nat_eq key.number (number_of name) && bytes_eq key.rest.items (rest_of name)
+
+-- it was made of the name
+pub record IsKeyOf (name : List ℕ) (key : Key) : Type 0 where
+  pub number : key.number ≡ number_of name
+  pub rest : key.rest.items ≡ rest_of name
+
+-- the keys are one
+abbrev pub same_key : Key → Key → Bool
+same_key k x = nat_eq k.number x.number && bytes_eq k.rest.items x.rest.items
+
+-- one of the keys is this one
+abbrev pub has_key : List Key → Key → Bool
+has_key keys key = list_any (same_key key) keys
+
+-- the names have this key
+abbrev pub holds : Names → Key → Bool
+holds names key = has_key names.kept.keys key || has_key names.crowded.keys key
+
+-- the names have this one
 unfoldable pub is_among : Names → List ℕ → Bool
-is_among names q = if is_short q then has_key names.short (key_of q) else has_text names.long q
+is_among names name = list_any (is_key_of name) names.kept.keys || list_any (is_key_of name) names.crowded.keys
+
+-- the new names are the old ones and that of the key
+abbrev pub IsWith : Key → Names → Names → Type 0
+IsWith key old new = (q : List ℕ) → is_among new q ≡ (is_key_of q key || is_among old q)
+
+-- they are the same names
+abbrev pub IsSame : Names → Names → Type 0
+IsSame old new = (q : List ℕ) → is_among new q ≡ is_among old q

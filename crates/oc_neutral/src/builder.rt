@@ -106,9 +106,10 @@ impl Builder {
     /// Adds a symbol, and gives its position.
     ///
     /// `DuplicateName` exactly where it is not a Local, and neither is a symbol that was added with
-    /// the same name. `NoMemory` where memory ran out. The time is that of comparing the name with
-    /// about log2(n) of n names, as numbers of 128 bits, and of copying one of more than fifteen
-    /// bytes; it is also spent for each symbol that was added by `add_new_symbol` before.
+    /// the same name. `NoMemory` where memory ran out. The time is that of a look into a table of
+    /// names, and of copying one of more than fifteen bytes; a name that was chosen to crowd the
+    /// table is compared with about log2(n) of n such names. It is also spent for each symbol that
+    /// was added by `add_new_symbol` before.
     pub fn add_symbol(&mut self, symbol: Symbol) -> Result<u32, BuildFault>
         requires room { length self.old.object.symbols < 2 ^ 31 - 1 }
         ensures position { IfOk result (λ k. k ≡ length self.old.object.symbols) }

@@ -3,10 +3,12 @@
 #![tactic(auto)]
 
 mod builder;
+mod crowds;
 mod determined;
 mod fault;
 mod fields;
 mod fitted;
+mod key;
 mod laws;
 mod limits;
 mod named;

@@ -1,84 +1,25 @@
 //! Sets of names.
-ghost use Rattle.std.specs.Prelude.{◌≡◌, ℕ, List, [], true, false, not, ◌||◌, ◌≤◌, ◌<◌, ◌*◌, ◌^◌, bytes_eq, nat_eq, length, get_or, IfOk, OnErr, OnOk};
+ghost use Rattle.std.specs.Prelude.{◌≡◌, List, ℕ, true, false, not, ◌||◌, bytes_eq, IfOk, OnErr, OnOk, if◌then◌else◌};
+ghost use Rattle.oc_neutral.specs.Crowds.{counted};
 ghost use Rattle.oc_neutral.specs.Names as names;
 
+#[cfg(test)]
+mod tests;
+
+use crate::crowds::{Crowds, stretch_of};
+use crate::key::Key;
+use indexmap::IndexSet;
 use oc_base::NoMemory;
 use std::alloc::Global;
 use std::collections::BTreeSet;
+use std::hash::BuildHasher;
 
-/// How many bytes a short name may have.
-const SHORT: usize = 15;
-
-/// The base of a hash: the prime of the Fowler-Noll-Vo hash of 64 bits.
-const BASE: u64 = 0x100_0000_01B3;
-
-/// A set of names. A short one is kept as a number, in no memory of its own; a long one as a copy,
-/// behind its hash, so that few comparisons look at the bytes.
+/// A set of names, in order of first use. Those that would crowd its table are in an ordered set.
 #[derive(Drop)]
 pub(crate) struct Names {
-    short: BTreeSet<u128>,
-    long: BTreeSet<(u64, Vec<u8>)>,
-}
-
-// whether a name is short
-fn is_short(name: &[u8]) -> bool
-    ensures { result ≡ names.is_short name.now }
-{
-    name.len() <= SHORT
-}
-
-// a byte of a name, 0 behind its end
-fn byte_at(name: &[u8], i: usize) -> u8
-    ensures { result ≡ get_or name.now i 0 }
-{
-    if i < name.len() { name[i] } else { 0 }
-}
-
-// the number of a short name: its bytes, with zeros behind them, and its length are the digits, so
-// the order of these numbers is that of the names
-fn key_of(name: &[u8]) -> u128
-    requires { length name.now ≤ 15 }
-    ensures { result ≡ names.key_of name.now }
-{
-    let mut key: u128 = 0;
-    for i in 0..SHORT {
-        key = key * 256 + u128::from(byte_at(name, i));
-    }
-    key * 256 + name.len() as u128
-}
-
-// the hash of a name; names that share it are told apart by their bytes
-fn hash_of(name: &[u8]) -> u64
-    ensures { result ≡ names.hash_of name.now }
-{
-    let mut hash: u64 = 0;
-    for byte in name {
-        hash = hash.wrapping_mul(BASE).wrapping_add(u64::from(*byte));
-    }
-    hash
-}
-
-// adds the number of a short name, and tells whether it was new
-fn insert_short(short: &mut BTreeSet<u128>, key: u128) -> Result<bool, NoMemory>
-    ensures new { IfOk result (λ new. new ≡ not (names.has_key short.old key)) }
-    ensures added { OnOk result ((k : ℕ) → names.has_key short.new k ≡ (nat_eq k key || names.has_key short.old k)) }
-    ensures same { OnErr result ((k : ℕ) → names.has_key short.new k ≡ names.has_key short.old k) }
-{
-    Ok(short.insert(key)?)
-}
-
-// adds a copy of a name, and tells whether it was new
-fn insert_long(
-    alloc: Global,
-    long: &mut BTreeSet<(u64, Vec<u8>)>,
-    name: &[u8],
-) -> Result<bool, NoMemory>
-    ensures new { IfOk result (λ new. new ≡ not (names.has_text long.old name.now)) }
-    ensures added { OnOk result ((q : List ℕ) → names.has_text long.new q ≡ (bytes_eq name.now q || names.has_text long.old q)) }
-    ensures same { OnErr result ((q : List ℕ) → names.has_text long.new q ≡ names.has_text long.old q) }
-{
-    let copy = name.to_vec(alloc)?;
-    Ok(long.insert((hash_of(name), copy))?)
+    kept: IndexSet<Key>,
+    crowded: BTreeSet<Key>,
+    crowds: Crowds,
 }
 
 impl Names {
@@ -87,25 +28,90 @@ impl Names {
         ensures { (q : List ℕ) → names.is_among result q ≡ false }
     {
         Names {
-            short: BTreeSet::new(alloc),
-            long: BTreeSet::new(alloc),
+            kept: IndexSet::new(alloc),
+            crowded: BTreeSet::new(alloc),
+            crowds: Crowds::new(alloc),
+        }
+    }
+
+    // the stretch of the table to which a key belongs
+    fn stretch_of(&self, key: &Key) -> usize {
+        stretch_of(self.kept.hasher().hash_one(key), self.kept.capacity())
+    }
+
+    // counts the keys in each stretch anew where the table has grown; `NoMemory` where memory ran out
+    fn recount(&mut self, alloc: Global) -> Result<(), NoMemory>
+        ensures kept { self.new.kept ≡ self.old.kept }
+        ensures crowded { self.new.crowded ≡ self.old.crowded }
+    {
+        let capacity = self.kept.capacity();
+        if self.crowds.are_of_table(capacity) {
+            return Ok(());
+        }
+        let mut crowds = Crowds::of_table(alloc, capacity)?;
+        for key in &self.kept {
+            crowds.count(self.stretch_of(key));
+        }
+        self.crowds = crowds;
+        Ok(())
+    }
+
+    // adds a key to the table, and tells whether it was new; `NoMemory` where memory ran out
+    fn keep(&mut self, key: Key, stretch: usize) -> Result<bool, NoMemory>
+        requires { names.has_key self.old.crowded.keys key ≡ false }
+        ensures counted { IfOk result (λ new. self.new.crowds.counts.items ≡ (if new then counted self.old.crowds.counts.items stretch else self.old.crowds.counts.items)) }
+        ensures new { IfOk result (λ new. new ≡ not (names.holds self.old key)) }
+        ensures added { OnOk result (names.IsWith key self.old self.new) }
+        ensures same { OnErr result (names.IsSame self.old self.new) }
+    {
+        let new = self.kept.insert(key)?;
+        if new {
+            self.crowds.count(stretch);
+        }
+        Ok(new)
+    }
+
+    // adds a key beside the table, and tells whether it was new; `NoMemory` where memory ran out
+    fn set_aside(&mut self, key: Key) -> Result<bool, NoMemory>
+        ensures new { IfOk result (λ new. new ≡ not (names.holds self.old key)) }
+        ensures added { OnOk result (names.IsWith key self.old self.new) }
+        ensures same { OnErr result (names.IsSame self.old self.new) }
+    {
+        if self.kept.contains(&key) {
+            return Ok(false);
+        }
+        Ok(self.crowded.insert(key)?)
+    }
+
+    // adds a key where there is room for it, and tells whether it was new; `NoMemory` where memory ran out
+    fn insert_key(&mut self, alloc: Global, key: Key) -> Result<bool, NoMemory>
+        ensures new { IfOk result (λ new. new ≡ not (names.holds self.old key)) }
+        ensures added { OnOk result (names.IsWith key self.old self.new) }
+        ensures same { OnErr result (names.IsSame self.old self.new) }
+    {
+        if self.crowded.contains(&key) {
+            return Ok(false);
+        }
+        self.recount(alloc)?;
+        let stretch = self.stretch_of(&key);
+        if self.crowds.has_room(stretch) {
+            self.keep(key, stretch)
+        } else {
+            self.set_aside(key)
         }
     }
 
     /// Adds a name, and tells whether it was new.
     ///
-    /// `NoMemory` where memory ran out; then the names stay. Time for comparing about log2(n) numbers
-    /// of n names; a name of more than fifteen bytes is also copied, and compared with those that
-    /// share its hash.
+    /// `NoMemory` where memory ran out; then the names stay. Time for a walk along the name and a
+    /// look into a table, at one group or at few, and at most 704 whoever chose the names; a name
+    /// that would crowd the table is also compared with about log2(n) keys of n such names.
     pub(crate) fn insert(&mut self, alloc: Global, name: &[u8]) -> Result<bool, NoMemory>
         ensures new { IfOk result (λ new. new ≡ not (names.is_among self.old name.now)) }
         ensures added { OnOk result ((q : List ℕ) → names.is_among self.new q ≡ (bytes_eq name.now q || names.is_among self.old q)) }
         ensures same { OnErr result ((q : List ℕ) → names.is_among self.new q ≡ names.is_among self.old q) }
     {
-        if is_short(name) {
-            insert_short(&mut self.short, key_of(name))
-        } else {
-            insert_long(alloc, &mut self.long, name)
-        }
+        let key = Key::of(alloc, name)?;
+        self.insert_key(alloc, key)
     }
 }

@@ -1,7 +1,7 @@
 use Rattle.std.proofs.Common.{◌≡◌, ◌∙◌, ap, arith, length, sym}
 use Rattle.std.proofs.lemmas.List.{drop_all}
 use Rattle.oc_neutral.specs.Names.{hash_of, hashed}
-use Rattle.oc_neutral.proofs.names.hash_of.Goals as goal
+use Rattle.oc_neutral.proofs.key.hash_of.Goals as goal
 
 pub returns : goal.returns
 unfolding hash_of
