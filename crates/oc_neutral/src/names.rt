@@ -1,6 +1,6 @@
 //! Sets of names.
 ghost use Rattle.std.specs.Prelude.{◌≡◌, List, ℕ, true, false, not, ◌||◌, bytes_eq, IfOk, OnErr, OnOk, if◌then◌else◌};
-ghost use Rattle.oc_neutral.specs.Crowds.{counted};
+ghost use Rattle.oc_neutral.specs.Crowds as crowds;
 ghost use Rattle.oc_neutral.specs.Names as names;
 
 #[cfg(test)]
@@ -35,7 +35,9 @@ impl Names {
     }
 
     // the stretch of the table to which a key belongs
-    fn stretch_of(&self, key: &Key) -> usize {
+    fn stretch_of(&self, key: &Key) -> usize
+        ensures { result ≡ crowds.stretch_in self.now key.now }
+    {
         stretch_of(self.kept.hasher().hash_one(key), self.kept.capacity())
     }
 
@@ -43,13 +45,14 @@ impl Names {
     fn recount(&mut self, alloc: Global) -> Result<(), NoMemory>
         ensures kept { self.new.kept ≡ self.old.kept }
         ensures crowded { self.new.crowded ≡ self.old.crowded }
+        ensures counted { OnOk result (self.new.crowds.counts.items ≡ crowds.recounted self.old) }
     {
         let capacity = self.kept.capacity();
         if self.crowds.are_of_table(capacity) {
             return Ok(());
         }
         let mut crowds = Crowds::of_table(alloc, capacity)?;
-        for key in &self.kept {
+        for key in self.kept.as_slice() {
             crowds.count(self.stretch_of(key));
         }
         self.crowds = crowds;
@@ -59,10 +62,11 @@ impl Names {
     // adds a key to the table, and tells whether it was new; `NoMemory` where memory ran out
     fn keep(&mut self, key: Key, stretch: usize) -> Result<bool, NoMemory>
         requires { names.has_key self.old.crowded.keys key ≡ false }
-        ensures counted { IfOk result (λ new. self.new.crowds.counts.items ≡ (if new then counted self.old.crowds.counts.items stretch else self.old.crowds.counts.items)) }
+        ensures counted { IfOk result (λ new. self.new.crowds.counts.items ≡ (if new then crowds.counted self.old.crowds.counts.items stretch else self.old.crowds.counts.items)) }
         ensures new { IfOk result (λ new. new ≡ not (names.holds self.old key)) }
         ensures added { OnOk result (names.IsWith key self.old self.new) }
         ensures same { OnErr result (names.IsSame self.old self.new) }
+        ensures crowded { self.new.crowded ≡ self.old.crowded }
     {
         let new = self.kept.insert(key)?;
         if new {
@@ -76,6 +80,7 @@ impl Names {
         ensures new { IfOk result (λ new. new ≡ not (names.holds self.old key)) }
         ensures added { OnOk result (names.IsWith key self.old self.new) }
         ensures same { OnErr result (names.IsSame self.old self.new) }
+        ensures kept { self.new.kept ≡ self.old.kept }
     {
         if self.kept.contains(&key) {
             return Ok(false);
@@ -88,6 +93,7 @@ impl Names {
         ensures new { IfOk result (λ new. new ≡ not (names.holds self.old key)) }
         ensures added { OnOk result (names.IsWith key self.old self.new) }
         ensures same { OnErr result (names.IsSame self.old self.new) }
+        ensures placed { OnOk result (crowds.IsPlaced key self.old self.new) }
     {
         if self.crowded.contains(&key) {
             return Ok(false);
