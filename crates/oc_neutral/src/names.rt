@@ -1,5 +1,5 @@
 //! Sets of names.
-ghost use Rattle.std.specs.Prelude.{◌≡◌, List, ℕ, true, false, not, ◌||◌, bytes_eq, IfOk, OnErr, OnOk, if◌then◌else◌};
+ghost use Rattle.std.specs.Prelude.{◌≡◌, List, [], ◌∷◌, ◌++◌, ℕ, true, false, not, ◌||◌, bytes_eq, IfOk, OnErr, OnOk, if◌then◌else◌};
 ghost use Rattle.oc_neutral.specs.Crowds as crowds;
 ghost use Rattle.oc_neutral.specs.Names as names;
 
@@ -66,6 +66,7 @@ impl Names {
         ensures new { IfOk result (λ new. new ≡ not (names.holds self.old key)) }
         ensures added { OnOk result (names.IsWith key self.old self.new) }
         ensures same { OnErr result (names.IsSame self.old self.new) }
+        ensures order { IfOk result (λ new. self.new.kept.keys ≡ (if new then self.old.kept.keys ++ key ∷ [] else self.old.kept.keys)) }
         ensures crowded { self.new.crowded ≡ self.old.crowded }
     {
         let new = self.kept.insert(key)?;
