@@ -1,6 +1,7 @@
 -- The set of names that a Builder keeps (our profile).
-use Rattle.std.specs.Prelude.{◌≡◌, ℕ, ◌+◌, ◌*◌, ◌%◌, ◌^◌, Bool, ◌&&◌, ◌||◌, nat_eq, nat_le, nat_lt, bytes_eq, if◌then◌else◌, List, [], ◌∷◌, length, map, get_or}
+use Rattle.std.specs.Prelude.{◌≡◌, ℕ, ◌+◌, ◌*◌, Bool, ◌&&◌, ◌||◌, nat_eq, nat_le, nat_lt, bytes_eq, if◌then◌else◌, List, [], ◌∷◌, length, map, get_or}
 use Rattle.std.specs.List.{list_all, list_any, range_with_len}
+use Rattle.std.specs.Hash.DefaultHasher.{finish, initial, write}
 use Rattle.oc_neutral.specs.declared.key.Key.{Key}
 use Rattle.oc_neutral.specs.declared.names.Names.{Names}
 
@@ -21,14 +22,9 @@ short_number name = digits 0 (padded name 15) * 256 + length name
 unfoldable pub is_short : List ℕ → Bool
 is_short name = nat_le (length name) 15 && list_all (λ x. nat_lt x 256) name
 
--- a hash of further bytes
-abbrev pub hashed : ℕ → List ℕ → ℕ
-hashed a [] = a
-hashed a (x ∷ xs) = hashed ((a * 0x100000001B3 % 2 ^ 64 + x) % 2 ^ 64) xs
-
--- the hash of a name: its bytes are digits to the base of the 64-bit FNV prime, modulo 2^64
+-- the hash of a name by SipHash-1-3, both of whose keys are 0
 unfoldable pub hash_of : List ℕ → ℕ
-hash_of name = hashed 0 name
+hash_of name = finish (write initial name)
 
 -- what a name is hashed by
 abbrev pub number_of : List ℕ → ℕ

@@ -6,13 +6,10 @@ ghost use Rattle.oc_neutral.specs.Names as names;
 
 use oc_base::NoMemory;
 use std::alloc::Global;
-use std::hash::{Hash, Hasher};
+use std::hash::{DefaultHasher, Hash, Hasher};
 
 /// How many bytes a short name may have.
 const SHORT: usize = 15;
-
-/// The base of a hash: the prime of the Fowler-Noll-Vo hash of 64 bits.
-const BASE: u64 = 0x100_0000_01B3;
 
 /// What stands for a name: of a short one its number alone, which is in no memory of its own; of a
 /// long one its hash and a copy.
@@ -61,14 +58,13 @@ fn short_number(name: &[u8]) -> u128
 }
 
 // the hash of a name; names that share it are told apart by their bytes
+#[tactic(auto, unfolding(crate::specs::Names::hash_of))]
 fn hash_of(name: &[u8]) -> u64
     ensures { result ≡ names.hash_of name.now }
 {
-    let mut hash: u64 = 0;
-    for byte in name {
-        hash = hash.wrapping_mul(BASE).wrapping_add(u64::from(*byte));
-    }
-    hash
+    let mut hasher = DefaultHasher::new();
+    hasher.write(name);
+    hasher.finish()
 }
 
 impl Key {
