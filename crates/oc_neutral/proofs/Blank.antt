@@ -39,7 +39,7 @@ use Rattle.oc_neutral.specs.Invariants.{IsHeld, IsObject}
 use Rattle.oc_neutral.specs.Worth.{worth_at, target_worth, base_of, less_of, residue_at}
 use Rattle.oc_neutral.specs.Faces.{contents_of, field_of, named_of, number_of}
 use Rattle.oc_neutral.specs.Families.{same_format}
-use Rattle.oc_neutral.specs.SelfReferences.{is_self_reference}
+use Rattle.oc_neutral.specs.Mach.SelfReferences.{is_self_reference}
 use Rattle.oc_neutral.specs.Dialects.{Look}
 use Rattle.oc_neutral.specs.Shows.{reloc_look, looks_of, patches_of}
 use Rattle.oc_neutral.specs.Fitted.{FitsAt, is_stored_at}

@@ -3,12 +3,12 @@ use Rattle.std.proofs.Common.{◌≡◌, ℕ, true, false, ◌/◌, ◌%◌, ◌
 use Rattle.std.specs.Prelude.{nat_eq, nat_lt, not, ◌||◌}
 use Rattle.oc_linking.specs.declared.terms.Kind.{Kind}
 use Rattle.oc_linking.specs.declared.terms.Kind.TheVariants.{Code, ReadOnly, Data, Zero, Init, Fini, Debug, Exception, Note}
-use Rattle.oc_neutral.specs.Constants.{SHT_NOBITS, SHF_ALLOC}
+use Rattle.oc_neutral.specs.declared.elf.TheConstants.{SHT_NOBITS, SHF_ALLOC}
 use Rattle.oc_neutral.specs.Families.{IsElf, IsCoff, IsMach}
 use Rattle.oc_neutral.specs.KindRules.{has, same_kind}
-use Rattle.oc_neutral.specs.ElfKinds.{is_carried_type, elf_kind, elf_tag, elf_tag_type, elf_tag_flags}
-use Rattle.oc_neutral.specs.CoffKinds.{coff_kind, coff_tag}
-use Rattle.oc_neutral.specs.MachKinds.{segment_of, section_of, is_read_type, mach_kind, mach_tag}
+use Rattle.oc_neutral.specs.Elf.Kinds.{is_carried_type, elf_kind, elf_tag, elf_tag_type, elf_tag_flags}
+use Rattle.oc_neutral.specs.Coff.Kinds.{coff_kind, coff_tag}
+use Rattle.oc_neutral.specs.Mach.Kinds.{segment_of, section_of, is_read_type, mach_kind, mach_tag}
 use Rattle.oc_neutral.specs.GivenTags.{has_nul, is_mach_name, elf_gives, coff_gives, mach_gives, family_gives}
 
 -- a kind is the same as itself

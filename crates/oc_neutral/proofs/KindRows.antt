@@ -5,10 +5,10 @@ use Rattle.oc_linking.specs.declared.terms.Kind.{Kind}
 use Rattle.oc_linking.specs.declared.terms.Kind.TheVariants.{Code, ReadOnly, Data, Zero, Init, Fini, Debug, Exception, Note}
 use Rattle.oc_base.specs.declared.format.Format.{Format}
 use Rattle.oc_base.specs.declared.format.Format.TheVariants.{Elf32, Elf64, Coff32, Coff64, Mac32, Mac64, Omf}
-use Rattle.oc_neutral.specs.ElfKinds.{elf_kind, elf_tag, elf_tag_type, elf_tag_flags, is_nobits_tag, is_carried_type}
-use Rattle.oc_neutral.specs.CoffKinds.{coff_kind, coff_tag}
-use Rattle.oc_neutral.specs.MachKinds.{mach_kind, mach_tag, mach_name, segment_of, section_of, is_zerofill_tag}
-use Rattle.oc_neutral.specs.OmfKinds.{omf_kind, omf_class}
+use Rattle.oc_neutral.specs.Elf.Kinds.{elf_kind, elf_tag, elf_tag_type, elf_tag_flags, is_nobits_tag, is_carried_type}
+use Rattle.oc_neutral.specs.Coff.Kinds.{coff_kind, coff_tag}
+use Rattle.oc_neutral.specs.Mach.Kinds.{mach_kind, mach_tag, mach_name, segment_of, section_of, is_zerofill_tag}
+use Rattle.oc_neutral.specs.Omf.Kinds.{omf_kind, omf_class}
 use Rattle.oc_neutral.specs.GivenTags.{can_have, is_blank_type, family_gives, elf_gives, coff_gives, mach_gives}
 
 -- an ELF section: name, type, flags, and the kind that it must have

@@ -5,13 +5,13 @@ use Rattle.std.specs.Option.{option_map_or}
 use Rattle.oc_base.specs.declared.format.Format.{Format}
 use Rattle.oc_linking.specs.declared.terms.Kind.{Kind}
 use Rattle.oc_linking.specs.declared.terms.Kind.TheVariants.{Code, ReadOnly, Data, Zero, Init, Fini, Debug, Exception, Note}
-use Rattle.oc_neutral.specs.Constants.{SHF_ALLOC}
+use Rattle.oc_neutral.specs.declared.elf.TheConstants.{SHF_ALLOC}
 use Rattle.oc_neutral.specs.Families.{Family, IsElf, IsCoff, IsMach, IsOmf, family_of}
 use Rattle.oc_neutral.specs.KindRules.{has, same_kind}
-use Rattle.oc_neutral.specs.ElfKinds.{is_carried_type, elf_kind, elf_tag_type, elf_tag_flags, is_nobits_tag}
-use Rattle.oc_neutral.specs.CoffKinds.{coff_kind, coff_tag}
-use Rattle.oc_neutral.specs.MachKinds.{is_comma, segment_of, section_of, is_read_type, mach_kind, mach_tag, is_zerofill_tag}
-use Rattle.oc_neutral.specs.OmfKinds.{omf_tag}
+use Rattle.oc_neutral.specs.Elf.Kinds.{is_carried_type, elf_kind, elf_tag_type, elf_tag_flags, is_nobits_tag}
+use Rattle.oc_neutral.specs.Coff.Kinds.{coff_kind, coff_tag}
+use Rattle.oc_neutral.specs.Mach.Kinds.{is_comma, segment_of, section_of, is_read_type, mach_kind, mach_tag, is_zerofill_tag}
+use Rattle.oc_neutral.specs.Omf.Kinds.{omf_tag}
 
 -- a NUL is among the bytes
 abbrev pub has_nul : List ℕ → Bool

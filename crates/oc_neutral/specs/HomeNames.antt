@@ -8,12 +8,14 @@ use Rattle.oc_base.specs.Strings.{is_given}
 use Rattle.oc_linking.specs.declared.terms.Kind.{Kind}
 use Rattle.oc_linking.specs.declared.terms.Kind.TheVariants.{Code, ReadOnly, Data, Zero, Init, Fini, Debug, Exception, Note}
 use Rattle.oc_neutral.specs.declared.section.Section.{Section}
-use Rattle.oc_neutral.specs.Constants.{SHT_PROGBITS, SHT_NOBITS, SHT_INIT_ARRAY, SHT_FINI_ARRAY, SHF_WRITE, SHF_ALLOC, SHF_EXECINSTR, IMAGE_SCN_CNT_CODE, IMAGE_SCN_CNT_INITIALIZED_DATA, IMAGE_SCN_CNT_UNINITIALIZED_DATA, IMAGE_SCN_MEM_EXECUTE, IMAGE_SCN_MEM_READ, IMAGE_SCN_MEM_WRITE, S_REGULAR, S_ZEROFILL, S_MOD_INIT_FUNC_POINTERS, S_MOD_TERM_FUNC_POINTERS, S_ATTR_SOME_INSTRUCTIONS, S_ATTR_PURE_INSTRUCTIONS}
+use Rattle.oc_neutral.specs.declared.elf.TheConstants.{SHT_PROGBITS, SHT_NOBITS, SHT_INIT_ARRAY, SHT_FINI_ARRAY, SHF_WRITE, SHF_ALLOC, SHF_EXECINSTR}
+use Rattle.oc_neutral.specs.declared.coff.TheConstants.{IMAGE_SCN_CNT_CODE, IMAGE_SCN_CNT_INITIALIZED_DATA, IMAGE_SCN_CNT_UNINITIALIZED_DATA, IMAGE_SCN_MEM_EXECUTE, IMAGE_SCN_MEM_READ, IMAGE_SCN_MEM_WRITE}
+use Rattle.oc_neutral.specs.declared.mach.TheConstants.{S_REGULAR, S_ZEROFILL, S_MOD_INIT_FUNC_POINTERS, S_MOD_TERM_FUNC_POINTERS, S_ATTR_SOME_INSTRUCTIONS, S_ATTR_PURE_INSTRUCTIONS}
 use Rattle.oc_neutral.specs.Families.{Family, IsElf, IsCoff, IsMach, IsOmf, family_of, is_of, same_format}
 use Rattle.oc_neutral.specs.KindRules.{same_kind}
-use Rattle.oc_neutral.specs.ElfKinds.{elf_tag}
-use Rattle.oc_neutral.specs.MachKinds.{mach_name, segment_of}
-use Rattle.oc_neutral.specs.OmfKinds.{omf_tag}
+use Rattle.oc_neutral.specs.Elf.Kinds.{elf_tag}
+use Rattle.oc_neutral.specs.Mach.Kinds.{mach_name, segment_of}
+use Rattle.oc_neutral.specs.Omf.Kinds.{omf_tag}
 use Rattle.oc_neutral.specs.Objects.{Object}
 use Rattle.oc_neutral.specs.Relocated.{is_relocated}
 

@@ -4,10 +4,10 @@ use Rattle.std.specs.List.{find}
 use Rattle.oc_base.specs.declared.format.Format.{Format}
 use Rattle.oc_base.specs.declared.format.Format.TheVariants.{Elf32, Elf64, Coff32, Coff64, Mac32, Mac64, Omf}
 use Rattle.oc_neutral.specs.Rows.{Row}
-use Rattle.oc_neutral.specs.ElfRelocs.{elf32_rows, elf64_rows}
-use Rattle.oc_neutral.specs.CoffRelocs.{coff32_rows, coff64_rows}
-use Rattle.oc_neutral.specs.MachRelocs.{MachRow, mac32_entries, mac64_entries, entry_among}
-use Rattle.oc_neutral.specs.OmfRelocs.{omf_rows}
+use Rattle.oc_neutral.specs.Elf.Relocs.{elf32_rows, elf64_rows}
+use Rattle.oc_neutral.specs.Coff.Relocs.{coff32_rows, coff64_rows}
+use Rattle.oc_neutral.specs.Mach.Relocs.{MachRow, mac32_entries, mac64_entries, entry_among}
+use Rattle.oc_neutral.specs.Omf.Relocs.{omf_rows}
 
 -- the entries of Mach-O; the other formats have none
 abbrev pub entries_of : Format → List MachRow

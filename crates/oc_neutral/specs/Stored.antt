@@ -4,7 +4,7 @@ use Rattle.oc_base.specs.declared.format.Format.{Format}
 use Rattle.oc_base.specs.declared.format.Format.TheVariants.{Mac64}
 use Rattle.oc_neutral.specs.declared.reloc.Reloc.{Reloc}
 use Rattle.oc_neutral.specs.Families.{same_format}
-use Rattle.oc_neutral.specs.SelfReferences.{is_self_reference}
+use Rattle.oc_neutral.specs.Mach.SelfReferences.{is_self_reference}
 
 -- in that format, a relocation in section s is stored as the constant that it is: in mac64, an eight-byte distance within its own section
 abbrev pub is_stored : Format → ℕ → Reloc → Bool

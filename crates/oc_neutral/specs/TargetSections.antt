@@ -20,7 +20,7 @@ use Rattle.oc_neutral.specs.Objects.{Object}
 use Rattle.oc_neutral.specs.Relocated.{is_relocated}
 use Rattle.oc_neutral.specs.HomeNames.{output_names}
 use Rattle.oc_neutral.specs.Alignments.{most_align}
-use Rattle.oc_neutral.specs.CoffStrings.{is_tabled, string_offset}
+use Rattle.oc_neutral.specs.Coff.Strings.{is_tabled, string_offset}
 
 -- the conditions on what stands at a spot: whether each is broken, and its code
 abbrev pub judged : Spot → List (Bool × Code) → List Condition

@@ -7,7 +7,7 @@ use Rattle.oc_linking.specs.declared.terms.Value.TheVariants.{Place, Absolute}
 use Rattle.oc_linking.specs.declared.terms.Binding.{Binding}
 use Rattle.oc_linking.specs.declared.terms.Binding.TheVariants.{Local, Global, Undefined, Common, Weak}
 use Rattle.oc_neutral.specs.declared.symbol.Symbol.{Symbol}
-use Rattle.oc_neutral.specs.SectionSymbols.{is_start_named}
+use Rattle.oc_neutral.specs.Mach.SectionSymbols.{is_start_named}
 
 -- the value is an absolute number of more than 32 bits
 abbrev pub is_long_number : Value → Bool

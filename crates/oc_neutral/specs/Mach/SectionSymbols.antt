@@ -11,7 +11,7 @@ use Rattle.oc_chains.specs.declared.field.Field.{Field}
 use Rattle.oc_neutral.specs.declared.reloc.Reloc.{Reloc}
 use Rattle.oc_neutral.specs.Objects.{Object}
 use Rattle.oc_neutral.specs.Normal.{takes_section}
-use Rattle.oc_neutral.specs.SelfReferences.{is_section, is_long_distance}
+use Rattle.oc_neutral.specs.Mach.SelfReferences.{is_section, is_long_distance}
 use Rattle.oc_neutral.specs.Relocated.{stays}
 
 -- the name of the symbol of section k, counted from 1

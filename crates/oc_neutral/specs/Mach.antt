@@ -1,0 +1,4 @@
+pub mod Kinds
+pub mod Relocs
+pub mod SectionSymbols
+pub mod SelfReferences
