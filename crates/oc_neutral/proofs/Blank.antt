@@ -38,7 +38,7 @@ use Rattle.oc_neutral.specs.Building.{is_zero}
 use Rattle.oc_neutral.specs.Invariants.{IsHeld, IsObject}
 use Rattle.oc_neutral.specs.Worth.{worth_at, target_worth, base_of, less_of, residue_at}
 use Rattle.oc_neutral.specs.Faces.{contents_of, field_of, named_of, number_of}
-use Rattle.oc_neutral.specs.Families.{same_format}
+use Rattle.oc_neutral.specs.Families.{family_of}
 use Rattle.oc_neutral.specs.Mach.SelfReferences.{is_self_reference}
 use Rattle.oc_neutral.specs.Dialects.{Look}
 use Rattle.oc_neutral.specs.Shows.{reloc_look, looks_of, patches_of}
@@ -191,13 +191,13 @@ module _ (n m : Object) (word : word_for m.format ≡ word_for n.format) (relocs
           let made : Named → Look = λ x. record { base = r.form.base; less = r.form.less; width = r.form.width; check = r.form.check; target = x; hint = r.hint } in
           ap (λ x. Some (made x)) (named_same m.symbols n.symbols long numbers r.target)
 
--- a target that is not mac64 stores no constant
-module _ (target : Format) (other : same_format target Mac64 ≡ false) (n : Object) where
+-- a target that stores no constants stores none of an object
+module _ (target : Format) (other : (family_of target).stores_own_start ≡ false) (n : Object) where
   pub none_stored : (s at : ℕ) → is_stored_at target n s at ≡ false
   unfolding is_stored_at
   none_stored s at = by (reloc_at n s at)
     where
-      by : (o : Option Reloc) → option_map_or (λ r. same_format target Mac64 && is_self_reference s r) o false ≡ false
+      by : (o : Option Reloc) → option_map_or (λ r. (family_of target).stores_own_start && is_self_reference s r) o false ≡ false
       by None = refl
       by (Some r) = ap (λ b. b && is_self_reference s r) other
 
@@ -205,7 +205,7 @@ module _ (target : Format) (other : same_format target Mac64 ≡ false) (n : Obj
   nothing_stored = fun_ext (λ s. fun_ext (λ at. none_stored s at))
 
 -- so an object with the contents and the fields of another fits it there
-module _ (target : Format) (n m : Object) (is : IsObject n) (other : same_format target Mac64 ≡ false) (word : word_for m.format ≡ word_for n.format) (relocs : m.relocs ≡ n.relocs)
+module _ (target : Format) (n m : Object) (is : IsObject n) (other : (family_of target).stores_own_start ≡ false) (word : word_for m.format ≡ word_for n.format) (relocs : m.relocs ≡ n.relocs)
     (long : length m.symbols ≡ length n.symbols) (numbers : (k : ℕ) → number_of m.symbols k ≡ number_of n.symbols k) where
   pub fits_blank : map contents_of m.sections ≡ map contents_of n.sections → (p : Placement) (v : Valuation) → FitsAt target n m p v
   fits_blank contents p v = record {
@@ -222,7 +222,7 @@ contents_bare [] = refl
 contents_bare (x ∷ xs) = ap (λ ys. contents_of x ∷ ys) (contents_bare xs)
 
 -- and so does one that differs in the dress of sections and the alignments of commons alone
-module _ (target : Format) (n m : Object) (is : IsObject n) (other : same_format target Mac64 ≡ false) (like : IsLike n m) where
+module _ (target : Format) (n m : Object) (is : IsObject n) (other : (family_of target).stores_own_start ≡ false) (like : IsLike n m) where
   pub fits_like : (p : Placement) (v : Valuation) → FitsAt target n m p v
   fits_like = fits_blank target n m is other like.word like.relocs (symbols_long n m like) (numbers_like n m like)
       (sym (contents_bare m.sections) ∙ ap (map contents_of) like.sections ∙ contents_bare n.sections)

@@ -4,12 +4,14 @@ use Rattle.std.specs.Prelude.{nat_eq, nat_lt, not, ◌||◌}
 use Rattle.oc_linking.specs.declared.terms.Kind.{Kind}
 use Rattle.oc_linking.specs.declared.terms.Kind.TheVariants.{Code, ReadOnly, Data, Zero, Init, Fini, Debug, Exception, Note}
 use Rattle.oc_neutral.specs.declared.elf.TheConstants.{SHT_NOBITS, SHF_ALLOC}
-use Rattle.oc_neutral.specs.Families.{IsElf, IsCoff, IsMach}
-use Rattle.oc_neutral.specs.KindRules.{has, same_kind}
+use Rattle.oc_base.specs.declared.format.Word.{Word}
+use Rattle.oc_neutral.specs.KindRules.{has, has_nul, same_kind}
+use Rattle.oc_neutral.specs.Elf.Family.{elf_gives, elf_family}
+use Rattle.oc_neutral.specs.Coff.Family.{coff_gives, coff_family}
+use Rattle.oc_neutral.specs.Mach.Family.{is_mach_name, mach_gives, mach_family}
 use Rattle.oc_neutral.specs.Elf.Kinds.{is_carried_type, elf_kind, elf_tag, elf_tag_type, elf_tag_flags}
 use Rattle.oc_neutral.specs.Coff.Kinds.{coff_kind, coff_tag}
 use Rattle.oc_neutral.specs.Mach.Kinds.{segment_of, section_of, is_read_type, mach_kind, mach_tag}
-use Rattle.oc_neutral.specs.GivenTags.{has_nul, is_mach_name, elf_gives, coff_gives, mach_gives, family_gives}
 
 -- a kind is the same as itself
 pub same_kind-self : (k : Kind) → same_kind k k ≡ true
@@ -48,9 +50,9 @@ elf_kind-tag name t f = rw (elf_tag_type-back t f, elf_tag_flags-back t f, low-w
 
 -- a carried section of ELF has a name and a tag that reading can give with its kind
 pub elf_given : (name : List ℕ) (t f : ℕ) → has_nul name ≡ false → is_carried_type t ≡ true → (not (nat_eq t SHT_NOBITS) || has f SHF_ALLOC) ≡ true
-    → family_gives IsElf (elf_kind name t f) name (elf_tag t f) ≡ true
-unfolding family_gives elf_gives
-elf_given name t f no_nul carried allocated =
+    → (w : Word) → (elf_family w).gives (elf_kind name t f) name (elf_tag t f) ≡ true
+unfolding elf_gives
+elf_given name t f no_nul carried allocated w =
     rw (no_nul, elf_kind-tag name t f, elf_tag_type-back t f, elf_tag_flags-back t f, low-alloc f, carried, allocated, same_kind-self (elf_kind name t f)) refl
 
 -- the flags of COFF by which kinds are known stand in the tag
@@ -94,9 +96,9 @@ unfolding coff_tag
 coff_tag-le n = omega arith
 
 -- a carried section of COFF has a name and a tag that reading can give with its kind
-pub coff_given : (name : List ℕ) (n : ℕ) (k : Kind) → has_nul name ≡ false → n < 2 ^ 32 → coff_kind name n ≡ Some k → family_gives IsCoff k name (coff_tag n) ≡ true
-unfolding family_gives coff_gives
-coff_given name n k no_nul small kind =
+pub coff_given : (name : List ℕ) (n : ℕ) (k : Kind) → has_nul name ≡ false → n < 2 ^ 32 → coff_kind name n ≡ Some k → (w : Word) → (coff_family w).gives k name (coff_tag n) ≡ true
+unfolding coff_gives
+coff_given name n k no_nul small kind w =
     let below : nat_lt (coff_tag n) (2 ^ 32) ≡ true = search (arith, coff_tag-le n, small) in
     let twice : nat_eq (coff_tag (coff_tag n)) (coff_tag n) ≡ true = grind (arith, coff_tag-twice n) in
     rw (no_nul, below, twice, coff_kind-tag name n, kind, same_kind-self k) refl
@@ -131,9 +133,9 @@ mach_tag-le n = omega arith
 
 -- a section of Mach-O has a name and a tag that reading can give with its kind
 pub mach_given : (name : List ℕ) (n : ℕ) → has_nul name ≡ false → is_mach_name name ≡ true → n < 2 ^ 32 → is_read_type n ≡ true
-    → family_gives IsMach (mach_kind (segment_of name) (section_of name) n) name (mach_tag n) ≡ true
-unfolding family_gives mach_gives
-mach_given name n no_nul named small read =
+    → (w : Word) → (mach_family w).gives (mach_kind (segment_of name) (section_of name) n) name (mach_tag n) ≡ true
+unfolding mach_gives
+mach_given name n no_nul named small read w =
     let below : nat_lt (mach_tag n) (2 ^ 32) ≡ true = search (arith, mach_tag-le n, small) in
     let twice : nat_eq (mach_tag (mach_tag n)) (mach_tag n) ≡ true = grind (arith, mach_tag-twice n) in
     rw (no_nul, named, below, twice, tag-type n, read, mach_kind-tag (segment_of name) (section_of name) n, same_kind-self (mach_kind (segment_of name) (section_of name) n)) refl

@@ -2,7 +2,7 @@
 use Rattle.std.proofs.Common.{◌≡◌, ℕ, true, false, Bool, List, [], ◌∷◌, map, Some, None, Option, refl}
 use Rattle.std.specs.Prelude.{codes, replicate, ◌+◌, ◌^◌}
 use Rattle.std.specs.Fmt.{digits}
-use Rattle.std.specs.Option.{option_map}
+use Rattle.std.specs.Option.{option_map, option_map_or}
 use Rattle.oc_base.specs.Strings.{table_place, tops_of}
 use Rattle.oc_base.specs.declared.format.Format.{Format}
 use Rattle.oc_base.specs.declared.format.Format.TheVariants.{Elf32, Elf64, Coff32, Coff64, Mac32, Mac64, Omf}
@@ -22,9 +22,13 @@ use Rattle.oc_neutral.specs.Objects.{Object}
 use Rattle.oc_neutral.specs.HomeNames.{output_names, wanted_names}
 use Rattle.oc_neutral.specs.Relocated.{is_relocated}
 use Rattle.oc_neutral.specs.Coff.Strings.{coff_strings, string_offset}
+use Rattle.oc_base.specs.declared.format.Word.TheVariants.{W32}
+use Rattle.oc_neutral.specs.Family.{Count}
+use Rattle.oc_neutral.specs.Families.{family_of}
+use Rattle.oc_neutral.specs.Elf.Family.{signature_count}
 use Rattle.oc_neutral.specs.TargetSections as sections
 use Rattle.oc_neutral.specs.TargetSymbols as symbols
-use Rattle.oc_neutral.proofs.NameRows.{symbol}
+use Rattle.oc_neutral.proofs.NameRows.{symbol, given_strings, given_offset}
 
 -- a section of that name and alignment, which is a member of a group or of none
 abbrev member : List ℕ → ℕ → Option ℕ → ℕ → Section
@@ -103,12 +107,12 @@ led = record {
 }
 
 -- the key symbol's name is given behind its section's, and not among the others
-key-strings : coff_strings Coff32 led ≡ codes ".text$first" ∷ codes ".text$second" ∷ codes "the_key_of_both" ∷ codes ".text$third" ∷ codes "_of_both_" ∷ []
+key-strings : given_strings W32 led ≡ codes ".text$first" ∷ codes ".text$second" ∷ codes "the_key_of_both" ∷ codes ".text$third" ∷ codes "_of_both_" ∷ []
 unfolding coff_strings output_names
 key-strings = refl
 
 -- so a later section's name stands behind it: 4; 4 + 12; 16 + 13; 29 + 16; 45 + 12
-key-offsets : map (string_offset Coff32 led) (codes ".text$first" ∷ codes ".text$second" ∷ codes "the_key_of_both" ∷ codes ".text$third" ∷ codes "_of_both_" ∷ [])
+key-offsets : map (given_offset W32 led) (codes ".text$first" ∷ codes ".text$second" ∷ codes "the_key_of_both" ∷ codes ".text$third" ∷ codes "_of_both_" ∷ [])
     ≡ 4 ∷ 16 ∷ 29 ∷ 45 ∷ 57 ∷ []
 unfolding string_offset coff_strings output_names table_place tops_of
 key-offsets = refl
@@ -142,7 +146,7 @@ counted = grouped (codes "g" ∷ codes "l" ∷ codes "key" ∷ []) (member (code
     (symbol (codes "g") Undefined 1 ∷ symbol (codes "l") (Local (Place 0 0)) 2 ∷ symbol (codes "x") Undefined 3 ∷ symbol (codes "y") Undefined 4 ∷ symbol (codes "z") Undefined 5 ∷ [])
 
 -- headers: null, three groups, two sections, three tables; symbols: null, two of sections, two signatures, and five
-elf-counts : sections.header_count Elf32 counted ∷ symbols.signature_count counted ∷ symbols.elf_symbol_count counted ∷ [] ≡ 9 ∷ 2 ∷ 10 ∷ []
+elf-counts : (sections.section_counts Elf32 counted).counted ∷ signature_count counted ∷ option_map_or (λ (c : Count). c.counted) ((family_of Elf32).symbols counted) 0 ∷ [] ≡ 9 ∷ 2 ∷ 10 ∷ []
 unfolding is_relocated
 elf-counts = refl
 

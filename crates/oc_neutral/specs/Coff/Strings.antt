@@ -2,8 +2,8 @@
 use Rattle.std.specs.Prelude.{ℕ, Bool, true, false, not, ◌&&◌, ◌||◌, nat_lt, if◌then◌else◌, List, [], ◌∷◌, ◌++◌, length, map, filter, flat_map, codes}
 use Rattle.std.specs.List.{enumerate_from}
 use Rattle.std.specs.Option.{unwrap_or}
-use Rattle.oc_base.specs.declared.format.Format.{Format}
 use Rattle.oc_base.specs.Strings.{table_place}
+use Rattle.oc_linking.specs.declared.terms.Value.{Value}
 use Rattle.oc_linking.specs.declared.terms.Fallback.{Fallback}
 use Rattle.oc_linking.specs.declared.terms.Fallback.TheVariants as fallback
 use Rattle.oc_linking.specs.declared.terms.Binding.{Binding}
@@ -12,8 +12,7 @@ use Rattle.oc_linking.specs.Parts.{is_local}
 use Rattle.oc_neutral.specs.declared.symbol.Symbol.{Symbol}
 use Rattle.oc_neutral.specs.KindRules.{begins}
 use Rattle.oc_neutral.specs.Objects.{Object}
-use Rattle.oc_neutral.specs.HomeNames.{output_names}
-use Rattle.oc_neutral.specs.WrittenSymbols.{is_written}
+use Rattle.oc_neutral.specs.Bindings.{is_written_by}
 use Rattle.oc_neutral.specs.KeySymbols.{is_key, is_key_at}
 
 -- the name has no room in an entry
@@ -46,10 +45,10 @@ defaults_of name (Weak f) = if has_default f then default_name name ∷ [] else 
 abbrev pub names_where : (Symbol → Bool) → Object → List (List ℕ)
 names_where test n = map (λ (s : Symbol). s.name) (filter test n.symbols)
 
--- the names of the symbols behind those of sections and the key symbols: Locals, fallbacks, and the others that are not Local
-abbrev pub symbol_names : Format → Object → List (List ℕ)
-symbol_names target n =
-    names_where (λ (s : Symbol). is_local s.binding && is_written target s) n
+-- the names of the symbols behind those of sections and the key symbols: Locals that are written, fallbacks, and the others that are not Local
+abbrev pub symbol_names : (List ℕ → Value → Bool) → Object → List (List ℕ)
+symbol_names writes_local n =
+    names_where (λ (s : Symbol). is_local s.binding && is_written_by writes_local s.name s.binding) n
     ++ flat_map (λ (s : Symbol). defaults_of s.name s.binding) n.symbols
     ++ names_where (λ (s : Symbol). not (is_local s.binding) && not (is_key n s)) n
 
@@ -57,10 +56,10 @@ symbol_names target n =
 abbrev pub section_strings : Object → ℕ × List ℕ → List (List ℕ)
 section_strings n x = filter is_tabled (x.1 ∷ []) ++ filter is_long (names_where (is_key_at n x.0) n)
 
--- the names that are given to the string table, in their order: for each section, then of the other symbols
-unfoldable pub coff_strings : Format → Object → List (List ℕ)
-coff_strings target n = flat_map (section_strings n) (enumerate_from 0 (output_names target n)) ++ filter is_long (symbol_names target n)
+-- the names that are given to the string table, in their order: for each section, which have these names, then of the other symbols
+unfoldable pub coff_strings : (List ℕ → Value → Bool) → List (List ℕ) → Object → List (List ℕ)
+coff_strings writes_local names n = flat_map (section_strings n) (enumerate_from 0 names) ++ filter is_long (symbol_names writes_local n)
 
 -- the offset of a name in the string table, whose first four bytes are its size; 0 where it does not stand there
-unfoldable pub string_offset : Format → Object → List ℕ → ℕ
-string_offset target n name = unwrap_or (table_place 4 (coff_strings target n) name) 0
+unfoldable pub string_offset : (List ℕ → Value → Bool) → List (List ℕ) → Object → List ℕ → ℕ
+string_offset writes_local names n name = unwrap_or (table_place 4 (coff_strings writes_local names n) name) 0
