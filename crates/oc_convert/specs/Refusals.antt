@@ -1,5 +1,5 @@
 -- The first refusal of a conversion in which all is kept and nothing is edited (our profile).
-use Rattle.std.specs.Prelude.{◌≡◌, ℕ, ◌⊎◌, nat_lt, if◌then◌else◌, List, length, slice_get, Option, Some, None}
+use Rattle.std.specs.Prelude.{◌≡◌, ℕ, ◌⊎◌, true, nat_lt, if◌then◌else◌, List, length, slice_get, Option, Some, None}
 use Rattle.oc_base.specs.declared.format.Format.{Format}
 use Rattle.oc_base.specs.declared.code.Code.TheVariants.{LimitSymbols}
 use Rattle.oc_base.specs.declared.fault.Phase.TheVariants.{Edit}
@@ -8,6 +8,7 @@ use Rattle.oc_linking.specs.declared.terms.Kind.TheVariants.{Note}
 use Rattle.oc_linking.specs.Parts as parts
 use Rattle.oc_linking.specs.Keeping.{all}
 use Rattle.oc_linking.specs.Numbers.{or_else}
+use Rattle.oc_neutral.specs.Families.{same_format}
 use Rattle.oc_neutral.specs.Objects.{Object}
 use Rattle.oc_neutral.specs.Invariants.{IsObject}
 use Rattle.oc_neutral.specs.Dialects.{Dialect}
@@ -63,7 +64,7 @@ IsJudged f unfit b fault.NoMemory = Unit {0}
 
 -- notes stay within their format: a file that has some is converted to its own
 abbrev pub KeepsNotes : Dialect → Format → List ℕ → Type 0
-KeepsNotes f target b = (k : ℕ) (s : parts.Section) → slice_get (f.rules.sections b) k ≡ Some s → s.kind ≡ Note → f.format ≡ target
+KeepsNotes f target b = (k : ℕ) (s : parts.Section) → slice_get (f.rules.sections b) k ≡ Some s → s.kind ≡ Note → same_format target f.format ≡ true
 
 -- whatever the object, a target's writer takes what it is fitted to, where it is not refused
 abbrev pub TakesFitted : Format → (Object → Option Fault) → (Object → Type 0) → Type 0
