@@ -1,0 +1,8 @@
+-- What was found is the first of the repeats so far.
+use Rattle.std.proofs.Common.{◌≡◌}
+use Rattle.oc_neutral.specs.Repeats.{names_of}
+use Rattle.oc_neutral.proofs.RepeatSorting.{IsLeast}
+use Rattle.oc_neutral.proofs.repeats.first_repeat.Given as goal
+
+abbrev pub invariant-loop-i : goal.invariant-loop-i
+invariant-loop-i l = IsLeast (names_of l.names) l.entries.items l.i l.found
