@@ -6,7 +6,6 @@ pub mod FileHeader
 pub mod Flags
 pub mod Names
 pub mod Packed
-pub mod Plain
 pub mod Relocation
 pub mod SectionAux
 pub mod SectionHeader

@@ -2,22 +2,14 @@
 //! symbols and relocated fields, and the canonical file of one section.
 #![tactic(auto)]
 
-mod beyond;
 mod constants;
-mod fields;
 mod file_header;
 mod laws;
 mod name;
-mod plain;
 mod relocation;
 mod section_aux;
 mod section_header;
-mod sections;
 mod symbol;
-mod symbols;
-mod tables;
-#[cfg(test)]
-mod tests;
 
 pub use constants::{
     IMAGE_FILE_MACHINE_I386, IMAGE_REL_I386_ABSOLUTE, IMAGE_REL_I386_DIR32, IMAGE_REL_I386_REL32,
@@ -28,9 +20,7 @@ pub use constants::{
 };
 pub use file_header::{FILE_HEADER_SIZE, FileHeader, file_header_of};
 pub use laws::canonical_reads_back;
-pub use plain::patches;
 pub use relocation::{RELOCATION_SIZE, Relocation, relocation_at};
 pub use section_aux::{SectionAux, section_aux_at};
 pub use section_header::{SECTION_HEADER_SIZE, SectionHeader, section_header_at};
 pub use symbol::{SYMBOL_SIZE, SymbolEntry, symbol_at};
-pub use tables::tables_lie;

@@ -2,7 +2,6 @@ pub mod Ehdr
 pub mod Elf32
 pub mod Fields
 pub mod Names
-pub mod Plain
 pub mod Rel
 pub mod Sections
 pub mod Shdr

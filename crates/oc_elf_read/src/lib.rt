@@ -2,18 +2,12 @@
 //! sections, symbols and relocated fields.
 #![tactic(auto)]
 
-mod beyond;
 mod constants;
 mod ehdr;
-mod fields;
 mod names;
-mod plain;
 mod rel;
-mod sections;
 mod shdr;
 mod sym;
-mod symbols;
-mod tables;
 #[cfg(test)]
 mod tests;
 
@@ -24,8 +18,6 @@ pub use constants::{
 };
 pub use ehdr::{EHDR_SIZE, Ehdr, ehdr_of};
 pub use names::{short_name, table_of};
-pub use plain::patches;
 pub use rel::{REL_SIZE, Rel, rel_at};
 pub use shdr::{SHDR_SIZE, Shdr, shdr_at};
 pub use sym::{SYM_SIZE, Sym, sym_at};
-pub use tables::tables_lie;

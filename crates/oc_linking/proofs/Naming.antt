@@ -5,7 +5,16 @@ use Rattle.std.specs.Prelude.{slice_get, bytes_eq}
 use Rattle.std.proofs.lemmas.Option.{none-some, same_Some}
 use Rattle.oc_linking.specs.Numbers.{or_else}
 use Rattle.oc_linking.specs.Parts.{Symbol, by_name}
-use Rattle.oc_linking.specs.Naming.{GivenIn, Single}
+
+-- each symbol of xs that gives something has one of its name in ys that gives the same
+abbrev pub GivenIn : {X : Type 0} → (Symbol → Option X) → (Symbol → Option X) → List Symbol → List Symbol → Type 0
+GivenIn {X} f g xs ys = (k : ℕ) (s : Symbol) (x : X) → slice_get xs k ≡ Some s → f s ≡ Some x
+    → (j : ℕ) × (t : Symbol) × (slice_get ys j ≡ Some t) × ((name : List ℕ) → bytes_eq s.name name ≡ true → bytes_eq t.name name ≡ true) × (g t ≡ Some x)
+
+-- symbols of one name that give something give the same
+abbrev pub Single : {X : Type 0} → (Symbol → Option X) → List Symbol → Type 0
+Single {X} f xs = (i j : ℕ) (s t : Symbol) (x y : X) (name : List ℕ) → slice_get xs i ≡ Some s → slice_get xs j ≡ Some t
+    → bytes_eq s.name name ≡ true → bytes_eq t.name name ≡ true → f s ≡ Some x → f t ≡ Some y → x ≡ y
 
 module _ {X : Type 0} (f : Symbol → Option X) where
   -- what a name gives is given by a symbol of the list

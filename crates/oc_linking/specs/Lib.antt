@@ -7,12 +7,10 @@ pub mod Images
 pub mod Keeping
 pub mod Laws
 pub mod Linking
-pub mod Naming
 pub mod Numbers
 pub mod Parts
 pub mod Placing
 pub mod Plain
-pub mod Raising
 pub mod Rules
 pub mod Shows
 pub mod Targets
