@@ -56,6 +56,16 @@ module _ (f : Dialect) (b : List ℕ) (keep : Keep) (n : Object) (s at : ℕ) (r
   pub look-field : normal_look n.symbols s r ≡ look_of s x
   look-field = rw (named, is.base, is.less, is.width, is.check, is.hint) refl
 
+-- the word of a draft that has a file's sections and symbols, and what is true to the fixed symbols of the file
+module _ (f : Dialect) (b : List ℕ) (keep : Keep) (base : Draft) (start : IsStarted f b keep base) where
+  pub word-started : f.rules.word ≡ word_for base.object.format
+  word-started = start.word ∙ ap word_for (sym start.format)
+
+  pub locals-fixed : (p : Placement) (v : Valuation) → IsTrueToFixed f.rules.word (f.rules.symbols b keep) p v → IsTrueToLocals (word_for base.object.format) base.object.symbols p v
+  locals-fixed p v fixed = true_to_locals (word_for base.object.format) base.object.symbols p v
+      (subst (λ (w : Word). IsTrueToFixed w (map (shown_symbol base.object.symbols) base.object.symbols) p v) word-started
+      (subst (λ (ys : List parts.Symbol). IsTrueToFixed f.rules.word ys p v) (sym start.symbols) fixed))
+
 -- the draft that has the file's sections and symbols, and one that holds what is given
 module _ (f : Dialect) (b : List ℕ) (keep : Keep) (base d : Draft) (given : Given) (start : IsStarted f b keep base) (has : IsHolding base d given)
     (all : (s at : ℕ) → IsFree f b keep given s at ⊎ IsGiven f b keep base.object given s at) where
@@ -66,12 +76,10 @@ module _ (f : Dialect) (b : List ℕ) (keep : Keep) (base d : Draft) (given : Gi
   symbols = base.object.symbols
 
   word_is : f.rules.word ≡ word_for base.object.format
-  word_is = start.word ∙ ap word_for (sym start.format)
+  word_is = word-started f b keep base start
 
   locals : (p : Placement) (v : Valuation) → IsTrueToFixed f.rules.word (f.rules.symbols b keep) p v → IsTrueToLocals word symbols p v
-  locals p v fixed = true_to_locals word symbols p v
-      (subst (λ (w : Word). IsTrueToFixed w (map (shown_symbol symbols) symbols) p v) word_is
-      (subst (λ (ys : List parts.Symbol). IsTrueToFixed f.rules.word ys p v) (sym start.symbols) fixed))
+  locals = locals-fixed f b keep base start
 
   -- nothing stands where nothing is given
   reloc-free : (s at : ℕ) → given s at ≡ None → reloc_at d.object s at ≡ None
