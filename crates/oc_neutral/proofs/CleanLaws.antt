@@ -21,7 +21,7 @@ use Rattle.oc_neutral.specs.declared.normal.Normal.TheVariants as normal
 use Rattle.oc_neutral.specs.Normal.{normal_of}
 use Rattle.oc_neutral.specs.Building.{Draft, is_met, with_constant, with_reloc, normal_added, reloc_added}
 use Rattle.oc_neutral.specs.Dialects.{Dialect, is_difference, kept_fields}
-use Rattle.oc_neutral.specs.Computed.{nothing, zero_values}
+use Rattle.oc_neutral.specs.Computed.{zero_values, zeros_outside}
 use Rattle.oc_neutral.specs.Shows.{IsTrueToFixed}
 use Rattle.oc_neutral.specs.Worth.{residue_at}
 use Rattle.oc_neutral.specs.Built.{Given, IsField, IsStarted, HasAdded, AreApart, AreOfFile, DifferencesFit, CleanIsAdded}
@@ -66,7 +66,7 @@ module _ (f : Dialect) (b : List ℕ) (keep : Keep) (base d : Draft) (given : Gi
   -- a constant fits
   constant-fits : (c : ℤ) → normal_in base s at r ≡ normal.Constant c → fits (word_for base.object.format) r.form.width r.form.check (residue_of (word_for base.object.format) c) ≡ true
   constant-fits c constant =
-      let fixed : IsTrueToFixed f.rules.word (f.rules.symbols b keep) zeros (zero_values f b keep) = values_fixed f.rules.word (f.rules.symbols b keep) start.numbered zeros nothing in
+      let fixed : IsTrueToFixed f.rules.word (f.rules.symbols b keep) zeros (zero_values f b keep) = values_fixed f.rules.word (f.rules.symbols b keep) start.numbered zeros zeros_outside in
       let folded : is_difference x ≡ true = sym (folds-field f b keep base.object s at r x is) ∙ sym (constant_is (word_for base.object.format) base.object.symbols s at r) ∙ ap is_constant constant in
       let value : residue_of (word_for base.object.format) c ≡ residue_at (word_for base.object.format) base.object.symbols zeros (zero_values f b keep) s at r
       = constant_value (word_for base.object.format) base.object.symbols zeros (zero_values f b keep) (locals-fixed f b keep base start zeros (zero_values f b keep) fixed) s at r c constant in
