@@ -28,7 +28,7 @@ use Rattle.oc_neutral.specs.Built.{Given, IsField, IsStarted, HasAdded, AreApart
 use Rattle.oc_neutral.proofs.Adding.{have_common, wide_enough}
 use Rattle.oc_neutral.proofs.BuiltSeen.{folds-field, locals-fixed, word-started}
 use Rattle.oc_neutral.proofs.HeldLemmas.{reloc_unmet}
-use Rattle.oc_neutral.proofs.Holding.{IsHolding, IsMetBy, holds_all, normal_in}
+use Rattle.oc_neutral.proofs.Holding.{IsHolding, IsMetBy, holds_all, normal-base, normal_in}
 use Rattle.oc_neutral.proofs.Looking.{folds}
 use Rattle.oc_neutral.proofs.NormalLemmas.{constant_is, is_constant}
 use Rattle.oc_neutral.proofs.NormalValues.{constant_value}
@@ -76,11 +76,6 @@ module _ (f : Dialect) (b : List ℕ) (keep : Keep) (base d : Draft) (given : Gi
       ∙ ap (λ (w : Word). fits w r.form.width r.form.check (x.residue zeros (zero_values f b keep))) (sym (word-started f b keep base start))
       ∙ rw (is.width, is.check) (fit s at x here folded)
 
-  same : normal_of (word_for d.object.format) d.object.symbols s at r ≡ normal_in base s at r
-  same =
-      ap (λ (g : Format). normal_of (word_for g) d.object.symbols s at r) has.format
-      ∙ ap (λ (ys : List Symbol). normal_of (word_for base.object.format) ys s at r) has.symbols
-
   normal-taken : (n : Normal) → normal_in base s at r ≡ n → (e : Draft) × (normal_added d s at r n ≡ Ok e)
   unfolding fold_of
   normal-taken (normal.Kept q) kept = (with_reloc d s at q, refl)
@@ -92,7 +87,7 @@ module _ (f : Dialect) (b : List ℕ) (keep : Keep) (base d : Draft) (given : Gi
   pub reloc-taken : (e : Draft) × (reloc_added d s at r ≡ Ok e)
   reloc-taken =
       let taken = normal-taken (normal_in base s at r) refl in
-      (taken.0, reloc_unmet d s at r unmet ∙ ap (normal_added d s at r) same ∙ taken.1)
+      (taken.0, reloc_unmet d s at r unmet ∙ ap (normal_added d s at r) (normal-base base d given has s at r) ∙ taken.1)
 
 pub clean_is_added : CleanIsAdded
 clean_is_added f b keep base d given start apart fit has part s at r x here is new =

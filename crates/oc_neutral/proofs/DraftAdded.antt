@@ -24,7 +24,7 @@ use Rattle.oc_neutral.proofs.MoreSections.{drafted}
 use Rattle.oc_neutral.proofs.NormalLemmas.{kept_left, kept_normal}
 
 -- what a relocation that is not refused makes of a draft
-data IsOne (d : Draft) (s at : ℕ) (r : Reloc) (e : Draft) : Type 0 where
+pub data IsOne (d : Draft) (s at : ℕ) (r : Reloc) (e : Draft) : Type 0 where
   kept : (q : Reloc) → normal_of (word_for d.object.format) d.object.symbols s at r ≡ normal.Kept q → e ≡ with_reloc d s at q → IsOne d s at r e
   constant : (number : ℕ) → e ≡ with_constant d s at (bytes_of r.form.width) number → IsOne d s at r e
 
@@ -36,7 +36,7 @@ unmet_added d s at r e ok = by (is_met d s at (bytes_of r.form.width)) refl
     by false met = refl
     by true met = let refused = reloc_met d s at r met in absurd (cc)
 
-one : (d : Draft) (s at : ℕ) (r : Reloc) (e : Draft) → reloc_added d s at r ≡ Ok e → IsOne d s at r e
+pub one : (d : Draft) (s at : ℕ) (r : Reloc) (e : Draft) → reloc_added d s at r ≡ Ok e → IsOne d s at r e
 one d s at r e ok =
     by (normal_of (word_for d.object.format) d.object.symbols s at r) refl
     (sym (reloc_unmet d s at r (unmet_added d s at r e ok)) ∙ ok)

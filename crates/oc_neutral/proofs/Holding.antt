@@ -20,7 +20,7 @@ use Rattle.oc_neutral.specs.declared.normal.Normal.{Normal}
 use Rattle.oc_neutral.specs.Objects.{reloc_among, reloc_at}
 use Rattle.oc_neutral.specs.Normal.{normal_of}
 use Rattle.oc_neutral.specs.Building.{Draft, is_met, stored_size, reloc_added}
-use Rattle.oc_neutral.specs.Invariants.{CanAdd, IsDraft}
+use Rattle.oc_neutral.specs.Invariants.{CanAdd, IsDraft, groups_of}
 use Rattle.oc_neutral.specs.Faces.{shown_section}
 use Rattle.oc_neutral.specs.Shows.{frame_of}
 use Rattle.oc_neutral.specs.Built.{Entry, Given, and_one, given_by, IsStep, Makes, HasAdded}
@@ -65,6 +65,7 @@ pub record IsHolding (base d : Draft) (given : Given) : Type 0 where
   pub symbols : d.object.symbols ≡ base.object.symbols
   pub frames : map (λ (z : Section). frame_of (shown_section base.object.groups z)) d.object.sections ≡ map (λ (z : Section). frame_of (shown_section base.object.groups z)) base.object.sections
   pub sizes : map stored_size d.object.sections ≡ map stored_size base.object.sections
+  pub members : groups_of d.object.sections ≡ groups_of base.object.sections
   pub relocs : (t x : ℕ) → reloc_at d.object t x ≡ option_and_then (λ r. kept_of (normal_in base t x r)) (given t x)
   pub fitting : (t x : ℕ) (r : Reloc) → given t x ≡ Some r → IsFitting (word_for base.object.format) r (normal_in base t x r)
   pub inside : (t x : ℕ) (r : Reloc) → given t x ≡ Some r → x + bytes_of r.form.width ≤ stored_at base.object.sections t
@@ -83,6 +84,7 @@ holds_none base draft relocs folded = record {
   symbols = refl;
   frames = refl;
   sizes = refl;
+  members = refl;
   relocs = λ t x. ap (λ fields. reloc_among fields x) (relocs t);
   fitting = λ t x r here. absurd (none-some r here);
   inside = λ t x r here. absurd (none-some r here);
@@ -102,6 +104,7 @@ holds_same base d given other same is = record {
   symbols = is.symbols;
   frames = is.frames;
   sizes = is.sizes;
+  members = is.members;
   relocs = λ t x. is.relocs t x ∙ ap (option_and_then (λ r. kept_of (normal_in base t x r))) (same t x);
   fitting = λ t x r here. is.fitting t x r (same t x ∙ here);
   inside = λ t x r here. is.inside t x r (same t x ∙ here);
@@ -124,6 +127,16 @@ false-or a b e = ap (λ c. c || b) e
 either : (a b : Bool) → (a || b) ≡ true → (a ≡ true) ⊎ (b ≡ true)
 either true b e = inl refl
 either false b e = inr e
+
+-- the normal form is the one among the symbols of the base
+pub normal-base : (base d : Draft) (given : Given) → IsHolding base d given → (s at : ℕ) (r : Reloc) → normal_of (word_for d.object.format) d.object.symbols s at r ≡ normal_in base s at r
+normal-base base d given has s at r =
+    ap (λ (f : Format). normal_of (word_for f) d.object.symbols s at r) has.format
+    ∙ ap (λ (symbols : List Symbol). normal_of (word_for base.object.format) symbols s at r) has.symbols
+
+-- one more is found at its place
+pub found-more : (given : Given) (s at : ℕ) (r : Reloc) → and_one given s at r s at ≡ Some r
+found-more given s at r = ap (λ c. cond (c && eqb at at) (Some r) (given s at)) (eq-eqb s s refl) ∙ ap (λ c. cond c (Some r) (given s at)) (eq-eqb at at refl)
 
 -- one entry more
 module _ (base d : Draft) (given : Given) (has : IsHolding base d given) (s at : ℕ) (r : Reloc) (e : Draft) (can : CanAdd d.object s at r) (ok : reloc_added d s at r ≡ Ok e) where
@@ -159,8 +172,8 @@ module _ (base d : Draft) (given : Given) (has : IsHolding base d given) (s at :
   found_at : (t x : ℕ) → eqb t s ≡ true → eqb at x ≡ true → more t x ≡ Some r
   found_at t x here there = ap (λ c. cond (c && eqb at x) (Some r) (given t x)) here ∙ ap (λ c. cond c (Some r) (given t x)) there
 
-  still : (t x : ℕ) (q : Reloc) → given t x ≡ Some q → more t x ≡ Some q
-  still t x q here = by (eqb t s) (eqb at x) refl refl
+  pub still-more : (t x : ℕ) (q : Reloc) → given t x ≡ Some q → more t x ≡ Some q
+  still-more t x q here = by (eqb t s) (eqb at x) refl refl
     where
       by : (a b : Bool) → eqb t s ≡ a → eqb at x ≡ b → cond (a && b) (Some r) (given t x) ≡ Some q
       by true true g h = absurd (none-some q (sym (ap (λ (j : ℕ). given j x) (eqb-true t s g) ∙ ap (given s) (sym (eqb-true at x h)) ∙ fresh) ∙ here))
@@ -243,7 +256,7 @@ module _ (base d : Draft) (given : Given) (has : IsHolding base d given) (s at :
           by false b g h = refl
 
   beside : (t i : ℕ) → (IsCovered more t i → ⊥) → byte_at e.object.sections t i ≡ byte_at base.object.sections t i
-  beside t i free = byte_old t i outside ∙ has.beside t i (λ c. free (record { at = c.at; reloc = c.reloc; here = still t c.at c.reloc c.here; low = c.low; high = c.high }))
+  beside t i free = byte_old t i outside ∙ has.beside t i (λ c. free (record { at = c.at; reloc = c.reloc; here = still-more t c.at c.reloc c.here; low = c.low; high = c.high }))
     where
       outside : t ≡ s → lies_in at k i ≡ false
       outside same = by (nat_le at i) (nat_lt i (at + k)) refl refl
@@ -265,7 +278,7 @@ module _ (base d : Draft) (given : Given) (has : IsHolding base d given) (s at :
   met : (t y n : ℕ) → is_met e t y n ≡ true → IsMetBy more t y n
   met t y n is_true = elim (either (nat_eq t s && have_common at k y n) (is_met d t y n) (sym (is.met t y n) ∙ is_true)) [
     | inl new ↦ let two = both (eqb t s) (have_common at k y n) new in record { from = at; reloc = r; here = found_at t at two.0 (eq-eqb at at refl); common = two.1 }
-    | inr old ↦ let m : IsMetBy given t y n = has.met t y n old in record { from = m.from; reloc = m.reloc; here = still t m.from m.reloc m.here; common = m.common }
+    | inr old ↦ let m : IsMetBy given t y n = has.met t y n old in record { from = m.from; reloc = m.reloc; here = still-more t m.from m.reloc m.here; common = m.common }
   ]
 
   apart : (t i : ℕ) (q : Reloc) → more t i ≡ Some q → (j : ℕ) (z : Reloc) → more t j ≡ Some z → i < j → i + bytes_of q.form.width ≤ j
@@ -291,6 +304,7 @@ module _ (base d : Draft) (given : Given) (has : IsHolding base d given) (s at :
     symbols = is.symbols ∙ has.symbols;
     frames = sections-added (λ (z : Section). frame_of (shown_section base.object.groups z)) (λ n number x z. refl) d s at r _ e is ∙ has.frames;
     sizes = sections-added stored_size (λ n number x z. refl) d s at r _ e is ∙ has.sizes;
+    members = sections-added (λ (z : Section). z.group) (λ n number x z. refl) d s at r _ e is ∙ has.members;
     relocs = relocs;
     fitting = each (λ t x q. IsFitting (word_for base.object.format) q (normal_in base t x q)) (in_base (λ w symbols. IsFitting w r (normal_of w symbols s at r)) is.fitting) has.fitting;
     inside = each (λ t x q. x + bytes_of q.form.width ≤ stored_at base.object.sections t) inside has.inside;
