@@ -2,6 +2,7 @@
 use Rattle.std.specs.Prelude.{◌≡◌, ℕ, List}
 use Rattle.oc_base.specs.declared.format.Format.{Format}
 use Rattle.oc_base.specs.declared.format.Word.{Word}
+use Rattle.oc_base.specs.Formats.{word_for}
 use Rattle.oc_linking.specs.declared.terms.Keep.{Keep}
 use Rattle.oc_linking.specs.Placing.{Placement}
 use Rattle.oc_linking.specs.Values.{Valuation}
@@ -15,6 +16,8 @@ use Rattle.oc_neutral.specs.Invariants.{IsObject}
 use Rattle.oc_neutral.specs.Dialects.{Dialect}
 use Rattle.oc_neutral.specs.Shows.{Shows}
 use Rattle.oc_neutral.specs.Fitted.{IsFit}
+use Rattle.oc_neutral.specs.Computed.{object_in}
+use Rattle.oc_neutral.specs.Fitting.{fit_of}
 use Rattle.oc_neutral.specs.Normal.{normal_of}
 use Rattle.oc_neutral.specs.Worth.{residue_at, IsTrueToLocals}
 
@@ -29,10 +32,10 @@ KeepsValue w symbols s at r (normal.Constant c) =
 abbrev pub NormalFormKeepsValues : Type 0
 NormalFormKeepsValues = (w : Word) (symbols : List Symbol) (s at : ℕ) (r : Reloc) → KeepsValue w symbols s at r (normal_of w symbols s at r)
 
--- an object is determined by the file that it shows
-abbrev pub ShownObjectIsOne : Type 0
-ShownObjectIsOne = (f : Dialect) (b : List ℕ) (keep : Keep) (n m : Object) → IsObject n → IsObject m → Shows f b keep n → Shows f b keep m → n ≡ m
+-- an object that shows a file is the file's
+abbrev pub ShownObjectIsComputed : Type 0
+ShownObjectIsComputed = (f : Dialect) (b : List ℕ) (keep : Keep) (n : Object) → IsObject n → Shows f b keep n → n ≡ object_in f b keep
 
--- what an object becomes in a target is determined by the object
-abbrev pub FitIsOne : Type 0
-FitIsOne = (target : Format) (n m k : Object) → IsObject m → IsObject k → IsFit target n m → IsFit target n k → m ≡ k
+-- what an object is in a target with words of its size is what fitting makes of it
+abbrev pub FitIsComputed : Type 0
+FitIsComputed = (target : Format) (n m : Object) → word_for target ≡ word_for n.format → IsObject n → IsObject m → IsFit target n m → m ≡ fit_of target n

@@ -1,14 +1,14 @@
-//! An object is determined by the file that it shows, and by the object that it was fitted from.
-ghost use Rattle.oc_neutral.specs.Laws.{FitIsOne, ShownObjectIsOne};
+//! The object of a file, and what an object becomes in a target, are computed.
+ghost use Rattle.oc_neutral.specs.Laws.{FitIsComputed, ShownObjectIsComputed};
 
-/// A file shows one object at most: two that show it under one choice of what is kept are the
-/// same.
-pub fn shown_object_is_one()
-    ensures { ShownObjectIsOne }
+/// A file shows one object at most, the one that is computed from it: an object that shows it under a
+/// choice of what is kept is that one.
+pub fn shown_object_is_computed()
+    ensures { ShownObjectIsComputed }
 {}
 
-/// An object becomes one object at most in a target: two that are what it becomes there are the
-/// same.
-pub fn fit_is_one()
-    ensures { FitIsOne }
+/// An object becomes one object at most in a target, the one that is computed from it: an object that
+/// is what it becomes there is that one.
+pub fn fit_is_computed()
+    ensures { FitIsComputed }
 {}
