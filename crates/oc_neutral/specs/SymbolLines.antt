@@ -1,0 +1,168 @@
+-- The symbol table of an output, line by line (gABI, "Symbol Table"; PE/COFF, "COFF Symbol Table"; Mach-O reference, "dysymtab_command";
+-- TIS OMF 1.1, "EXTDEF", "COMDEF" and "PUBDEF"; our profile): which entries it has, in which order, and which symbols reading shows for them.
+use Rattle.std.specs.Prelude.{ℕ, ◌+◌, Bool, true, false, not, ◌&&◌, nat_eq, bytes_eq, if◌then◌else◌, List, [], ◌∷◌, ◌++◌, length, map, flat_map, filter, replicate, slice_get, Option, Some, None}
+use Rattle.std.specs.List.{enumerate_from}
+use Rattle.std.specs.Option.{option_map_or, option_and_then}
+use Rattle.oc_base.specs.declared.format.Word.{Word}
+use Rattle.oc_base.specs.declared.format.Word.TheVariants.{W32, W64}
+use Rattle.oc_linking.specs.declared.terms.Fallback.{Fallback}
+use Rattle.oc_linking.specs.declared.terms.Fallback.TheVariants as fallback
+use Rattle.oc_linking.specs.declared.terms.Binding.{Binding}
+use Rattle.oc_linking.specs.declared.terms.Binding.TheVariants.{Local, Global, Undefined, Common, Weak}
+use Rattle.oc_linking.specs.Parts.{is_local}
+use Rattle.oc_neutral.specs.declared.group.Group.{Group}
+use Rattle.oc_neutral.specs.declared.section.Section.{Section}
+use Rattle.oc_neutral.specs.declared.symbol.Symbol.{Symbol}
+use Rattle.oc_neutral.specs.Objects.{Object}
+use Rattle.oc_neutral.specs.Building.{has_name}
+use Rattle.oc_neutral.specs.Dressing.{is_common}
+use Rattle.oc_neutral.specs.Faces.{key_of}
+use Rattle.oc_neutral.specs.Normal.{Place, place_of}
+use Rattle.oc_neutral.specs.WrittenSymbols.{is_written}
+use Rattle.oc_neutral.specs.SectionSymbols.{needed_sections}
+
+-- a line: how many entries it takes, and the position of the symbol that is shown for it, where one is
+pub record Line : Type 0 where
+  pub entries : ℕ
+  pub shows : Option ℕ
+
+-- so many entries, for which nothing is shown
+abbrev pub silent : ℕ → Line
+silent entries = record { entries = entries; shows = None }
+
+-- the lines of the symbols that pass a test, in their order, each with so many entries
+abbrev pub lines_where : (Symbol → Bool) → (Symbol → ℕ) → List Symbol → List Line
+lines_where test entries symbols =
+    map (λ (x : ℕ × Symbol). record { entries = entries x.1; shows = Some x.0 }) (filter (λ (x : ℕ × Symbol). test x.1) (enumerate_from 0 symbols))
+
+-- one entry each
+abbrev pub one : Symbol → ℕ
+one s = 1
+
+-- the lines of the symbols with such a binding
+abbrev pub lines_of : (Binding → Bool) → Object → List Line
+lines_of test n = lines_where (λ s. test s.binding) one n.symbols
+
+-- the lines of the Locals that the format writes
+abbrev pub local_lines : Object → List Line
+local_lines n = lines_where (λ s. is_local s.binding && is_written n.format s) one n.symbols
+
+-- ... bindings
+
+-- a symbol that other files know
+abbrev pub is_outer : Binding → Bool
+is_outer b = not (is_local b)
+
+abbrev pub is_global : Binding → Bool
+is_global (Local v) = false
+is_global (Global v) = true
+is_global Undefined = false
+is_global (Common size align) = false
+is_global (Weak f) = false
+
+abbrev pub is_undefined : Binding → Bool
+is_undefined (Local v) = false
+is_undefined (Global v) = false
+is_undefined Undefined = true
+is_undefined (Common size align) = false
+is_undefined (Weak f) = false
+
+-- a Weak with a fallback that passes a test
+abbrev pub is_weak_with : (Fallback → Bool) → Binding → Bool
+is_weak_with test (Local v) = false
+is_weak_with test (Global v) = false
+is_weak_with test Undefined = false
+is_weak_with test (Common size align) = false
+is_weak_with test (Weak f) = test f
+
+abbrev pub is_zero : Fallback → Bool
+is_zero (fallback.Place s offset) = false
+is_zero fallback.Zero = true
+is_zero (fallback.Name k) = false
+
+abbrev pub is_name : Fallback → Bool
+is_name (fallback.Place s offset) = false
+is_name fallback.Zero = false
+is_name (fallback.Name k) = true
+
+-- the place of a Global
+abbrev pub global_place : Binding → Option Place
+global_place (Local v) = None
+global_place (Global v) = place_of v
+global_place Undefined = None
+global_place (Common size align) = None
+global_place (Weak f) = None
+
+-- ... ELF: the null entry, a SECTION symbol for each section, a LOCAL signature for each group whose key is no nonlocal name, Locals, nonlocals
+
+-- no nonlocal symbol has the group's key for its name
+abbrev pub needs_signature : List Symbol → Group → Bool
+needs_signature symbols g = not (has_name symbols g.key)
+
+abbrev pub elf_lines : Object → List Line
+elf_lines n =
+    silent 1 ∷ (replicate (length n.sections) (silent 1)
+    ++ (map (λ (g : Group). silent 1) (filter (needs_signature n.symbols) n.groups)
+    ++ (local_lines n
+    ++ lines_of is_outer n)))
+
+-- ... COFF: for each section its own symbol with an auxiliary entry, and the key symbol of its group where it has that; Locals; a default for
+-- each Weak with a place or Zero; the other nonlocals, a Weak with an auxiliary entry
+
+-- the key of the group of the section at a position, where it is in one
+abbrev pub section_key : Object → ℕ → Option (List ℕ)
+section_key n k = option_and_then (λ (x : Section). option_and_then (key_of n.groups) x.group) (slice_get n.sections k)
+
+-- the symbol is a Global with a place in the section at position k, and its name is the key of that section's group
+abbrev pub is_key_at : Object → ℕ → Symbol → Bool
+is_key_at n k s = option_map_or (λ (place : Place). nat_eq place.0 k) (global_place s.binding) false && option_map_or (bytes_eq s.name) (section_key n k) false
+
+-- the symbol is a Global whose name is the key of the group of the section of its place
+abbrev pub is_key : Object → Symbol → Bool
+is_key n s = option_map_or (λ (place : Place). is_key_at n place.0 s) (global_place s.binding) false
+
+-- the lines of the section at a position
+abbrev pub coff_section_lines : Object → ℕ × Section → List Line
+coff_section_lines n x = silent 2 ∷ lines_where (is_key_at n x.0) one n.symbols
+
+abbrev pub coff_entries : Symbol → ℕ
+coff_entries s = if is_weak_with (λ f. true) s.binding then 2 else 1
+
+abbrev pub needs_default : Symbol → Bool
+needs_default s = is_weak_with (λ f. not (is_name f)) s.binding
+
+abbrev pub coff_lines : Object → List Line
+coff_lines n =
+    flat_map (coff_section_lines n) (enumerate_from 0 n.sections)
+    ++ (local_lines n
+    ++ (map (λ (s : Symbol). silent 1) (filter needs_default n.symbols)
+    ++ lines_where (λ s. is_outer s.binding && not (is_key n s)) coff_entries n.symbols))
+
+-- ... Mach-O: in 64 bits the needed `l_section_k`, Locals, what is defined, Undefined, Common, Weak Zero
+
+-- what is defined: a Global, or a Weak with a place or a Name
+abbrev pub is_defined : Binding → Bool
+is_defined (Local v) = false
+is_defined (Global v) = true
+is_defined Undefined = false
+is_defined (Common size align) = false
+is_defined (Weak f) = not (is_zero f)
+
+-- the symbols that stand for sections
+abbrev pub own_lines : Word → Object → List Line
+own_lines W32 n = []
+own_lines W64 n = map (λ k. silent 1) (needed_sections n)
+
+abbrev pub mach_lines : Word → Object → List Line
+mach_lines w n =
+    own_lines w n
+    ++ (local_lines n
+    ++ (lines_of is_defined n
+    ++ (lines_of is_undefined n
+    ++ (lines_of is_common n
+    ++ lines_of (is_weak_with is_zero) n))))
+
+-- ... OMF: Undefined, Common, Global
+
+abbrev pub omf_lines : Object → List Line
+omf_lines n = lines_of is_undefined n ++ (lines_of is_common n ++ lines_of is_global n)
