@@ -34,7 +34,7 @@ use Rattle.oc_neutral.specs.Invariants.{AreDistinct, IsOriginal}
 use Rattle.oc_neutral.specs.Faces.{key_of, shown_section, shown_sections, shown_binding, shown_symbol, shown_symbols}
 use Rattle.oc_neutral.specs.Worth.{target_worth, base_of, less_of, residue_at}
 use Rattle.oc_neutral.specs.Written.{LooksAlike}
-use Rattle.oc_neutral.specs.SymbolLines.{global_place}
+use Rattle.oc_neutral.specs.KeySymbols.{global_place}
 use Rattle.oc_neutral.specs.Manners.{Manner}
 use Rattle.oc_neutral.specs.Seen.{place_at, seen_with, seen_symbol, seen_target, seen_reloc, new_position, section_place, target_place}
 use Rattle.oc_neutral.proofs.SeenLines.{IsShown}

@@ -1,5 +1,6 @@
 -- The string table of a COFF output (PE/COFF, "COFF String Table", "Section Table" and "Symbol Name Representation"; our profile).
 use Rattle.std.specs.Prelude.{ℕ, Bool, true, false, not, ◌&&◌, ◌||◌, nat_lt, if◌then◌else◌, List, [], ◌∷◌, ◌++◌, length, map, filter, flat_map, codes}
+use Rattle.std.specs.List.{enumerate_from}
 use Rattle.std.specs.Option.{unwrap_or}
 use Rattle.oc_base.specs.declared.format.Format.{Format}
 use Rattle.oc_base.specs.Strings.{table_place}
@@ -13,6 +14,7 @@ use Rattle.oc_neutral.specs.KindRules.{begins}
 use Rattle.oc_neutral.specs.Objects.{Object}
 use Rattle.oc_neutral.specs.HomeNames.{output_names}
 use Rattle.oc_neutral.specs.WrittenSymbols.{is_written}
+use Rattle.oc_neutral.specs.KeySymbols.{is_key, is_key_at}
 
 -- the name has no room in an entry
 abbrev pub is_long : List ℕ → Bool
@@ -40,16 +42,24 @@ defaults_of name Undefined = []
 defaults_of name (Common size align) = []
 defaults_of name (Weak f) = if has_default f then default_name name ∷ [] else []
 
--- the names of the symbols in the order of the symbol table: Locals, fallbacks, and all that are not Local
-abbrev pub symbol_names : Format → List Symbol → List (List ℕ)
-symbol_names target symbols =
-    map (λ (s : Symbol). s.name) (filter (λ (s : Symbol). is_local s.binding && is_written target s) symbols)
-    ++ flat_map (λ (s : Symbol). defaults_of s.name s.binding) symbols
-    ++ map (λ (s : Symbol). s.name) (filter (λ (s : Symbol). not (is_local s.binding)) symbols)
+-- the names of the symbols that pass
+abbrev pub names_where : (Symbol → Bool) → Object → List (List ℕ)
+names_where test n = map (λ (s : Symbol). s.name) (filter test n.symbols)
 
--- the names that are given to the string table, in their order: of sections, then of symbols
+-- the names of the symbols behind those of sections and the key symbols: Locals, fallbacks, and the others that are not Local
+abbrev pub symbol_names : Format → Object → List (List ℕ)
+symbol_names target n =
+    names_where (λ (s : Symbol). is_local s.binding && is_written target s) n
+    ++ flat_map (λ (s : Symbol). defaults_of s.name s.binding) n.symbols
+    ++ names_where (λ (s : Symbol). not (is_local s.binding) && not (is_key n s)) n
+
+-- the names that are given for the section at a position: its own, and that of the key symbol of its group where it has that symbol
+abbrev pub section_strings : Object → ℕ × List ℕ → List (List ℕ)
+section_strings n x = filter is_tabled (x.1 ∷ []) ++ filter is_long (names_where (is_key_at n x.0) n)
+
+-- the names that are given to the string table, in their order: for each section, then of the other symbols
 unfoldable pub coff_strings : Format → Object → List (List ℕ)
-coff_strings target n = filter is_tabled (output_names target n) ++ filter is_long (symbol_names target n.symbols)
+coff_strings target n = flat_map (section_strings n) (enumerate_from 0 (output_names target n)) ++ filter is_long (symbol_names target n)
 
 -- the offset of a name in the string table, whose first four bytes are its size; 0 where it does not stand there
 unfoldable pub string_offset : Format → Object → List ℕ → ℕ

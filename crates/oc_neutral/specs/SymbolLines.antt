@@ -1,12 +1,10 @@
 -- The symbol table of an output, line by line (gABI, "Symbol Table"; PE/COFF, "COFF Symbol Table"; Mach-O reference, "dysymtab_command";
 -- TIS OMF 1.1, "EXTDEF", "COMDEF" and "PUBDEF"; our profile): which entries it has, in which order, and which symbols reading shows for them.
-use Rattle.std.specs.Prelude.{ℕ, ◌+◌, Bool, true, false, not, ◌&&◌, nat_eq, bytes_eq, if◌then◌else◌, List, [], ◌∷◌, ◌++◌, length, map, flat_map, filter, replicate, slice_get, Option, Some, None}
+use Rattle.std.specs.Prelude.{ℕ, Bool, true, false, not, ◌&&◌, if◌then◌else◌, List, [], ◌∷◌, ◌++◌, length, map, flat_map, filter, replicate, Option, Some, None}
 use Rattle.std.specs.List.{enumerate_from}
-use Rattle.std.specs.Option.{option_map_or, option_and_then}
 use Rattle.oc_base.specs.declared.format.Word.{Word}
 use Rattle.oc_base.specs.declared.format.Word.TheVariants.{W32, W64}
 use Rattle.oc_linking.specs.declared.terms.Fallback.{Fallback}
-use Rattle.oc_linking.specs.declared.terms.Fallback.TheVariants as fallback
 use Rattle.oc_linking.specs.declared.terms.Binding.{Binding}
 use Rattle.oc_linking.specs.declared.terms.Binding.TheVariants.{Local, Global, Undefined, Common, Weak}
 use Rattle.oc_linking.specs.Parts.{is_local}
@@ -16,8 +14,9 @@ use Rattle.oc_neutral.specs.declared.symbol.Symbol.{Symbol}
 use Rattle.oc_neutral.specs.Objects.{Object}
 use Rattle.oc_neutral.specs.Building.{has_name}
 use Rattle.oc_neutral.specs.Dressing.{is_common}
-use Rattle.oc_neutral.specs.Faces.{key_of}
-use Rattle.oc_neutral.specs.Normal.{Place, place_of}
+use Rattle.oc_neutral.specs.KeySymbols.{is_key_at, is_key}
+use Rattle.oc_neutral.specs.CoffStrings.{has_default}
+use Rattle.oc_neutral.specs.TargetRelocations.{is_zero}
 use Rattle.oc_neutral.specs.WrittenSymbols.{is_written}
 use Rattle.oc_neutral.specs.SectionSymbols.{needed_sections}
 
@@ -75,24 +74,6 @@ is_weak_with test Undefined = false
 is_weak_with test (Common size align) = false
 is_weak_with test (Weak f) = test f
 
-abbrev pub is_zero : Fallback → Bool
-is_zero (fallback.Place s offset) = false
-is_zero fallback.Zero = true
-is_zero (fallback.Name k) = false
-
-abbrev pub is_name : Fallback → Bool
-is_name (fallback.Place s offset) = false
-is_name fallback.Zero = false
-is_name (fallback.Name k) = true
-
--- the place of a Global
-abbrev pub global_place : Binding → Option Place
-global_place (Local v) = None
-global_place (Global v) = place_of v
-global_place Undefined = None
-global_place (Common size align) = None
-global_place (Weak f) = None
-
 -- ... ELF: the null entry, a SECTION symbol for each section, a LOCAL signature for each group whose key is no nonlocal name, Locals, nonlocals
 
 -- no nonlocal symbol has the group's key for its name
@@ -109,18 +90,6 @@ elf_lines n =
 -- ... COFF: for each section its own symbol with an auxiliary entry, and the key symbol of its group where it has that; Locals; a default for
 -- each Weak with a place or Zero; the other nonlocals, a Weak with an auxiliary entry
 
--- the key of the group of the section at a position, where it is in one
-abbrev pub section_key : Object → ℕ → Option (List ℕ)
-section_key n k = option_and_then (λ (x : Section). option_and_then (key_of n.groups) x.group) (slice_get n.sections k)
-
--- the symbol is a Global with a place in the section at position k, and its name is the key of that section's group
-abbrev pub is_key_at : Object → ℕ → Symbol → Bool
-is_key_at n k s = option_map_or (λ (place : Place). nat_eq place.0 k) (global_place s.binding) false && option_map_or (bytes_eq s.name) (section_key n k) false
-
--- the symbol is a Global whose name is the key of the group of the section of its place
-abbrev pub is_key : Object → Symbol → Bool
-is_key n s = option_map_or (λ (place : Place). is_key_at n place.0 s) (global_place s.binding) false
-
 -- the lines of the section at a position
 abbrev pub coff_section_lines : Object → ℕ × Section → List Line
 coff_section_lines n x = silent 2 ∷ lines_where (is_key_at n x.0) one n.symbols
@@ -129,7 +98,7 @@ abbrev pub coff_entries : Symbol → ℕ
 coff_entries s = if is_weak_with (λ f. true) s.binding then 2 else 1
 
 abbrev pub needs_default : Symbol → Bool
-needs_default s = is_weak_with (λ f. not (is_name f)) s.binding
+needs_default s = is_weak_with has_default s.binding
 
 abbrev pub coff_lines : Object → List Line
 coff_lines n =

@@ -1,11 +1,11 @@
 -- What a target can express of sections (gABI, "Section Header"; PE/COFF, "Section Table"; Mach-O reference, "section";
 -- TIS OMF 1.1, "SEGDEF: Segment Definition Record"; our profile).
-use Rattle.std.specs.Prelude.{ℕ, ◌+◌, Bool, not, ◌&&◌, ◌||◌, nat_lt, List, [], ◌∷◌, length, map, slice_get, get_or, count_by}
+use Rattle.std.specs.Prelude.{ℕ, ◌+◌, Bool, true, false, not, ◌&&◌, ◌||◌, nat_lt, List, [], ◌∷◌, length, map, slice_get, get_or, count_by}
 use Rattle.std.specs.List.{range_with_len}
-use Rattle.std.specs.Option.{option_map_or}
+use Rattle.std.specs.Option.{option_map_or, option_and_then}
 use Rattle.oc_base.specs.declared.format.Format.{Format}
 use Rattle.oc_base.specs.declared.code.Code.{Code}
-use Rattle.oc_base.specs.declared.code.Code.TheVariants.{TooMany, DebugKept, ExceptionKept, KindUnavailable, AlignTooBig, NameForm}
+use Rattle.oc_base.specs.declared.code.Code.TheVariants.{TooMany, DebugKept, ExceptionKept, KindUnavailable, AlignTooBig, NameForm, GroupForm}
 use Rattle.oc_base.specs.declared.fault.Phase.TheVariants.{TargetSection}
 use Rattle.oc_base.specs.declared.fault.Spot.{Spot}
 use Rattle.oc_base.specs.Faults.{fault_at}
@@ -21,6 +21,8 @@ use Rattle.oc_neutral.specs.Relocated.{is_relocated}
 use Rattle.oc_neutral.specs.HomeNames.{output_names}
 use Rattle.oc_neutral.specs.Alignments.{most_align}
 use Rattle.oc_neutral.specs.CoffStrings.{is_tabled, string_offset}
+use Rattle.oc_neutral.specs.Faces.{key_of}
+use Rattle.oc_neutral.specs.KeySymbols.{has_key_symbol}
 
 -- the conditions on what stands at a spot: whether each is broken, and its code
 abbrev pub judged : Spot → List (Bool × Code) → List Condition
@@ -30,10 +32,10 @@ judged spot conditions = map (λ (c : Bool × Code). (c.0, fault_at spot c.1)) c
 abbrev pub each_of : {X : Type 0} → (X → List Condition) → List X → ℕ → List Condition
 each_of conditions xs i = option_map_or conditions (slice_get xs i) []
 
--- how many section headers an ELF output has: the null one, those of the sections, of a relocation table for each section
--- that has relocations, and of the symbol table and the two string tables
+-- how many section headers an ELF output has: the null one, those of the groups, of the sections, of a relocation table for
+-- each section that has relocations, and of the symbol table and the two string tables
 abbrev pub header_count : Format → Object → ℕ
-header_count target n = 4 + length n.sections + count_by (is_relocated target n) (range_with_len 0 (length n.sections))
+header_count target n = 4 + length n.groups + length n.sections + count_by (is_relocated target n) (range_with_len 0 (length n.sections))
 
 -- what is counted of sections
 abbrev pub counted_in : Family → Format → Object → ℕ
@@ -81,12 +83,35 @@ is_unavailable target kind = is_of IsOmf target && (same_kind kind Init || same_
 abbrev pub is_far : ℕ → Bool
 is_far offset = nat_lt 9999999 offset
 
--- the target cannot write the name of a section: it has a NUL; in COFF its offset is far; in OMF it has more than 255 bytes
-abbrev pub is_unwritable : Family → Format → Object → List ℕ → Bool
-is_unwritable IsElf target n name = has_nul name
-is_unwritable IsCoff target n name = has_nul name || (is_tabled name && is_far (string_offset target n name))
-is_unwritable IsMach target n name = has_nul name
-is_unwritable IsOmf target n name = nat_lt 255 (length name)
+-- a section that has this name in the output: the name has a NUL, or the section is a member of a group whose key has one
+abbrev pub is_cut : Object → List ℕ → Section → Bool
+is_cut n name s = has_nul name || option_map_or has_nul (option_and_then (key_of n.groups) s.group) false
+
+-- what a family cannot write of a section
+pub record Unwritable : Type 0 where
+  -- the section has a name in the output that cannot be written
+  pub name : Format → Object → List ℕ → Section → Bool
+  -- a member of the group at a position cannot be written as one
+  pub member : Object → ℕ → Bool
+
+-- of each family: in COFF an offset in the string table that is far, and a group without its key symbol; in OMF a name of more than
+-- 255 bytes; Mach-O and OMF have no groups
+abbrev pub unwritable_in : Family → Unwritable
+unwritable_in IsElf = record { name = λ target n name s. is_cut n name s; member = λ n g. false }
+unwritable_in IsCoff = record {
+  name = λ target n name s. is_cut n name s || (is_tabled name && is_far (string_offset target n name));
+  member = λ n g. not (has_key_symbol n g);
+}
+unwritable_in IsMach = record { name = λ target n name s. is_cut n name s; member = λ n g. true }
+unwritable_in IsOmf = record { name = λ target n name s. nat_lt 255 (length name); member = λ n g. true }
+
+-- the target cannot write the name of a section, or the key of its group
+abbrev pub is_name_form : Format → Object → List ℕ → Section → Bool
+is_name_form target n name s = (unwritable_in (family_of target)).name target n name s
+
+-- the section is a member of a group, which the target cannot write
+abbrev pub is_group_form : Format → Object → Section → Bool
+is_group_form target n s = option_map_or ((unwritable_in (family_of target)).member n) s.group false
 
 -- a section in a target
 abbrev pub section_spot : Section → Spot
@@ -99,7 +124,8 @@ section_conditions target n name s = judged (section_spot s) (
     ∷ (is_exception_kept target n.format s.kind, ExceptionKept)
     ∷ (is_unavailable target s.kind, KindUnavailable)
     ∷ (nat_lt (most_align target) s.align, AlignTooBig)
-    ∷ (is_unwritable (family_of target) target n name, NameForm)
+    ∷ (is_name_form target n name s, NameForm)
+    ∷ (is_group_form target n s, GroupForm)
     ∷ [])
 
 -- the conditions on the section at a position

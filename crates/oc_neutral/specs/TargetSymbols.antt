@@ -1,6 +1,6 @@
 -- What a target can express of symbols (gABI, "Symbol Table"; PE/COFF, "COFF Symbol Table"; Mach-O reference, "nlist";
 -- TIS OMF 1.1, "EXTDEF: External Names Definition Record"; our profile).
-use Rattle.std.specs.Prelude.{ℕ, ◌+◌, ◌^◌, Bool, true, false, not, ◌&&◌, ◌||◌, nat_eq, nat_lt, if◌then◌else◌, List, [], ◌∷◌, ◌++◌, length, slice_get, count_by, sum_by, Option, Some, None}
+use Rattle.std.specs.Prelude.{ℕ, ◌+◌, ◌^◌, Bool, true, false, not, ◌&&◌, ◌||◌, nat_eq, nat_lt, if◌then◌else◌, List, [], ◌∷◌, ◌++◌, length, slice_get, count_by, sum_by, Option, Some, None, is_none}
 use Rattle.std.specs.Option.{option_map_or}
 use Rattle.oc_base.specs.declared.format.Format.{Format}
 use Rattle.oc_base.specs.declared.format.Format.TheVariants.{Elf32, Elf64, Coff32, Coff64, Mac32, Mac64, Omf}
@@ -13,10 +13,14 @@ use Rattle.oc_linking.specs.declared.terms.Binding.{Binding}
 use Rattle.oc_linking.specs.declared.terms.Binding.TheVariants.{Local, Global, Undefined, Common, Weak}
 use Rattle.oc_linking.specs.FirstFault.{Condition, Stage}
 use Rattle.oc_linking.specs.Parts.{is_local}
+use Rattle.oc_neutral.specs.declared.group.Group.{Group}
 use Rattle.oc_neutral.specs.declared.symbol.Symbol.{Symbol}
 use Rattle.oc_neutral.specs.Families.{Family, IsElf, IsCoff, IsMach, IsOmf, family_of, is_of, same_format}
 use Rattle.oc_neutral.specs.GivenTags.{has_nul}
 use Rattle.oc_neutral.specs.Objects.{Object}
+use Rattle.oc_neutral.specs.Building.{has_name}
+use Rattle.oc_neutral.specs.Normal.{Place}
+use Rattle.oc_neutral.specs.KeySymbols.{global_place, group_at}
 use Rattle.oc_neutral.specs.SectionSymbols.{needed_sections}
 use Rattle.oc_neutral.specs.HomeNames.{output_names}
 use Rattle.oc_neutral.specs.Alignments.{natural_align}
@@ -32,9 +36,13 @@ is_external Undefined = true
 is_external (Common size align) = true
 is_external (Weak f) = false
 
--- how many symbols an ELF output has: the null one, one for each section, and all others
+-- how many groups have a key that is no nonlocal name: each has a Local of that name in an ELF output
+abbrev pub signature_count : Object → ℕ
+signature_count n = count_by (λ (g : Group). not (has_name n.symbols g.key)) n.groups
+
+-- how many symbols an ELF output has: the null one, one for each section, such signatures of groups, and all others
 abbrev pub elf_symbol_count : Object → ℕ
-elf_symbol_count n = 1 + length n.sections + length n.symbols
+elf_symbol_count n = 1 + length n.sections + signature_count n + length n.symbols
 
 -- how many symbols a Mach-O output has: those of sections that are needed, and all others that are written
 abbrev pub mach_symbol_count : Format → List ℕ → Object → ℕ
@@ -50,9 +58,9 @@ symbol_bound Mac32 n = Some (mach_symbol_count Mac32 [] n, 0xFFFFFF)
 symbol_bound Mac64 n = Some (mach_symbol_count Mac64 (needed_sections n) n, 0xFFFFFF)
 symbol_bound Omf n = Some (count_by (λ (s : Symbol). is_external s.binding) n.symbols, 32767)
 
--- the lengths of the names of the output's sections and of all symbols together, whether they are written or not
+-- the lengths of the names of the output's sections, of all symbols, whether they are written or not, and of the keys of groups together
 abbrev pub names_length : Format → Object → ℕ
-names_length target n = sum_by length (output_names target n) + sum_by (λ (s : Symbol). length s.name) n.symbols
+names_length target n = sum_by length (output_names target n) + sum_by (λ (s : Symbol). length s.name) n.symbols + sum_by (λ (g : Group). length g.key) n.groups
 
 -- a count in a target
 abbrev pub count_spot : ℕ → Spot
@@ -62,11 +70,11 @@ count_spot count = record { phase = TargetSymbol; index = 0; place = count }
 abbrev pub bounded : ℕ × ℕ → List Condition
 bounded bound = judged (count_spot bound.0) ((nat_lt bound.1 bound.0, TooMany) ∷ [])
 
--- the condition on the length of all names
+-- the condition on the length of all names and keys
 abbrev pub limited : ℕ → List Condition
 limited names = judged (count_spot names) ((nat_lt 268435456 names, LimitNames) ∷ [])
 
--- the conditions on the number of symbols and on the length of all names
+-- the conditions on the number of symbols and on the length of all names and keys
 abbrev pub symbol_count : Format → Object → List Condition
 symbol_count target n = option_map_or bounded (symbol_bound target n) [] ++ limited (names_length target n)
 
@@ -101,34 +109,30 @@ is_common_form target (Global v) = false
 is_common_form target Undefined = false
 is_common_form target (Weak f) = false
 
--- the symbol is a Global with a place
-abbrev pub is_placed_global : Binding → Bool
-is_placed_global (Global v) = not (is_absolute v)
-is_placed_global (Local v) = false
-is_placed_global Undefined = false
-is_placed_global (Common size align) = false
-is_placed_global (Weak f) = false
+-- the symbol is a Global with a place in a section that is in no group: it is there whatever a linker discards
+abbrev pub is_steady : Object → Symbol → Bool
+is_steady n s = option_map_or (λ (place : Place). is_none (group_at n place.0)) (global_place s.binding) false
 
--- a fallback Name of a symbol that is no Global with a place
-abbrev pub is_unplaced_name : List Symbol → Fallback → Bool
-is_unplaced_name symbols (fallback.Place s offset) = false
-is_unplaced_name symbols fallback.Zero = false
-is_unplaced_name symbols (fallback.Name k) = not (option_map_or (λ (s : Symbol). is_placed_global s.binding) (slice_get symbols k) false)
+-- a fallback Name of a symbol that is no such Global
+abbrev pub is_unsteady_name : Object → Fallback → Bool
+is_unsteady_name n (fallback.Place s offset) = false
+is_unsteady_name n fallback.Zero = false
+is_unsteady_name n (fallback.Name k) = not (option_map_or (is_steady n) (slice_get n.symbols k) false)
 
--- a Weak with a fallback that the target cannot write: in OMF any, in ELF and Mach-O a Name that has no place
-abbrev pub is_weak_in : Family → List Symbol → Fallback → Bool
-is_weak_in IsElf symbols f = is_unplaced_name symbols f
-is_weak_in IsCoff symbols f = false
-is_weak_in IsMach symbols f = is_unplaced_name symbols f
-is_weak_in IsOmf symbols f = true
+-- a Weak with a fallback that the target cannot write: in OMF any, in ELF and Mach-O a Name that has no place, or none that is sure
+abbrev pub is_weak_in : Family → Object → Fallback → Bool
+is_weak_in IsElf n f = is_unsteady_name n f
+is_weak_in IsCoff n f = false
+is_weak_in IsMach n f = is_unsteady_name n f
+is_weak_in IsOmf n f = true
 
 -- the symbol is such a Weak
-abbrev pub is_weak_form : Format → List Symbol → Binding → Bool
-is_weak_form target symbols (Weak f) = is_weak_in (family_of target) symbols f
-is_weak_form target symbols (Local v) = false
-is_weak_form target symbols (Global v) = false
-is_weak_form target symbols Undefined = false
-is_weak_form target symbols (Common size align) = false
+abbrev pub is_weak_form : Format → Object → Binding → Bool
+is_weak_form target n (Weak f) = is_weak_in (family_of target) n f
+is_weak_form target n (Local v) = false
+is_weak_form target n (Global v) = false
+is_weak_form target n Undefined = false
+is_weak_form target n (Common size align) = false
 
 -- a symbol in a target
 abbrev pub symbol_spot : Symbol → Spot
@@ -140,10 +144,10 @@ symbol_conditions target n s = judged (symbol_spot s) (
     (is_unwritable target s, NameForm)
     ∷ (is_absolute_form target s.binding, AbsoluteForm)
     ∷ (is_common_form target s.binding, CommonForm)
-    ∷ (is_weak_form target n.symbols s.binding, WeakForm)
+    ∷ (is_weak_form target n s.binding, WeakForm)
     ∷ [])
 
--- what is judged of symbols: their number and the lengths of names, and then each in the order of the list
+-- what is judged of symbols: their number and the lengths of names and keys, and then each in the order of the list
 unfoldable pub symbol_stages : Format → Object → List Stage
 symbol_stages target n =
     record { count = 1; conditions = λ i. symbol_count target n }
