@@ -31,12 +31,13 @@ pub record IsPart (n : Object) (test : Symbol → Bool) (extra : ℕ) (lines : L
   pub sum : entry_count lines ≤ extra + 2 * count_by test n.symbols
 
 -- a table whose lines show every nonlocal
-pub part_table : (n : Object) (test : Symbol → Bool) (extra : ℕ) (lines : List Line) → IsPart n test extra lines → ((s : Symbol) → is_local s.binding ≡ false → test s ≡ true) → IsTable n lines
+pub part_table : (n : Object) (test : Symbol → Bool) (extra : ℕ) (lines : List Line) → IsPart n test extra lines → ((k : ℕ) (s : Symbol) → slice_get n.symbols k ≡ Some s → is_local s.binding ≡ false → test s ≡ true)
+    → IsTable n lines
 part_table n test extra lines is covers = record {
   entries = λ i l k here shows. (is.shown i l k here shows).3;
   valid = λ i l k here shows. let s = is.shown i l k here shows in (s.0, s.1);
   once = is.once;
-  there = λ k s here outer. is.there k s here (covers s outer);
+  there = λ k s here outer. is.there k s here (covers k s here outer);
 }
 
 -- a larger number of other entries
