@@ -3,7 +3,7 @@
 use Rattle.std.proofs.Common.{◌≡◌, ℕ, ◌+◌, Bool, true, false, cond, List, map, Option, Some, None, refl, sym, ◌∙◌, ap}
 use Rattle.std.specs.Prelude.{slice_get, ℤ}
 use Rattle.std.specs.Option.{option_map, option_and_then, unwrap_or}
-use Rattle.std.proofs.lemmas.Option.{none-some}
+use Rattle.std.proofs.lemmas.Option.{none-some, same_Some}
 use Rattle.std.proofs.Math.Nat.{mod-mod}
 use Rattle.oc_base.specs.declared.format.Word.{Word}
 use Rattle.oc_base.specs.Formats.{word_for}
@@ -63,6 +63,25 @@ module _ (w : Word) (p : Placement) (s at : ℕ) (place : Place) (slot : ℕ) wh
       rw (address, less_same l, residue_moved w a place.1)
       (minus-place w (p.site place.0).address (reduced w ((p.site place.0).address + place.1)) place.1 (residue_of w a) (less_of p s at global_worth l) (mod-mod ((p.site place.0).address + place.1) (modulus w)))
 
+-- the Global that is read as the section of its place, which is not taken
+module _ (n : Object) where
+  place_left : (place : Place) (l : Less) (o : Option Place) → option_and_then (λ (q : Place). cond (takes_section q.0 l) None (Some q)) o ≡ Some place → (o ≡ Some place) × (takes_section place.0 l ≡ false)
+  place_left place l None h = absurd (none-some place h)
+  place_left place l (Some q) h = by (takes_section q.0 l) refl h
+    where
+      by : (b : Bool) → takes_section q.0 l ≡ b → cond b None (Some q) ≡ Some place → (Some q ≡ Some place) × (takes_section place.0 l ≡ false)
+      by true e h = absurd (none-some place h)
+      by false e h = (h, ap (λ (x : Place). takes_section x.0 l) (sym (same_Some q place h)) ∙ e)
+
+  placed_target : (place : Place) (l : Less) (t : Target) → target_place n l t ≡ Some place → (k : ℕ) × (t ≡ target.Symbol k) × (place_at n k ≡ Some place) × (takes_section place.0 l ≡ false)
+  placed_target place l (target.Section k) h = absurd (none-some place h)
+  placed_target place l (target.Symbol k) h = let m = place_left place l (place_at n k) h in (k, refl, m.0, m.1)
+
+  pub section_target : (b : Bool) (place : Place) (l : Less) (t : Target) → cond b (target_place n l t) None ≡ Some place
+      → (k : ℕ) × (t ≡ target.Symbol k) × (place_at n k ≡ Some place) × (takes_section place.0 l ≡ false)
+  section_target true place l t h = placed_target place l t h
+  section_target false place l t h = absurd (none-some place h)
+
 -- what a relocation is whose target, a Global, is read as the section of its place: an address in a section that is in no group
 pub record IsSectional (n : Object) (r : Reloc) (place : Place) : Type 0 where
   pub base : r.form.base ≡ base.Address
@@ -104,29 +123,12 @@ module _ (m : Manner) (n : Object) (shown : List (ℕ × ℕ)) (is : IsShown n s
       (ap (λ o. (at_section (word_for n.format) r o).addend) own ∙ reduced s at r here)
       (has_like s at r here r.target refl)
 
-  -- the Global whose place that is
-  global_at : (place : Place) (l : Less) (o : Option Place) → option_and_then (λ (q : Place). cond (takes_section q.0 l) None (Some q)) o ≡ Some place → o ≡ Some place
-  global_at place l None h = absurd (none-some place h)
-  global_at place l (Some q) h = by (takes_section q.0 l) h
-    where
-      by : (b : Bool) → cond b None (Some q) ≡ Some place → Some q ≡ Some place
-      by true h = absurd (none-some place h)
-      by false h = h
-
-  placed_target : (place : Place) (l : Less) (t : Target) → target_place n l t ≡ Some place → (k : ℕ) × (t ≡ target.Symbol k) × (place_at n k ≡ Some place)
-  placed_target place l (target.Section k) h = absurd (none-some place h)
-  placed_target place l (target.Symbol k) h = (k, refl, global_at place l (place_at n k) h)
-
-  pub section_target : (b : Bool) (place : Place) (l : Less) (t : Target) → cond b (target_place n l t) None ≡ Some place → (k : ℕ) × (t ≡ target.Symbol k) × (place_at n k ≡ Some place)
-  section_target true place l t h = placed_target place l t h
-  section_target false place l t h = absurd (none-some place h)
-
   -- one that is against the section of its Global
   section_moved : (s at : ℕ) (r : Reloc) (place : Place) → reloc_at n s at ≡ Some r → section_place m n r ≡ Some place → HasValueOf (seen_with m n shown) n s at (seen_reloc m n shown r) r
   unfolding residue_at
   section_moved s at r place here own p e groups =
       let w : Word = word_for n.format in
-      let k = section_target (m.by_section r.form.less) place r.form.less r.target own in
+      let k = section_target n (m.by_section r.form.less) place r.form.less r.target own in
       let y = targets s at r k.0 here k.1 in
       let its = sectional s at r place here own in
       let binding : y.0.binding ≡ Global (value.Place place.0 place.1) = global_is y.0.binding place (sym (ap (option_and_then (λ (x : Symbol). global_place x.binding)) y.1) ∙ k.2) in
