@@ -1,0 +1,67 @@
+-- What a writer of ELF uses of an object that is ready to be written (gABI, "Section Header" and "Symbol Table"; i386 and x86-64 psABI; our profile).
+use Rattle.std.specs.Prelude.{◌≡◌, ℕ, ◌^◌, ◌<◌, ◌≤◌, true, false, slice_get, Option, Some, None}
+use Rattle.oc_base.specs.declared.format.Format.{Format}
+use Rattle.oc_base.specs.declared.format.Format.TheVariants.{Elf32}
+use Rattle.oc_linking.specs.declared.terms.Kind.TheVariants.{Exception}
+use Rattle.oc_linking.specs.declared.terms.Base.TheVariants.{Address}
+use Rattle.oc_linking.specs.declared.terms.Fallback.TheVariants as fallback
+use Rattle.oc_linking.specs.declared.terms.Binding.TheVariants.{Weak}
+use Rattle.oc_neutral.specs.declared.section.Section.{Section}
+use Rattle.oc_neutral.specs.declared.symbol.Symbol.{Symbol}
+use Rattle.oc_neutral.specs.declared.reloc.Target.TheVariants as target
+use Rattle.oc_neutral.specs.declared.reloc.Reloc.{Reloc}
+use Rattle.oc_neutral.specs.Constants.{SHF_ALLOC}
+use Rattle.oc_neutral.specs.ElfKinds.{is_carried_type, elf_kind, elf_tag_type, elf_tag_flags, is_nobits_tag}
+use Rattle.oc_neutral.specs.Families.{IsElf, family_of}
+use Rattle.oc_neutral.specs.Fitted.{IsFitted}
+use Rattle.oc_neutral.specs.GivenTags.{has_nul}
+use Rattle.oc_neutral.specs.KindRules.{has}
+use Rattle.oc_neutral.specs.Meets.{AreBounded, IsUncut, IsSteadyAt, IsReadAs, MeetsReloc, HoldsAddend}
+use Rattle.oc_neutral.specs.Objects.{Object, reloc_at}
+use Rattle.oc_neutral.specs.RelocTables.{row_of}
+use Rattle.oc_neutral.specs.Rows.{taken_of, shift_of}
+use Rattle.oc_neutral.specs.TargetSections.{header_count}
+use Rattle.oc_neutral.specs.TargetSymbols.{elf_symbol_count}
+
+-- a section
+pub record ElfSection (n : Object) (s : Section) : Type 0 where
+  pub uncut : IsUncut n s
+  pub align : s.align ≤ 2 ^ 20
+  -- its tag has a type that is carried, and is allocated where that is NOBITS
+  pub carried : is_carried_type (elf_tag_type s.tag) ≡ true
+  pub allocated : is_nobits_tag s.tag ≡ true → has (elf_tag_flags s.tag) SHF_ALLOC ≡ true
+  pub kind : IsReadAs Exception s.kind (elf_kind s.name (elf_tag_type s.tag) (elf_tag_flags s.tag))
+
+-- a symbol
+pub record ElfSymbol (n : Object) (s : Symbol) : Type 0 where
+  pub name : has_nul s.name ≡ false
+  -- a fallback Name is written as the place of its Global
+  pub steady : (k : ℕ) → s.binding ≡ Weak (fallback.Name k) → IsSteadyAt n k
+
+-- a relocation
+pub record ElfReloc (format : Format) (n : Object) (s at : ℕ) (r : Reloc) : Type 0 where
+  pub meets : MeetsReloc format n s at r
+  -- the type is one entry's, is found by its number of eight bits, and says something
+  pub found : row_of format meets.row.number ≡ Some meets.row
+  pub number : (0 < meets.row.number) × (meets.row.number < 2 ^ 8)
+  pub single : meets.row.second ≡ None
+  pub behind : meets.row.behind ≡ 0
+  pub taken : meets.row.taken ≡ taken_of r.form.less
+  pub hint : meets.row.hint ≡ r.hint
+  -- of a section only the address is asked
+  pub based : (k : ℕ) → r.target ≡ target.Section k → r.form.base ≡ Address
+  -- in elf32 the field holds the addend
+  pub holds : format ≡ Elf32 → HoldsAddend format r (shift_of meets.row)
+
+-- the object
+pub record MeetsElf (format : Format) (n : Object) : Type 0 where
+  pub bounds : AreBounded n
+  pub headers : header_count format n ≤ 65279
+  pub table : format ≡ Elf32 → elf_symbol_count n < 2 ^ 24
+  pub sections : (k : ℕ) (s : Section) → slice_get n.sections k ≡ Some s → ElfSection n s
+  pub symbols : (k : ℕ) (s : Symbol) → slice_get n.symbols k ≡ Some s → ElfSymbol n s
+  pub relocs : (s at : ℕ) (r : Reloc) → reloc_at n s at ≡ Some r → ElfReloc format n s at r
+
+-- every object that is ready for ELF meets this
+abbrev pub FittedMeetsElf : Type 0
+FittedMeetsElf = (format : Format) (n : Object) → family_of format ≡ IsElf → IsFitted format n → MeetsElf format n
