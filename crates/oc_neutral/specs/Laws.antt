@@ -14,7 +14,9 @@ use Rattle.oc_neutral.specs.Objects.{Object}
 use Rattle.oc_neutral.specs.Invariants.{IsObject}
 use Rattle.oc_neutral.specs.Dialects.{Dialect}
 use Rattle.oc_neutral.specs.Shows.{Shows}
-use Rattle.oc_neutral.specs.Fitted.{IsFit}
+use Rattle.oc_neutral.specs.Fitted.{IsFit, IsFitted}
+use Rattle.oc_neutral.specs.Seen.{seen}
+use Rattle.oc_neutral.specs.Written.{LooksAlike}
 use Rattle.oc_neutral.specs.Normal.{normal_of}
 use Rattle.oc_neutral.specs.Worth.{residue_at, IsTrueToLocals}
 
@@ -36,3 +38,11 @@ ShownObjectIsOne = (f : Dialect) (b : List ℕ) (keep : Keep) (n m : Object) →
 -- what an object becomes in a target is determined by the object
 abbrev pub FitIsOne : Type 0
 FitIsOne = (target : Format) (n m k : Object) → IsObject m → IsObject k → IsFit target n m → IsFit target n k → m ≡ k
+
+-- what a reader shows of an object that was ready for a format, and was written, is an object
+abbrev pub SeenIsObject : Type 0
+SeenIsObject = (target : Format) (n : Object) → IsFitted target n → IsObject (seen n)
+
+-- and linking sees the same of it as of the object that was written
+abbrev pub SeenLooksAlike : Type 0
+SeenLooksAlike = (target : Format) (n : Object) → IsFitted target n → LooksAlike (seen n) n
