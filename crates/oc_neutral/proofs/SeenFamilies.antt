@@ -153,6 +153,7 @@ module _ (n : Object) where
       both : (a : Bool) → (a && option_map_or (is_key_name n s.name) (group_at n k) false) ≡ true → option_map_or (is_key_name n s.name) (group_at n k) false ≡ true
       both true e = e
       both false e = absurd (true≢false (sym e))
+
       by : (o : Option Section) → slice_get n.sections k ≡ o → option_map_or (is_key_name n s.name) (option_and_then (λ (y : Section). y.group) o) false ≡ true → (x : Section) × (o ≡ Some x)
       by None h e = absurd (true≢false (sym e))
       by (Some x) h e = (x, refl)
@@ -200,6 +201,7 @@ module _ (n : Object) where
       or_true : (a : Bool) → (a || true) ≡ true
       or_true true = refl
       or_true false = refl
+
       by : (b : Bool) → is_key n s ≡ b → (any_key 0 n.sections s || (is_kept s || is_rest s)) ≡ true
       by true e = ap (λ a. a || (is_kept s || is_rest s)) (key_any s e)
       by false e = ap (λ b. any_key 0 n.sections s || ((b && is_written n.format s) || (not b && not (is_key n s)))) outer
@@ -213,7 +215,7 @@ module _ (n : Object) where
       let behind : IsPart n is_rest (length defaults + 0) (map (λ (s : Symbol). silent 1) defaults ++ others) = part_behind n is_rest 0 others defaults (part_where is_rest coff_entries rest_few n) in
       let symbols = part_join n is_kept is_rest 0 (length defaults + 0) (local_lines n) (map (λ (s : Symbol). silent 1) defaults ++ others) locals behind kept_apart in
       let all = part_join n (any_key 0 n.sections) (λ s. is_kept s || is_rest s) (2 * length n.sections) (0 + (length defaults + 0)) (flat_map (coff_section_lines n) (enumerate_from 0 n.sections))
-          (local_lines n ++ (map (λ (s : Symbol). silent 1) defaults ++ others)) (keys 0 n.sections) symbols keys_apart in
+      (local_lines n ++ (map (λ (s : Symbol). silent 1) defaults ++ others)) (keys 0 n.sections) symbols keys_apart in
       has_table n (λ s. any_key 0 n.sections s || (is_kept s || is_rest s)) (2 * length n.sections + (0 + (length defaults + 0))) (2 * length n.sections + length n.symbols) (coff_lines n) all (omega (arith, few)) (λ k s here outer. coff_covers s outer)
 
   -- ... Mach-O and OMF

@@ -35,7 +35,7 @@ shown_long number (l ∷ lines) =
     let later : length (shown_from (number + l.entries) lines) ≡ shown_count lines = shown_long (number + l.entries) lines in
     let all : shown_count (l ∷ lines) ≡ cond (is_shown l.shows) 1 0 + shown_count lines = sum_by-cons (λ (x : Line). cond (is_shown x.shows) 1 0) l lines in
     elim l.shows as (λ o. shown_count (l ∷ lines) ≡ cond (is_shown o) 1 0 + shown_count lines
-        → length (option_map_or (λ k. (k, number) ∷ shown_from (number + l.entries) lines) o (shown_from (number + l.entries) lines)) ≡ shown_count (l ∷ lines)) [
+    → length (option_map_or (λ k. (k, number) ∷ shown_from (number + l.entries) lines) o (shown_from (number + l.entries) lines)) ≡ shown_count (l ∷ lines)) [
       | None ↦ λ all. omega (arith, later, all)
       | Some k ↦ λ all. omega (arith, later, all)
     ] all

@@ -137,16 +137,17 @@ module _ (m : Manner) (n : Object) (shown : List (ℕ × ℕ)) (is : IsShown n s
       let found : numbered (shown_symbols n) y.0.number ≡ Some (shown_symbol n.symbols y.0) = original_found n k.0 y.0 y.1 y.3 in
       let worth : target_worth n.symbols p (values w (shown_symbols n) (shown_symbols n) p e) r.target ≡ global_worth w p s at place (e.slot y.0.name)
       = ap (target_worth n.symbols p (values w (shown_symbols n) (shown_symbols n) p e)) k.1
-          ∙ ap (λ q. unwrap_or (option_map (λ (x : Symbol). values w (shown_symbols n) (shown_symbols n) p e x.number) q) worthless) y.1
-          ∙ values-edited w (shown_symbols n) (shown_symbols n) p e y.0.number (shown_symbol n.symbols y.0) found
-          ∙ ap (λ b. own_worth w p e y.0.name (shown_binding n.symbols b)) binding
-          ∙ ap (λ b. record { site = cond b (unwrap_or (e.site y.0.name) nowhere) (place_site w p place.0 place.1); slot = e.slot y.0.name }) kept in
+      ∙ ap (λ q. unwrap_or (option_map (λ (x : Symbol). values w (shown_symbols n) (shown_symbols n) p e x.number) q) worthless) y.1
+      ∙ values-edited w (shown_symbols n) (shown_symbols n) p e y.0.number (shown_symbol n.symbols y.0) found
+      ∙ ap (λ b. own_worth w p e y.0.name (shown_binding n.symbols b)) binding
+      ∙ ap (λ b. record { site = cond b (unwrap_or (e.site y.0.name) nowhere) (place_site w p place.0 place.1); slot = e.slot y.0.name }) kept in
       ap (λ o. valued w p s at (at_section w r o)) own
       ∙ section_value w p s at place (e.slot y.0.name) r.form.base its.base r.addend r.form.less
       ∙ sym (ap (λ x. minus w (base_of p x r.form.base + residue_of w r.addend) (less_of p s at x r.form.less)) worth)
     where
       own_worth : Word → Placement → Outside → List ℕ → Binding → Valued
       own_worth w p e name b = record { site = site_of w p e (shown_symbols n) name b; slot = cond (is_local b) 0 (e.slot name) }
+
       valued : Word → Placement → ℕ → ℕ → Reloc → ℕ
       valued w p s at q =
           let x : Valued = target_worth (seen_with m n shown).symbols p (values w (shown_symbols (seen_with m n shown)) (shown_symbols (seen_with m n shown)) p e) (seen_target shown q.target) in

@@ -130,6 +130,7 @@ module _ (n : Object) (fine : IsObject n) where
       of_symbol : (k : ℕ) (place : Place) (o : Option Symbol) → slice_get n.symbols k ≡ o → option_and_then (λ (s : Symbol). global_place s.binding) o ≡ Some place → (x : Section) × (slice_get n.sections place.0 ≡ Some x)
       of_symbol k place None here at = absurd (none-some place at)
       of_symbol k place (Some s) here at = let x = offset_of k s place here at in (x.0, x.1)
+
       placed : (k : ℕ) (place : Place) → place_at n k ≡ Some place → (x : Section) × (slice_get n.sections place.0 ≡ Some x)
       placed k place at = of_symbol k place (slice_get n.symbols k) refl at
 

@@ -59,14 +59,15 @@ all_from P (x ∷ xs) each = (each 0 x refl, all_from P xs (λ k y here. each (s
 -- each field is found at its own offset
 own_offsets : (p : ℕ) (xs : List (Field Reloc)) → FollowFrom p xs → AllByRecursion (λ (x : Field Reloc). (p ≤ x.at) × (reloc_among xs x.at ≡ Some x.item)) xs
 own_offsets p [] follow = tt
-own_offsets p (x ∷ xs) follow =
-    ((follow.0, ap (λ b. cond b (Some x.item) (reloc_among xs x.at)) (eq-eqb x.at x.at refl)),
-    each_weaker (λ (y : Field Reloc). (end_of x ≤ y.at) × (reloc_among xs y.at ≡ Some y.item)) (λ (y : Field Reloc). (p ≤ y.at) × (reloc_among (x ∷ xs) y.at ≡ Some y.item))
-    (λ y h.
-    let behind = h.0 in
-    let before = follow.0 in
-    let wide = follow.1 in
-    (omega (arith, behind, before, wide), ap (λ b. cond b (Some x.item) (reloc_among xs y.at)) (ne_eqb x.at y.at (λ same. omega (arith, same, behind, wide))) ∙ h.1)) xs (own_offsets (end_of x) xs follow.2))
+own_offsets p (x ∷ xs) follow = (
+  (follow.0, ap (λ b. cond b (Some x.item) (reloc_among xs x.at)) (eq-eqb x.at x.at refl)),
+  each_weaker (λ (y : Field Reloc). (end_of x ≤ y.at) × (reloc_among xs y.at ≡ Some y.item)) (λ (y : Field Reloc). (p ≤ y.at) × (reloc_among (x ∷ xs) y.at ≡ Some y.item))
+      (λ y h.
+      let behind = h.0 in
+      let before = follow.0 in
+      let wide = follow.1 in
+      (omega (arith, behind, before, wide), ap (λ b. cond b (Some x.item) (reloc_among xs y.at)) (ne_eqb x.at y.at (λ same. omega (arith, same, behind, wide))) ∙ h.1)) xs (own_offsets (end_of x) xs follow.2),
+)
 
 -- the lists of fields, mapped
 pub list_map : (f : Field Reloc → Field Reloc) (lists : List (List (Field Reloc))) (s : ℕ) → list_of (map (map f) lists) s ≡ map f (list_of lists s)
@@ -250,6 +251,7 @@ module _ (m : Manner) (n : Object) (shown : List (ℕ × ℕ)) (fine : IsObject 
       in_lists [] s k x here = absurd (none-some x here)
       in_lists (xs ∷ lists) zero k x here = omega arith
       in_lists (xs ∷ lists) (suc s) k x here = let l = in_lists lists s k x here in omega (arith, l)
+
       inside : (s k : ℕ) (x : Field Reloc) → slice_get (list_of n.relocs s) k ≡ Some x → s < length n.sections
       inside s k x here = let l = in_lists n.relocs s k x here in let e = fine.built.fields.counted in omega (arith, l, e)
 
