@@ -67,7 +67,7 @@ pub of_table : {X : Type 0} (f g : Row → X) (rows : List Row) (k : ℕ) (row :
 of_table f g rows k row same here = images_same f g rows rows same k row row here here
 
 -- what a search finds is there, and passes
-found_there : {X : Type 0} (test : X → Bool) (xs : List X) (x : X) → find test xs ≡ Some x → (k : ℕ) × (slice_get xs k ≡ Some x) × (test x ≡ true)
+pub found_there : {X : Type 0} (test : X → Bool) (xs : List X) (x : X) → find test xs ≡ Some x → (k : ℕ) × (slice_get xs k ≡ Some x) × (test x ≡ true)
 found_there test [] x e = absurd (none-some x e)
 found_there {X} test (y ∷ xs) x e = by (test y) refl (λ h. found_there test xs x h) e
   where

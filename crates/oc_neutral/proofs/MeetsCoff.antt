@@ -1,0 +1,212 @@
+-- Every object that is ready for COFF meets what its writer uses.
+use Rattle.std.proofs.Common.{◌≡◌, ℕ, zero, suc, ◌+◌, ◌^◌, ◌<◌, ◌≤◌, Bool, true, false, cond, ◌&&◌, ◌||◌, List, [], ◌∷◌, length, map, Option, Some, None, refl, sym, ◌∙◌, ap, subst, arith}
+use Rattle.std.specs.Prelude.{slice_get, nat_eq, nat_lt, not}
+use Rattle.std.specs.Option.{option_map, option_map_or}
+use Rattle.std.proofs.lemmas.Bool.{true≢false, and_parts, ltb-true}
+use Rattle.oc_base.specs.declared.format.Format.{Format}
+use Rattle.oc_base.specs.declared.format.Format.TheVariants.{Elf32, Elf64, Coff32, Coff64, Mac32, Mac64, Omf}
+use Rattle.oc_base.specs.Formats.{word_for}
+use Rattle.oc_linking.specs.declared.terms.Kind.{Kind}
+use Rattle.oc_linking.specs.declared.terms.Kind.TheVariants.{Exception}
+use Rattle.oc_linking.specs.declared.terms.Hint.TheVariants.{Plain}
+use Rattle.oc_linking.specs.declared.terms.Value.TheVariants.{Absolute}
+use Rattle.oc_linking.specs.declared.terms.Binding.{Binding}
+use Rattle.oc_linking.specs.declared.terms.Binding.TheVariants.{Global, Common}
+use Rattle.oc_linking.specs.Numbers.{modulus}
+use Rattle.oc_linking.specs.Parts.{is_local}
+use Rattle.oc_neutral.specs.declared.section.Section.{Section}
+use Rattle.oc_neutral.specs.declared.symbol.Symbol.{Symbol}
+use Rattle.oc_neutral.specs.declared.reloc.Reloc.{Reloc}
+use Rattle.oc_neutral.specs.Alignments.{most_in, natural_align, common_align_in, common_align}
+use Rattle.oc_neutral.specs.CoffMeets.{CoffSection, IsNaturalCommon, CoffSymbol, CoffReloc, MeetsCoff, FittedMeetsCoff}
+use Rattle.oc_neutral.specs.CoffStrings.{is_tabled, string_offset}
+use Rattle.oc_neutral.specs.Families.{Family, IsCoff, family_of, family_number}
+use Rattle.oc_neutral.specs.Fitted.{fitted_binding, IsFitted}
+use Rattle.oc_neutral.specs.GivenTags.{has_nul, family_gives}
+use Rattle.oc_neutral.specs.HomeNames.{is_home}
+use Rattle.oc_neutral.specs.Invariants.{IsSymbol, IsBinding}
+use Rattle.oc_neutral.specs.KeySymbols.{has_key_symbol}
+use Rattle.oc_neutral.specs.Meets.{has_calls, MeetsReloc, HoldsAddend}
+use Rattle.oc_neutral.specs.Objects.{Object, reloc_at}
+use Rattle.oc_neutral.specs.RelocTables.{rows_of, row_of}
+use Rattle.oc_neutral.specs.Rows.{Row, TakesSection, taken_of, same_taken, shift_of}
+use Rattle.oc_neutral.specs.Shifts.{field_shift, written_shift}
+use Rattle.oc_neutral.specs.Spelling.{written_row}
+use Rattle.oc_neutral.specs.TargetSections.{most_counted, counted_in, is_cut, is_far, unwritable_in, is_group_form, section_conditions}
+use Rattle.oc_neutral.specs.TargetSymbols.{is_absolute_form, is_unnatural, is_common_in, is_common_form, symbol_conditions}
+use Rattle.oc_neutral.proofs.MeetsConditions.{neither, not_below, section_count_met, section_met, symbol_met}
+use Rattle.oc_neutral.proofs.MeetsCounts.{bounded_object}
+use Rattle.oc_neutral.proofs.MeetsKinds.{IsCoffTag, coff_named}
+use Rattle.oc_neutral.proofs.MeetsParts.{not_false, positive, uncut, led, taken_alike, plain_shift}
+use Rattle.oc_neutral.proofs.MeetsRelocs.{reloc_meets}
+use Rattle.oc_neutral.proofs.MeetsRows.{of_table}
+use Rattle.oc_neutral.proofs.MeetsStrings.{section_given, symbol_given, default_given}
+use Rattle.oc_neutral.proofs.Positions.{each_at}
+
+-- the homes of kinds are the same in both formats
+same_home : (format : Format) → family_of format ≡ IsCoff → (k : ℕ) (kind : Kind) (name : List ℕ) (tag : ℕ) → is_home format k kind name tag ≡ is_home Coff32 k kind name tag
+unfolding is_home
+same_home Coff32 e k kind name tag = refl
+same_home Coff64 e k kind name tag = refl
+same_home Elf32 e k kind name tag = absurd (cc)
+same_home Elf64 e k kind name tag = absurd (cc)
+same_home Mac32 e k kind name tag = absurd (cc)
+same_home Mac64 e k kind name tag = absurd (cc)
+same_home Omf e k kind name tag = absurd (cc)
+
+-- what is known of a row of a COFF table
+record IsCoffRow (format : Format) (row : Row) : Type 0 where
+  found : row_of format row.number ≡ Some row
+  number : (nat_lt 0 row.number && nat_lt row.number (2 ^ 16)) ≡ true
+  single : row.second ≡ None
+  no_section : same_taken row.taken TakesSection ≡ false
+
+-- of each row: the two lists of answers are computed
+coff_row : (format : Format) → family_of format ≡ IsCoff → (k : ℕ) (row : Row) → slice_get (rows_of format) k ≡ Some row → IsCoffRow format row
+coff_row Coff32 e k row here = record {
+  found = of_table (λ r. row_of Coff32 r.number) Some (rows_of Coff32) k row refl here;
+  number = of_table (λ r. nat_lt 0 r.number && nat_lt r.number (2 ^ 16)) (λ r. true) (rows_of Coff32) k row refl here;
+  single = of_table (λ r. r.second) (λ r. None) (rows_of Coff32) k row refl here;
+  no_section = of_table (λ r. same_taken r.taken TakesSection) (λ r. false) (rows_of Coff32) k row refl here;
+}
+coff_row Coff64 e k row here = record {
+  found = of_table (λ r. row_of Coff64 r.number) Some (rows_of Coff64) k row refl here;
+  number = of_table (λ r. nat_lt 0 r.number && nat_lt r.number (2 ^ 16)) (λ r. true) (rows_of Coff64) k row refl here;
+  single = of_table (λ r. r.second) (λ r. None) (rows_of Coff64) k row refl here;
+  no_section = of_table (λ r. same_taken r.taken TakesSection) (λ r. false) (rows_of Coff64) k row refl here;
+}
+coff_row Elf32 e k row here = absurd (cc)
+coff_row Elf64 e k row here = absurd (cc)
+coff_row Mac32 e k row here = absurd (cc)
+coff_row Mac64 e k row here = absurd (cc)
+coff_row Omf e k row here = absurd (cc)
+
+-- neither format has types for calls
+no_calls : (format : Format) → family_of format ≡ IsCoff → has_calls format ≡ false
+no_calls Coff32 e = refl
+no_calls Coff64 e = refl
+no_calls Elf32 e = absurd (cc)
+no_calls Elf64 e = absurd (cc)
+no_calls Mac32 e = absurd (cc)
+no_calls Mac64 e = absurd (cc)
+no_calls Omf e = absurd (cc)
+
+-- the shift is that of the row
+coff_shift : (format : Format) → family_of format ≡ IsCoff → (at : ℕ) (r : Reloc) → field_shift format at r ≡ option_map (written_shift at r.form.less) (written_row format r.form r.hint)
+unfolding field_shift
+coff_shift Coff32 e at r = refl
+coff_shift Coff64 e at r = refl
+coff_shift Elf32 e at r = absurd (cc)
+coff_shift Elf64 e at r = absurd (cc)
+coff_shift Mac32 e at r = absurd (cc)
+coff_shift Mac64 e at r = absurd (cc)
+coff_shift Omf e at r = absurd (cc)
+
+-- an absolute value that COFF can write
+short_absolute : (format : Format) → family_of format ≡ IsCoff → (x : ℕ) → x < modulus (word_for format) → is_absolute_form format (Global (Absolute x)) ≡ false → x < 2 ^ 32
+short_absolute Coff32 e x low form = low
+short_absolute Coff64 e x low form = ltb-true x (2 ^ 32) (not_false (nat_lt x (2 ^ 32)) form)
+short_absolute Elf32 e x low form = absurd (cc)
+short_absolute Elf64 e x low form = absurd (cc)
+short_absolute Mac32 e x low form = absurd (cc)
+short_absolute Mac64 e x low form = absurd (cc)
+short_absolute Omf e x low form = absurd (cc)
+
+-- commons that are equal have equal alignments
+pub align_same : (size a b : ℕ) → Common size a ≡ Common size b → a ≡ b
+align_same size a b e = cc
+
+-- a common that is natural
+pub natural : (size align : ℕ) → is_unnatural size align ≡ false → natural_align size ≡ align → IsNaturalCommon size align
+natural size align e own =
+    let parts = neither (nat_eq size 0 || nat_lt 0xFFFFFFFF size) (nat_lt (natural_align size) align) e in
+    let both = neither (nat_eq size 0) (nat_lt 0xFFFFFFFF size) parts.0 in
+    let small = not_below 0xFFFFFFFF size both.1 in
+    record { some = positive size both.0; small = omega (arith, small); natural = sym own }
+
+-- what a common becomes in a format
+pub fitted_common : (format : Format) (size align : ℕ) → Common size (common_align_in (family_of format) size align) ≡ fitted_binding format (Common size align)
+unfolding common_align
+fitted_common format size align = refl
+
+module _ (format : Format) (n : Object) (family : family_of format ≡ IsCoff) (fits : IsFitted format n) where
+  few : length n.sections ≤ 65279
+  few =
+      not_below 65279 (length n.sections)
+      (subst (λ (f : Family). nat_lt (most_counted f) (counted_in f format n) ≡ false) family (section_count_met format n fits).0)
+
+  section : (k : ℕ) (s : Section) → slice_get n.sections k ≡ Some s → CoffSection format n s
+  unfolding section_conditions
+  section k s here =
+      let met = section_met format n fits k s here in
+      let named : (is_home Coff32 (k + 1) s.kind s.name s.tag || family_gives IsCoff s.kind s.name s.tag) ≡ true
+      = sym (ap (λ b. b || family_gives IsCoff s.kind s.name s.tag) (same_home format family (k + 1) s.kind s.name s.tag))
+          ∙ ap (λ f. is_home format (k + 1) s.kind s.name s.tag || family_gives f s.kind s.name s.tag) (sym family) ∙ fits.names k s here in
+      let tag : IsCoffTag s.kind s.name s.tag = coff_named (k + 1) s.kind s.name s.tag named in
+      let low : nat_lt (most_in IsCoff) s.align ≡ false = subst (λ f. nat_lt (most_in f) s.align ≡ false) family met.1.1.1.0 in
+      let name = neither (is_cut n s.name s) (is_tabled s.name && is_far (string_offset format n s.name)) (subst (λ f. (unwritable_in f).name format n s.name s ≡ false) family met.1.1.1.1.0) in
+      record {
+        uncut = uncut n s name.0;
+        given = section_given format n fits.format k s here;
+        near = λ tabled. not_below 9999999 (string_offset format n s.name) (sym (ap (λ b. b && is_far (string_offset format n s.name)) tabled) ∙ name.1);
+        led = λ g e.
+            let member : not (has_key_symbol n g) ≡ false
+            = subst (λ f. (unwritable_in f).member n g ≡ false) family (ap (λ o. option_map_or ((unwritable_in (family_of format)).member n) o false) (sym e) ∙ met.1.1.1.1.1.0) in
+            led n g (not_false (has_key_symbol n g) member);
+        align = not_below (2 ^ 13) s.align low;
+        small = tag.small;
+        tag = tag.own;
+        read = tag.read;
+        carried = tag.carried;
+        kind = tag.kind_read;
+        zero = tag.zeros;
+      }
+
+  symbol : (k : ℕ) (s : Symbol) → slice_get n.symbols k ≡ Some s → CoffSymbol format n s
+  unfolding symbol_conditions
+  symbol k s here =
+      let met = symbol_met format n fits k s here in
+      let own : IsSymbol n s = each_at (IsSymbol n) n.symbols k s fits.object.complete.symbols here in
+      record {
+        name = subst (λ f. cond (nat_eq (family_number f) 3) (not (is_local s.binding) && nat_lt 255 (length s.name)) (has_nul s.name) ≡ false) family met.0;
+        given = symbol_given format n fits.format k s here;
+        default = λ f weak has. default_given format n fits.format k s f here weak has;
+        absolute = λ x e.
+            let bound : IsBinding n (Global (Absolute x)) = subst (IsBinding n) e own.binding in
+            short_absolute format family x (subst (λ f. x < modulus (word_for f)) fits.format bound) (ap (is_absolute_form format) (sym e) ∙ met.1.0);
+        common = λ size align e.
+            let form : is_common_in (family_of format) size align ≡ false = ap (is_common_form format) (sym e) ∙ met.1.1.0 in
+            let fitted : Common size (common_align_in (family_of format) size align) ≡ Common size align
+            = fitted_common format size align ∙ ap (fitted_binding format) (sym e) ∙ each_at (λ (x : Symbol). fitted_binding format x.binding ≡ x.binding) n.symbols k s fits.commons here ∙ e in
+            natural size align (subst (λ f. is_common_in f size align ≡ false) family form)
+            (align_same size (natural_align size) align (subst (λ f. Common size (common_align_in f size align) ≡ Common size align) family fitted));
+      }
+
+  reloc : (s at : ℕ) (r : Reloc) → reloc_at n s at ≡ Some r → CoffReloc format n s at r
+  reloc s at r here =
+      let m : MeetsReloc format n s at r = reloc_meets format n fits s at r here in
+      let row : IsCoffRow format m.row = coff_row format family m.is.position m.row m.is.there in
+      let number = and_parts _ _ row.number in
+      record {
+        meets = m;
+        found = row.found;
+        number = (ltb-true 0 m.row.number number.0, ltb-true m.row.number (2 ^ 16) number.1);
+        single = row.single;
+        taken = taken_alike format r.form.less m.row.taken other m.is.taken;
+        hint = m.is.hint ∙ ap (λ b. cond b r.hint Plain) (no_calls format family);
+        holds =
+            m.holds (shift_of m.row)
+            (coff_shift format family at r ∙ ap (option_map (written_shift at r.form.less)) m.is.written ∙ ap Some (plain_shift at r.form.less m.row row.no_section));
+      }
+    where
+      other : format ≡ Mac64 → ⊥
+      other is = absurd (let e : family_of Mac64 ≡ IsCoff = subst (λ f. family_of f ≡ IsCoff) is family in cc)
+
+pub meets_coff : FittedMeetsCoff
+meets_coff format n family fits = record {
+  bounds = bounded_object format n fits;
+  few = few format n family fits;
+  sections = section format n family fits;
+  symbols = symbol format n family fits;
+  relocs = reloc format n family fits;
+}

@@ -1,0 +1,165 @@
+-- Every object that is ready for ELF meets what its writer uses.
+use Rattle.std.proofs.Common.{◌≡◌, ℕ, zero, suc, ◌+◌, ◌^◌, ◌<◌, ◌≤◌, Bool, true, false, cond, ◌&&◌, ◌||◌, List, [], ◌∷◌, length, map, Option, Some, None, refl, sym, ◌∙◌, ap, subst, arith}
+use Rattle.std.specs.Prelude.{slice_get, nat_eq, nat_lt, not}
+use Rattle.std.specs.Option.{option_map, option_map_or}
+use Rattle.std.proofs.lemmas.Bool.{true≢false, and_parts, ltb-true}
+use Rattle.oc_base.specs.declared.format.Format.{Format}
+use Rattle.oc_base.specs.declared.format.Format.TheVariants.{Elf32, Elf64, Coff32, Coff64, Mac32, Mac64, Omf}
+use Rattle.oc_linking.specs.declared.terms.Kind.{Kind}
+use Rattle.oc_linking.specs.declared.terms.Base.TheVariants.{Address, HomeNumber}
+use Rattle.oc_linking.specs.declared.terms.Hint.TheVariants.{Plain}
+use Rattle.oc_linking.specs.declared.terms.Fallback.TheVariants as fallback
+use Rattle.oc_linking.specs.declared.terms.Binding.TheVariants.{Weak}
+use Rattle.oc_linking.specs.Parts.{is_local}
+use Rattle.oc_neutral.specs.declared.section.Section.{Section}
+use Rattle.oc_neutral.specs.declared.symbol.Symbol.{Symbol}
+use Rattle.oc_neutral.specs.declared.reloc.Target.TheVariants as target
+use Rattle.oc_neutral.specs.declared.reloc.Reloc.{Reloc}
+use Rattle.oc_neutral.specs.Alignments.{most_in}
+use Rattle.oc_neutral.specs.ElfMeets.{ElfSection, ElfSymbol, ElfReloc, MeetsElf, FittedMeetsElf}
+use Rattle.oc_neutral.specs.Families.{Family, IsElf, family_of, family_number}
+use Rattle.oc_neutral.specs.Fitted.{IsFitted, IsNamed}
+use Rattle.oc_neutral.specs.GivenTags.{has_nul, family_gives}
+use Rattle.oc_neutral.specs.HomeNames.{is_home}
+use Rattle.oc_neutral.specs.Meets.{has_calls, MeetsReloc, HoldsAddend}
+use Rattle.oc_neutral.specs.Objects.{Object, reloc_at}
+use Rattle.oc_neutral.specs.RelocTables.{rows_of, row_of}
+use Rattle.oc_neutral.specs.Rows.{Row, TakesSection, taken_of, same_taken, same_base, shift_of}
+use Rattle.oc_neutral.specs.Shifts.{field_shift, written_shift}
+use Rattle.oc_neutral.specs.Spelling.{written_row}
+use Rattle.oc_neutral.specs.TargetSections.{most_counted, counted_in, header_count, unwritable_in, section_conditions}
+use Rattle.oc_neutral.specs.TargetSymbols.{elf_symbol_count, symbol_bound, bounded, is_weak_in, is_weak_form, symbol_conditions}
+use Rattle.oc_neutral.proofs.MeetsConditions.{AreMet, not_below, section_count_met, section_met, symbol_met}
+use Rattle.oc_neutral.proofs.MeetsCounts.{symbols_bounded, bounded_object}
+use Rattle.oc_neutral.proofs.MeetsKinds.{IsElfTag, elf_named}
+use Rattle.oc_neutral.proofs.MeetsParts.{uncut, steady, taken_alike, plain_shift, only_address}
+use Rattle.oc_neutral.proofs.MeetsRelocs.{reloc_meets}
+use Rattle.oc_neutral.proofs.MeetsRows.{of_table}
+
+-- the homes of kinds are the same in both formats
+same_home : (format : Format) → family_of format ≡ IsElf → (k : ℕ) (kind : Kind) (name : List ℕ) (tag : ℕ) → is_home format k kind name tag ≡ is_home Elf32 k kind name tag
+unfolding is_home
+same_home Elf32 e k kind name tag = refl
+same_home Elf64 e k kind name tag = refl
+same_home Coff32 e k kind name tag = absurd (cc)
+same_home Coff64 e k kind name tag = absurd (cc)
+same_home Mac32 e k kind name tag = absurd (cc)
+same_home Mac64 e k kind name tag = absurd (cc)
+same_home Omf e k kind name tag = absurd (cc)
+
+-- what is known of a row of an ELF table
+record IsElfRow (format : Format) (row : Row) : Type 0 where
+  found : row_of format row.number ≡ Some row
+  number : (nat_lt 0 row.number && nat_lt row.number (2 ^ 8)) ≡ true
+  single : row.second ≡ None
+  behind : row.behind ≡ 0
+  no_section : same_taken row.taken TakesSection ≡ false
+  no_home : same_base row.base HomeNumber ≡ false
+
+-- of each row: the two lists of answers are computed
+elf_row : (format : Format) → family_of format ≡ IsElf → (k : ℕ) (row : Row) → slice_get (rows_of format) k ≡ Some row → IsElfRow format row
+elf_row Elf32 e k row here = record {
+  found = of_table (λ r. row_of Elf32 r.number) Some (rows_of Elf32) k row refl here;
+  number = of_table (λ r. nat_lt 0 r.number && nat_lt r.number (2 ^ 8)) (λ r. true) (rows_of Elf32) k row refl here;
+  single = of_table (λ r. r.second) (λ r. None) (rows_of Elf32) k row refl here;
+  behind = of_table (λ r. r.behind) (λ r. 0) (rows_of Elf32) k row refl here;
+  no_section = of_table (λ r. same_taken r.taken TakesSection) (λ r. false) (rows_of Elf32) k row refl here;
+  no_home = of_table (λ r. same_base r.base HomeNumber) (λ r. false) (rows_of Elf32) k row refl here;
+}
+elf_row Elf64 e k row here = record {
+  found = of_table (λ r. row_of Elf64 r.number) Some (rows_of Elf64) k row refl here;
+  number = of_table (λ r. nat_lt 0 r.number && nat_lt r.number (2 ^ 8)) (λ r. true) (rows_of Elf64) k row refl here;
+  single = of_table (λ r. r.second) (λ r. None) (rows_of Elf64) k row refl here;
+  behind = of_table (λ r. r.behind) (λ r. 0) (rows_of Elf64) k row refl here;
+  no_section = of_table (λ r. same_taken r.taken TakesSection) (λ r. false) (rows_of Elf64) k row refl here;
+  no_home = of_table (λ r. same_base r.base HomeNumber) (λ r. false) (rows_of Elf64) k row refl here;
+}
+elf_row Coff32 e k row here = absurd (cc)
+elf_row Coff64 e k row here = absurd (cc)
+elf_row Mac32 e k row here = absurd (cc)
+elf_row Mac64 e k row here = absurd (cc)
+elf_row Omf e k row here = absurd (cc)
+
+-- both formats have types for calls
+calls : (format : Format) → family_of format ≡ IsElf → has_calls format ≡ true
+calls Elf32 e = refl
+calls Elf64 e = refl
+calls Coff32 e = absurd (cc)
+calls Coff64 e = absurd (cc)
+calls Mac32 e = absurd (cc)
+calls Mac64 e = absurd (cc)
+calls Omf e = absurd (cc)
+
+module _ (format : Format) (n : Object) (family : family_of format ≡ IsElf) (fits : IsFitted format n) where
+  headers : header_count format n ≤ 65279
+  headers =
+      not_below 65279 (header_count format n)
+      (subst (λ (f : Family). nat_lt (most_counted f) (counted_in f format n) ≡ false) family (section_count_met format n fits).0)
+
+  table : format ≡ Elf32 → elf_symbol_count n < 2 ^ 24
+  table is =
+      let met : AreMet (option_map_or bounded (symbol_bound Elf32 n) []) = subst (λ f. AreMet (option_map_or bounded (symbol_bound f n) [])) is (symbols_bounded format n fits) in
+      let low : elf_symbol_count n ≤ 0xFFFFFF = not_below 0xFFFFFF (elf_symbol_count n) met.0 in
+      omega (arith, low)
+
+  section : (k : ℕ) (s : Section) → slice_get n.sections k ≡ Some s → ElfSection n s
+  unfolding section_conditions
+  section k s here =
+      let met = section_met format n fits k s here in
+      let named : (is_home Elf32 (k + 1) s.kind s.name s.tag || family_gives IsElf s.kind s.name s.tag) ≡ true
+      = sym (ap (λ b. b || family_gives IsElf s.kind s.name s.tag) (same_home format family (k + 1) s.kind s.name s.tag))
+          ∙ ap (λ f. is_home format (k + 1) s.kind s.name s.tag || family_gives f s.kind s.name s.tag) (sym family) ∙ fits.names k s here in
+      let tag : IsElfTag s.kind s.name s.tag = elf_named (k + 1) s.kind s.name s.tag named in
+      let low : nat_lt (most_in IsElf) s.align ≡ false = subst (λ f. nat_lt (most_in f) s.align ≡ false) family met.1.1.1.0 in
+      record {
+        uncut = uncut n s (subst (λ f. (unwritable_in f).name format n s.name s ≡ false) family met.1.1.1.1.0);
+        align = not_below (2 ^ 20) s.align low;
+        carried = tag.carried;
+        allocated = tag.allocated;
+        kind = tag.kind_read;
+      }
+
+  symbol : (k : ℕ) (s : Symbol) → slice_get n.symbols k ≡ Some s → ElfSymbol n s
+  unfolding symbol_conditions
+  symbol k s here =
+      let met = symbol_met format n fits k s here in
+      record {
+        name = subst (λ f. cond (nat_eq (family_number f) 3) (not (is_local s.binding) && nat_lt 255 (length s.name)) (has_nul s.name) ≡ false) family met.0;
+        steady = λ j e.
+            let weak : is_weak_in (family_of format) n (fallback.Name j) ≡ false = ap (is_weak_form format n) (sym e) ∙ met.1.1.1.0 in
+            steady n j (subst (λ f. is_weak_in f n (fallback.Name j) ≡ false) family weak);
+      }
+
+  reloc : (s at : ℕ) (r : Reloc) → reloc_at n s at ≡ Some r → ElfReloc format n s at r
+  unfolding field_shift
+  reloc s at r here =
+      let m : MeetsReloc format n s at r = reloc_meets format n fits s at r here in
+      let row : IsElfRow format m.row = elf_row format family m.is.position m.row m.is.there in
+      let number = and_parts _ _ row.number in
+      record {
+        meets = m;
+        found = row.found;
+        number = (ltb-true 0 m.row.number number.0, ltb-true m.row.number (2 ^ 8) number.1);
+        single = row.single;
+        behind = row.behind;
+        taken = taken_alike format r.form.less m.row.taken other m.is.taken;
+        hint = m.is.hint ∙ ap (λ b. cond b r.hint Plain) (calls format family);
+        based = λ k e. only_address r.form (m.slot k e) (ap (λ b. same_base b HomeNumber) (sym m.is.base) ∙ row.no_home);
+        holds = λ is.
+            m.holds (shift_of m.row)
+            (subst (λ f. field_shift f at r ≡ Some (shift_of m.row)) (sym is)
+            (ap (option_map (written_shift at r.form.less)) (subst (λ f. written_row f r.form r.hint ≡ Some m.row) is m.is.written) ∙ ap Some (plain_shift at r.form.less m.row row.no_section)));
+      }
+    where
+      other : format ≡ Mac64 → ⊥
+      other is = absurd (let e : family_of Mac64 ≡ IsElf = subst (λ f. family_of f ≡ IsElf) is family in cc)
+
+pub meets_elf : FittedMeetsElf
+meets_elf format n family fits = record {
+  bounds = bounded_object format n fits;
+  headers = headers format n family fits;
+  table = table format n family fits;
+  sections = section format n family fits;
+  symbols = symbol format n family fits;
+  relocs = reloc format n family fits;
+}
