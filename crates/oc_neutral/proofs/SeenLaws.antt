@@ -14,13 +14,13 @@ use Rattle.oc_neutral.specs.Invariants.{IsObject}
 use Rattle.oc_neutral.specs.Fitted.{IsFitted}
 use Rattle.oc_neutral.specs.Written.{LooksAlike}
 use Rattle.oc_neutral.specs.Laws.{SeenIsObject, SeenLooksAlike}
-use Rattle.oc_neutral.specs.ElfMeets.{FittedMeetsElf}
-use Rattle.oc_neutral.specs.CoffMeets.{FittedMeetsCoff}
-use Rattle.oc_neutral.specs.MachMeets.{FittedMeetsMach}
-use Rattle.oc_neutral.specs.OmfMeets.{FittedMeetsOmf}
 use Rattle.oc_neutral.specs.SymbolLines.{Line}
-use Rattle.oc_neutral.specs.Manners.{Manner, manner_of}
+use Rattle.oc_neutral.specs.Manners.{Manner, manner_of, own_manner}
 use Rattle.oc_neutral.specs.Seen.{shown_from, seen_with, seen}
+use Rattle.oc_neutral.proofs.MeetsElf.{meets_elf}
+use Rattle.oc_neutral.proofs.MeetsCoff.{meets_coff}
+use Rattle.oc_neutral.proofs.MeetsMach.{meets_mach}
+use Rattle.oc_neutral.proofs.MeetsOmf.{meets_omf}
 use Rattle.oc_neutral.proofs.MeetsRelocs.{normal_of}
 use Rattle.oc_neutral.proofs.SeenLines.{IsShown, table_shows}
 use Rattle.oc_neutral.proofs.SeenTables.{is_shown, shown_count, entry_count}
@@ -71,22 +71,21 @@ module _ (m : Manner) (n : Object) (ready : IsReady m n) where
   pub again_alike : LooksAlike (seen_with m n shown) n
   again_alike = seen_alike m n shown are_shown ready.names ready.kinds (λ s at r here. (normal_of n ready.fine s at r here).reduced) ready.targets ready.sectional ready.fine.built.distinct
 
-module _ (elf : FittedMeetsElf) (coff : FittedMeetsCoff) (mach : FittedMeetsMach) (omf : FittedMeetsOmf) where
-  -- a fitted object is ready, in the manner of its format
-  of_format : (target : Format) (n : Object) → IsFitted target n → IsReady (manner_of (family_of target) (word_for target)) n
-  of_format Elf32 n fits = elf_ready Elf32 n fits.object (elf Elf32 n refl fits)
-  of_format Elf64 n fits = elf_ready Elf64 n fits.object (elf Elf64 n refl fits)
-  of_format Coff32 n fits = coff_ready Coff32 n fits.object (coff Coff32 n refl fits)
-  of_format Coff64 n fits = coff_ready Coff64 n fits.object (coff Coff64 n refl fits)
-  of_format Mac32 n fits = mach_ready Mac32 W32 n fits.object (mach Mac32 n refl fits) (λ same. (refl, (refl, (refl, (refl, tt)))))
-  of_format Mac64 n fits = mach_ready Mac64 W64 n fits.object (mach Mac64 n refl fits) (λ same. absurd (cc))
-  of_format Omf n fits = omf_ready n fits.object (omf n fits)
+-- a fitted object is ready, in the manner of its format
+of_format : (target : Format) (n : Object) → IsFitted target n → IsReady (manner_of (family_of target) (word_for target)) n
+of_format Elf32 n fits = elf_ready Elf32 n fits.object (meets_elf Elf32 n refl fits)
+of_format Elf64 n fits = elf_ready Elf64 n fits.object (meets_elf Elf64 n refl fits)
+of_format Coff32 n fits = coff_ready Coff32 n fits.object (meets_coff Coff32 n refl fits)
+of_format Coff64 n fits = coff_ready Coff64 n fits.object (meets_coff Coff64 n refl fits)
+of_format Mac32 n fits = mach_ready Mac32 W32 n fits.object (meets_mach Mac32 n refl fits) (λ same. (refl, (refl, (refl, (refl, tt)))))
+of_format Mac64 n fits = mach_ready Mac64 W64 n fits.object (meets_mach Mac64 n refl fits) (λ same. absurd (cc))
+of_format Omf n fits = omf_ready n fits.object (meets_omf n fits)
 
-  own_ready : (target : Format) (n : Object) → IsFitted target n → IsReady (manner_of (family_of n.format) (word_for n.format)) n
-  own_ready target n fits = subst (λ f. IsReady (manner_of (family_of f) (word_for f)) n) (sym fits.format) (of_format target n fits)
+own_ready : (target : Format) (n : Object) → IsFitted target n → IsReady (own_manner n) n
+own_ready target n fits = subst (λ f. IsReady (manner_of (family_of f) (word_for f)) n) (sym fits.format) (of_format target n fits)
 
-  pub seen_is_object_of : SeenIsObject
-  seen_is_object_of target n fits = again_is_object (manner_of (family_of n.format) (word_for n.format)) n (own_ready target n fits)
+pub seen_is_object_law : SeenIsObject
+seen_is_object_law target n fits = again_is_object (own_manner n) n (own_ready target n fits)
 
-  pub seen_looks_alike_of : SeenLooksAlike
-  seen_looks_alike_of target n fits = again_alike (manner_of (family_of n.format) (word_for n.format)) n (own_ready target n fits)
+pub seen_looks_alike_law : SeenLooksAlike
+seen_looks_alike_law target n fits = again_alike (own_manner n) n (own_ready target n fits)
