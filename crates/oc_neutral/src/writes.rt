@@ -54,6 +54,6 @@ pub trait Writes {
         ensures { IfOk result (λ plan. Self.Plan.file plan ≡ canonical fitted) };
 
     /// The dialect says of words and alignments what its format does, and the file of each object that is
-    /// written is well formed, shows an object, and this looks like the one that is written.
+    /// written is well formed, and shows what a reader of the format shows of the object.
     ghost law: { WritesCanonical dialect accepts canonical };
 }
