@@ -14,16 +14,21 @@ use Rattle.oc_linking.specs.declared.terms.Binding.{Binding}
 use Rattle.oc_linking.specs.declared.terms.Binding.TheVariants.{Global, Common}
 use Rattle.oc_linking.specs.Numbers.{modulus}
 use Rattle.oc_linking.specs.Parts.{is_local}
+use Rattle.oc_neutral.specs.Tests.{is_cut, is_unnatural}
+use Rattle.oc_neutral.specs.KindRules.{has_nul}
+use Rattle.oc_neutral.specs.Family.{IsCoff, Family}
+use Rattle.oc_neutral.specs.Powers.{natural_align}
 use Rattle.oc_neutral.specs.declared.section.Section.{Section}
 use Rattle.oc_neutral.specs.declared.symbol.Symbol.{Symbol}
 use Rattle.oc_neutral.specs.declared.reloc.Reloc.{Reloc}
-use Rattle.oc_neutral.specs.Alignments.{most_in, natural_align, common_align_in, common_align}
-use Rattle.oc_neutral.specs.CoffMeets.{CoffSection, IsNaturalCommon, CoffSymbol, CoffReloc, MeetsCoff, FittedMeetsCoff}
+use Rattle.oc_neutral.specs.Alignments.{common_align}
+use Rattle.oc_neutral.specs.CoffMeets.{offset_of, CoffSection, IsNaturalCommon, CoffSymbol, CoffReloc, MeetsCoff, FittedMeetsCoff}
 use Rattle.oc_neutral.specs.Coff.Strings.{is_tabled, string_offset}
-use Rattle.oc_neutral.specs.Families.{Family, IsCoff, family_of, family_number}
+use Rattle.oc_neutral.specs.Families.{family_of, container_of}
+use Rattle.oc_neutral.specs.Relocated.{is_relocated}
+use Rattle.oc_neutral.specs.Coff.Family.{coff_family, is_far}
 use Rattle.oc_neutral.specs.Fitted.{fitted_binding, IsFitted}
-use Rattle.oc_neutral.specs.GivenTags.{has_nul, family_gives}
-use Rattle.oc_neutral.specs.HomeNames.{is_home}
+use Rattle.oc_neutral.specs.HomeNames.{is_home, output_names}
 use Rattle.oc_neutral.specs.Invariants.{IsSymbol, IsBinding}
 use Rattle.oc_neutral.specs.KeySymbols.{has_key_symbol}
 use Rattle.oc_neutral.specs.Meets.{has_calls, MeetsReloc, HoldsAddend}
@@ -32,8 +37,8 @@ use Rattle.oc_neutral.specs.RelocTables.{rows_of, row_of}
 use Rattle.oc_neutral.specs.Rows.{Row, TakesSection, taken_of, same_taken, shift_of}
 use Rattle.oc_neutral.specs.Shifts.{field_shift, written_shift}
 use Rattle.oc_neutral.specs.Spelling.{written_row}
-use Rattle.oc_neutral.specs.TargetSections.{most_counted, counted_in, is_cut, is_far, unwritable_in, is_group_form, section_conditions}
-use Rattle.oc_neutral.specs.TargetSymbols.{is_absolute_form, is_unnatural, is_common_in, is_common_form, symbol_conditions}
+use Rattle.oc_neutral.specs.TargetSections.{is_group_form, section_conditions}
+use Rattle.oc_neutral.specs.TargetSymbols.{is_absolute_form, is_common_form, symbol_conditions}
 use Rattle.oc_neutral.proofs.MeetsConditions.{neither, not_below, section_count_met, section_met, symbol_met}
 use Rattle.oc_neutral.proofs.MeetsCounts.{bounded_object}
 use Rattle.oc_neutral.proofs.MeetsKinds.{IsCoffTag, coff_named}
@@ -43,8 +48,18 @@ use Rattle.oc_neutral.proofs.MeetsRows.{of_table}
 use Rattle.oc_neutral.proofs.MeetsStrings.{section_given, symbol_given, default_given}
 use Rattle.oc_neutral.proofs.Positions.{each_at}
 
+-- the family of such a format
+coff_whole : (format : Format) → container_of format ≡ IsCoff → family_of format ≡ coff_family (family_of format).word
+coff_whole Elf32 e = absurd (cc)
+coff_whole Elf64 e = absurd (cc)
+coff_whole Coff32 e = refl
+coff_whole Coff64 e = refl
+coff_whole Mac32 e = absurd (cc)
+coff_whole Mac64 e = absurd (cc)
+coff_whole Omf e = absurd (cc)
+
 -- the homes of kinds are the same in both formats
-same_home : (format : Format) → family_of format ≡ IsCoff → (k : ℕ) (kind : Kind) (name : List ℕ) (tag : ℕ) → is_home format k kind name tag ≡ is_home Coff32 k kind name tag
+same_home : (format : Format) → container_of format ≡ IsCoff → (k : ℕ) (kind : Kind) (name : List ℕ) (tag : ℕ) → is_home format k kind name tag ≡ is_home Coff32 k kind name tag
 unfolding is_home
 same_home Coff32 e k kind name tag = refl
 same_home Coff64 e k kind name tag = refl
@@ -62,7 +77,7 @@ record IsCoffRow (format : Format) (row : Row) : Type 0 where
   no_section : same_taken row.taken TakesSection ≡ false
 
 -- of each row: the two lists of answers are computed
-coff_row : (format : Format) → family_of format ≡ IsCoff → (k : ℕ) (row : Row) → slice_get (rows_of format) k ≡ Some row → IsCoffRow format row
+coff_row : (format : Format) → container_of format ≡ IsCoff → (k : ℕ) (row : Row) → slice_get (rows_of format) k ≡ Some row → IsCoffRow format row
 coff_row Coff32 e k row here = record {
   found = of_table (λ r. row_of Coff32 r.number) Some (rows_of Coff32) k row refl here;
   number = of_table (λ r. nat_lt 0 r.number && nat_lt r.number (2 ^ 16)) (λ r. true) (rows_of Coff32) k row refl here;
@@ -82,7 +97,7 @@ coff_row Mac64 e k row here = absurd (cc)
 coff_row Omf e k row here = absurd (cc)
 
 -- neither format has types for calls
-no_calls : (format : Format) → family_of format ≡ IsCoff → has_calls format ≡ false
+no_calls : (format : Format) → container_of format ≡ IsCoff → has_calls format ≡ false
 no_calls Coff32 e = refl
 no_calls Coff64 e = refl
 no_calls Elf32 e = absurd (cc)
@@ -92,7 +107,7 @@ no_calls Mac64 e = absurd (cc)
 no_calls Omf e = absurd (cc)
 
 -- the shift is that of the row
-coff_shift : (format : Format) → family_of format ≡ IsCoff → (at : ℕ) (r : Reloc) → field_shift format at r ≡ option_map (written_shift at r.form.less) (written_row format r.form r.hint)
+coff_shift : (format : Format) → container_of format ≡ IsCoff → (at : ℕ) (r : Reloc) → field_shift format at r ≡ option_map (written_shift at r.form.less) (written_row format r.form r.hint)
 unfolding field_shift
 coff_shift Coff32 e at r = refl
 coff_shift Coff64 e at r = refl
@@ -103,7 +118,7 @@ coff_shift Mac64 e at r = absurd (cc)
 coff_shift Omf e at r = absurd (cc)
 
 -- an absolute value that COFF can write
-short_absolute : (format : Format) → family_of format ≡ IsCoff → (x : ℕ) → x < modulus (word_for format) → is_absolute_form format (Global (Absolute x)) ≡ false → x < 2 ^ 32
+short_absolute : (format : Format) → container_of format ≡ IsCoff → (x : ℕ) → x < modulus (word_for format) → is_absolute_form format (Global (Absolute x)) ≡ false → x < 2 ^ 32
 short_absolute Coff32 e x low form = low
 short_absolute Coff64 e x low form = ltb-true x (2 ^ 32) (not_false (nat_lt x (2 ^ 32)) form)
 short_absolute Elf32 e x low form = absurd (cc)
@@ -125,33 +140,39 @@ natural size align e own =
     record { some = positive size both.0; small = omega (arith, small); natural = sym own }
 
 -- what a common becomes in a format
-pub fitted_common : (format : Format) (size align : ℕ) → Common size (common_align_in (family_of format) size align) ≡ fitted_binding format (Common size align)
+pub fitted_common : (format : Format) (size align : ℕ) → Common size ((family_of format).common_align size align) ≡ fitted_binding format (Common size align)
 unfolding common_align
 fitted_common format size align = refl
 
-module _ (format : Format) (n : Object) (family : family_of format ≡ IsCoff) (fits : IsFitted format n) where
+module _ (format : Format) (n : Object) (family : container_of format ≡ IsCoff) (fits : IsFitted format n) where
+  whole : family_of format ≡ coff_family (family_of format).word
+  whole = coff_whole format family
+
   few : length n.sections ≤ 65279
   few =
       not_below 65279 (length n.sections)
-      (subst (λ (f : Family). nat_lt (most_counted f) (counted_in f format n) ≡ false) family (section_count_met format n fits).0)
+      (subst (λ (f : Family). nat_lt (f.sections (is_relocated format n) n).most (f.sections (is_relocated format n) n).counted ≡ false) whole (section_count_met format n fits).0)
 
   section : (k : ℕ) (s : Section) → slice_get n.sections k ≡ Some s → CoffSection format n s
   unfolding section_conditions
   section k s here =
       let met = section_met format n fits k s here in
-      let named : (is_home Coff32 (k + 1) s.kind s.name s.tag || family_gives IsCoff s.kind s.name s.tag) ≡ true
-      = sym (ap (λ b. b || family_gives IsCoff s.kind s.name s.tag) (same_home format family (k + 1) s.kind s.name s.tag))
-          ∙ ap (λ f. is_home format (k + 1) s.kind s.name s.tag || family_gives f s.kind s.name s.tag) (sym family) ∙ fits.names k s here in
+      let named : (is_home Coff32 (k + 1) s.kind s.name s.tag || (coff_family (family_of format).word).gives s.kind s.name s.tag) ≡ true
+      = sym (ap (λ b. b || (coff_family (family_of format).word).gives s.kind s.name s.tag) (same_home format family (k + 1) s.kind s.name s.tag))
+          ∙ ap (λ f. is_home format (k + 1) s.kind s.name s.tag || f.gives s.kind s.name s.tag) (sym whole) ∙ fits.names k s here in
       let tag : IsCoffTag s.kind s.name s.tag = coff_named (k + 1) s.kind s.name s.tag named in
-      let low : nat_lt (most_in IsCoff) s.align ≡ false = subst (λ f. nat_lt (most_in f) s.align ≡ false) family met.1.1.1.0 in
-      let name = neither (is_cut n s.name s) (is_tabled s.name && is_far (string_offset format n s.name)) (subst (λ f. (unwritable_in f).name format n s.name s ≡ false) family met.1.1.1.1.0) in
+      let low : nat_lt (coff_family (family_of format).word).most_align s.align ≡ false = subst (λ (f : Family). nat_lt f.most_align s.align ≡ false) whole met.1.1.1.0 in
+      let lacks : (coff_family (family_of format).word).lacks_name (output_names format n) n s.name s ≡ false
+      = subst (λ (f : Family). f.lacks_name (output_names format n) n s.name s ≡ false) whole met.1.1.1.1.0 in
+      let name = neither (is_cut n s.name s) (is_tabled s.name && is_far (offset_of format n s.name))
+      (subst (λ (f : Family). (is_cut n s.name s || (is_tabled s.name && is_far (string_offset f.writes_local (output_names format n) n s.name))) ≡ false) (sym whole) lacks) in
       record {
         uncut = uncut n s name.0;
         given = section_given format n fits.format k s here;
-        near = λ tabled. not_below 9999999 (string_offset format n s.name) (sym (ap (λ b. b && is_far (string_offset format n s.name)) tabled) ∙ name.1);
+        near = λ tabled. not_below 9999999 (offset_of format n s.name) (sym (ap (λ b. b && is_far (offset_of format n s.name)) tabled) ∙ name.1);
         led = λ g e.
             let member : not (has_key_symbol n g) ≡ false
-            = subst (λ f. (unwritable_in f).member n g ≡ false) family (ap (λ o. option_map_or ((unwritable_in (family_of format)).member n) o false) (sym e) ∙ met.1.1.1.1.1.0) in
+            = subst (λ (f : Family). f.lacks_member n g ≡ false) whole (ap (λ o. option_map_or ((family_of format).lacks_member n) o false) (sym e) ∙ met.1.1.1.1.1.0) in
             led n g (not_false (has_key_symbol n g) member);
         align = not_below (2 ^ 13) s.align low;
         small = tag.small;
@@ -168,18 +189,18 @@ module _ (format : Format) (n : Object) (family : family_of format ≡ IsCoff) (
       let met = symbol_met format n fits k s here in
       let own : IsSymbol n s = each_at (IsSymbol n) n.symbols k s fits.object.complete.symbols here in
       record {
-        name = subst (λ f. cond (nat_eq (family_number f) 3) (not (is_local s.binding) && nat_lt 255 (length s.name)) (has_nul s.name) ≡ false) family met.0;
+        name = subst (λ (f : Family). f.lacks_symbol s ≡ false) whole met.0;
         given = symbol_given format n fits.format k s here;
         default = λ f weak has. default_given format n fits.format k s f here weak has;
         absolute = λ x e.
             let bound : IsBinding n (Global (Absolute x)) = subst (IsBinding n) e own.binding in
             short_absolute format family x (subst (λ f. x < modulus (word_for f)) fits.format bound) (ap (is_absolute_form format) (sym e) ∙ met.1.0);
         common = λ size align e.
-            let form : is_common_in (family_of format) size align ≡ false = ap (is_common_form format) (sym e) ∙ met.1.1.0 in
-            let fitted : Common size (common_align_in (family_of format) size align) ≡ Common size align
+            let form : (family_of format).lacks_common size align ≡ false = ap (is_common_form format) (sym e) ∙ met.1.1.0 in
+            let fitted : Common size ((family_of format).common_align size align) ≡ Common size align
             = fitted_common format size align ∙ ap (fitted_binding format) (sym e) ∙ each_at (λ (x : Symbol). fitted_binding format x.binding ≡ x.binding) n.symbols k s fits.commons here ∙ e in
-            natural size align (subst (λ f. is_common_in f size align ≡ false) family form)
-            (align_same size (natural_align size) align (subst (λ f. Common size (common_align_in f size align) ≡ Common size align) family fitted));
+            natural size align (subst (λ (f : Family). f.lacks_common size align ≡ false) whole form)
+            (align_same size (natural_align size) align (subst (λ (f : Family). Common size (f.common_align size align) ≡ Common size align) whole fitted));
       }
 
   reloc : (s at : ℕ) (r : Reloc) → reloc_at n s at ≡ Some r → CoffReloc format n s at r
@@ -200,7 +221,7 @@ module _ (format : Format) (n : Object) (family : family_of format ≡ IsCoff) (
       }
     where
       other : format ≡ Mac64 → ⊥
-      other is = absurd (let e : family_of Mac64 ≡ IsCoff = subst (λ f. family_of f ≡ IsCoff) is family in cc)
+      other is = absurd (let e : container_of Mac64 ≡ IsCoff = subst (λ f. container_of f ≡ IsCoff) is family in cc)
 
 pub meets_coff : FittedMeetsCoff
 meets_coff format n family fits = record {

@@ -7,6 +7,7 @@ use Rattle.std.proofs.lemmas.Bool.{true≢false, eq-eqb, eqb-true}
 use Rattle.std.proofs.lemmas.Bool.Decides.{nat_tests}
 use Rattle.std.proofs.lemmas.Option.{none-some, same_Some, slice_get-map}
 use Rattle.oc_base.specs.declared.format.Format.{Format}
+use Rattle.oc_base.specs.declared.format.Format.TheVariants.{Elf32, Elf64, Coff32, Coff64, Mac32, Mac64, Omf}
 use Rattle.oc_base.specs.declared.fault.Fault.{Fault}
 use Rattle.oc_linking.specs.FirstFault.{Condition, Stage, first_fault}
 use Rattle.oc_linking.proofs.FirstFaultLaws.{no_fault_none_broken}
@@ -15,7 +16,7 @@ use Rattle.oc_chains.specs.Lists.{Lists, list_of}
 use Rattle.oc_neutral.specs.declared.section.Section.{Section}
 use Rattle.oc_neutral.specs.declared.symbol.Symbol.{Symbol}
 use Rattle.oc_neutral.specs.declared.reloc.Reloc.{Reloc}
-use Rattle.oc_neutral.specs.Families.{same_format, format_number}
+use Rattle.oc_neutral.specs.Families.{same_format}
 use Rattle.oc_neutral.specs.Fitted.{first_unfit, IsFitted}
 use Rattle.oc_neutral.specs.HomeNames.{output_names, names_across}
 use Rattle.oc_neutral.specs.Objects.{Object, reloc_among, reloc_at}
@@ -108,11 +109,21 @@ field_found (x ∷ xs) at r here = by (eqb x.at at) refl (λ h. field_found xs a
     by true e rest h = (0, x, refl, same_Some x.item r h, eqb-true x.at at e)
     by false e rest h = let m = rest h in (suc m.0, m.1, m.2, m.3, m.4)
 
+-- a format is the same as itself
+pub same_format-self : (f : Format) → same_format f f ≡ true
+same_format-self Elf32 = refl
+same_format-self Elf64 = refl
+same_format-self Coff32 = refl
+same_format-self Coff64 = refl
+same_format-self Mac32 = refl
+same_format-self Mac64 = refl
+same_format-self Omf = refl
+
 -- the names of the output are those of the sections
 pub own_names : (target : Format) (n : Object) → n.format ≡ target → output_names target n ≡ map (λ (s : Section). s.name) n.sections
 unfolding output_names
 own_names target n own =
-    let same : same_format target n.format ≡ true = ap (same_format target) own ∙ eq-eqb (format_number target) (format_number target) refl in
+    let same : same_format target n.format ≡ true = ap (same_format target) own ∙ same_format-self target in
     ap (λ b. cond b (map (λ (s : Section). s.name) n.sections) (names_across target n)) same
 
 module _ (target : Format) (n : Object) (fits : IsFitted target n) where

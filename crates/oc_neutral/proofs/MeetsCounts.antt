@@ -14,12 +14,13 @@ use Rattle.oc_neutral.specs.declared.section.Section.{Section}
 use Rattle.oc_neutral.specs.declared.symbol.Symbol.{Symbol}
 use Rattle.oc_neutral.specs.declared.reloc.Reloc.{Reloc}
 use Rattle.oc_neutral.specs.Building.{stored_size, stored_sum}
+use Rattle.oc_neutral.specs.Families.{family_of}
 use Rattle.oc_neutral.specs.Fitted.{IsFitted}
 use Rattle.oc_neutral.specs.HomeNames.{output_names}
 use Rattle.oc_neutral.specs.Invariants.{AreBegun, begun_with, groups_of, HasItsBytes, IsHeld, IsObject}
 use Rattle.oc_neutral.specs.Meets.{text_sum, AreBounded}
 use Rattle.oc_neutral.specs.Objects.{Object}
-use Rattle.oc_neutral.specs.TargetSymbols.{symbol_bound, bounded, names_length, limited}
+use Rattle.oc_neutral.specs.TargetSymbols.{bounded, names_length, limited}
 use Rattle.oc_neutral.proofs.MeetsConditions.{AreMet, not_below, own_names, symbol_count_met}
 use Rattle.oc_neutral.proofs.Positions.{each_at}
 
@@ -90,13 +91,13 @@ met_parts (c ∷ xs) ys met = let rest = met_parts xs ys met.1 in ((met.0, rest.
 
 module _ (format : Format) (n : Object) (fits : IsFitted format n) where
   -- the number of symbols is not above its bound
-  pub symbols_bounded : AreMet (option_map_or bounded (symbol_bound format n) [])
-  symbols_bounded = (met_parts (option_map_or bounded (symbol_bound format n) []) (limited (names_length format n)) (symbol_count_met format n fits)).0
+  pub symbols_bounded : AreMet (option_map_or bounded ((family_of format).symbols n) [])
+  symbols_bounded = (met_parts (option_map_or bounded ((family_of format).symbols n) []) (limited (names_length format n)) (symbol_count_met format n fits)).0
 
   texts : text_sum n ≤ 2 ^ 28
   texts =
       let low : names_length format n ≤ 268435456
-      = not_below 268435456 (names_length format n) (met_parts (option_map_or bounded (symbol_bound format n) []) (limited (names_length format n)) (symbol_count_met format n fits)).1.0 in
+      = not_below 268435456 (names_length format n) (met_parts (option_map_or bounded ((family_of format).symbols n) []) (limited (names_length format n)) (symbol_count_met format n fits)).1.0 in
       let own : sum_by length (output_names format n) ≡ sum_by (λ (s : Section). length s.name) n.sections
       = ap (sum_by length) (own_names format n fits.format) ∙ sum_map length (λ (s : Section). s.name) n.sections in
       omega (arith, low, own)

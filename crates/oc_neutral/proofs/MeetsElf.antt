@@ -11,24 +11,26 @@ use Rattle.oc_linking.specs.declared.terms.Hint.TheVariants.{Plain}
 use Rattle.oc_linking.specs.declared.terms.Fallback.TheVariants as fallback
 use Rattle.oc_linking.specs.declared.terms.Binding.TheVariants.{Weak}
 use Rattle.oc_linking.specs.Parts.{is_local}
+use Rattle.oc_neutral.specs.KindRules.{has_nul}
+use Rattle.oc_neutral.specs.Family.{IsElf, Family}
 use Rattle.oc_neutral.specs.declared.section.Section.{Section}
 use Rattle.oc_neutral.specs.declared.symbol.Symbol.{Symbol}
 use Rattle.oc_neutral.specs.declared.reloc.Target.TheVariants as target
 use Rattle.oc_neutral.specs.declared.reloc.Reloc.{Reloc}
-use Rattle.oc_neutral.specs.Alignments.{most_in}
 use Rattle.oc_neutral.specs.ElfMeets.{ElfSection, ElfSymbol, ElfReloc, MeetsElf, FittedMeetsElf}
-use Rattle.oc_neutral.specs.Families.{Family, IsElf, family_of, family_number}
+use Rattle.oc_neutral.specs.Families.{family_of, container_of}
+use Rattle.oc_neutral.specs.Relocated.{is_relocated}
+use Rattle.oc_neutral.specs.Elf.Family.{elf_family, header_count, elf_symbol_count}
 use Rattle.oc_neutral.specs.Fitted.{IsFitted, IsNamed}
-use Rattle.oc_neutral.specs.GivenTags.{has_nul, family_gives}
-use Rattle.oc_neutral.specs.HomeNames.{is_home}
+use Rattle.oc_neutral.specs.HomeNames.{is_home, output_names}
 use Rattle.oc_neutral.specs.Meets.{has_calls, MeetsReloc, HoldsAddend}
 use Rattle.oc_neutral.specs.Objects.{Object, reloc_at}
 use Rattle.oc_neutral.specs.RelocTables.{rows_of, row_of}
 use Rattle.oc_neutral.specs.Rows.{Row, TakesSection, taken_of, same_taken, same_base, shift_of}
 use Rattle.oc_neutral.specs.Shifts.{field_shift, written_shift}
 use Rattle.oc_neutral.specs.Spelling.{written_row}
-use Rattle.oc_neutral.specs.TargetSections.{most_counted, counted_in, header_count, unwritable_in, section_conditions}
-use Rattle.oc_neutral.specs.TargetSymbols.{elf_symbol_count, symbol_bound, bounded, is_weak_in, is_weak_form, symbol_conditions}
+use Rattle.oc_neutral.specs.TargetSections.{section_conditions}
+use Rattle.oc_neutral.specs.TargetSymbols.{bounded, is_weak_form, symbol_conditions}
 use Rattle.oc_neutral.proofs.MeetsConditions.{AreMet, not_below, section_count_met, section_met, symbol_met}
 use Rattle.oc_neutral.proofs.MeetsCounts.{symbols_bounded, bounded_object}
 use Rattle.oc_neutral.proofs.MeetsKinds.{IsElfTag, elf_named}
@@ -36,8 +38,18 @@ use Rattle.oc_neutral.proofs.MeetsParts.{uncut, steady, taken_alike, plain_shift
 use Rattle.oc_neutral.proofs.MeetsRelocs.{reloc_meets}
 use Rattle.oc_neutral.proofs.MeetsRows.{of_table}
 
+-- the family of such a format
+elf_whole : (format : Format) → container_of format ≡ IsElf → family_of format ≡ elf_family (family_of format).word
+elf_whole Elf32 e = refl
+elf_whole Elf64 e = refl
+elf_whole Coff32 e = absurd (cc)
+elf_whole Coff64 e = absurd (cc)
+elf_whole Mac32 e = absurd (cc)
+elf_whole Mac64 e = absurd (cc)
+elf_whole Omf e = absurd (cc)
+
 -- the homes of kinds are the same in both formats
-same_home : (format : Format) → family_of format ≡ IsElf → (k : ℕ) (kind : Kind) (name : List ℕ) (tag : ℕ) → is_home format k kind name tag ≡ is_home Elf32 k kind name tag
+same_home : (format : Format) → container_of format ≡ IsElf → (k : ℕ) (kind : Kind) (name : List ℕ) (tag : ℕ) → is_home format k kind name tag ≡ is_home Elf32 k kind name tag
 unfolding is_home
 same_home Elf32 e k kind name tag = refl
 same_home Elf64 e k kind name tag = refl
@@ -57,7 +69,7 @@ record IsElfRow (format : Format) (row : Row) : Type 0 where
   no_home : same_base row.base HomeNumber ≡ false
 
 -- of each row: the two lists of answers are computed
-elf_row : (format : Format) → family_of format ≡ IsElf → (k : ℕ) (row : Row) → slice_get (rows_of format) k ≡ Some row → IsElfRow format row
+elf_row : (format : Format) → container_of format ≡ IsElf → (k : ℕ) (row : Row) → slice_get (rows_of format) k ≡ Some row → IsElfRow format row
 elf_row Elf32 e k row here = record {
   found = of_table (λ r. row_of Elf32 r.number) Some (rows_of Elf32) k row refl here;
   number = of_table (λ r. nat_lt 0 r.number && nat_lt r.number (2 ^ 8)) (λ r. true) (rows_of Elf32) k row refl here;
@@ -81,7 +93,7 @@ elf_row Mac64 e k row here = absurd (cc)
 elf_row Omf e k row here = absurd (cc)
 
 -- both formats have types for calls
-calls : (format : Format) → family_of format ≡ IsElf → has_calls format ≡ true
+calls : (format : Format) → container_of format ≡ IsElf → has_calls format ≡ true
 calls Elf32 e = refl
 calls Elf64 e = refl
 calls Coff32 e = absurd (cc)
@@ -90,15 +102,18 @@ calls Mac32 e = absurd (cc)
 calls Mac64 e = absurd (cc)
 calls Omf e = absurd (cc)
 
-module _ (format : Format) (n : Object) (family : family_of format ≡ IsElf) (fits : IsFitted format n) where
-  headers : header_count format n ≤ 65279
+module _ (format : Format) (n : Object) (family : container_of format ≡ IsElf) (fits : IsFitted format n) where
+  whole : family_of format ≡ elf_family (family_of format).word
+  whole = elf_whole format family
+
+  headers : header_count (is_relocated format n) n ≤ 65279
   headers =
-      not_below 65279 (header_count format n)
-      (subst (λ (f : Family). nat_lt (most_counted f) (counted_in f format n) ≡ false) family (section_count_met format n fits).0)
+      not_below 65279 (header_count (is_relocated format n) n)
+      (subst (λ (f : Family). nat_lt (f.sections (is_relocated format n) n).most (f.sections (is_relocated format n) n).counted ≡ false) whole (section_count_met format n fits).0)
 
   table : format ≡ Elf32 → elf_symbol_count n < 2 ^ 24
   table is =
-      let met : AreMet (option_map_or bounded (symbol_bound Elf32 n) []) = subst (λ f. AreMet (option_map_or bounded (symbol_bound f n) [])) is (symbols_bounded format n fits) in
+      let met : AreMet (option_map_or bounded ((family_of Elf32).symbols n) []) = subst (λ f. AreMet (option_map_or bounded ((family_of f).symbols n) [])) is (symbols_bounded format n fits) in
       let low : elf_symbol_count n ≤ 0xFFFFFF = not_below 0xFFFFFF (elf_symbol_count n) met.0 in
       omega (arith, low)
 
@@ -106,13 +121,13 @@ module _ (format : Format) (n : Object) (family : family_of format ≡ IsElf) (f
   unfolding section_conditions
   section k s here =
       let met = section_met format n fits k s here in
-      let named : (is_home Elf32 (k + 1) s.kind s.name s.tag || family_gives IsElf s.kind s.name s.tag) ≡ true
-      = sym (ap (λ b. b || family_gives IsElf s.kind s.name s.tag) (same_home format family (k + 1) s.kind s.name s.tag))
-          ∙ ap (λ f. is_home format (k + 1) s.kind s.name s.tag || family_gives f s.kind s.name s.tag) (sym family) ∙ fits.names k s here in
+      let named : (is_home Elf32 (k + 1) s.kind s.name s.tag || (elf_family (family_of format).word).gives s.kind s.name s.tag) ≡ true
+      = sym (ap (λ b. b || (elf_family (family_of format).word).gives s.kind s.name s.tag) (same_home format family (k + 1) s.kind s.name s.tag))
+          ∙ ap (λ f. is_home format (k + 1) s.kind s.name s.tag || f.gives s.kind s.name s.tag) (sym whole) ∙ fits.names k s here in
       let tag : IsElfTag s.kind s.name s.tag = elf_named (k + 1) s.kind s.name s.tag named in
-      let low : nat_lt (most_in IsElf) s.align ≡ false = subst (λ f. nat_lt (most_in f) s.align ≡ false) family met.1.1.1.0 in
+      let low : nat_lt (elf_family (family_of format).word).most_align s.align ≡ false = subst (λ (f : Family). nat_lt f.most_align s.align ≡ false) whole met.1.1.1.0 in
       record {
-        uncut = uncut n s (subst (λ f. (unwritable_in f).name format n s.name s ≡ false) family met.1.1.1.1.0);
+        uncut = uncut n s (subst (λ (f : Family). f.lacks_name (output_names format n) n s.name s ≡ false) whole met.1.1.1.1.0);
         align = not_below (2 ^ 20) s.align low;
         carried = tag.carried;
         allocated = tag.allocated;
@@ -124,10 +139,10 @@ module _ (format : Format) (n : Object) (family : family_of format ≡ IsElf) (f
   symbol k s here =
       let met = symbol_met format n fits k s here in
       record {
-        name = subst (λ f. cond (nat_eq (family_number f) 3) (not (is_local s.binding) && nat_lt 255 (length s.name)) (has_nul s.name) ≡ false) family met.0;
+        name = subst (λ (f : Family). f.lacks_symbol s ≡ false) whole met.0;
         steady = λ j e.
-            let weak : is_weak_in (family_of format) n (fallback.Name j) ≡ false = ap (is_weak_form format n) (sym e) ∙ met.1.1.1.0 in
-            steady n j (subst (λ f. is_weak_in f n (fallback.Name j) ≡ false) family weak);
+            let weak : (family_of format).lacks_weak n (fallback.Name j) ≡ false = ap (is_weak_form format n) (sym e) ∙ met.1.1.1.0 in
+            steady n j (subst (λ (f : Family). f.lacks_weak n (fallback.Name j) ≡ false) whole weak);
       }
 
   reloc : (s at : ℕ) (r : Reloc) → reloc_at n s at ≡ Some r → ElfReloc format n s at r
@@ -152,7 +167,7 @@ module _ (format : Format) (n : Object) (family : family_of format ≡ IsElf) (f
       }
     where
       other : format ≡ Mac64 → ⊥
-      other is = absurd (let e : family_of Mac64 ≡ IsElf = subst (λ f. family_of f ≡ IsElf) is family in cc)
+      other is = absurd (let e : container_of Mac64 ≡ IsElf = subst (λ f. container_of f ≡ IsElf) is family in cc)
 
 pub meets_elf : FittedMeetsElf
 meets_elf format n family fits = record {

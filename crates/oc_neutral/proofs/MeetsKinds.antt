@@ -7,8 +7,11 @@ use Rattle.std.proofs.lemmas.Option.{none-some, same_Some}
 use Rattle.std.proofs.lemmas.Slice.Eq.{bytes_eq-Decides}
 use Rattle.oc_base.specs.declared.format.Format.{Format}
 use Rattle.oc_base.specs.declared.format.Format.TheVariants.{Elf32, Elf64, Coff32, Coff64}
+use Rattle.oc_base.specs.declared.format.Word.TheVariants.{W32}
 use Rattle.oc_linking.specs.declared.terms.Kind.{Kind}
 use Rattle.oc_linking.specs.declared.terms.Kind.TheVariants.{Code, ReadOnly, Data, Zero, Init, Fini, Debug, Exception, Note}
+use Rattle.oc_neutral.specs.Coff.Family.{coff_gives, coff_family}
+use Rattle.oc_neutral.specs.Elf.Family.{elf_gives, elf_family}
 use Rattle.oc_neutral.specs.Building.{is_zero}
 use Rattle.oc_neutral.specs.declared.elf.TheConstants.{SHT_X86_64_UNWIND, SHF_ALLOC}
 use Rattle.oc_neutral.specs.declared.coff.TheConstants.{IMAGE_SCN_CNT_UNINITIALIZED_DATA}
@@ -16,8 +19,6 @@ use Rattle.oc_neutral.specs.KindRules.{first_rule, begins, has, kind_number, sam
 use Rattle.oc_neutral.specs.Elf.Kinds.{is_carried_type, is_unwind_name, elf_kind, elf_tag_type, elf_tag_flags, is_nobits_tag}
 use Rattle.oc_neutral.specs.Coff.Kinds.{coff_kind, coff_tag}
 use Rattle.oc_neutral.specs.Coff.Kinds as coff
-use Rattle.oc_neutral.specs.GivenTags.{elf_gives, coff_gives, family_gives}
-use Rattle.oc_neutral.specs.Families.{IsElf, IsCoff}
 use Rattle.oc_neutral.specs.HomeNames.{is_home}
 use Rattle.oc_neutral.specs.Meets.{IsReadAs}
 
@@ -46,6 +47,11 @@ kind_is k l e = sym (kind_back k) ∙ ap kind_by (eqb-true (kind_number k) (kind
 pub one_of : {P : Type 0} (x y : Bool) → (x || y) ≡ true → (x ≡ true → P) → (y ≡ true → P) → P
 one_of true y e left right = left refl
 one_of false y e left right = right e
+
+-- one that is said twice
+pub once : (b : Bool) → (b || b) ≡ true → b ≡ true
+once true e = refl
+once false e = e
 
 -- a name at home
 pub name_is : (a b : List ℕ) → (bytes_eq a b || false) ≡ true → a ≡ b
@@ -84,18 +90,18 @@ exception_elf name = record {
 
 elf_home : (k : ℕ) (kind : Kind) (name : List ℕ) (tag : ℕ) → is_home Elf32 k kind name tag ≡ true → IsElfTag kind name tag
 unfolding is_home elf_kind
-elf_home k Code name tag e = elf_at Code name (codes ".text") tag 14 e (record { carried = refl; allocated = λ h. refl; kind_read = record { same = λ other. refl; zero = refl } })
-elf_home k ReadOnly name tag e = elf_at ReadOnly name (codes ".rodata") tag 10 e (record { carried = refl; allocated = λ h. refl; kind_read = record { same = λ other. refl; zero = refl } })
-elf_home k Data name tag e = elf_at Data name (codes ".data") tag 11 e (record { carried = refl; allocated = λ h. refl; kind_read = record { same = λ other. refl; zero = refl } })
-elf_home k Zero name tag e = elf_at Zero name (codes ".bss") tag 67 e (record { carried = refl; allocated = λ h. refl; kind_read = record { same = λ other. refl; zero = refl } })
-elf_home k Init name tag e = elf_at Init name (codes ".init_array") tag 115 e (record { carried = refl; allocated = λ h. refl; kind_read = record { same = λ other. refl; zero = refl } })
-elf_home k Fini name tag e = elf_at Fini name (codes ".fini_array") tag 123 e (record { carried = refl; allocated = λ h. refl; kind_read = record { same = λ other. refl; zero = refl } })
-elf_home k Exception name tag e = subst (λ t. IsElfTag Exception name t) (sym (eqb-true tag 10 (and_parts _ _ e).0)) (exception_elf name)
+elf_home k Code name tag e = elf_at Code name (codes ".text") tag 14 (once _ e) (record { carried = refl; allocated = λ h. refl; kind_read = record { same = λ other. refl; zero = refl } })
+elf_home k ReadOnly name tag e = elf_at ReadOnly name (codes ".rodata") tag 10 (once _ e) (record { carried = refl; allocated = λ h. refl; kind_read = record { same = λ other. refl; zero = refl } })
+elf_home k Data name tag e = elf_at Data name (codes ".data") tag 11 (once _ e) (record { carried = refl; allocated = λ h. refl; kind_read = record { same = λ other. refl; zero = refl } })
+elf_home k Zero name tag e = elf_at Zero name (codes ".bss") tag 67 (once _ e) (record { carried = refl; allocated = λ h. refl; kind_read = record { same = λ other. refl; zero = refl } })
+elf_home k Init name tag e = elf_at Init name (codes ".init_array") tag 115 (once _ e) (record { carried = refl; allocated = λ h. refl; kind_read = record { same = λ other. refl; zero = refl } })
+elf_home k Fini name tag e = elf_at Fini name (codes ".fini_array") tag 123 (once _ e) (record { carried = refl; allocated = λ h. refl; kind_read = record { same = λ other. refl; zero = refl } })
+elf_home k Exception name tag e = subst (λ t. IsElfTag Exception name t) (sym (eqb-true tag 10 (and_parts _ _ (once _ e)).0)) (exception_elf name)
 elf_home k Debug name tag e = absurd (true≢false (sym e))
 elf_home k Note name tag e = absurd (true≢false (sym e))
 
-elf_given : (kind : Kind) (name : List ℕ) (tag : ℕ) → family_gives IsElf kind name tag ≡ true → IsElfTag kind name tag
-unfolding family_gives elf_gives
+elf_given : (kind : Kind) (name : List ℕ) (tag : ℕ) → (elf_family W32).gives kind name tag ≡ true → IsElfTag kind name tag
+unfolding elf_gives
 elf_given kind name tag e =
     let a = and_parts _ _ (and_parts _ _ e).1 in
     let b = and_parts _ _ a.0 in
@@ -110,8 +116,8 @@ elf_given kind name tag e =
     by false h e = absurd (true≢false (sym h))
 
 -- a tag that goes with a kind by either rule
-pub elf_named : (k : ℕ) (kind : Kind) (name : List ℕ) (tag : ℕ) → (is_home Elf32 k kind name tag || family_gives IsElf kind name tag) ≡ true → IsElfTag kind name tag
-elf_named k kind name tag e = one_of (is_home Elf32 k kind name tag) (family_gives IsElf kind name tag) e (elf_home k kind name tag) (elf_given kind name tag)
+pub elf_named : (k : ℕ) (kind : Kind) (name : List ℕ) (tag : ℕ) → (is_home Elf32 k kind name tag || (elf_family W32).gives kind name tag) ≡ true → IsElfTag kind name tag
+elf_named k kind name tag e = one_of (is_home Elf32 k kind name tag) ((elf_family W32).gives kind name tag) e (elf_home k kind name tag) (elf_given kind name tag)
 
 -- ... COFF
 
@@ -171,18 +177,18 @@ coff_zero name tag told = zero_told _ _ _ _ _ _ (has tag IMAGE_SCN_CNT_UNINITIAL
 
 coff_home : (k : ℕ) (kind : Kind) (name : List ℕ) (tag : ℕ) → is_home Coff32 k kind name tag ≡ true → IsCoffTag kind name tag
 unfolding is_home coff_kind coff_tag
-coff_home k Code name tag e = coff_at Code name (codes ".text") tag 0x60000020 e (record { small = omega arith; own = refl; read = Code; carried = refl; kind_read = record { same = λ other. refl; zero = refl }; zeros = λ e. absurd (cc) })
-coff_home k ReadOnly name tag e = coff_at ReadOnly name (codes ".rdata") tag 0x40000040 e (record { small = omega arith; own = refl; read = ReadOnly; carried = refl; kind_read = record { same = λ other. refl; zero = refl }; zeros = λ e. absurd (cc) })
-coff_home k Data name tag e = coff_at Data name (codes ".data") tag 0xC0000040 e (record { small = omega arith; own = refl; read = Data; carried = refl; kind_read = record { same = λ other. refl; zero = refl }; zeros = λ e. absurd (cc) })
-coff_home k Zero name tag e = coff_at Zero name (codes ".bss") tag 0xC0000080 e (record { small = omega arith; own = refl; read = Zero; carried = refl; kind_read = record { same = λ other. refl; zero = refl }; zeros = λ e. refl })
-coff_home k Init name tag e = coff_at Init name (codes ".CRT$XCU") tag 0x40000040 e (record { small = omega arith; own = refl; read = Init; carried = refl; kind_read = record { same = λ other. refl; zero = refl }; zeros = λ e. absurd (cc) })
-coff_home k Fini name tag e = coff_at Fini name (codes ".CRT$XTU") tag 0x40000040 e (record { small = omega arith; own = refl; read = Fini; carried = refl; kind_read = record { same = λ other. refl; zero = refl }; zeros = λ e. absurd (cc) })
-coff_home k Exception name tag e = subst (λ t. IsCoffTag Exception name t) (sym (eqb-true tag 0x40000040 (and_parts _ _ e).0)) (exception_coff name)
+coff_home k Code name tag e = coff_at Code name (codes ".text") tag 0x60000020 (once _ e) (record { small = omega arith; own = refl; read = Code; carried = refl; kind_read = record { same = λ other. refl; zero = refl }; zeros = λ e. absurd (cc) })
+coff_home k ReadOnly name tag e = coff_at ReadOnly name (codes ".rdata") tag 0x40000040 (once _ e) (record { small = omega arith; own = refl; read = ReadOnly; carried = refl; kind_read = record { same = λ other. refl; zero = refl }; zeros = λ e. absurd (cc) })
+coff_home k Data name tag e = coff_at Data name (codes ".data") tag 0xC0000040 (once _ e) (record { small = omega arith; own = refl; read = Data; carried = refl; kind_read = record { same = λ other. refl; zero = refl }; zeros = λ e. absurd (cc) })
+coff_home k Zero name tag e = coff_at Zero name (codes ".bss") tag 0xC0000080 (once _ e) (record { small = omega arith; own = refl; read = Zero; carried = refl; kind_read = record { same = λ other. refl; zero = refl }; zeros = λ e. refl })
+coff_home k Init name tag e = coff_at Init name (codes ".CRT$XCU") tag 0x40000040 (once _ e) (record { small = omega arith; own = refl; read = Init; carried = refl; kind_read = record { same = λ other. refl; zero = refl }; zeros = λ e. absurd (cc) })
+coff_home k Fini name tag e = coff_at Fini name (codes ".CRT$XTU") tag 0x40000040 (once _ e) (record { small = omega arith; own = refl; read = Fini; carried = refl; kind_read = record { same = λ other. refl; zero = refl }; zeros = λ e. absurd (cc) })
+coff_home k Exception name tag e = subst (λ t. IsCoffTag Exception name t) (sym (eqb-true tag 0x40000040 (and_parts _ _ (once _ e)).0)) (exception_coff name)
 coff_home k Debug name tag e = absurd (true≢false (sym e))
 coff_home k Note name tag e = absurd (true≢false (sym e))
 
-coff_given : (kind : Kind) (name : List ℕ) (tag : ℕ) → family_gives IsCoff kind name tag ≡ true → IsCoffTag kind name tag
-unfolding family_gives coff_gives
+coff_given : (kind : Kind) (name : List ℕ) (tag : ℕ) → (coff_family W32).gives kind name tag ≡ true → IsCoffTag kind name tag
+unfolding coff_gives
 coff_given kind name tag e =
     let a = and_parts _ _ (and_parts _ _ e).1 in
     let b = and_parts _ _ a.0 in
@@ -200,5 +206,5 @@ coff_given kind name tag e =
     by None h = absurd (true≢false (sym h))
     by (Some l) h = ap Some (sym (kind_is kind l h))
 
-pub coff_named : (k : ℕ) (kind : Kind) (name : List ℕ) (tag : ℕ) → (is_home Coff32 k kind name tag || family_gives IsCoff kind name tag) ≡ true → IsCoffTag kind name tag
-coff_named k kind name tag e = one_of (is_home Coff32 k kind name tag) (family_gives IsCoff kind name tag) e (coff_home k kind name tag) (coff_given kind name tag)
+pub coff_named : (k : ℕ) (kind : Kind) (name : List ℕ) (tag : ℕ) → (is_home Coff32 k kind name tag || (coff_family W32).gives kind name tag) ≡ true → IsCoffTag kind name tag
+coff_named k kind name tag e = one_of (is_home Coff32 k kind name tag) ((coff_family W32).gives kind name tag) e (coff_home k kind name tag) (coff_given kind name tag)

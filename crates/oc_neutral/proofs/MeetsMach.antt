@@ -7,7 +7,7 @@ use Rattle.std.proofs.lemmas.Bool.Decides.{nat_tests}
 use Rattle.std.proofs.lemmas.Option.{none-some, same_Some}
 use Rattle.oc_base.specs.declared.format.Format.{Format}
 use Rattle.oc_base.specs.declared.format.Format.TheVariants.{Elf32, Elf64, Coff32, Coff64, Mac32, Mac64, Omf}
-use Rattle.oc_base.specs.declared.format.Word.TheVariants.{W32}
+use Rattle.oc_base.specs.declared.format.Word.TheVariants.{W32, W64}
 use Rattle.oc_base.specs.Formats.{word_for}
 use Rattle.oc_linking.specs.declared.terms.Width.{Width}
 use Rattle.oc_linking.specs.declared.terms.Width.TheVariants.{Four}
@@ -18,26 +18,28 @@ use Rattle.oc_linking.specs.declared.terms.Fallback.TheVariants as fallback
 use Rattle.oc_linking.specs.declared.terms.Binding.TheVariants.{Common, Weak}
 use Rattle.oc_linking.specs.Parts.{is_local}
 use Rattle.oc_algebra.specs.Fields.{to_field_of}
+use Rattle.oc_neutral.specs.KindRules.{has_nul}
+use Rattle.oc_neutral.specs.Family.{IsMach, Family}
 use Rattle.oc_neutral.specs.declared.section.Section.{Section}
 use Rattle.oc_neutral.specs.declared.symbol.Symbol.{Symbol}
 use Rattle.oc_neutral.specs.declared.reloc.Reloc.{Reloc}
-use Rattle.oc_neutral.specs.Alignments.{most_in}
-use Rattle.oc_neutral.specs.Families.{Family, IsMach, family_of, family_number}
+use Rattle.oc_neutral.specs.Families.{family_of, container_of}
+use Rattle.oc_neutral.specs.Relocated.{is_relocated}
+use Rattle.oc_neutral.specs.Mach.Family.{mach_family, mach_symbol_count}
 use Rattle.oc_neutral.specs.Fitted.{IsFitted}
-use Rattle.oc_neutral.specs.GivenTags.{has_nul, family_gives}
-use Rattle.oc_neutral.specs.HomeNames.{is_home}
+use Rattle.oc_neutral.specs.HomeNames.{is_home, output_names}
 use Rattle.oc_neutral.specs.MachMeets.{MachSection, MachSymbol, IsWrittenDifference, MachReloc, MeetsMach, FittedMeetsMach}
-use Rattle.oc_neutral.specs.Mach.Relocs.{MachRow, length_of}
+use Rattle.oc_neutral.specs.Mach.Relocs.{MachRow, length_of, mach_entries, entry_among}
 use Rattle.oc_neutral.specs.Meets.{has_calls, MeetsReloc, HoldsAddend}
 use Rattle.oc_neutral.specs.Objects.{Object, reloc_at}
-use Rattle.oc_neutral.specs.RelocTables.{rows_of, entries_of, entry_of}
+use Rattle.oc_neutral.specs.RelocTables.{rows_of}
 use Rattle.oc_neutral.specs.Rows.{Row, TakesSection, taken_of}
 use Rattle.oc_neutral.specs.Mach.SectionSymbols.{needed_sections}
 use Rattle.oc_neutral.specs.Shifts.{field_shift, written_shift}
 use Rattle.oc_neutral.specs.Spelling.{written_row}
 use Rattle.oc_neutral.specs.TargetRelocations.{taken_end, fixed_end, is_empty, has_empty_end, has_no_form, is_too_far, ends_in_nothing, spot_of, reloc_conditions}
-use Rattle.oc_neutral.specs.TargetSections.{most_counted, counted_in, unwritable_in, section_conditions}
-use Rattle.oc_neutral.specs.TargetSymbols.{mach_symbol_count, symbol_bound, bounded, is_common_in, is_common_form, is_weak_in, is_weak_form, symbol_conditions}
+use Rattle.oc_neutral.specs.TargetSections.{section_conditions}
+use Rattle.oc_neutral.specs.TargetSymbols.{bounded, is_common_form, is_weak_form, symbol_conditions}
 use Rattle.oc_neutral.proofs.MeetsConditions.{AreMet, neither, not_below, below_length, section_count_met, section_met, symbol_met, reloc_met}
 use Rattle.oc_neutral.proofs.MeetsCounts.{symbols_bounded, bounded_object}
 use Rattle.oc_neutral.proofs.MeetsMachKinds.{IsMachTag, mach_named}
@@ -47,8 +49,18 @@ use Rattle.oc_neutral.proofs.MeetsRows.{of_table}
 use Rattle.oc_neutral.proofs.Positions.{images_same}
 use Rattle.oc_neutral.proofs.ShiftLemmas.{four_bytes_hold}
 
+-- the family of such a format
+mach_whole : (format : Format) → container_of format ≡ IsMach → family_of format ≡ mach_family (family_of format).word
+mach_whole Elf32 e = absurd (cc)
+mach_whole Elf64 e = absurd (cc)
+mach_whole Coff32 e = absurd (cc)
+mach_whole Coff64 e = absurd (cc)
+mach_whole Mac32 e = refl
+mach_whole Mac64 e = refl
+mach_whole Omf e = absurd (cc)
+
 -- the homes of kinds are the same in both formats
-same_home : (format : Format) → family_of format ≡ IsMach → (k : ℕ) (kind : Kind) (name : List ℕ) (tag : ℕ) → is_home format k kind name tag ≡ is_home Mac32 k kind name tag
+same_home : (format : Format) → container_of format ≡ IsMach → (k : ℕ) (kind : Kind) (name : List ℕ) (tag : ℕ) → is_home format k kind name tag ≡ is_home Mac32 k kind name tag
 unfolding is_home
 same_home Mac32 e k kind name tag = refl
 same_home Mac64 e k kind name tag = refl
@@ -68,30 +80,30 @@ made_of f (x ∷ xs) (suc k) y h = made_of f xs k y h
 record IsEntryRow (format : Format) (row : Row) : Type 0 where
   entry : MachRow
   own : entry.row ≡ row
-  found : entry_of format row.number entry.pcrel (length_of row.width) ≡ Some entry
+  found : entry_among (mach_entries (word_for format)) row.number entry.pcrel (length_of row.width) ≡ Some entry
   number : nat_lt row.number (2 ^ 4) ≡ true
 
 -- an entry is found by what it has
-found_entry : (format : Format) (m : MachRow) (row : Row) → m.row ≡ row → entry_of format m.row.number m.pcrel (length_of m.row.width) ≡ Some m
-    → entry_of format row.number m.pcrel (length_of row.width) ≡ Some m
-found_entry format m row own found = ap (λ (r : Row). entry_of format r.number m.pcrel (length_of r.width)) (sym own) ∙ found
+found_entry : (format : Format) (m : MachRow) (row : Row) → m.row ≡ row → entry_among (mach_entries (word_for format)) m.row.number m.pcrel (length_of m.row.width) ≡ Some m
+    → entry_among (mach_entries (word_for format)) row.number m.pcrel (length_of row.width) ≡ Some m
+found_entry format m row own found = ap (λ (r : Row). entry_among (mach_entries (word_for format)) r.number m.pcrel (length_of r.width)) (sym own) ∙ found
 
 -- of each row: the two lists of answers are computed
-entry_row : (format : Format) → family_of format ≡ IsMach → (k : ℕ) (row : Row) → slice_get (rows_of format) k ≡ Some row → IsEntryRow format row
+entry_row : (format : Format) → container_of format ≡ IsMach → (k : ℕ) (row : Row) → slice_get (rows_of format) k ≡ Some row → IsEntryRow format row
 entry_row Mac32 e k row here =
-    let m = made_of (λ (x : MachRow). x.row) (entries_of Mac32) k row here in
+    let m = made_of (λ (x : MachRow). x.row) (mach_entries W32) k row here in
     record {
       entry = m.0;
       own = m.2;
-      found = found_entry Mac32 m.0 row m.2 (images_same (λ (x : MachRow). entry_of Mac32 x.row.number x.pcrel (length_of x.row.width)) Some (entries_of Mac32) (entries_of Mac32) refl k m.0 m.0 m.1 m.1);
+      found = found_entry Mac32 m.0 row m.2 (images_same (λ (x : MachRow). entry_among (mach_entries W32) x.row.number x.pcrel (length_of x.row.width)) Some (mach_entries W32) (mach_entries W32) refl k m.0 m.0 m.1 m.1);
       number = of_table (λ r. nat_lt r.number (2 ^ 4)) (λ r. true) (rows_of Mac32) k row refl here;
     }
 entry_row Mac64 e k row here =
-    let m = made_of (λ (x : MachRow). x.row) (entries_of Mac64) k row here in
+    let m = made_of (λ (x : MachRow). x.row) (mach_entries W64) k row here in
     record {
       entry = m.0;
       own = m.2;
-      found = found_entry Mac64 m.0 row m.2 (images_same (λ (x : MachRow). entry_of Mac64 x.row.number x.pcrel (length_of x.row.width)) Some (entries_of Mac64) (entries_of Mac64) refl k m.0 m.0 m.1 m.1);
+      found = found_entry Mac64 m.0 row m.2 (images_same (λ (x : MachRow). entry_among (mach_entries W64) x.row.number x.pcrel (length_of x.row.width)) Some (mach_entries W64) (mach_entries W64) refl k m.0 m.0 m.1 m.1);
       number = of_table (λ r. nat_lt r.number (2 ^ 4)) (λ r. true) (rows_of Mac64) k row refl here;
     }
 entry_row Elf32 e k row here = absurd (cc)
@@ -113,38 +125,41 @@ pub alone : (group : Option ℕ) → option_map_or (λ g. true) group false ≡ 
 alone None e = refl
 alone (Some g) e = absurd (true≢false e)
 
-module _ (format : Format) (n : Object) (family : family_of format ≡ IsMach) (fits : IsFitted format n) where
+module _ (format : Format) (n : Object) (family : container_of format ≡ IsMach) (fits : IsFitted format n) where
+  whole : family_of format ≡ mach_family (family_of format).word
+  whole = mach_whole format family
+
   few : length n.sections ≤ 255
   few =
       not_below 255 (length n.sections)
-      (subst (λ (f : Family). nat_lt (most_counted f) (counted_in f format n) ≡ false) family (section_count_met format n fits).0)
+      (subst (λ (f : Family). nat_lt (f.sections (is_relocated format n) n).most (f.sections (is_relocated format n) n).counted ≡ false) whole (section_count_met format n fits).0)
 
-  table_32 : format ≡ Mac32 → mach_symbol_count Mac32 [] n < 2 ^ 24
+  table_32 : format ≡ Mac32 → mach_symbol_count W32 n < 2 ^ 24
   table_32 is =
-      let met : AreMet (option_map_or bounded (symbol_bound Mac32 n) []) = subst (λ f. AreMet (option_map_or bounded (symbol_bound f n) [])) is (symbols_bounded format n fits) in
-      let low : mach_symbol_count Mac32 [] n ≤ 0xFFFFFF = not_below 0xFFFFFF (mach_symbol_count Mac32 [] n) met.0 in
+      let met : AreMet (option_map_or bounded ((family_of Mac32).symbols n) []) = subst (λ f. AreMet (option_map_or bounded ((family_of f).symbols n) [])) is (symbols_bounded format n fits) in
+      let low : mach_symbol_count W32 n ≤ 0xFFFFFF = not_below 0xFFFFFF (mach_symbol_count W32 n) met.0 in
       omega (arith, low)
 
-  table_64 : format ≡ Mac64 → mach_symbol_count Mac64 (needed_sections n) n < 2 ^ 24
+  table_64 : format ≡ Mac64 → mach_symbol_count W64 n < 2 ^ 24
   table_64 is =
-      let met : AreMet (option_map_or bounded (symbol_bound Mac64 n) []) = subst (λ f. AreMet (option_map_or bounded (symbol_bound f n) [])) is (symbols_bounded format n fits) in
-      let low : mach_symbol_count Mac64 (needed_sections n) n ≤ 0xFFFFFF = not_below 0xFFFFFF (mach_symbol_count Mac64 (needed_sections n) n) met.0 in
+      let met : AreMet (option_map_or bounded ((family_of Mac64).symbols n) []) = subst (λ f. AreMet (option_map_or bounded ((family_of f).symbols n) [])) is (symbols_bounded format n fits) in
+      let low : mach_symbol_count W64 n ≤ 0xFFFFFF = not_below 0xFFFFFF (mach_symbol_count W64 n) met.0 in
       omega (arith, low)
 
   section : (k : ℕ) (s : Section) → slice_get n.sections k ≡ Some s → MachSection s
   unfolding section_conditions
   section k s here =
       let met = section_met format n fits k s here in
-      let named : (is_home Mac32 (k + 1) s.kind s.name s.tag || family_gives IsMach s.kind s.name s.tag) ≡ true
-      = sym (ap (λ b. b || family_gives IsMach s.kind s.name s.tag) (same_home format family (k + 1) s.kind s.name s.tag))
-          ∙ ap (λ f. is_home format (k + 1) s.kind s.name s.tag || family_gives f s.kind s.name s.tag) (sym family) ∙ fits.names k s here in
+      let named : (is_home Mac32 (k + 1) s.kind s.name s.tag || (mach_family (family_of format).word).gives s.kind s.name s.tag) ≡ true
+      = sym (ap (λ b. b || (mach_family (family_of format).word).gives s.kind s.name s.tag) (same_home format family (k + 1) s.kind s.name s.tag))
+          ∙ ap (λ f. is_home format (k + 1) s.kind s.name s.tag || f.gives s.kind s.name s.tag) (sym whole) ∙ fits.names k s here in
       let inside = below_length n.sections k s here in
       let most = few in
       let tag : IsMachTag s.kind s.name s.tag = mach_named (k + 1) (omega (arith, inside, most)) s.kind s.name s.tag named in
-      let low : nat_lt (most_in IsMach) s.align ≡ false = subst (λ f. nat_lt (most_in f) s.align ≡ false) family met.1.1.1.0 in
+      let low : nat_lt (mach_family (family_of format).word).most_align s.align ≡ false = subst (λ (f : Family). nat_lt f.most_align s.align ≡ false) whole met.1.1.1.0 in
       record {
-        uncut = (uncut n s (subst (λ f. (unwritable_in f).name format n s.name s ≡ false) family met.1.1.1.1.0)).name;
-        alone = alone s.group (subst (λ f. option_map_or ((unwritable_in f).member n) s.group false ≡ false) family met.1.1.1.1.1.0);
+        uncut = (uncut n s (subst (λ (f : Family). f.lacks_name (output_names format n) n s.name s ≡ false) whole met.1.1.1.1.0)).name;
+        alone = alone s.group (subst (λ (f : Family). option_map_or (f.lacks_member n) s.group false ≡ false) whole met.1.1.1.1.1.0);
         align = not_below (2 ^ 15) s.align low;
         name = tag.parted;
         segment = tag.segment;
@@ -160,14 +175,14 @@ module _ (format : Format) (n : Object) (family : family_of format ≡ IsMach) (
   symbol k s here =
       let met = symbol_met format n fits k s here in
       record {
-        name = subst (λ f. cond (nat_eq (family_number f) 3) (not (is_local s.binding) && nat_lt 255 (length s.name)) (has_nul s.name) ≡ false) family met.0;
+        name = subst (λ (f : Family). f.lacks_symbol s ≡ false) whole met.0;
         common = λ size align e.
-            let form : is_common_in (family_of format) size align ≡ false = ap (is_common_form format) (sym e) ∙ met.1.1.0 in
-            let parts = neither (nat_eq size 0) (nat_lt (2 ^ 15) align) (subst (λ f. is_common_in f size align ≡ false) family form) in
+            let form : (family_of format).lacks_common size align ≡ false = ap (is_common_form format) (sym e) ∙ met.1.1.0 in
+            let parts = neither (nat_eq size 0) (nat_lt (2 ^ 15) align) (subst (λ (f : Family). f.lacks_common size align ≡ false) whole form) in
             (positive size parts.0, not_below (2 ^ 15) align parts.1);
         steady = λ j e.
-            let weak : is_weak_in (family_of format) n (fallback.Name j) ≡ false = ap (is_weak_form format n) (sym e) ∙ met.1.1.1.0 in
-            steady n j (subst (λ f. is_weak_in f n (fallback.Name j) ≡ false) family weak);
+            let weak : (family_of format).lacks_weak n (fallback.Name j) ≡ false = ap (is_weak_form format n) (sym e) ∙ met.1.1.1.0 in
+            steady n j (subst (λ (f : Family). f.lacks_weak n (fallback.Name j) ≡ false) whole weak);
       }
 
   -- a difference of mac32

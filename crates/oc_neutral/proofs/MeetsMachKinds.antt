@@ -6,15 +6,16 @@ use Rattle.std.proofs.lemmas.Bool.{true≢false, and_parts, eqb-true, leb-true, 
 use Rattle.std.proofs.lemmas.Fmt.{length-decimal-le}
 use Rattle.std.proofs.lemmas.Slice.Eq.{bytes_eq-Decides}
 use Rattle.oc_base.specs.declared.format.Format.TheVariants.{Mac32, Omf}
+use Rattle.oc_base.specs.declared.format.Word.TheVariants.{W32}
 use Rattle.oc_linking.specs.declared.terms.Kind.{Kind}
 use Rattle.oc_linking.specs.declared.terms.Kind.TheVariants.{Code, ReadOnly, Data, Zero, Init, Fini, Debug, Exception, Note}
+use Rattle.oc_neutral.specs.Mach.Family.{mach_gives, mach_family, numbered_name}
+use Rattle.oc_neutral.specs.Omf.Family.{omf_family}
 use Rattle.oc_neutral.specs.Mach.Kinds.{is_comma, mach_name, segment_of, section_of, is_read_type, mach_kind, mach_tag}
 use Rattle.oc_neutral.specs.Omf.Kinds.{omf_kind, omf_class, omf_tag}
-use Rattle.oc_neutral.specs.GivenTags.{mach_gives, family_gives}
-use Rattle.oc_neutral.specs.Families.{IsMach, IsOmf}
-use Rattle.oc_neutral.specs.HomeNames.{numbered_name, is_home}
+use Rattle.oc_neutral.specs.HomeNames.{home_of, is_at, is_home}
 use Rattle.oc_neutral.specs.Meets.{IsReadAs}
-use Rattle.oc_neutral.proofs.MeetsKinds.{kind_is, one_of, read_same}
+use Rattle.oc_neutral.proofs.MeetsKinds.{once, kind_is, one_of, read_same}
 
 -- ... Mach-O
 
@@ -49,20 +50,19 @@ pub record IsMachHome (kind : Kind) (k : ℕ) (home : List ℕ) (tag : ℕ) : Ty
   pub named : IsMachTag kind home tag
   pub numbered : IsMachTag kind (numbered_name k home) tag
 
--- a name that is one of the two, or another where `rest` holds
-mach_at : (kind : Kind) (k : ℕ) (name home : List ℕ) (at : ℕ) (rest : Bool) → IsMachHome kind k home at → (bytes_eq name home || (bytes_eq name (numbered_name k home) || rest)) ≡ true
-    → (rest ≡ true → IsMachTag kind name at) → IsMachTag kind name at
-mach_at kind k name home at rest is e third =
-    one_of (bytes_eq name home) (bytes_eq name (numbered_name k home) || rest) e
+-- a name that is one of the two
+mach_at : (kind : Kind) (k : ℕ) (name home : List ℕ) (at : ℕ) → IsMachHome kind k home at → (bytes_eq name home || bytes_eq name (numbered_name k home)) ≡ true → IsMachTag kind name at
+mach_at kind k name home at is e =
+    one_of (bytes_eq name home) (bytes_eq name (numbered_name k home)) e
     (λ h. subst (λ x. IsMachTag kind x at) (sym ((bytes_eq-Decides name home).0 h)) is.named)
-    (λ h. one_of (bytes_eq name (numbered_name k home)) rest h (λ i. subst (λ x. IsMachTag kind x at) (sym ((bytes_eq-Decides name (numbered_name k home)).0 i)) is.numbered) third)
+    (λ h. subst (λ x. IsMachTag kind x at) (sym ((bytes_eq-Decides name (numbered_name k home)).0 h)) is.numbered)
 
 -- with the tag of the home
-mach_tagged : (kind : Kind) (k : ℕ) (name home : List ℕ) (tag at : ℕ) (rest : Bool) → IsMachHome kind k home at
-    → (nat_eq tag at && (bytes_eq name home || (bytes_eq name (numbered_name k home) || rest))) ≡ true → (rest ≡ true → IsMachTag kind name at) → IsMachTag kind name tag
-mach_tagged kind k name home tag at rest is e third =
+mach_tagged : (kind : Kind) (k : ℕ) (name home : List ℕ) (tag at : ℕ) → IsMachHome kind k home at
+    → (nat_eq tag at && (bytes_eq name home || bytes_eq name (numbered_name k home))) ≡ true → IsMachTag kind name tag
+mach_tagged kind k name home tag at is e =
     let parts = and_parts _ _ e in
-    subst (λ t. IsMachTag kind name t) (sym (eqb-true tag at parts.0)) (mach_at kind k name home at rest is parts.1 third)
+    subst (λ t. IsMachTag kind name t) (sym (eqb-true tag at parts.0)) (mach_at kind k name home at is parts.1)
 
 -- nothing else
 nothing : {P : Type 0} → false ≡ true → P
@@ -124,22 +124,20 @@ module _ (k : ℕ) (low : k < 1000) where
 
   mach_home : (kind : Kind) (name : List ℕ) (tag : ℕ) → is_home Mac32 k kind name tag ≡ true → IsMachTag kind name tag
   unfolding is_home
-  mach_home Code name tag e = mach_tagged Code k name (codes "__TEXT,__text") tag 0x80000400 false code_home e nothing
-  mach_home Data name tag e = mach_tagged Data k name (codes "__DATA,__data") tag 0 false data_home e nothing
-  mach_home Zero name tag e = mach_tagged Zero k name (codes "__DATA,__bss") tag 1 false zero_home e nothing
-  mach_home Init name tag e = mach_tagged Init k name (codes "__DATA,__mod_init_func") tag 9 false init_home e nothing
-  mach_home Fini name tag e = mach_tagged Fini k name (codes "__DATA,__mod_term_func") tag 10 false fini_home e nothing
+  mach_home Code name tag e = mach_tagged Code k name (codes "__TEXT,__text") tag 0x80000400 code_home (once _ e)
+  mach_home Data name tag e = mach_tagged Data k name (codes "__DATA,__data") tag 0 data_home (once _ e)
+  mach_home Zero name tag e = mach_tagged Zero k name (codes "__DATA,__bss") tag 1 zero_home (once _ e)
+  mach_home Init name tag e = mach_tagged Init k name (codes "__DATA,__mod_init_func") tag 9 init_home (once _ e)
+  mach_home Fini name tag e = mach_tagged Fini k name (codes "__DATA,__mod_term_func") tag 10 fini_home (once _ e)
   mach_home ReadOnly name tag e =
-      mach_tagged ReadOnly k name (codes "__TEXT,__const") tag 0 (bytes_eq name (codes "__DATA,__const") || bytes_eq name (numbered_name k (codes "__DATA,__const"))) text_home e
-      (λ h. one_of (bytes_eq name (codes "__DATA,__const")) (bytes_eq name (numbered_name k (codes "__DATA,__const"))) h
-      (λ i. subst (λ x. IsMachTag ReadOnly x 0) (sym ((bytes_eq-Decides name (codes "__DATA,__const")).0 i)) const_home.named)
-      (λ i. subst (λ x. IsMachTag ReadOnly x 0) (sym ((bytes_eq-Decides name (numbered_name k (codes "__DATA,__const"))).0 i)) const_home.numbered))
+      one_of (is_at Mac32 k name tag (home_of Mac32 false ReadOnly)) (is_at Mac32 k name tag (home_of Mac32 true ReadOnly)) e
+      (mach_tagged ReadOnly k name (codes "__TEXT,__const") tag 0 text_home) (mach_tagged ReadOnly k name (codes "__DATA,__const") tag 0 const_home)
   mach_home Exception name tag e = nothing e
   mach_home Debug name tag e = nothing e
   mach_home Note name tag e = nothing e
 
-mach_given : (kind : Kind) (name : List ℕ) (tag : ℕ) → family_gives IsMach kind name tag ≡ true → IsMachTag kind name tag
-unfolding family_gives mach_gives
+mach_given : (kind : Kind) (name : List ℕ) (tag : ℕ) → (mach_family W32).gives kind name tag ≡ true → IsMachTag kind name tag
+unfolding mach_gives
 mach_given kind name tag e =
     let a = and_parts _ _ (and_parts _ _ e).1 in
     let b = and_parts _ _ a.0 in
@@ -157,8 +155,8 @@ mach_given kind name tag e =
       read = read_same ReadOnly kind (mach_kind (segment_of name) (section_of name) tag) (kind_is (mach_kind (segment_of name) (section_of name) tag) kind a.1);
     }
 
-pub mach_named : (k : ℕ) → k < 1000 → (kind : Kind) (name : List ℕ) (tag : ℕ) → (is_home Mac32 k kind name tag || family_gives IsMach kind name tag) ≡ true → IsMachTag kind name tag
-mach_named k low kind name tag e = one_of (is_home Mac32 k kind name tag) (family_gives IsMach kind name tag) e (mach_home k low kind name tag) (mach_given kind name tag)
+pub mach_named : (k : ℕ) → k < 1000 → (kind : Kind) (name : List ℕ) (tag : ℕ) → (is_home Mac32 k kind name tag || (mach_family W32).gives kind name tag) ≡ true → IsMachTag kind name tag
+mach_named k low kind name tag e = one_of (is_home Mac32 k kind name tag) ((mach_family W32).gives kind name tag) e (mach_home k low kind name tag) (mach_given kind name tag)
 
 -- ... OMF
 
@@ -175,16 +173,16 @@ omf_kinds : (kind : Kind) (tag : ℕ) → tag ≡ 0 → (class : List ℕ) → o
 omf_kinds kind tag e class classed read = record { own = e; class = class; classed = classed; read = read }
 
 -- at home or given, a tag is 0
-tag_is : (tag : ℕ) (x y : Bool) → ((nat_eq tag 0 && x) || (nat_eq tag 0 && y)) ≡ true → tag ≡ 0
+tag_is : (tag : ℕ) (x y : Bool) → (((nat_eq tag 0 && x) || (nat_eq tag 0 && x)) || (nat_eq tag 0 && y)) ≡ true → tag ≡ 0
 tag_is tag x y e =
-    one_of (nat_eq tag 0 && x) (nat_eq tag 0 && y) e (λ h. eqb-true tag 0 (and_parts _ _ h).0) (λ h. eqb-true tag 0 (and_parts _ _ h).0)
+    one_of ((nat_eq tag 0 && x) || (nat_eq tag 0 && x)) (nat_eq tag 0 && y) e (λ h. eqb-true tag 0 (and_parts _ _ (once _ h)).0) (λ h. eqb-true tag 0 (and_parts _ _ h).0)
 
 -- what is not given
 not_given : {P : Type 0} (tag : ℕ) → (nat_eq tag 0 && false) ≡ true → P
 not_given tag e = absurd (true≢false (sym (and_parts (nat_eq tag 0) false e).1))
 
-pub omf_named : (k : ℕ) (kind : Kind) (name : List ℕ) (tag : ℕ) → (is_home Omf k kind name tag || family_gives IsOmf kind name tag) ≡ true → (kind ≡ Debug → ⊥) → IsOmfTag kind tag
-unfolding is_home family_gives omf_kind
+pub omf_named : (k : ℕ) (kind : Kind) (name : List ℕ) (tag : ℕ) → (is_home Omf k kind name tag || omf_family.gives kind name tag) ≡ true → (kind ≡ Debug → ⊥) → IsOmfTag kind tag
+unfolding is_home omf_kind
 omf_named k Code name tag e kept = omf_kinds Code tag (tag_is tag _ _ e) (codes "CODE") refl (λ covered zero. refl)
 omf_named k ReadOnly name tag e kept = omf_kinds ReadOnly tag (tag_is tag _ _ e) (codes "CONST") refl (λ covered zero. refl)
 omf_named k Data name tag e kept = omf_kinds Data tag (tag_is tag _ _ e) (codes "DATA") refl (λ covered zero. refl)

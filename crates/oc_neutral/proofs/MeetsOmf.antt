@@ -14,11 +14,14 @@ use Rattle.oc_linking.specs.declared.terms.Value.TheVariants.{Absolute}
 use Rattle.oc_linking.specs.declared.terms.Binding.TheVariants.{Global, Common, Weak}
 use Rattle.oc_linking.specs.Parts.{is_local}
 use Rattle.oc_algebra.specs.Fields.{to_field_of}
+use Rattle.oc_neutral.specs.Bindings.{is_external}
+use Rattle.oc_neutral.specs.Family.{IsOmf}
+use Rattle.oc_neutral.specs.Powers.{natural_align}
+use Rattle.oc_neutral.specs.Omf.Family.{omf_aligns}
 use Rattle.oc_neutral.specs.declared.section.Section.{Section}
 use Rattle.oc_neutral.specs.declared.symbol.Symbol.{Symbol}
 use Rattle.oc_neutral.specs.declared.reloc.Reloc.{Reloc}
-use Rattle.oc_neutral.specs.Alignments.{omf_aligns, output_align, natural_align}
-use Rattle.oc_neutral.specs.Families.{IsOmf}
+use Rattle.oc_neutral.specs.Alignments.{output_align}
 use Rattle.oc_neutral.specs.Fitted.{fitted_binding, IsFitted}
 use Rattle.oc_neutral.specs.Meets.{MeetsReloc}
 use Rattle.oc_neutral.specs.Objects.{Object, reloc_at}
@@ -27,7 +30,7 @@ use Rattle.oc_neutral.specs.Omf.Relocs.{Framed, ByFlat, ByTarget, BySelf, fixup_
 use Rattle.oc_neutral.specs.RelocTables.{rows_of}
 use Rattle.oc_neutral.specs.Rows.{Row}
 use Rattle.oc_neutral.specs.TargetSections.{is_debug_kept, section_conditions}
-use Rattle.oc_neutral.specs.TargetSymbols.{is_external, is_absolute_form, is_common_form, is_weak_form, symbol_conditions}
+use Rattle.oc_neutral.specs.TargetSymbols.{is_absolute_form, is_common_form, is_weak_form, symbol_conditions}
 use Rattle.oc_neutral.proofs.MeetsCoff.{natural, align_same, fitted_common}
 use Rattle.oc_neutral.proofs.MeetsConditions.{not_below, section_count_met, section_met, symbol_met}
 use Rattle.oc_neutral.proofs.MeetsCounts.{symbols_bounded, bounded_object}

@@ -14,10 +14,11 @@ use Rattle.oc_linking.specs.declared.terms.Fallback.TheVariants as fallback
 use Rattle.oc_linking.specs.declared.terms.Base.{Base}
 use Rattle.oc_linking.specs.declared.terms.Base.TheVariants.{Address, Slot, GotBase, HomeNumber}
 use Rattle.oc_algebra.specs.declared.form.Form.{Form}
+use Rattle.oc_neutral.specs.Tests.{is_cut, is_steady, is_unsteady_name}
+use Rattle.oc_neutral.specs.KindRules.{has_nul}
 use Rattle.oc_neutral.specs.declared.section.Section.{Section}
 use Rattle.oc_neutral.specs.declared.symbol.Symbol.{Symbol}
 use Rattle.oc_neutral.specs.Faces.{key_of}
-use Rattle.oc_neutral.specs.GivenTags.{has_nul}
 use Rattle.oc_neutral.specs.KeySymbols.{global_place, group_at, is_key_name, lies_in, has_key_symbol}
 use Rattle.oc_neutral.specs.Meets.{IsUncut, HasKeySymbol, IsSteadyAt, IsTakenBy}
 use Rattle.oc_neutral.specs.Normal.{Place}
@@ -25,8 +26,6 @@ use Rattle.oc_neutral.specs.Objects.{Object}
 use Rattle.oc_neutral.specs.Rows.{Row, Taken, TakesPlace, TakesSection, taken_of, same_taken, same_base, shift_of}
 use Rattle.oc_neutral.specs.Shifts.{written_shift}
 use Rattle.oc_neutral.specs.TargetRelocations.{needs_slot}
-use Rattle.oc_neutral.specs.TargetSections.{is_cut}
-use Rattle.oc_neutral.specs.TargetSymbols.{is_steady, is_unsteady_name}
 use Rattle.oc_neutral.proofs.MeetsConditions.{neither}
 
 -- what is not false

@@ -16,6 +16,8 @@ use Rattle.oc_linking.specs.Parts.{is_local}
 use Rattle.oc_neutral.specs.declared.section.Section.{Section}
 use Rattle.oc_neutral.specs.declared.symbol.Symbol.{Symbol}
 use Rattle.oc_neutral.specs.Coff.Strings.{is_long, is_tabled, has_default, default_name, defaults_of, names_where, symbol_names, section_strings, coff_strings}
+use Rattle.oc_neutral.specs.CoffMeets.{strings_of}
+use Rattle.oc_neutral.specs.Families.{family_of}
 use Rattle.oc_neutral.specs.HomeNames.{output_names}
 use Rattle.oc_neutral.specs.KeySymbols.{global_place, group_at, is_key_name, is_key_at, is_key}
 use Rattle.oc_neutral.specs.Normal.{Place}
@@ -82,7 +84,7 @@ long_default name =
 
 module _ (format : Format) (n : Object) (own : n.format ≡ format) where
   -- the section at a position gives its strings
-  piece_given : (k : ℕ) (s : Section) (name : List ℕ) → slice_get n.sections k ≡ Some s → Stands (section_strings n (k, s.name)) name → is_given (coff_strings format n) name ≡ true
+  piece_given : (k : ℕ) (s : Section) (name : List ℕ) → slice_get n.sections k ≡ Some s → Stands (section_strings n (k, s.name)) name → is_given (strings_of format n) name ≡ true
   unfolding coff_strings
   piece_given k s name here stands =
       let named : slice_get (output_names format n) k ≡ Some s.name
@@ -91,22 +93,22 @@ module _ (format : Format) (n : Object) (own : n.format ≡ format) where
       let row : slice_get (enumerate_from 0 (output_names format n)) k ≡ Some (k, s.name)
       = stands_enumerated 0 (output_names format n) k s.name named ∙ ap (λ m. Some (m, s.name)) e in
       let piece = stands_flat (section_strings n) (enumerate_from 0 (output_names format n)) k (k, s.name) name row stands in
-      given (coff_strings format n) name
-      (stands_first (flat_map (section_strings n) (enumerate_from 0 (output_names format n))) (filter is_long (symbol_names format n)) piece.0 name piece.1)
+      given (strings_of format n) name
+      (stands_first (flat_map (section_strings n) (enumerate_from 0 (output_names format n))) (filter is_long (symbol_names (family_of format).writes_local n)) piece.0 name piece.1)
 
   -- a name of a section that has no room
-  pub section_given : (k : ℕ) (s : Section) → slice_get n.sections k ≡ Some s → is_tabled s.name ≡ true → is_given (coff_strings format n) s.name ≡ true
+  pub section_given : (k : ℕ) (s : Section) → slice_get n.sections k ≡ Some s → is_tabled s.name ≡ true → is_given (strings_of format n) s.name ≡ true
   section_given k s here tabled =
       let first = stands_filter is_tabled (s.name ∷ []) 0 s.name refl tabled in
       piece_given k s s.name here (stands_first (filter is_tabled (s.name ∷ [])) (filter is_long (names_where (is_key_at n k) n)) first.0 s.name first.1)
 
   -- a name among those of the other symbols
-  other_given : (name : List ℕ) → Stands (symbol_names format n) name → is_long name ≡ true → is_given (coff_strings format n) name ≡ true
+  other_given : (name : List ℕ) → Stands (symbol_names (family_of format).writes_local n) name → is_long name ≡ true → is_given (strings_of format n) name ≡ true
   unfolding coff_strings
   other_given name stands long =
-      let kept = stands_filter is_long (symbol_names format n) stands.0 name stands.1 long in
-      given (coff_strings format n) name
-      (stands_second (flat_map (section_strings n) (enumerate_from 0 (output_names format n))) (filter is_long (symbol_names format n)) name kept)
+      let kept = stands_filter is_long (symbol_names (family_of format).writes_local n) stands.0 name stands.1 long in
+      given (strings_of format n) name
+      (stands_second (flat_map (section_strings n) (enumerate_from 0 (output_names format n))) (filter is_long (symbol_names (family_of format).writes_local n)) name kept)
 
   -- the name of a symbol that passes
   named_where : (test : Symbol → Bool) (k : ℕ) (s : Symbol) → slice_get n.symbols k ≡ Some s → test s ≡ true → Stands (names_where test n) s.name
@@ -122,14 +124,14 @@ module _ (format : Format) (n : Object) (own : n.format ≡ format) where
   others = names_where (λ (s : Symbol). not (is_local s.binding) && not (is_key n s)) n
 
   -- the key symbol's name is given with its section's
-  key_given : (k : ℕ) (s : Symbol) → slice_get n.symbols k ≡ Some s → is_key n s ≡ true → is_long s.name ≡ true → is_given (coff_strings format n) s.name ≡ true
+  key_given : (k : ℕ) (s : Symbol) → slice_get n.symbols k ≡ Some s → is_key n s ≡ true → is_long s.name ≡ true → is_given (strings_of format n) s.name ≡ true
   key_given k s here key long =
       let place = some_passes (λ (p : Place). is_key_at n p.0 s) (global_place s.binding) key in
       let group = some_passes (is_key_name n s.name) (group_at n place.0.0) (and_parts _ _ place.2).1 in
       by place.0.0 (slice_get n.sections place.0.0) refl group.0 group.1 place.2
     where
       by : (i : ℕ) (o : Option Section) → slice_get n.sections i ≡ o → (g : ℕ) → option_and_then (λ (x : Section). x.group) o ≡ Some g → is_key_at n i s ≡ true
-          → is_given (coff_strings format n) s.name ≡ true
+          → is_given (strings_of format n) s.name ≡ true
       by i None there g grouped at = absurd (none-some g grouped)
       by i (Some x) there g grouped at =
           let name = named_where (is_key_at n i) k s here at in
@@ -137,10 +139,10 @@ module _ (format : Format) (n : Object) (own : n.format ≡ format) where
           (stands_second (filter is_tabled (x.name ∷ [])) (filter is_long (names_where (is_key_at n i) n)) s.name (stands_filter is_long (names_where (is_key_at n i) n) name.0 s.name name.1 long))
 
   -- the long name of a symbol that is written
-  pub symbol_given : (k : ℕ) (s : Symbol) → slice_get n.symbols k ≡ Some s → is_written format s ≡ true → is_long s.name ≡ true → is_given (coff_strings format n) s.name ≡ true
+  pub symbol_given : (k : ℕ) (s : Symbol) → slice_get n.symbols k ≡ Some s → is_written format s ≡ true → is_long s.name ≡ true → is_given (strings_of format n) s.name ≡ true
   symbol_given k s here written long = by (is_local s.binding) refl (is_key n s) refl
     where
-      by : (a : Bool) → is_local s.binding ≡ a → (b : Bool) → is_key n s ≡ b → is_given (coff_strings format n) s.name ≡ true
+      by : (a : Bool) → is_local s.binding ≡ a → (b : Bool) → is_key n s ≡ b → is_given (strings_of format n) s.name ≡ true
       by true local b key =
           let name = named_where (λ (x : Symbol). is_local x.binding && is_written format x) k s here (rw (local, written) refl) in
           let first = stands_first locals fallbacks name.0 s.name name.1 in
@@ -151,7 +153,7 @@ module _ (format : Format) (n : Object) (own : n.format ≡ format) where
 
   -- the name of the symbol for a fallback
   pub default_given : (k : ℕ) (s : Symbol) (f : Fallback) → slice_get n.symbols k ≡ Some s → s.binding ≡ Weak f → has_default f ≡ true
-      → is_given (coff_strings format n) (default_name s.name) ≡ true
+      → is_given (strings_of format n) (default_name s.name) ≡ true
   default_given k s f here weak has =
       let own : defaults_of s.name s.binding ≡ default_name s.name ∷ []
       = ap (defaults_of s.name) weak ∙ ap (λ b. cond b (default_name s.name ∷ []) []) has in

@@ -14,6 +14,7 @@ use Rattle.oc_linking.specs.declared.terms.Fallback.TheVariants as fallback
 use Rattle.oc_linking.specs.declared.terms.Binding.{Binding}
 use Rattle.oc_linking.specs.declared.terms.Binding.TheVariants.{Local, Global, Undefined, Common, Weak}
 use Rattle.oc_linking.specs.Parts.{is_local}
+use Rattle.oc_neutral.specs.Bindings.{is_zero}
 use Rattle.oc_neutral.specs.declared.group.Group.{Group}
 use Rattle.oc_neutral.specs.declared.section.Section.{Section}
 use Rattle.oc_neutral.specs.declared.symbol.Symbol.{Symbol}
@@ -23,7 +24,6 @@ use Rattle.oc_neutral.specs.Normal.{Place}
 use Rattle.oc_neutral.specs.KeySymbols.{global_place, group_at, is_key_name, is_key_at, is_key}
 use Rattle.oc_neutral.specs.WrittenSymbols.{is_written}
 use Rattle.oc_neutral.specs.Mach.SectionSymbols.{needed_sections, needs_section_symbol}
-use Rattle.oc_neutral.specs.TargetRelocations.{is_zero}
 use Rattle.oc_neutral.specs.SymbolLines.{Line, silent, one, lines_where, lines_of, local_lines, is_outer, is_global, is_undefined, is_weak_with, is_defined, needs_signature, needs_default, coff_entries, coff_section_lines, own_lines, elf_lines, coff_lines, mach_lines, omf_lines}
 use Rattle.oc_neutral.proofs.SeenLines.{IsTable}
 use Rattle.oc_neutral.proofs.SeenTables.{IsPart, shown_count, entry_count, part_table, part_empty, part_more, part_silent, part_behind, part_repeated, part_join, part_where}

@@ -9,7 +9,7 @@ use Rattle.oc_base.specs.declared.format.Format.TheVariants.{Elf32, Elf64, Coff3
 use Rattle.oc_base.specs.declared.format.Word.TheVariants.{W32, W64}
 use Rattle.oc_base.specs.Formats.{word_for}
 use Rattle.oc_neutral.specs.Objects.{Object}
-use Rattle.oc_neutral.specs.Families.{family_of}
+use Rattle.oc_neutral.specs.Families.{container_of}
 use Rattle.oc_neutral.specs.Invariants.{IsObject}
 use Rattle.oc_neutral.specs.Fitted.{IsFitted}
 use Rattle.oc_neutral.specs.Written.{LooksAlike}
@@ -72,7 +72,7 @@ module _ (m : Manner) (n : Object) (ready : IsReady m n) where
   again_alike = seen_alike m n shown are_shown ready.names ready.kinds (λ s at r here. (normal_of n ready.fine s at r here).reduced) ready.targets ready.sectional ready.fine.built.distinct
 
 -- a fitted object is ready, in the manner of its format
-of_format : (target : Format) (n : Object) → IsFitted target n → IsReady (manner_of (family_of target) (word_for target)) n
+of_format : (target : Format) (n : Object) → IsFitted target n → IsReady (manner_of (container_of target) (word_for target)) n
 of_format Elf32 n fits = elf_ready Elf32 n fits.object (meets_elf Elf32 n refl fits)
 of_format Elf64 n fits = elf_ready Elf64 n fits.object (meets_elf Elf64 n refl fits)
 of_format Coff32 n fits = coff_ready Coff32 n fits.object (meets_coff Coff32 n refl fits)
@@ -82,7 +82,7 @@ of_format Mac64 n fits = mach_ready Mac64 W64 n fits.object (meets_mach Mac64 n 
 of_format Omf n fits = omf_ready n fits.object (meets_omf n fits)
 
 own_ready : (target : Format) (n : Object) → IsFitted target n → IsReady (own_manner n) n
-own_ready target n fits = subst (λ f. IsReady (manner_of (family_of f) (word_for f)) n) (sym fits.format) (of_format target n fits)
+own_ready target n fits = subst (λ f. IsReady (manner_of (container_of f) (word_for f)) n) (sym fits.format) (of_format target n fits)
 
 pub seen_is_object_law : SeenIsObject
 seen_is_object_law target n fits = again_is_object (own_manner n) n (own_ready target n fits)

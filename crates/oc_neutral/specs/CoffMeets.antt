@@ -8,29 +8,37 @@ use Rattle.oc_linking.specs.declared.terms.Hint.TheVariants.{Plain}
 use Rattle.oc_linking.specs.declared.terms.Fallback.{Fallback}
 use Rattle.oc_linking.specs.declared.terms.Value.TheVariants.{Absolute}
 use Rattle.oc_linking.specs.declared.terms.Binding.TheVariants.{Global, Common, Weak}
+use Rattle.oc_neutral.specs.Family.{IsCoff}
+use Rattle.oc_neutral.specs.Powers.{natural_align}
 use Rattle.oc_neutral.specs.declared.section.Section.{Section}
 use Rattle.oc_neutral.specs.declared.symbol.Symbol.{Symbol}
 use Rattle.oc_neutral.specs.declared.reloc.Reloc.{Reloc}
-use Rattle.oc_neutral.specs.Alignments.{natural_align}
 use Rattle.oc_neutral.specs.Coff.Kinds.{coff_kind, coff_tag}
 use Rattle.oc_neutral.specs.Coff.Strings.{is_long, is_tabled, has_default, default_name, coff_strings, string_offset}
 use Rattle.oc_neutral.specs.declared.coff.TheConstants.{IMAGE_SCN_CNT_UNINITIALIZED_DATA}
-use Rattle.oc_neutral.specs.Families.{IsCoff, family_of}
+use Rattle.oc_neutral.specs.Families.{family_of, container_of}
+use Rattle.oc_neutral.specs.HomeNames.{output_names}
 use Rattle.oc_neutral.specs.Fitted.{IsFitted}
-use Rattle.oc_neutral.specs.GivenTags.{has_nul}
-use Rattle.oc_neutral.specs.KindRules.{has}
+use Rattle.oc_neutral.specs.KindRules.{has, has_nul}
 use Rattle.oc_neutral.specs.Meets.{AreBounded, IsUncut, HasKeySymbol, IsReadAs, MeetsReloc, HoldsAddend}
 use Rattle.oc_neutral.specs.Objects.{Object, reloc_at}
 use Rattle.oc_neutral.specs.RelocTables.{row_of}
 use Rattle.oc_neutral.specs.Rows.{taken_of, shift_of}
 use Rattle.oc_neutral.specs.WrittenSymbols.{is_written}
 
+-- the names that are given to the string table of an output, and where one stands
+abbrev pub strings_of : Format → Object → List (List ℕ)
+strings_of format n = coff_strings (family_of format).writes_local (output_names format n) n
+
+abbrev pub offset_of : Format → Object → List ℕ → ℕ
+offset_of format n = string_offset (family_of format).writes_local (output_names format n) n
+
 -- a section
 pub record CoffSection (format : Format) (n : Object) (s : Section) : Type 0 where
   pub uncut : IsUncut n s
   -- a name that has no room in the header stands in the string table, at an offset of at most seven digits
-  pub given : is_tabled s.name ≡ true → is_given (coff_strings format n) s.name ≡ true
-  pub near : is_tabled s.name ≡ true → string_offset format n s.name ≤ 9999999
+  pub given : is_tabled s.name ≡ true → is_given (strings_of format n) s.name ≡ true
+  pub near : is_tabled s.name ≡ true → offset_of format n s.name ≤ 9999999
   -- a group has its key symbol
   pub led : (g : ℕ) → s.group ≡ Some g → HasKeySymbol n g
   pub align : s.align ≤ 2 ^ 13
@@ -53,8 +61,8 @@ pub record IsNaturalCommon (size align : ℕ) : Type 0 where
 pub record CoffSymbol (format : Format) (n : Object) (s : Symbol) : Type 0 where
   pub name : has_nul s.name ≡ false
   -- a long name stands in the string table, and so does that of the symbol for a fallback
-  pub given : is_written format s ≡ true → is_long s.name ≡ true → is_given (coff_strings format n) s.name ≡ true
-  pub default : (f : Fallback) → s.binding ≡ Weak f → has_default f ≡ true → is_given (coff_strings format n) (default_name s.name) ≡ true
+  pub given : is_written format s ≡ true → is_long s.name ≡ true → is_given (strings_of format n) s.name ≡ true
+  pub default : (f : Fallback) → s.binding ≡ Weak f → has_default f ≡ true → is_given (strings_of format n) (default_name s.name) ≡ true
   pub absolute : (x : ℕ) → s.binding ≡ Global (Absolute x) → x < 2 ^ 32
   pub common : (size align : ℕ) → s.binding ≡ Common size align → IsNaturalCommon size align
 
@@ -79,4 +87,4 @@ pub record MeetsCoff (format : Format) (n : Object) : Type 0 where
 
 -- every object that is ready for COFF meets this
 abbrev pub FittedMeetsCoff : Type 0
-FittedMeetsCoff = (format : Format) (n : Object) → family_of format ≡ IsCoff → IsFitted format n → MeetsCoff format n
+FittedMeetsCoff = (format : Format) (n : Object) → container_of format ≡ IsCoff → IsFitted format n → MeetsCoff format n

@@ -6,22 +6,22 @@ use Rattle.oc_linking.specs.declared.terms.Kind.TheVariants.{Exception}
 use Rattle.oc_linking.specs.declared.terms.Base.TheVariants.{Address}
 use Rattle.oc_linking.specs.declared.terms.Fallback.TheVariants as fallback
 use Rattle.oc_linking.specs.declared.terms.Binding.TheVariants.{Weak}
+use Rattle.oc_neutral.specs.Family.{IsElf}
 use Rattle.oc_neutral.specs.declared.section.Section.{Section}
 use Rattle.oc_neutral.specs.declared.symbol.Symbol.{Symbol}
 use Rattle.oc_neutral.specs.declared.reloc.Target.TheVariants as target
 use Rattle.oc_neutral.specs.declared.reloc.Reloc.{Reloc}
 use Rattle.oc_neutral.specs.declared.elf.TheConstants.{SHF_ALLOC}
 use Rattle.oc_neutral.specs.Elf.Kinds.{is_carried_type, elf_kind, elf_tag_type, elf_tag_flags, is_nobits_tag}
-use Rattle.oc_neutral.specs.Families.{IsElf, family_of}
+use Rattle.oc_neutral.specs.Families.{container_of}
 use Rattle.oc_neutral.specs.Fitted.{IsFitted}
-use Rattle.oc_neutral.specs.GivenTags.{has_nul}
-use Rattle.oc_neutral.specs.KindRules.{has}
+use Rattle.oc_neutral.specs.KindRules.{has, has_nul}
 use Rattle.oc_neutral.specs.Meets.{AreBounded, IsUncut, IsSteadyAt, IsReadAs, MeetsReloc, HoldsAddend}
 use Rattle.oc_neutral.specs.Objects.{Object, reloc_at}
 use Rattle.oc_neutral.specs.RelocTables.{row_of}
 use Rattle.oc_neutral.specs.Rows.{taken_of, shift_of}
-use Rattle.oc_neutral.specs.TargetSections.{header_count}
-use Rattle.oc_neutral.specs.TargetSymbols.{elf_symbol_count}
+use Rattle.oc_neutral.specs.Elf.Family.{header_count, elf_symbol_count}
+use Rattle.oc_neutral.specs.Relocated.{is_relocated}
 
 -- a section
 pub record ElfSection (n : Object) (s : Section) : Type 0 where
@@ -56,7 +56,7 @@ pub record ElfReloc (format : Format) (n : Object) (s at : ℕ) (r : Reloc) : Ty
 -- the object
 pub record MeetsElf (format : Format) (n : Object) : Type 0 where
   pub bounds : AreBounded n
-  pub headers : header_count format n ≤ 65279
+  pub headers : header_count (is_relocated format n) n ≤ 65279
   pub table : format ≡ Elf32 → elf_symbol_count n < 2 ^ 24
   pub sections : (k : ℕ) (s : Section) → slice_get n.sections k ≡ Some s → ElfSection n s
   pub symbols : (k : ℕ) (s : Symbol) → slice_get n.symbols k ≡ Some s → ElfSymbol n s
@@ -64,4 +64,4 @@ pub record MeetsElf (format : Format) (n : Object) : Type 0 where
 
 -- every object that is ready for ELF meets this
 abbrev pub FittedMeetsElf : Type 0
-FittedMeetsElf = (format : Format) (n : Object) → family_of format ≡ IsElf → IsFitted format n → MeetsElf format n
+FittedMeetsElf = (format : Format) (n : Object) → container_of format ≡ IsElf → IsFitted format n → MeetsElf format n

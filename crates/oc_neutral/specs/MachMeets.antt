@@ -1,27 +1,29 @@
 -- What a writer of Mach-O uses of an object that is ready to be written (Mach-O reference, "section", "nlist" and "Relocation Data Structures"; our profile).
 use Rattle.std.specs.Prelude.{◌≡◌, ℕ, ◌^◌, ◌<◌, ◌≤◌, true, false, List, [], length, slice_get, ℤ, Option, Some, None}
+use Rattle.oc_base.specs.Formats.{word_for}
+use Rattle.oc_base.specs.declared.format.Word.TheVariants.{W32, W64}
 use Rattle.oc_base.specs.declared.format.Format.{Format}
 use Rattle.oc_base.specs.declared.format.Format.TheVariants.{Mac32, Mac64}
 use Rattle.oc_linking.specs.declared.terms.Kind.TheVariants.{ReadOnly}
 use Rattle.oc_linking.specs.declared.terms.Less.TheVariants as less
 use Rattle.oc_linking.specs.declared.terms.Fallback.TheVariants as fallback
 use Rattle.oc_linking.specs.declared.terms.Binding.TheVariants.{Common, Weak}
+use Rattle.oc_neutral.specs.KindRules.{has_nul}
+use Rattle.oc_neutral.specs.Family.{IsMach}
 use Rattle.oc_neutral.specs.declared.section.Section.{Section}
 use Rattle.oc_neutral.specs.declared.symbol.Symbol.{Symbol}
 use Rattle.oc_neutral.specs.declared.reloc.Reloc.{Reloc}
-use Rattle.oc_neutral.specs.Families.{IsMach, family_of}
+use Rattle.oc_neutral.specs.Families.{container_of}
 use Rattle.oc_neutral.specs.Fitted.{IsFitted}
-use Rattle.oc_neutral.specs.GivenTags.{has_nul}
 use Rattle.oc_neutral.specs.Mach.Kinds.{mach_name, segment_of, section_of, is_read_type, mach_kind, mach_tag}
-use Rattle.oc_neutral.specs.Mach.Relocs.{MachRow, length_of}
+use Rattle.oc_neutral.specs.Mach.Relocs.{MachRow, length_of, mach_entries, entry_among}
+use Rattle.oc_neutral.specs.Mach.Family.{mach_symbol_count}
 use Rattle.oc_neutral.specs.Meets.{AreBounded, IsSteadyAt, IsReadAs, MeetsReloc, HoldsAddend}
 use Rattle.oc_neutral.specs.Objects.{Object, reloc_at}
-use Rattle.oc_neutral.specs.RelocTables.{entry_of}
 use Rattle.oc_neutral.specs.Rows.{taken_of}
 use Rattle.oc_neutral.specs.Mach.SectionSymbols.{needed_sections}
 use Rattle.oc_neutral.specs.Shifts.{written_shift}
 use Rattle.oc_neutral.specs.TargetRelocations.{fixed_end}
-use Rattle.oc_neutral.specs.TargetSymbols.{mach_symbol_count}
 
 -- a section
 pub record MachSection (s : Section) : Type 0 where
@@ -59,7 +61,7 @@ pub record MachReloc (format : Format) (n : Object) (s at : ℕ) (r : Reloc) : T
   -- the entry is found by its type, r_pcrel and r_length
   pub entry : MachRow
   pub row : entry.row ≡ meets.row
-  pub found : entry_of format meets.row.number entry.pcrel (length_of meets.row.width) ≡ Some entry
+  pub found : entry_among (mach_entries (word_for format)) meets.row.number entry.pcrel (length_of meets.row.width) ≡ Some entry
   pub number : meets.row.number < 2 ^ 4
   -- in mac32 what is taken is as the row says, and every addend is held
   pub taken : format ≡ Mac32 → meets.row.taken ≡ taken_of r.form.less
@@ -74,12 +76,12 @@ pub record MeetsMach (format : Format) (n : Object) : Type 0 where
   pub bounds : AreBounded n
   pub few : length n.sections ≤ 255
   -- in mac64 with the symbols of the sections that are named
-  pub table_32 : format ≡ Mac32 → mach_symbol_count Mac32 [] n < 2 ^ 24
-  pub table_64 : format ≡ Mac64 → mach_symbol_count Mac64 (needed_sections n) n < 2 ^ 24
+  pub table_32 : format ≡ Mac32 → mach_symbol_count W32 n < 2 ^ 24
+  pub table_64 : format ≡ Mac64 → mach_symbol_count W64 n < 2 ^ 24
   pub sections : (k : ℕ) (s : Section) → slice_get n.sections k ≡ Some s → MachSection s
   pub symbols : (k : ℕ) (s : Symbol) → slice_get n.symbols k ≡ Some s → MachSymbol n s
   pub relocs : (s at : ℕ) (r : Reloc) → reloc_at n s at ≡ Some r → MachReloc format n s at r
 
 -- every object that is ready for Mach-O meets this
 abbrev pub FittedMeetsMach : Type 0
-FittedMeetsMach = (format : Format) (n : Object) → family_of format ≡ IsMach → IsFitted format n → MeetsMach format n
+FittedMeetsMach = (format : Format) (n : Object) → container_of format ≡ IsMach → IsFitted format n → MeetsMach format n

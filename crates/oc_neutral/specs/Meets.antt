@@ -13,6 +13,7 @@ use Rattle.oc_linking.specs.Parts.{is_local}
 use Rattle.oc_algebra.specs.declared.form.Form.{Form}
 use Rattle.oc_algebra.specs.Fields.{to_field_of}
 use Rattle.oc_chains.specs.Lists.{list_of, held_in}
+use Rattle.oc_neutral.specs.KindRules.{has_nul}
 use Rattle.oc_neutral.specs.declared.group.Group.{Group}
 use Rattle.oc_neutral.specs.declared.section.Section.{Section}
 use Rattle.oc_neutral.specs.declared.symbol.Symbol.{Symbol}
@@ -22,7 +23,6 @@ use Rattle.oc_neutral.specs.declared.reloc.Reloc.{Reloc}
 use Rattle.oc_neutral.specs.Objects.{Object}
 use Rattle.oc_neutral.specs.Building.{is_zero, size_sum, stored_sum}
 use Rattle.oc_neutral.specs.Faces.{key_of}
-use Rattle.oc_neutral.specs.GivenTags.{has_nul}
 use Rattle.oc_neutral.specs.KeySymbols.{global_place, group_at}
 use Rattle.oc_neutral.specs.Normal.{Place}
 use Rattle.oc_neutral.specs.Rows.{Row, Taken, TakesSection, taken_of, same_hint}

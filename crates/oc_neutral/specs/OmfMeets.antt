@@ -7,10 +7,11 @@ use Rattle.oc_linking.specs.declared.terms.Fallback.{Fallback}
 use Rattle.oc_linking.specs.declared.terms.Value.TheVariants.{Absolute}
 use Rattle.oc_linking.specs.declared.terms.Binding.TheVariants.{Global, Common, Weak}
 use Rattle.oc_linking.specs.Parts.{is_local}
+use Rattle.oc_neutral.specs.Bindings.{is_external}
+use Rattle.oc_neutral.specs.Omf.Family.{omf_aligns}
 use Rattle.oc_neutral.specs.declared.section.Section.{Section}
 use Rattle.oc_neutral.specs.declared.symbol.Symbol.{Symbol}
 use Rattle.oc_neutral.specs.declared.reloc.Reloc.{Reloc}
-use Rattle.oc_neutral.specs.Alignments.{omf_aligns}
 use Rattle.oc_neutral.specs.CoffMeets.{IsNaturalCommon}
 use Rattle.oc_neutral.specs.Fitted.{IsFitted}
 use Rattle.oc_neutral.specs.Meets.{AreBounded, MeetsReloc, HoldsAddend}
@@ -18,7 +19,6 @@ use Rattle.oc_neutral.specs.Objects.{Object, reloc_at}
 use Rattle.oc_neutral.specs.Omf.Kinds.{omf_kind, omf_class, omf_tag}
 use Rattle.oc_neutral.specs.Omf.Relocs.{Framed, fixup_row}
 use Rattle.oc_neutral.specs.Rows.{taken_of}
-use Rattle.oc_neutral.specs.TargetSymbols.{is_external}
 
 -- a section
 pub record OmfSection (s : Section) : Type 0 where

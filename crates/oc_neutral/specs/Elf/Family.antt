@@ -36,20 +36,21 @@ elf_home Debug = None
 elf_home Note = None
 
 -- section headers: the null one, those of the groups, of the sections, of a relocation table for each section that has relocations,
--- and of the symbol table and the two string tables; their numbers stand below SHN_LORESERVE
-abbrev pub elf_headers : (ℕ → Bool) → Object → Count
-elf_headers relocated n = record {
-  counted = 4 + length n.groups + length n.sections + count_by relocated (range_with_len 0 (length n.sections));
-  most = 65279;
-}
+-- and of the symbol table and the two string tables
+abbrev pub header_count : (ℕ → Bool) → Object → ℕ
+header_count relocated n = 4 + length n.groups + length n.sections + count_by relocated (range_with_len 0 (length n.sections))
 
 -- how many groups have a key that is no nonlocal name: each has a Local of that name, its signature
 abbrev pub signature_count : Object → ℕ
 signature_count n = count_by (λ (g : Group). not (has_name n.symbols g.key)) n.groups
 
--- symbols: the null one, one for each section, such signatures, and all others; an entry of ELF32 names a symbol by 24 bits
+-- symbols: the null one, one for each section, such signatures, and all others
+abbrev pub elf_symbol_count : Object → ℕ
+elf_symbol_count n = 1 + length n.sections + signature_count n + length n.symbols
+
+-- an entry of ELF32 names a symbol by 24 bits
 abbrev pub elf_symbols : Word → Object → Option Count
-elf_symbols W32 n = Some (record { counted = 1 + length n.sections + signature_count n + length n.symbols; most = 0xFFFFFF })
+elf_symbols W32 n = Some (record { counted = elf_symbol_count n; most = 0xFFFFFF })
 elf_symbols W64 n = None
 
 -- the types of relocations
@@ -74,7 +75,7 @@ elf_family w = record {
   renamed = None;
   gives = λ kind name tag. not (has_nul name) && elf_gives kind name tag;
   is_blank = is_nobits_tag;
-  sections = elf_headers;
+  sections = λ relocated n. record { counted = header_count relocated n; most = 65279 };
   keeps_debug = true;
   takes_exceptions = same_container IsCoff;
   lacks_kind = λ kind. false;

@@ -59,19 +59,16 @@ abbrev pub mach_needed : Word → Object → List ℕ
 mach_needed W32 n = []
 mach_needed W64 n = needed_sections n
 
--- symbols: those of sections that are needed, and all others that are written; an entry names one by 24 bits
-abbrev pub mach_symbols : Word → Object → Option Count
-mach_symbols w n = Some (record {
-  counted = length (mach_needed w n) + count_by (λ (s : Symbol). is_written_by (mach_writes w) s.name s.binding) n.symbols;
-  most = 0xFFFFFF;
-})
+-- symbols: those of sections that are needed, and all others that are written
+abbrev pub mach_symbol_count : Word → Object → ℕ
+mach_symbol_count w n = length (mach_needed w n) + count_by (λ (s : Symbol). is_written_by (mach_writes w) s.name s.binding) n.symbols
 
 -- in 64 bits
 abbrev pub is_long : Word → Bool
 is_long W32 = false
 is_long W64 = true
 
--- Mach-O in a word
+-- Mach-O in a word; an entry names a symbol by 24 bits
 abbrev pub mach_family : Word → Family
 mach_family w = record {
   container = IsMach;
@@ -89,7 +86,7 @@ mach_family w = record {
   lacks_kind = λ kind. false;
   lacks_name = λ names n name s. is_cut n name s;
   lacks_member = λ n g. true;
-  symbols = mach_symbols w;
+  symbols = λ n. Some (record { counted = mach_symbol_count w n; most = 0xFFFFFF });
   writes_local = mach_writes w;
   lacks_symbol = λ s. has_nul s.name;
   lacks_value = λ v. false;
