@@ -36,6 +36,18 @@ fn linked_call(
     link(alloc, word, &fields, &sections)
 }
 
+/// What linking the call gives where its bytes are these, or where its field overflows.
+fn outcome(alloc: Global, bytes: Option<[u8; 6]>) -> Result<Outcome, NoMemory> {
+    let Some(bytes) = bytes else {
+        return Ok(Outcome::Overflow {
+            section: 0,
+            offset: 1,
+        });
+    };
+    let image = Vec::from_array(alloc, bytes)?;
+    Ok(Outcome::Image(vec![in alloc; image]?))
+}
+
 #[test]
 fn one_call_at_placements(rt: HostRuntime) -> Result<(), Fail> {
     let alloc = rt.alloc();
@@ -44,29 +56,30 @@ fn one_call_at_placements(rt: HostRuntime) -> Result<(), Fail> {
     let far = (Word::W64, Check::Signed);
     let cases = [
         // 0x2000 - 0x1005 = 0x0FFB
-        (near, 0x1000, 0x2000, Some([0xFB, 0x0F, 0x00, 0x00])),
+        (near, 0x1000, 0x2000, Some([0xE8, 0xFB, 0x0F, 0, 0, 0xC3])),
         // 0x1000 - 0x2005 = -0x1005, which is 0xFFFF_EFFB modulo 2^32
-        (near, 0x2000, 0x1000, Some([0xFB, 0xEF, 0xFF, 0xFF])),
+        (
+            near,
+            0x2000,
+            0x1000,
+            Some([0xE8, 0xFB, 0xEF, 0xFF, 0xFF, 0xC3]),
+        ),
         // 0x10 - 0xFFFF_FFF5 = 0x1B modulo 2^32: the call runs past the end of the addresses
-        (near, 0xFFFF_FFF0, 0x10, Some([0x1B, 0x00, 0x00, 0x00])),
+        (near, 0xFFFF_FFF0, 0x10, Some([0xE8, 0x1B, 0, 0, 0, 0xC3])),
         // 0x8000_1004 - 0x1005 = 2^31 - 1, and one more is 2^31
-        (far, 0x1000, 0x8000_1004, Some([0xFF, 0xFF, 0xFF, 0x7F])),
+        (
+            far,
+            0x1000,
+            0x8000_1004,
+            Some([0xE8, 0xFF, 0xFF, 0xFF, 0x7F, 0xC3]),
+        ),
         (far, 0x1000, 0x8000_1005, None),
         // 0x1005 - 0x8000_1005 = -2^31, and one less is -2^31 - 1
-        (far, 0x8000_1000, 0x1005, Some([0x00, 0x00, 0x00, 0x80])),
+        (far, 0x8000_1000, 0x1005, Some([0xE8, 0, 0, 0, 0x80, 0xC3])),
         (far, 0x8000_1000, 0x1004, None),
     ];
-    for (format, text, foo, field) in cases {
-        let want = match field {
-            None => Outcome::Overflow {
-                section: 0,
-                offset: 1,
-            },
-            Some([a, b, c, d]) => {
-                let bytes = Vec::from_array(alloc, [0xE8, a, b, c, d, 0xC3])?;
-                Outcome::Image(vec![in alloc; bytes]?)
-            }
-        };
+    for (format, text, foo, bytes) in cases {
+        let want = outcome(alloc, bytes)?;
         assert_eq!(rt;
             linked_call(alloc, format, text, foo)?,
             want,
