@@ -1,14 +1,16 @@
 -- What a reader's loop cites: nothing is added yet, one entry more, and what stands against a step.
-use Rattle.std.proofs.Common.{◌≡◌, ◌≢◌, ℕ, ◌+◌, ◌<◌, ◌≤◌, ◌⊎◌, inl, inr, Bool, true, false, ◌&&◌, ◌||◌, cond, List, [], ◌∷◌, ◌++◌, length, map, Option, Some, None, Result, Ok, Err, refl, sym, ◌∙◌, ap, subst, arith}
+use Rattle.std.proofs.Common.{◌≡◌, ◌≢◌, ℕ, ◌+◌, ◌<◌, ◌≤◌, ◌⊎◌, inl, inr, Bool, true, false, ◌&&◌, ◌||◌, cond, eqb, List, [], ◌∷◌, ◌++◌, length, map, Option, Some, None, Result, Ok, Err, refl, sym, ◌∙◌, ap, subst, arith}
 use Rattle.std.specs.Prelude.{bytes_eq, nat_eq, nat_lt, not, slice_get, zero, suc}
 use Rattle.std.specs.List.{list_any, sum_by}
-use Rattle.std.proofs.lemmas.Bool.{true≢false}
+use Rattle.std.proofs.lemmas.Bool.{eqb-true, true≢false}
 use Rattle.std.proofs.lemmas.Bool.Decides.{nat_tests}
-use Rattle.std.proofs.lemmas.Option.{none-some, slice_get_within}
+use Rattle.std.proofs.lemmas.Option.{none-some, same_Some, slice_get_within}
 use Rattle.std.proofs.lemmas.Slice.Eq.{bytes_eq-Decides}
 use Rattle.oc_base.specs.Formats.{word_for}
 use Rattle.oc_linking.specs.declared.terms.Binding.{Binding}
 use Rattle.oc_linking.specs.declared.terms.Binding.TheVariants.{Local, Global, Undefined, Common, Weak}
+use Rattle.oc_linking.specs.declared.terms.Keep.{Keep}
+use Rattle.oc_linking.specs.Rules.{Field}
 use Rattle.oc_linking.specs.Parts as parts
 use Rattle.oc_linking.specs.Parts.{is_local, NamesDiffer}
 use Rattle.oc_chains.specs.Lists.{list_of}
@@ -19,10 +21,12 @@ use Rattle.oc_neutral.specs.declared.fault.BuildFault.{BuildFault}
 use Rattle.oc_neutral.specs.declared.fault.BuildFault.TheVariants as fault
 use Rattle.oc_neutral.specs.Normal.{normal_of}
 use Rattle.oc_neutral.specs.Building.{Draft, has_name, limit_by, limit_passed, reloc_added, size_sum, stored_size, stored_sum}
-use Rattle.oc_neutral.specs.Built.{Entry, Given, and_one, given_by, HasAdded, IsStep, Makes}
+use Rattle.oc_neutral.specs.Built.{AreOfFile, Entry, Given, and_one, given_by, HasAdded, IsField, IsFree, IsGiven, IsStep, Makes}
 use Rattle.oc_neutral.specs.Computed.{computed_symbol, placed_binding}
+use Rattle.oc_neutral.specs.Dialects.{Dialect, kept_fields}
 use Rattle.oc_neutral.specs.Invariants.{CanAdd, IsDraft}
 use Rattle.oc_neutral.specs.Keeping.{is_again}
+use Rattle.oc_neutral.specs.Objects.{Object}
 use Rattle.oc_neutral.proofs.Addable.{can-added}
 use Rattle.oc_neutral.proofs.Added.{added}
 use Rattle.oc_neutral.proofs.Holding.{holds_by}
@@ -120,3 +124,26 @@ names_are_new all symbols later y differ = name_is_new all symbols y (λ j x her
     slice_get_at : {X : Type 0} (xs ys : List X) (y : X) → slice_get (xs ++ y ∷ ys) (length xs) ≡ Some y
     slice_get_at [] ys y = refl
     slice_get_at (z ∷ xs) ys y = slice_get_at xs ys y
+
+-- a field more is of the file
+pub of_file_more : (f : Dialect) (b : List ℕ) (keep : Keep) (n : Object) (given : Given) (s at : ℕ) (r : Reloc) (x : Field) → AreOfFile f b keep n given
+    → kept_fields f b keep s at ≡ Some x → IsField f b keep n s at r x → AreOfFile f b keep n (and_one given s at r)
+of_file_more f b keep n given s at r x part here is t y q = by (eqb t s) (eqb at y) refl refl
+  where
+    by : (a c : Bool) → eqb t s ≡ a → eqb at y ≡ c → cond (a && c) (Some r) (given t y) ≡ Some q → (z : Field) × (kept_fields f b keep t y ≡ Some z) × IsField f b keep n t y q z
+    by true true g h there =
+        subst (λ (j : ℕ). (z : Field) × (kept_fields f b keep j y ≡ Some z) × IsField f b keep n j y q z) (sym (eqb-true t s g))
+        (subst (λ (j : ℕ). (z : Field) × (kept_fields f b keep s j ≡ Some z) × IsField f b keep n s j q z) (eqb-true at y h)
+        (subst (λ (z : Reloc). (w : Field) × (kept_fields f b keep s at ≡ Some w) × IsField f b keep n s at z w) (same_Some r q there) (x, here, is)))
+    by true false g h there = part t y q there
+    by false c g h there = part t y q there
+
+-- what is given are the file's fields, and each field is given
+pub free_or_given : (f : Dialect) (b : List ℕ) (keep : Keep) (n : Object) (given : Given) → AreOfFile f b keep n given
+    → ((s at : ℕ) (x : Field) → kept_fields f b keep s at ≡ Some x → (r : Reloc) × (given s at ≡ Some r)) → (s at : ℕ) → IsFree f b keep given s at ⊎ IsGiven f b keep n given s at
+free_or_given f b keep n given part each s at = by (given s at) (kept_fields f b keep s at) refl refl
+  where
+    by : (o : Option Reloc) (c : Option Field) → given s at ≡ o → kept_fields f b keep s at ≡ c → IsFree f b keep given s at ⊎ IsGiven f b keep n given s at
+    by None None g h = inl (record { field = h; none = g })
+    by None (Some x) g h = let m = each s at x h in absurd (none-some m.0 (sym g ∙ m.1))
+    by (Some r) c g h = let m = part s at r g in inr (record { field = m.0; reloc = r; here = m.1; there = g; is = m.2 })
