@@ -81,13 +81,6 @@ fits_repeated live count inside at x one bound = λ places e.
     live_of true b h = refl
     live_of false b h = h
 
--- and those found in a content
-pub fits_content : (live : Bool) (count place size at : ℕ) (x : Option (Vec ℕ Global)) → places_in x ≡ kept live (in_content at place size)
-    → (IsTrue live → count * size + 0 < 2 ^ 31) → ForSome x (λ places. FitIn count size places.items)
-fits_content live count place size at x is bound = λ places e.
-    kept-bound live size (in_content at place size) places.items (λ p. (p < size) × (count * size < 2 ^ 31)) (in_content-within at place size) (sym (ap places_in e) ∙ is)
-    (λ here p l. let all : count * size + 0 < 2 ^ 31 = bound here in (l, omega arith))
-
 -- a walk over two rows
 pub Finds-followed : (live : Bool) (a b : Blocks) (at : ℕ) (x y z : Sought) → Finds live a at x → Finds live b at y → (IsTrue live → size_of a + size_of b < 2 ^ 31)
     → z.size ≡ min (x.size + y.size) (2 ^ 32) → places_in z.places ≡ found (places_in x.places) x.size (places_in y.places) → Finds live (append a b) at z
