@@ -1,5 +1,5 @@
 -- What a walk over blocks finds.
-use Rattle.std.proofs.Common.{◌≡◌, ℕ, zero, suc, ◌+◌, ◌*◌, ◌^◌, ◌<◌, ◌≤◌, min, Bool, true, false, ◌&&◌, nat_lt, IsTrue, List, [], ◌∷◌, length, get_or, take, All, IfOk, Vec, Global, Result, Ok, Err, refl, sym, ◌∙◌, ap, subst, arith, Option, Some, None}
+use Rattle.std.proofs.Common.{◌≡◌, ℕ, zero, suc, ◌+◌, ◌*◌, ◌^◌, ◌<◌, ◌≤◌, min, Bool, true, false, ◌&&◌, nat_lt, IsTrue, List, [], ◌∷◌, length, get_or, take, All, IfOk, Result, Ok, Err, refl, sym, ◌∙◌, ap, subst, arith, Option, Some, None}
 use Rattle.std.specs.Option.{option_map, ForSome}
 use Rattle.std.proofs.lemmas.Bool.Decides.{nat_tests}
 use Rattle.std.proofs.lemmas.List.Elements.{All-nil, All-weaker}
@@ -9,7 +9,7 @@ use Rattle.oc_omf_records.specs.Blocks.{Blocks, none, content, nested, append, s
 use Rattle.oc_omf_records.specs.Rows.{row_of, rows_of}
 use Rattle.oc_omf_records.specs.Seeking.{Finds, places_in, kept, FitIn}
 use Rattle.oc_omf_records.proofs.RowLemmas.{size_of-append, rows_of-take_more, capped_product}
-use Rattle.oc_omf_records.proofs.CopyLemmas.{in_each-nothing, found-last, copies_of-append, copies_of-within, in_content-within, IsWithin, kept-found, kept-in_each, kept-repeated}
+use Rattle.oc_omf_records.proofs.CopyLemmas.{in_each-nothing, found-last, copies_of-append, copies_of-within, IsWithin, kept-found, kept-in_each, kept-repeated}
 
 -- no places
 pub in_each-empty : (n size : ℕ) (places : List ℕ) → length places ≡ 0 → in_each n size places ≡ []
