@@ -1,8 +1,7 @@
 -- Laws of texts that grow.
-use Rattle.std.proofs.Common.{◌≡◌, refl, sym, ap, ◌∙◌, ℕ, ◌+◌, ◌-◌, ◌≤◌, List, [], ◌++◌, length, take, drop, append_assoc, append-nil, length-append, length-take, take-take, arith, Option, None, Some}
-use Rattle.std.proofs.lemmas.List.{take-append-le}
-use Rattle.std.proofs.Math.Seq.{take-add, take-append-add}
-use Rattle.oc_outside.specs.Texts.{grown, TakesPrefix}
+use Rattle.std.proofs.Common.{◌≡◌, refl, sym, ap, ◌∙◌, ℕ, ◌+◌, ◌-◌, ◌≤◌, List, [], ◌++◌, length, take, drop, append_assoc, append-nil, length-take, take-take, arith, Option, None, Some}
+use Rattle.std.proofs.Math.Seq.{take-add}
+use Rattle.oc_outside.specs.Texts.{grown}
 
 pub grown_nothing : (text : Option (List ℕ)) → grown [] text ≡ text
 unfolding grown
