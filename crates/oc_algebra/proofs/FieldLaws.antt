@@ -15,11 +15,6 @@ use Rattle.oc_algebra.specs.Fields.{extended, field_for, from_field_of, to_field
 use Rattle.oc_algebra.specs.Promises.{Holds, Written, ReadAgain}
 use Rattle.oc_algebra.proofs.Laws.{residue_add, residue_reduced, reduced_same, reduced_reduced}
 
--- the bytes above the width do not count
-pub extended-low : (k : Width) (f : ℕ) → extended k (f % span k) ≡ extended k f
-unfolding extended
-extended-low k f = ap (centred (half k) (span k)) (mod-mod f (span k))
-
 -- the residue of the addend that a field holds
 pub residue-from_field : (w : Word) (k : Width) (s : ℤ) (f : ℕ)
     → residue_of w (from_field_of w k s f) ≡ (residue_of w (extended k f) + residue_of w s) % modulus w

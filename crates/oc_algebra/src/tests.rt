@@ -7,7 +7,7 @@ use crate::residues::reduce;
 use oc_base::Word::{self, W32, W64};
 use oc_linking::Check::{self, Either, Signed, Unsigned, Wrap};
 use oc_linking::Width::{self, Eight, Four, One, Two};
-use std::test::Fail;
+use std::process::Abort;
 
 /// Where not all values fit: one below the least, the least, the greatest, one above, and then the
 /// fields of the least and of the greatest. In words of 32 bits 2^32 - 128 counts as -128.
@@ -105,7 +105,7 @@ const UNLIMITED: [(Word, Width, Check, [u64; 3]); 17] = [
 ];
 
 /// Addends with the fields that hold them, on both sides of each border.
-const WRITTEN: [(Word, Width, i64, i64, Result<u64, AddendTooWide>); 24] = [
+const WRITTEN: [(Word, Width, i64, i64, Result<u64, AddendTooWide>); 27] = [
     (W32, One, -4, 123, Ok(0x7F)),
     (W32, One, -4, 124, Err(AddendTooWide)),
     (W32, One, -4, -132, Ok(0x80)),
@@ -116,6 +116,7 @@ const WRITTEN: [(Word, Width, i64, i64, Result<u64, AddendTooWide>); 24] = [
     (W32, Two, 4, 0xFFFF_8003, Err(AddendTooWide)),
     (W32, Four, -4, -0x8000_0000, Ok(0x8000_0004)),
     (W32, Four, 4, -0x8000_0000, Ok(0x7FFF_FFFC)),
+    (W32, Four, -4, 0x7FFF_FFFF, Ok(0x8000_0003)),
     (W32, Eight, -1, 0x7FFF_FFFF, Ok(0xFFFF_FFFF_8000_0000)),
     (W64, One, 4, 131, Ok(0x7F)),
     (W64, One, 4, 132, Err(AddendTooWide)),
@@ -125,7 +126,9 @@ const WRITTEN: [(Word, Width, i64, i64, Result<u64, AddendTooWide>); 24] = [
     (W64, Two, 0, 32768, Err(AddendTooWide)),
     (W64, Two, 0, -32768, Ok(0x8000)),
     (W64, Two, 0, -32769, Err(AddendTooWide)),
+    (W64, Four, -4, 0x7FFF_FFFB, Ok(0x7FFF_FFFF)),
     (W64, Four, -4, 0x7FFF_FFFC, Err(AddendTooWide)),
+    (W64, Four, -4, 0x7FFF_FFFD, Err(AddendTooWide)),
     (W64, Four, -4, -0x8000_0004, Ok(0x8000_0000)),
     (W64, Four, -4, -0x8000_0005, Err(AddendTooWide)),
     (W64, Eight, -4, i64::MAX, Ok(0x8000_0000_0000_0003)),
@@ -133,10 +136,11 @@ const WRITTEN: [(Word, Width, i64, i64, Result<u64, AddendTooWide>); 24] = [
 ];
 
 /// Fields with the addends that they hold. Bytes above the width do not count.
-const READ: [(Word, Width, i64, u64, i64); 12] = [
+const READ: [(Word, Width, i64, u64, i64); 13] = [
     (W32, One, 0, 0x17F, 127),
     (W32, One, -4, 0x80, -132),
     (W32, Two, 4, 0x7FFF, 0x8003),
+    (W32, Four, -4, 0, -4),
     (W32, Four, -4, 0x8000_0000, 0x7FFF_FFFC),
     (W32, Four, 4, 0x7FFF_FFFF, -0x7FFF_FFFD),
     (W32, Eight, 0, 0x1_8000_0000, -0x8000_0000),
@@ -164,84 +168,62 @@ const REDUCED: [(Word, i128, i64); 12] = [
     (W64, i128::MIN, 0),
 ];
 
-#[test]
-fn fields_and_addends(rt: HostRuntime) -> Result<(), Fail> {
-    assert_eq!(rt; from_field(W32, Four, -4, 0), -4);
-    assert_eq!(rt; to_field(W64, Four, -4, 0x7FFF_FFFB), Ok(0x7FFF_FFFF));
-    assert_eq!(rt; to_field(W64, Four, -4, 0x7FFF_FFFD), Err(AddendTooWide));
-    assert_eq!(rt; to_field(W32, Four, -4, 0x7FFF_FFFF), Ok(0x8000_0003));
-    assert_eq!(rt;
-        fold_difference(W64, Four, Unsigned, -1),
-        Err(AddendTooWide)
-    );
-    Ok(())
+// expects these answers of the values
+fn check_folds(
+    rt: &impl Abort,
+    (word, width, check): (Word, Width, Check),
+    wants: &[(i64, Result<u64, AddendTooWide>)],
+) {
+    for (value, want) in wants {
+        let got = fold_difference(word, width, check, *value);
+        assert_eq!(rt; got, *want, "{word:?} {width:?} {check:?} {value}");
+    }
 }
 
 #[test]
-fn borders_where_some_fit(rt: HostRuntime) -> Result<(), Fail> {
+fn borders_where_some_fit(rt: HostRuntime) {
     for (word, width, check, [below, least, greatest, above], [low, high]) in LIMITED {
-        let folded = |value: i64| fold_difference(word, width, check, value);
-        assert_eq!(rt;
-            folded(below),
-            Err(AddendTooWide),
-            "{word:?} {width:?} {check:?} {below}"
-        );
-        assert_eq!(rt;
-            folded(least),
-            Ok(low),
-            "{word:?} {width:?} {check:?} {least}"
-        );
-        assert_eq!(rt;
-            folded(greatest),
-            Ok(high),
-            "{word:?} {width:?} {check:?} {greatest}"
-        );
-        assert_eq!(rt;
-            folded(above),
-            Err(AddendTooWide),
-            "{word:?} {width:?} {check:?} {above}"
-        );
+        let wants = [
+            (below, Err(AddendTooWide)),
+            (least, Ok(low)),
+            (greatest, Ok(high)),
+            (above, Err(AddendTooWide)),
+        ];
+        check_folds(&rt, (word, width, check), &wants);
     }
-    Ok(())
 }
 
 #[test]
-fn borders_where_all_fit(rt: HostRuntime) -> Result<(), Fail> {
+fn borders_where_all_fit(rt: HostRuntime) {
     for (word, width, check, [least, last, greatest]) in UNLIMITED {
-        let folded = |value: i64| fold_difference(word, width, check, value);
-        assert_eq!(rt; folded(i64::MIN), Ok(least), "{word:?} {width:?} {check:?}");
-        assert_eq!(rt; folded(-1), Ok(last), "{word:?} {width:?} {check:?}");
-        assert_eq!(rt;
-            folded(i64::MAX),
-            Ok(greatest),
-            "{word:?} {width:?} {check:?}"
-        );
+        let wants = [
+            (i64::MIN, Ok(least)),
+            (-1, Ok(last)),
+            (i64::MAX, Ok(greatest)),
+        ];
+        check_folds(&rt, (word, width, check), &wants);
     }
-    Ok(())
 }
 
 #[test]
-fn fields_written(rt: HostRuntime) -> Result<(), Fail> {
+fn fields_written(rt: HostRuntime) {
     for (word, width, shift, addend, want) in WRITTEN {
         let got = to_field(word, width, shift, addend);
         assert_eq!(rt; got, want, "{word:?} {width:?} {shift} {addend}");
     }
-    Ok(())
 }
 
 #[test]
-fn fields_read(rt: HostRuntime) -> Result<(), Fail> {
+fn fields_read(rt: HostRuntime) {
     for (word, width, shift, field, want) in READ {
         let got = from_field(word, width, shift, field);
         assert_eq!(rt; got, want, "{word:?} {width:?} {shift} {field}");
     }
-    Ok(())
 }
 
 #[test]
-fn representatives(rt: HostRuntime) -> Result<(), Fail> {
+fn representatives(rt: HostRuntime) {
     for (word, n, want) in REDUCED {
         assert_eq!(rt; reduce(word, n), want, "{word:?} {n}");
     }
-    Ok(())
 }

@@ -11,79 +11,110 @@ const HEADER: [u8; 20] = [
 /// Two names, `main` and `foo`, behind a NUL, and one byte that no NUL follows.
 const NAMES: [u8; 11] = [0, 0x6D, 0x61, 0x69, 0x6E, 0, 0x66, 0x6F, 0x6F, 0, 0x78];
 
+/// The numbers of one, two, four and eight bytes at an offset of the header, on both sides of the
+/// last at which each is there.
+const NUMBERS: [(u64, Option<u8>, Option<u16>, Option<u32>, Option<u64>); 9] = [
+    (
+        0,
+        Some(0x7F),
+        Some(0x457F),
+        Some(0x464C_457F),
+        Some(0x0001_0101_464C_457F),
+    ),
+    (
+        1,
+        Some(0x45),
+        Some(0x4C45),
+        Some(0x0146_4C45),
+        Some(0x0000_0101_0146_4C45),
+    ),
+    (12, Some(0), Some(0), Some(0), Some(0x0003_0001_0000_0000)),
+    (13, Some(0), Some(0), Some(0x0100_0000), None),
+    (16, Some(1), Some(1), Some(0x0003_0001), None),
+    (17, Some(0), Some(0x0300), None, None),
+    (18, Some(3), Some(3), None, None),
+    (20, None, None, None, None),
+    (u64::MAX, None, None, None, None),
+];
+
 #[test]
 fn numbers_up_to_the_end(rt: HostRuntime) {
     let view = View::new(&HEADER);
-    assert_eq!(rt; view.u8_at(1), Ok(0x45));
-    assert_eq!(rt; view.u16_at(16), Ok(1));
-    assert_eq!(rt; view.u16_at(18), Ok(3));
-    assert_eq!(rt; view.u32_at(0), Ok(0x464C_457F));
-    assert_eq!(rt; view.u32_at(16), Ok(0x0003_0001));
-    assert_eq!(rt; view.u64_at(0), Ok(0x0001_0101_464C_457F));
-    assert_eq!(rt; view.u8_at(20), Err(OutOfView));
-    assert_eq!(rt; view.u16_at(19), Err(OutOfView));
-    assert_eq!(rt; view.u32_at(17), Err(OutOfView));
-    assert_eq!(rt; view.u64_at(13), Err(OutOfView));
-    assert_eq!(rt; view.u64_at(u64::MAX), Err(OutOfView));
+    for (at, one, two, four, eight) in NUMBERS {
+        let got = (
+            view.u8_at(at).ok(),
+            view.u16_at(at).ok(),
+            view.u32_at(at).ok(),
+            view.u64_at(at).ok(),
+        );
+        assert_eq!(rt; got, (one, two, four, eight), "at {at}");
+    }
 }
 
 #[test]
 fn texts_end_at_their_first_nul(rt: HostRuntime) {
     let view = View::new(&NAMES);
-    assert_eq!(rt; view.text_at(0), Ok(b"".as_slice()));
-    assert_eq!(rt; view.text_at(1), Ok(b"main".as_slice()));
-    assert_eq!(rt; view.text_at(7), Ok(b"oo".as_slice()));
-    assert_eq!(rt; view.text_at(10), Err(OutOfView));
-    assert_eq!(rt; view.text_at(11), Err(OutOfView));
-    assert_eq!(rt; view.text_at(12), Err(OutOfView));
-    assert_eq!(rt; view.text_at(u64::MAX), Err(OutOfView));
+    let cases: [(u64, Option<&[u8]>); 7] = [
+        (0, Some(b"")),
+        (1, Some(b"main")),
+        (7, Some(b"oo")),
+        (10, None),
+        (11, None),
+        (12, None),
+        (u64::MAX, None),
+    ];
+    for (at, want) in &cases {
+        assert_eq!(rt; view.text_at(*at).ok(), *want, "at {at}");
+    }
 }
 
 #[test]
-fn parts_of_a_view(rt: HostRuntime) -> Result<(), Fail> {
+fn parts_of_a_view(rt: HostRuntime) {
     let view = View::new(&NAMES);
-    assert_eq!(rt; view.sub(6, 3)?.bytes(), b"foo".as_slice());
-    assert_eq!(rt; view.sub(11, 0)?.len(), 0);
-    assert!(rt; view.sub(12, 0).is_err());
-    assert!(rt; view.sub(6, 6).is_err());
-    assert!(rt; view.sub(1, u64::MAX).is_err());
-    assert!(rt; View::new(&[]).is_empty());
-    assert!(rt; !view.is_empty());
-    Ok(())
+    // The bytes of each part, and whether it is empty.
+    let cases: [(u64, u64, Option<(&[u8], bool)>); 6] = [
+        (6, 3, Some((b"foo", false))),
+        (10, 1, Some((b"x", false))),
+        (11, 0, Some((b"", true))),
+        (12, 0, None),
+        (6, 6, None),
+        (1, u64::MAX, None),
+    ];
+    for (at, len, want) in &cases {
+        let got = match view.sub(*at, *len) {
+            Ok(part) => Some((part.bytes(), part.is_empty())),
+            Err(OutOfView) => None,
+        };
+        assert_eq!(rt; got, *want, "{len} at {at}");
+    }
 }
 
 #[test]
 fn messages(rt: HostRuntime) -> Result<(), Fail> {
-    let wide = Spot {
-        phase: Phase::TargetRelocation,
-        index: 1,
-        place: 1,
-    };
-    let cut = Spot {
-        phase: Phase::Header,
-        index: 0,
-        place: 192,
-    };
-    let large = Spot {
-        phase: Phase::Header,
-        index: 0,
-        place: 67_108_865,
-    };
-    for (fault, want) in [
+    let cases = [
         (
-            wide.fault(Code::AddendTooWide),
+            (Phase::TargetRelocation, 1, 1),
+            Code::AddendTooWide,
             "objconv: refused: target relocation 1: AddendTooWide at 1\n",
         ),
         (
-            cut.fault(Code::Short),
+            (Phase::Header, 0, 192),
+            Code::Short,
             "objconv: malformed: header 0: Short at 192\n",
         ),
         (
-            large.fault(Code::LimitInput),
+            (Phase::Header, 0, 67_108_865),
+            Code::LimitInput,
             "objconv: limit: header 0: LimitInput at 67108865\n",
         ),
-    ] {
-        let text = message(rt.alloc(), &fault)?;
+    ];
+    for ((phase, index, place), code, want) in cases {
+        let spot = Spot {
+            phase,
+            index,
+            place,
+        };
+        let text = message(rt.alloc(), &spot.fault(code))?;
         assert_eq!(rt; text.as_slice(), want.as_bytes());
     }
     Ok(())
@@ -92,27 +123,19 @@ fn messages(rt: HostRuntime) -> Result<(), Fail> {
 #[test]
 fn bytes_and_texts(rt: HostRuntime) -> Result<(), Fail> {
     let mut bytes = Bytes::from_slice(rt.alloc(), b"hello")?;
-    assert_eq!(rt; bytes.as_slice().len(), 5);
     bytes.set(4, b'!');
-    assert_eq!(rt; bytes.as_slice(), b"hell!".as_slice());
     let text = Text::from_str(rt.alloc(), "a.o")?;
-    assert_eq!(rt; text.as_str(), "a.o");
     let mut out = Vec::new(rt.alloc());
     push_u16(&mut out, 0x14C)?;
     push_u32(&mut out, 0x6050_0020)?;
     push_u64(&mut out, 0x0102_0304_0506_0708)?;
     assert_eq!(rt;
-        out.as_slice(),
-        [0x4C, 1, 0x20, 0, 0x50, 0x60, 8, 7, 6, 5, 4, 3, 2, 1].as_slice()
+        (bytes.as_slice(), text.as_str(), out.as_slice()),
+        (
+            b"hell!".as_slice(),
+            "a.o",
+            [0x4C, 1, 0x20, 0, 0x50, 0x60, 8, 7, 6, 5, 4, 3, 2, 1].as_slice()
+        )
     );
     Ok(())
-}
-
-#[test]
-fn words_of_formats(rt: HostRuntime) {
-    assert_eq!(rt; word_of(Format::Omf), Word::W32);
-    assert_eq!(rt; word_of(Format::Mac64), Word::W64);
-    assert_eq!(rt; class(Code::NotBuilt), Class::Refused);
-    assert_eq!(rt; class(Code::BadPair), Class::Malformed);
-    assert_eq!(rt; class(Code::LimitNames), Class::Limit);
 }

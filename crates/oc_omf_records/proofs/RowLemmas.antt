@@ -65,12 +65,6 @@ repeated-more front piece old new (suc m) start end at_front size some_copies is
     let e : suc m + 1 ≡ suc (suc m) = omega arith in
     more ∙ ap (λ xs. old ++ xs) first ∙ ap (λ xs. xs ++ piece) is ∙ append_assoc front (repeated (suc m) piece) piece ∙ ap (λ n. front ++ repeated n piece) (sym e)
 
--- a piece that was put behind a front, repeated
-pub repeated-behind : (front piece mid new : List ℕ) (start count : ℕ) → start ≡ length front → mid ≡ front ++ piece → new ≡ take start mid ++ repeated count (drop start mid)
-    → new ≡ front ++ repeated count piece
-repeated-behind front piece mid new start count at_front is repeats =
-    repeats ∙ rw (is, at_front, take-append_seam front piece, drop-append_seam front piece) refl
-
 -- nothing stands behind the end, and repeating it changes nothing
 pub repeated-end : (xs : List ℕ) (start count : ℕ) → start ≡ length xs → xs ≡ take start xs ++ repeated count (drop start xs)
 repeated-end xs start count e = sym (rw (e, take-length xs, drop-length xs, repeated-nothing count, append-nil xs) refl)
@@ -97,10 +91,6 @@ pub size_of-append : (a b : Blocks) → size_of (append a b) ≡ size_of a + siz
 size_of-append none b = omega arith
 size_of-append (content count place bytes rest) b = omega (arith, size_of-append rest b)
 size_of-append (nested count inside rest) b = omega (arith, size_of-append rest b)
-
--- a sum that is cut at 2^32 along the way
-pub capped_sum : (n a b : ℕ) → n ≡ min a (2 ^ 32) → min (n + min b (2 ^ 32)) (2 ^ 32) ≡ min (a + b) (2 ^ 32)
-capped_sum n a b e = omega arith
 
 -- a product that is cut at 2^32 along the way
 pub capped_product : (count size : ℕ) → min (count * min size (2 ^ 32)) (2 ^ 32) ≡ min (count * size + 0) (2 ^ 32)

@@ -1,5 +1,5 @@
 -- What a walk over blocks finds.
-use Rattle.std.proofs.Common.{◌≡◌, ℕ, zero, suc, ◌+◌, ◌*◌, ◌^◌, ◌<◌, ◌≤◌, min, Bool, true, false, ◌&&◌, nat_lt, IsTrue, List, [], ◌∷◌, length, get_or, take, All, IfOk, Vec, Global, Result, Ok, Err, refl, sym, ◌∙◌, ap, subst, arith, Option, Some, None}
+use Rattle.std.proofs.Common.{◌≡◌, ℕ, zero, suc, ◌+◌, ◌*◌, ◌^◌, ◌<◌, ◌≤◌, min, Bool, true, false, ◌&&◌, nat_lt, IsTrue, List, [], ◌∷◌, length, get_or, take, All, IfOk, Result, Ok, Err, refl, sym, ◌∙◌, ap, subst, arith, Option, Some, None}
 use Rattle.std.specs.Option.{option_map, ForSome}
 use Rattle.std.proofs.lemmas.Bool.Decides.{nat_tests}
 use Rattle.std.proofs.lemmas.List.Elements.{All-nil, All-weaker}
@@ -9,7 +9,7 @@ use Rattle.oc_omf_records.specs.Blocks.{Blocks, none, content, nested, append, s
 use Rattle.oc_omf_records.specs.Rows.{row_of, rows_of}
 use Rattle.oc_omf_records.specs.Seeking.{Finds, places_in, kept, FitIn}
 use Rattle.oc_omf_records.proofs.RowLemmas.{size_of-append, rows_of-take_more, capped_product}
-use Rattle.oc_omf_records.proofs.CopyLemmas.{in_each-nothing, found-last, copies_of-append, copies_of-within, in_content-within, IsWithin, kept-found, kept-in_each, kept-repeated}
+use Rattle.oc_omf_records.proofs.CopyLemmas.{in_each-nothing, found-last, copies_of-append, copies_of-within, IsWithin, kept-found, kept-in_each, kept-repeated}
 
 -- no places
 pub in_each-empty : (n size : ℕ) (places : List ℕ) → length places ≡ 0 → in_each n size places ≡ []
@@ -80,13 +80,6 @@ fits_repeated live count inside at x one bound = λ places e.
     live_of : (a b : Bool) → IsTrue (a && b) → IsTrue a
     live_of true b h = refl
     live_of false b h = h
-
--- and those found in a content
-pub fits_content : (live : Bool) (count place size at : ℕ) (x : Option (Vec ℕ Global)) → places_in x ≡ kept live (in_content at place size)
-    → (IsTrue live → count * size + 0 < 2 ^ 31) → ForSome x (λ places. FitIn count size places.items)
-fits_content live count place size at x is bound = λ places e.
-    kept-bound live size (in_content at place size) places.items (λ p. (p < size) × (count * size < 2 ^ 31)) (in_content-within at place size) (sym (ap places_in e) ∙ is)
-    (λ here p l. let all : count * size + 0 < 2 ^ 31 = bound here in (l, omega arith))
 
 -- a walk over two rows
 pub Finds-followed : (live : Bool) (a b : Blocks) (at : ℕ) (x y z : Sought) → Finds live a at x → Finds live b at y → (IsTrue live → size_of a + size_of b < 2 ^ 31)

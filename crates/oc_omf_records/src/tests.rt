@@ -2,6 +2,7 @@
 use crate::{BadIndex, Block, BlockFault, CopyFault, RecordFault, Records, index};
 use oc_base::View;
 use std::alloc::{AllocError, Global};
+use std::process::Abort;
 use std::test::Fail;
 
 /// A module of two entries: THEADR with the name `a`, and MODEND. Both checksums are true.
@@ -13,6 +14,11 @@ const MODULE: [u8; 11] = [
 /// The content stands at place 13.
 const THREE_OF_TWO: [u8; 17] = [3, 0, 0, 0, 1, 0, 2, 0, 0, 0, 0, 0, 4, 7, 8, 9, 10];
 
+/// The content of those blocks, six times.
+const SIX_TIMES: [u8; 24] = [
+    7, 8, 9, 10, 7, 8, 9, 10, 7, 8, 9, 10, 7, 8, 9, 10, 7, 8, 9, 10, 7, 8, 9, 10,
+];
+
 /// The block of the lying repeat count: 0xFFFFFFFF times one byte.
 const LYING_COUNT: [u8; 8] = [0xFF, 0xFF, 0xFF, 0xFF, 0, 0, 1, 0];
 
@@ -20,6 +26,12 @@ const LYING_COUNT: [u8; 8] = [0xFF, 0xFF, 0xFF, 0xFF, 0, 0, 1, 0];
 const NO_TIME: [u8; 35] = [
     0, 0, 0, 0, 1, 0, 0xFF, 0xFF, 0xFF, 0xFF, 1, 0, 0xFF, 0xFF, 0xFF, 0xFF, 1, 0, 0xFF, 0xFF, 0xFF,
     0xFF, 1, 0, 0xFF, 0xFF, 0xFF, 0xFF, 0, 0, 4, 7, 8, 9, 10,
+];
+
+/// What is there no time in those blocks.
+const MANY_TIMES: [u8; 29] = [
+    0xFF, 0xFF, 0xFF, 0xFF, 1, 0, 0xFF, 0xFF, 0xFF, 0xFF, 1, 0, 0xFF, 0xFF, 0xFF, 0xFF, 1, 0, 0xFF,
+    0xFF, 0xFF, 0xFF, 0, 0, 4, 7, 8, 9, 10,
 ];
 
 /// 0xFFFFFFFF times 0xFFFFFFFF times a content that is there no time.
@@ -33,13 +45,6 @@ const ROWS: [u8; 23] = [
     2, 0, 2, 0, 1, 0, 0, 0, 2, 0x61, 0x62, 3, 0, 0, 0, 1, 0x63, 1, 0, 0, 0, 1, 0x64,
 ];
 
-/// The module with another checksum in its first entry.
-fn with_checksum(checksum: u8) -> [u8; 11] {
-    let mut module = MODULE;
-    module[5] = checksum;
-    module
-}
-
 /// One byte in so many levels of blocks, each there once.
 fn in_levels(alloc: Global, levels: u32) -> Result<Vec<u8>, AllocError> {
     let mut bytes = Vec::new(alloc);
@@ -50,144 +55,170 @@ fn in_levels(alloc: Global, levels: u32) -> Result<Vec<u8>, AllocError> {
     Ok(bytes)
 }
 
-#[test]
-fn entries_in_order(rt: HostRuntime) -> Result<(), Fail> {
-    let mut records = Records::new(View::new(&MODULE));
-    let first = records.next()?.ok_or("an entry")?;
-    assert_eq!(rt; (first.kind, first.place), (0x80, 0));
-    assert_eq!(rt; first.contents.bytes(), [1, 0x61].as_slice());
-    let second = records.next()?.ok_or("an entry")?;
-    assert_eq!(rt; (second.kind, second.place), (0x8A, 6));
-    assert_eq!(rt; second.contents.bytes(), [0].as_slice());
-    assert!(rt; matches!(records.next(), Ok(None)));
-    Ok(())
+/// The kind, the place and the contents of an entry, or that there is none.
+type Answer = Result<Option<(u8, u64, &'static [u8])>, RecordFault>;
+
+/// The first entry of the module.
+const NAMED: Answer = Ok(Some((0x80, 0, &[1, 0x61])));
+
+/// What is refused is not passed.
+const TRUNCATED: [Answer; 2] = [Err(RecordFault::Truncated); 2];
+
+/// Modules with the answers of one call after the other.
+const ENTRIES: [(&[u8], &[Answer]); 10] = [
+    (
+        &MODULE,
+        &[NAMED, Ok(Some((0x8A, 6, &[0]))), Ok(None), Ok(None)],
+    ),
+    (&[0x80, 0x03, 0x00, 0x01, 0x61, 0x00], &[NAMED, Ok(None)]),
+    (
+        &[0x80, 0x03, 0x00, 0x01, 0x61, 0x1C],
+        &[Err(RecordFault::BadChecksum); 2],
+    ),
+    (
+        &[0x80, 0x03, 0x00, 0x01, 0x61, 0xFF],
+        &[Err(RecordFault::BadChecksum); 2],
+    ),
+    (&[0x80], &TRUNCATED),
+    (&[0x80, 0x03], &TRUNCATED),
+    (&[0x80, 0x03, 0x00], &TRUNCATED),
+    (&[0x80, 0x03, 0x00, 0x01], &TRUNCATED),
+    (&[0x80, 0x03, 0x00, 0x01, 0x61], &TRUNCATED),
+    // The length leaves no room for a checksum.
+    (&[0x88, 0, 0, 0, 0, 0], &TRUNCATED),
+];
+
+/// Expects these answers.
+fn check_entries(rt: &impl Abort, module: &[u8], wants: &[Answer]) {
+    let mut records = Records::new(View::new(module));
+    for want in wants {
+        let got = match records.next() {
+            Ok(Some(entry)) => Ok(Some((entry.kind, entry.place, entry.contents.bytes()))),
+            Ok(None) => Ok(None),
+            Err(fault) => Err(fault),
+        };
+        assert_eq!(rt; got, *want, "{module:?}");
+    }
 }
 
 #[test]
-fn omf_checksum_byte(rt: HostRuntime) -> Result<(), Fail> {
-    for (checksum, good) in [(0x1B, true), (0x00, true), (0x1C, false), (0xFF, false)] {
-        let module = with_checksum(checksum);
-        let mut records = Records::new(View::new(&module));
-        let answer = records.next();
-        assert_eq!(rt; answer.is_ok(), good, "{checksum:02x}");
-        assert!(rt; good || matches!(answer, Err(RecordFault::BadChecksum)));
+fn entries_in_order(rt: HostRuntime) {
+    for (module, wants) in &ENTRIES {
+        check_entries(&rt, module, wants);
     }
-    Ok(())
-}
-
-#[test]
-fn entries_that_are_cut(rt: HostRuntime) -> Result<(), Fail> {
-    for len in 1..6 {
-        let mut records = Records::new(View::new(&MODULE).sub(0, len)?);
-        assert!(rt;
-            matches!(records.next(), Err(RecordFault::Truncated)),
-            "{len}"
-        );
-        assert!(rt;
-            matches!(records.next(), Err(RecordFault::Truncated)),
-            "{len} again"
-        );
-    }
-    let mut without_checksum = Records::new(View::new(&[0x88, 0, 0, 0, 0, 0]));
-    assert!(rt; matches!(without_checksum.next(), Err(RecordFault::Truncated)));
-    Ok(())
 }
 
 #[test]
 fn indexes_of_one_and_two_bytes(rt: HostRuntime) {
     let view = View::new(&[0x00, 0x7F, 0x80, 0x05, 0xFF, 0xFF, 0x81]);
-    assert_eq!(rt; index(&view, 0), Ok((0, 1)));
-    assert_eq!(rt; index(&view, 1), Ok((0x7F, 2)));
-    assert_eq!(rt; index(&view, 2), Ok((5, 4)));
-    assert_eq!(rt; index(&view, 4), Ok((0x7FFF, 6)));
-    assert_eq!(rt; index(&view, 6), Err(BadIndex));
-    assert_eq!(rt; index(&view, 7), Err(BadIndex));
-    assert_eq!(rt; index(&view, u64::MAX), Err(BadIndex));
+    let cases = [
+        (0, Ok((0, 1))),
+        (1, Ok((0x7F, 2))),
+        (2, Ok((5, 4))),
+        (4, Ok((0x7FFF, 6))),
+        (6, Err(BadIndex)),
+        (7, Err(BadIndex)),
+        (u64::MAX, Err(BadIndex)),
+    ];
+    for (at, want) in cases {
+        assert_eq!(rt; index(&view, at), want, "at {at}");
+    }
 }
+
+/// The size of what the blocks stand for.
+fn size_of(alloc: Global, bytes: &[u8], wide: bool) -> Result<u64, BlockFault> {
+    let block = Block::read(alloc, &View::new(bytes), wide)?;
+    Ok(block.size())
+}
+
+/// Blocks, the width of their counts, and the size.
+const SIZES: [(&[u8], bool, u64); 6] = [
+    (&THREE_OF_TWO, true, 24),
+    (&LYING_COUNT, true, 0xFFFF_FFFF),
+    (&NO_TIME, true, 0),
+    (&OVER_NO_TIME, true, 0),
+    (&MANY_TIMES, true, 0x1_0000_0000),
+    (&ROWS, false, 11),
+];
+
+#[test]
+fn sizes_up_to_the_largest(rt: HostRuntime) {
+    for (bytes, wide, want) in &SIZES {
+        assert_eq!(rt; size_of(rt.alloc(), bytes, *wide), Ok(*want), "{bytes:?}");
+    }
+}
+
+/// So many levels, cut behind so many bytes: the counts of the level too many are not read.
+#[test]
+fn levels_up_to_32(rt: HostRuntime) -> Result<(), Fail> {
+    for (levels, len, want) in [
+        (32, 130, Ok(1)),
+        (33, 134, Err(BlockFault::TooDeep)),
+        (33, 128, Err(BlockFault::TooDeep)),
+        (33, 127, Err(BlockFault::BadBlock)),
+    ] {
+        let bytes = in_levels(rt.alloc(), levels)?;
+        let front = View::new(&bytes).sub(0, len)?;
+        assert_eq!(rt; size_of(rt.alloc(), front.bytes(), false), want, "{len}");
+    }
+    Ok(())
+}
+
+#[test]
+fn blocks_that_are_cut(rt: HostRuntime) {
+    for len in 1..23 {
+        let want = if len == 17 {
+            Ok(10)
+        } else {
+            Err(BlockFault::BadBlock)
+        };
+        assert_eq!(rt; size_of(rt.alloc(), &ROWS[..len], false), want, "{len}");
+    }
+}
+
+/// Blocks, the width of their counts, the bytes that they stand for, and a place with what becomes
+/// of four bytes there.
+const COPIES: [(&[u8], bool, &[u8], u32, Result<&[u32], CopyFault>); 6] = [
+    (
+        &THREE_OF_TWO,
+        true,
+        &SIX_TIMES,
+        13,
+        Ok(&[0, 4, 8, 12, 16, 20]),
+    ),
+    (
+        &THREE_OF_TWO,
+        true,
+        &SIX_TIMES,
+        12,
+        Err(CopyFault::NotContent),
+    ),
+    (
+        &THREE_OF_TWO,
+        true,
+        &SIX_TIMES,
+        14,
+        Err(CopyFault::NotContent),
+    ),
+    (&NO_TIME, true, &[], 31, Ok(&[])),
+    (&OVER_NO_TIME, true, &[], 19, Ok(&[])),
+    // No content here has four bytes.
+    (&ROWS, false, b"abcccabcccd", 9, Err(CopyFault::NotContent)),
+];
 
 #[test]
 fn omf_iterated_data(rt: HostRuntime) -> Result<(), Fail> {
-    let block = Block::read(rt.alloc(), &View::new(&THREE_OF_TWO), true)?;
-    let size = block.size();
-    assert_eq!(rt; size, 24);
-    let bytes = block.expand(rt.alloc())?;
-    let want = [
-        7, 8, 9, 10, 7, 8, 9, 10, 7, 8, 9, 10, 7, 8, 9, 10, 7, 8, 9, 10, 7, 8, 9, 10,
-    ];
-    assert_eq!(rt; bytes.as_slice(), want.as_slice());
-    let copies = block.copies(rt.alloc(), 13)?;
-    assert_eq!(rt; copies.as_slice(), [0, 4, 8, 12, 16, 20].as_slice());
-    assert!(rt; matches!(block.copies(rt.alloc(), 12), Err(CopyFault::NotContent)));
-    assert!(rt; matches!(block.copies(rt.alloc(), 14), Err(CopyFault::NotContent)));
-    Ok(())
-}
-
-#[test]
-fn lying_repeat_count(rt: HostRuntime) -> Result<(), Fail> {
-    let block = Block::read(rt.alloc(), &View::new(&LYING_COUNT), true)?;
-    assert_eq!(rt; block.size(), 0xFFFF_FFFF);
-    Ok(())
-}
-
-#[test]
-fn counts_of_zero_hide_what_is_in_them(rt: HostRuntime) -> Result<(), Fail> {
-    let block = Block::read(rt.alloc(), &View::new(&NO_TIME), true)?;
-    let size = block.size();
-    assert_eq!(rt; size, 0);
-    assert!(rt; block.expand(rt.alloc())?.as_slice().is_empty());
-    assert!(rt; block.copies(rt.alloc(), 31)?.as_slice().is_empty());
-    let over = Block::read(rt.alloc(), &View::new(&OVER_NO_TIME), true)?;
-    let size = over.size();
-    assert_eq!(rt; size, 0);
-    assert!(rt; over.expand(rt.alloc())?.as_slice().is_empty());
-    assert!(rt; over.copies(rt.alloc(), 19)?.as_slice().is_empty());
-    let inside = Block::read(rt.alloc(), &View::new(&NO_TIME).sub(6, 29)?, true)?;
-    assert_eq!(rt; inside.size(), 0x1_0000_0000, "the largest");
-    Ok(())
-}
-
-#[test]
-fn rows_stay_in_order(rt: HostRuntime) -> Result<(), Fail> {
-    let block = Block::read(rt.alloc(), &View::new(&ROWS), false)?;
-    let size = block.size();
-    assert_eq!(rt; size, 11);
-    assert_eq!(rt;
-        block.expand(rt.alloc())?.as_slice(),
-        b"abcccabcccd".as_slice()
-    );
-    Ok(())
-}
-
-#[test]
-fn levels_up_to_32(rt: HostRuntime) -> Result<(), Fail> {
-    let deepest = in_levels(rt.alloc(), 32)?;
-    let block = Block::read(rt.alloc(), &View::new(&deepest), false)?;
-    assert_eq!(rt; block.size(), 1);
-    let deeper = in_levels(rt.alloc(), 33)?;
-    let answer = Block::read(rt.alloc(), &View::new(&deeper), false);
-    assert!(rt; matches!(answer, Err(BlockFault::TooDeep)));
-    Ok(())
-}
-
-#[test]
-fn what_is_met_first_is_reported(rt: HostRuntime) -> Result<(), Fail> {
-    let deeper = in_levels(rt.alloc(), 33)?;
-    let view = View::new(&deeper);
-    let cut_behind = Block::read(rt.alloc(), &view.sub(0, 128)?, false);
-    assert!(rt;
-        matches!(cut_behind, Err(BlockFault::TooDeep)),
-        "its counts are not read"
-    );
-    let cut_before = Block::read(rt.alloc(), &view.sub(0, 127)?, false);
-    assert!(rt; matches!(cut_before, Err(BlockFault::BadBlock)));
-    for len in 1..23 {
-        let answer = Block::read(rt.alloc(), &View::new(&ROWS).sub(0, len)?, false);
-        let whole = len == 17;
-        assert_eq!(rt; answer.is_ok(), whole, "{len}");
-        assert!(rt;
-            whole || matches!(answer, Err(BlockFault::BadBlock)),
-            "{len}"
-        );
+    for (bytes, wide, expanded, at, copies) in &COPIES {
+        let block = Block::read(rt.alloc(), &View::new(bytes), *wide)?;
+        let size = block.size();
+        assert!(rt; size <= 24);
+        let whole = block.expand(rt.alloc())?;
+        let places = block.copies(rt.alloc(), *at);
+        let got = match &places {
+            Ok(places) => Ok(places.as_slice()),
+            Err(fault) => Err(*fault),
+        };
+        assert_eq!(rt; (whole.as_slice(), got), (*expanded, *copies), "at {at}");
     }
     Ok(())
 }

@@ -39,7 +39,7 @@ pub beside_of_extended :
     → beside_of name count (option_map (extended name piece) files) ≡ beside_of name count files
 beside_of_extended name piece count None = refl
 beside_of_extended name piece count (Some m) =
-    ap (λ x. record { name = name; count = count; files = Some x }) (put_over None (Some _) name m)
+    ap (λ x. record { name = name; count = count; files = Some x; text = None }) (put_over None (Some _) name m)
 
 -- what an `append` gave: the front of the piece stands at the end, or nothing changed
 module _ {E : Type 0} (r : Result ℕ E) (name piece : List ℕ) (files now : Option Held)

@@ -50,8 +50,3 @@ longer limit bytes file h above = omega (arith, ap length h.front, length-take (
 -- the whole of a file within the limit
 pub within : (limit : ℕ) (bytes file : List ℕ) → IsWholeOrLonger limit bytes file → length file ≤ limit → bytes ≡ file
 within limit bytes file h below = h.whole (omega (arith, ap length h.front, length-take (length bytes) file))
-
--- what was read is the file, where it is not longer than the limit
-pub whole_file : (limit : ℕ) (bytes : List ℕ) (o : Option (List ℕ)) → IsSomeAnd o (IsWholeOrLonger limit bytes) → length bytes ≤ limit → o ≡ Some bytes
-whole_file limit bytes None h below = absurd h
-whole_file limit bytes (Some file) h below = ap Some (sym (h.whole below))

@@ -1,8 +1,7 @@
 -- Laws of texts that grow.
-use Rattle.std.proofs.Common.{◌≡◌, refl, sym, ap, ◌∙◌, ℕ, ◌+◌, ◌-◌, ◌≤◌, List, [], ◌++◌, length, take, drop, append_assoc, append-nil, length-append, length-take, take-take, arith, Option, None, Some}
-use Rattle.std.proofs.lemmas.List.{take-append-le}
-use Rattle.std.proofs.Math.Seq.{take-add, take-append-add}
-use Rattle.oc_outside.specs.Texts.{grown, TakesPrefix}
+use Rattle.std.proofs.Common.{◌≡◌, refl, sym, ap, ◌∙◌, ℕ, ◌+◌, ◌-◌, ◌≤◌, List, [], ◌++◌, length, take, drop, append_assoc, append-nil, length-take, take-take, arith, Option, None, Some}
+use Rattle.std.proofs.Math.Seq.{take-add}
+use Rattle.oc_outside.specs.Texts.{grown}
 
 pub grown_nothing : (text : Option (List ℕ)) → grown [] text ≡ text
 unfolding grown
@@ -44,26 +43,3 @@ turn text between now bytes at end n within had took =
     took
     ∙ ap (grown (take n (take (end - at) (drop at bytes)))) had
     ∙ grown_more text bytes at (end - at) n (omega (arith, within, length-take (end - at) (drop at bytes)))
-
--- some front of the first part is a front of both
-pub prefix_left : (p q : List ℕ) (text now : Option (List ℕ)) → TakesPrefix p text now → TakesPrefix (p ++ q) text now
-prefix_left p q text now h = (
-  h.0,
-  omega (arith, h.1, length-append p q),
-  h.2 ∙ ap (λ x. grown x text) (sym (take-append-le h.0 p q h.1)),
-)
-
--- the first part and some front of the second are a front of both
-pub prefix_right :
-    (p q : List ℕ) (text between now : Option (List ℕ))
-    → between ≡ grown p text
-    → TakesPrefix q between now
-    → TakesPrefix (p ++ q) text now
-prefix_right p q text between now e h = (
-  length p + h.0,
-  omega (arith, h.1, length-append p q),
-  h.2
-      ∙ ap (grown (take h.0 q)) e
-      ∙ grown_twice p (take h.0 q) text
-      ∙ ap (λ x. grown x text) (sym (take-append-add p q h.0)),
-)

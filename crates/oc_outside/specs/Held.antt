@@ -42,15 +42,30 @@ extended name piece m = insert m name (unwrap_or (get m name) [] ++ piece)
 abbrev pub bytes_of : List ℕ → Option Held → Option (List ℕ)
 bytes_of name files = option_and_then (file_of name) files
 
--- what lies beside the bytes of a sink: the name of its file, the count that is not its own, and all other files
+-- what lies beside the bytes of a sink: the name of its file, the count that is not its own, all other files, and the other text
 pub record Beside : Type 0 where
   pub name : List ℕ
   pub count : ℕ
   pub files : Option Held
+  pub text : Option (List ℕ)
 
 -- beside the bytes of a file lie its name, the other count and the files without it
 abbrev pub beside_of : List ℕ → ℕ → Option Held → Beside
-beside_of name count files = record { name = name; count = count; files = option_map (without_file name) files }
+beside_of name count files = record {
+  name = name;
+  count = count;
+  files = option_map (without_file name) files;
+  text = None;
+}
+
+-- beside a stream of a console lie the other text and its count
+abbrev pub beside_stream : Option (List ℕ) → ℕ → Beside
+beside_stream text count = record {
+  name = [];
+  count = count;
+  files = None;
+  text = text;
+}
 
 -- the files are as they were, or the file holds some front of these bytes and all others stay
 abbrev pub HasPart : List ℕ → List ℕ → Option Held → Option Held → Type 0

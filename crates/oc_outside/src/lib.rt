@@ -3,6 +3,7 @@
 
 mod calls;
 mod console;
+mod console_sinks;
 mod failed;
 mod file_sink;
 mod files;

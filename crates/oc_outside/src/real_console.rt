@@ -90,8 +90,11 @@ mod tests {
     fn each_stream_counts_its_faults(rt: HostRuntime) -> Result<(), Fail> {
         let mut console = RealConsole::new(rt.stdout(), Closed);
         show_all(&mut console, b"shown\n")?;
-        assert_eq!(rt; tell_all(&mut console, b"told\n"), Err(Failed));
-        assert_eq!(rt; (console.out_faults, console.err_faults), (0, 1));
+        let told = tell_all(&mut console, b"told\n");
+        assert_eq!(rt;
+            (told, console.out_faults, console.err_faults),
+            (Err(Failed), 0, 1)
+        );
         Ok(())
     }
 }

@@ -192,9 +192,8 @@ mod tests {
         let read = read_file(rt.alloc(), &mut files, name, LIMIT);
         fs::remove_file(&rt, name)?;
         written?;
-        let got = read?;
-        assert!(rt; got.as_slice() == sent.as_slice(), "the bytes come back");
-        assert_eq!(rt; (files.read_faults, files.write_faults), (0, 0));
+        let back = read?.as_slice() == sent.as_slice();
+        assert_eq!(rt; (back, files.read_faults, files.write_faults), (true, 0, 0));
         Ok(())
     }
 
@@ -205,44 +204,74 @@ mod tests {
         let name = path.as_str();
         let mut files = RealFiles::new(rt.alloc(), &rt);
         let absent = read_file(rt.alloc(), &mut files, name, LIMIT).err();
-        assert_eq!(rt; absent, Some(ReadFault::Input));
-        assert_eq!(rt; files.append(name, b"a"), Err(Failed));
-        assert_eq!(rt; files.create("/tmp/oc_outside/no/such/folder"), Err(Failed));
-        assert_eq!(rt; (files.read_faults, files.write_faults), (1, 2));
+        let appended = files.append(name, b"a");
+        let created = files.create("/tmp/oc_outside/no/such/folder");
+        assert_eq!(rt;
+            (
+                absent,
+                appended,
+                created,
+                files.read_faults,
+                files.write_faults
+            ),
+            (Some(ReadFault::Input), Err(Failed), Err(Failed), 1, 2)
+        );
         Ok(())
+    }
+
+    /// A call on the file, with the answer that is due.
+    #[derive(Clone, Copy)]
+    enum Step {
+        Write(&'static [u8]),
+        Remove,
+        Read(u64, Option<u8>),
+        ReadFails,
+        Append(&'static [u8]),
+    }
+
+    // the byte at a place of the file, if it has one
+    fn byte_at<F: Files>(files: &mut F, name: &str, at: u64) -> Result<Option<u8>, Failed> {
+        let mut to = [0; 1];
+        let count = files.read_at(name, at, &mut to)?;
+        Ok(if count == 0 { None } else { Some(to[0]) })
+    }
+
+    fn is_met<R: rt::Files>(rt: &R, files: &mut RealFiles<'_, R>, name: &str, step: Step) -> bool {
+        match step {
+            Step::Write(bytes) => write_file(files, name, bytes).is_ok(),
+            Step::Remove => fs::remove_file(rt, name).is_ok(),
+            Step::Read(at, due) => byte_at(files, name, at) == Ok(due),
+            Step::ReadFails => byte_at(files, name, 0).is_err(),
+            Step::Append(piece) => !piece.is_empty()
+                && files.append(name, piece) == Ok(piece.len()),
+        }
     }
 
     /// The one byte that is read keeps the file, `create` lets it go, and so does its end.
     #[test]
     fn real_file_is_opened_anew(rt: HostRuntime) -> Result<(), Fail> {
         let path = path(&rt, "anew")?;
-        let name = path.as_str();
         let mut files = RealFiles::new(rt.alloc(), &rt);
-        let mut to = [0; 1];
-        write_file(&mut files, name, b"ab")?;
-        assert_eq!(rt; files.read_at(name, 0, &mut to), Ok(1));
-        fs::remove_file(&rt, name)?;
-        assert_eq!(rt;
-            files.read_at(name, 1, &mut to),
-            Ok(1),
-            "the file that is open"
-        );
-        assert_eq!(rt; to, *b"b");
-        write_file(&mut files, name, b"c")?;
-        assert_eq!(rt;
-            files.read_at(name, 0, &mut to),
-            Ok(1),
-            "the file that was created"
-        );
-        assert_eq!(rt; to, *b"c");
-        assert_eq!(rt; files.read_at(name, 1, &mut to), Ok(0));
-        fs::remove_file(&rt, name)?;
-        assert_eq!(rt;
-            files.read_at(name, 0, &mut to),
-            Err(Failed),
-            "after its end"
-        );
-        assert_eq!(rt; files.append(name, b"d"), Ok(1), "the file that is open");
+        let steps = [
+            Step::Write(b"ab"),
+            Step::Read(0, Some(b'a')),
+            Step::Remove,
+            // The file that is open.
+            Step::Read(1, Some(b'b')),
+            Step::Write(b"c"),
+            // The file that was created.
+            Step::Read(0, Some(b'c')),
+            Step::Read(1, None),
+            Step::Remove,
+            // After its end.
+            Step::ReadFails,
+            // The file that is open.
+            Step::Append(b"d"),
+        ];
+        for (i, step) in steps.iter().enumerate() {
+            let met = is_met(&rt, &mut files, path.as_str(), *step);
+            assert!(rt; met, "step {i}");
+        }
         Ok(())
     }
 }

@@ -6,7 +6,7 @@ ghost use Rattle.oc_outside.specs.Texts.{grown};
 
 use crate::failed::Failed;
 
-/// Something that takes bytes in order: a file that grows.
+/// Something that takes bytes in order: a file that grows, or a stream.
 ///
 /// What it took may be told or not. Failed calls are counted, and the count never falls. A count
 /// that stands at its last value, 2^64 - 1, is said to rise as well.

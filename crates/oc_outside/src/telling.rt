@@ -3,8 +3,9 @@ ghost use Rattle.oc_outside.specs.Causes.{Rose};
 ghost use Rattle.oc_outside.specs.Texts.{grown, TakesPrefix, LeavesOther};
 
 use crate::console::Console;
+use crate::console_sinks::{ErrSink, OutSink};
 use crate::failed::Failed;
-use crate::writing::PIECE;
+use crate::writing::put_all;
 
 /// Writes all of the text to standard error, in pieces of `PIECE` bytes, the last one shorter.
 ///
@@ -17,14 +18,7 @@ pub fn tell_all<C: Console>(console: &mut C, text: &[u8]) -> Result<(), Failed>
     ensures other { LeavesOther (C.shown console.old) (C.shown console.new)
         (C.out_faults console.old) (C.out_faults console.new) }
 {
-    let mut at = 0;
-    'pieces: while at < text.len() {
-        let end = text.len().min(at.saturating_add(PIECE));
-        let piece = &text[at..end];
-        let count = console.err(piece)?;
-        at += count;
-    }
-    Ok(())
+    put_all(&mut ErrSink::new(console), text)
 }
 
 /// Writes all of the text to standard output, in pieces of `PIECE` bytes, the last one shorter.
@@ -38,12 +32,5 @@ pub fn show_all<C: Console>(console: &mut C, text: &[u8]) -> Result<(), Failed>
     ensures other { LeavesOther (C.told console.old) (C.told console.new)
         (C.err_faults console.old) (C.err_faults console.new) }
 {
-    let mut at = 0;
-    'pieces: while at < text.len() {
-        let end = text.len().min(at.saturating_add(PIECE));
-        let piece = &text[at..end];
-        let count = console.out(piece)?;
-        at += count;
-    }
-    Ok(())
+    put_all(&mut OutSink::new(console), text)
 }

@@ -83,12 +83,8 @@ fn reading_stops_past_the_limit(rt: HostRuntime) -> Result<(), Fail> {
     for (limit, reads) in [(0, 1), (131_071, 2), (131_072, 3)] {
         let mut files = Endless { reads: 0 };
         let bytes = read_file(rt.alloc(), &mut files, "a", limit)?;
-        assert_eq!(rt; files.reads, reads, "reads for the limit {limit}");
-        assert_eq!(rt;
-            bytes.len() as u64,
-            reads * 65_536,
-            "bytes for the limit {limit}"
-        );
+        let got = (files.reads, bytes.len() as u64);
+        assert_eq!(rt; got, (reads, reads * 65_536), "for the limit {limit}");
     }
     Ok(())
 }

@@ -27,11 +27,6 @@ ends_trans a b c ab bc =
     let q = ends_split b c bc in
     ends_from a c (q.front ++ p.front) (q.is ∙ ap (λ t. q.front ++ t) p.is ∙ sym (append_assoc q.front p.front a))
 
-pub ends_fits : (name text : List ℕ) → ends name text ≡ true → length name ≤ length text
-ends_fits name text e =
-    let p = ends_split name text e in
-    omega (arith, ap length p.is, length-append p.front name)
-
 -- a tail as long as the text is the text
 pub ends_whole : (name text : List ℕ) → ends name text ≡ true → length text ≤ length name → name ≡ text
 ends_whole name text e l =

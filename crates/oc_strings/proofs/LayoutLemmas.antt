@@ -192,13 +192,6 @@ module _ (names : List (List ℕ)) (entries : List Entry) (ranks : List ℕ) (o 
         ∙ ap (option_map capped) (sym (place_from-append head tops (name ∷ []) (name_at (names_of entries) k)));
   }
 
--- a rank as it is read from the list of them
-pub rank_in : (names : List (List ℕ)) (entries : List Entry) (ranks : List ℕ) → IsOrder names entries ranks → (read : List ℕ) (i : ℕ) → read ≡ ranks → i < length read
-    → get_or read i 0 < length entries
-rank_in names entries ranks o read i same l =
-    let in' : i < length names = omega (arith, ap length same, o.whole) in
-    omega (arith, ap (λ xs. get_or xs i 0) same, rank_within names entries ranks o i in', count_of_names entries)
-
 -- before the first name
 pub laid_none : (head : ℕ) (names order : List (List ℕ)) (n : ℕ) → n ≡ length order → IsLaidOut head names order 0 [] (replicate n None)
 laid_none head names order n same = record {

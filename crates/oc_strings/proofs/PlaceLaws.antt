@@ -5,7 +5,7 @@ use Rattle.std.proofs.lemmas.List.Sums.{sum_by-cons, get_or-le-sum_by}
 use Rattle.std.proofs.lemmas.List.Concat.{flat_map-append}
 use Rattle.std.proofs.lemmas.Option.{same_Some}
 use Rattle.std.specs.List.{list_any, fold, sum_by}
-use Rattle.std.specs.Option.{is_some, option_or, option_map}
+use Rattle.std.specs.Option.{is_some, option_or}
 use Rattle.std.specs.Prelude.{nat_lt, if◌then◌else◌}
 use Rattle.oc_base.specs.Strings.{ends, is_maximal, is_given, with_top, tops_of, text_of, place_from}
 use Rattle.oc_strings.proofs.EndLemmas.{ends_split, ends_self, ends_trans}
@@ -81,17 +81,6 @@ place_from-append at (x ∷ xs) ys name = by (place_from-append (at + (length x 
         rest
         ∙ ap (λ a. option_or (place_from (at + (length x + 1)) xs name) (place_from a ys name))
         (omega (arith, length-append (x ++ 0 ∷ []) (text_of xs), length-append x (0 ∷ [])))
-
--- texts that begin further on
-pub place_from-shift : (h at : ℕ) (tops : List (List ℕ)) (name : List ℕ) → place_from (h + at) tops name ≡ option_map (λ p. h + p) (place_from at tops name)
-place_from-shift h at [] name = refl
-place_from-shift h at (top ∷ tops) name = by (place_from-shift h (at + (length top + 1)) tops name) (ends name top)
-  where
-    by : place_from (h + (at + (length top + 1))) tops name ≡ option_map (λ p. h + p) (place_from (at + (length top + 1)) tops name)
-        → (b : Bool) → (if b then Some (h + at + (length top - length name)) else place_from (h + at + (length top + 1)) tops name)
-        ≡ option_map (λ p. h + p) (if b then Some (at + (length top - length name)) else place_from (at + (length top + 1)) tops name)
-    by rest true = ap Some (omega arith)
-    by rest false = ap (λ a. place_from a tops name) (omega arith) ∙ rest
 
 -- the texts of the tops are no longer than the names with their NULs
 pub tops_short : (all acc names : List (List ℕ))

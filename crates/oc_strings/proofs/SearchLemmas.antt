@@ -35,15 +35,6 @@ module _ (names : List (List ℕ)) (order : List ℕ) (s : IsSearchable names or
       subst (λ (a : List ℕ). is_before a (name_at names (get_or order j 0)) ≡ true) (picked i w')
       (subst (λ (b : List ℕ). is_before (name_at (pick names order) i) b ≡ true) (picked j w) (earlier (pick names order) s.ascends i j l in'))
 
-  -- nothing is known yet
-  pub narrowed_none : IsNarrowed names order name 0 (length order)
-  narrowed_none = record {
-    below = omega arith;
-    within = omega arith;
-    before = λ k l. absurd (omega arith);
-    after = λ k l l'. absurd (omega arith);
-  }
-
   -- the name in the middle stands before it
   pub narrowed_low : (low high m : ℕ) → IsNarrowed names order name low high → low ≤ m → m < high → slice_cmp nat_cmp (reverse (name_at names (get_or order m 0))) (reverse name) ≡ Less
       → IsNarrowed names order name (m + 1) high

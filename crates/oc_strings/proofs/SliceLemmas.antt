@@ -1,9 +1,9 @@
 -- Names and tops that are held as slices.
 use Rattle.std.proofs.Common.{◌≡◌, ℕ, ◌+◌, ◌-◌, ◌<◌, Bool, true, false, Some, List, [], ◌∷◌, ◌++◌, length, get_or, take, drop, sym, ◌∙◌, ap, arith, append_assoc, length-append}
-use Rattle.std.proofs.lemmas.List.{get_or-map, length-map, map_more, drop_more, take-map, append-nil}
-use Rattle.std.proofs.lemmas.List.Folds.{list_any_at, list_any_more}
+use Rattle.std.proofs.lemmas.List.{get_or-map, length-map, map_more, drop_more, append-nil}
+use Rattle.std.proofs.lemmas.List.Folds.{list_any_at}
 use Rattle.std.proofs.lemmas.List.Concat.{flat_map-append}
-use Rattle.std.proofs.lemmas.Bool.{or_from, cond-false, cond-true}
+use Rattle.std.proofs.lemmas.Bool.{cond-false, cond-true}
 use Rattle.std.specs.List.{list_any}
 use denote.Ref.{Bor}
 use Rattle.oc_base.specs.Strings.{ends, text_of, place_from}
@@ -19,15 +19,6 @@ pub passes_at : (test : List ℕ → Bool) (names : List (Bor (List ℕ))) (i : 
 passes_at test names i d l e =
     list_any_at test (texts names) i [] (omega (arith, length-map names (λ (n : Bor (List ℕ)). n.now)))
     (ap test (text_at names i d [] l) ∙ e)
-
--- one more text that passes no test
-pub fails_more : (test : List ℕ → Bool) (names : List (Bor (List ℕ))) (i : ℕ) (d : Bor (List ℕ)) → i < length names
-    → list_any test (texts (take i names)) ≡ false → test (get_or names i d).now ≡ false → list_any test (texts (take (i + 1) names)) ≡ false
-fails_more test names i d l before here =
-    ap (list_any test) (sym (take-map (λ (n : Bor (List ℕ)). n.now) (i + 1) names))
-    ∙ list_any_more test (texts names) i [] (omega (arith, length-map names (λ (n : Bor (List ℕ)). n.now)))
-    ∙ or_from (list_any test (take i (texts names))) (test (get_or (texts names) i []))
-    (ap (list_any test) (take-map (λ (n : Bor (List ℕ)). n.now) i names) ∙ before) (ap test (text_at names i d [] l) ∙ here)
 
 -- one more text with its NUL
 pub text_more : (tops : List (Bor (List ℕ))) (i : ℕ) (d : Bor (List ℕ)) → i < length tops

@@ -4,8 +4,6 @@
 mod layout;
 mod order;
 mod parts;
-#[cfg(test)]
-mod plain;
 mod search;
 mod table;
 mod tails;

@@ -19,7 +19,7 @@ impl Sink for Pieces {
 
     ghost faults = { λ _. 0 };
 
-    ghost beside = { λ _. record { name = []; count = 0; files = None } };
+    ghost beside = { λ _. record { name = []; count = 0; files = None; text = None } };
 
     ghost borrow = { λ _. None };
 

@@ -6,6 +6,7 @@ use crate::console::Console;
 use crate::failed::Failed;
 use crate::telling::{show_all, tell_all};
 use oc_base::NoMemory;
+use std::alloc::Global;
 use std::process::Abort;
 use std::test::Fail;
 
@@ -15,6 +16,14 @@ enum Step {
     Room(u64, u64),
     Out(&'static [u8], Result<usize, Failed>),
     Err(&'static [u8], Result<usize, Failed>),
+}
+
+/// The calls that are set to fail, the steps, and what the two streams hold at the end.
+struct Case {
+    failing: &'static [u64],
+    steps: &'static [Step],
+    shown: &'static [u8],
+    told: &'static [u8],
 }
 
 fn is_met(console: &mut MemConsole, step: Step) -> Result<bool, NoMemory> {
@@ -28,17 +37,23 @@ fn is_met(console: &mut MemConsole, step: Step) -> Result<bool, NoMemory> {
     }
 }
 
-fn run(rt: &impl Abort, console: &mut MemConsole, steps: &[Step]) -> Result<(), NoMemory> {
-    for (i, step) in steps.iter().enumerate() {
-        let met = is_met(console, *step)?;
+/// Runs the steps on new streams of which these calls are set to fail.
+fn run(alloc: Global, rt: &impl Abort, case: &Case) -> Result<MemConsole, NoMemory> {
+    let mut console = MemConsole::new(alloc);
+    for call in case.failing {
+        console.fail_at(*call)?;
+    }
+    for (i, step) in case.steps.iter().enumerate() {
+        let met = is_met(&mut console, *step)?;
         assert!(rt; met, "step {i}");
     }
-    Ok(())
+    Ok(console)
 }
 
-#[test]
-fn texts_end_where_their_rooms_do(rt: HostRuntime) -> Result<(), Fail> {
-    let steps = [
+/// Texts end where their rooms do.
+const ROOMS: Case = Case {
+    failing: &[],
+    steps: &[
         Step::Out(b"a", Err(Failed)),
         Step::Err(b"a", Err(Failed)),
         // Each room is raised, and neither is lowered.
@@ -49,32 +64,32 @@ fn texts_end_where_their_rooms_do(rt: HostRuntime) -> Result<(), Fail> {
         Step::Err(b"1234", Err(Failed)),
         Step::Out(b"34", Ok(2)),
         Step::Err(b"err", Ok(3)),
-    ];
-    let mut console = MemConsole::new(rt.alloc());
-    run(&rt, &mut console, &steps)?;
-    assert_eq!(rt; console.shown(), b"1234".as_slice());
-    assert_eq!(rt; console.told(), b"err".as_slice());
-    Ok(())
-}
+    ],
+    shown: b"1234",
+    told: b"err",
+};
 
-#[test]
-fn calls_fail_by_their_number(rt: HostRuntime) -> Result<(), Fail> {
-    let steps = [
+/// Calls fail by their number; call 4 is set to fail twice.
+const FAILING: Case = Case {
+    failing: &[0, 2, 4, 4],
+    steps: &[
         Step::Room(9, 9),
         Step::Err(b"a", Ok(1)),
         Step::Out(b"b", Err(Failed)),
         Step::Out(b"c", Ok(1)),
-        // Call 4, set to fail twice.
         Step::Err(b"d", Err(Failed)),
         Step::Err(b"e", Ok(1)),
-    ];
-    let mut console = MemConsole::new(rt.alloc());
-    for call in [0, 2, 4, 4] {
-        console.fail_at(call)?;
+    ],
+    shown: b"c",
+    told: b"ae",
+};
+
+#[test]
+fn streams_in_memory(rt: HostRuntime) -> Result<(), Fail> {
+    for case in &[ROOMS, FAILING] {
+        let console = run(rt.alloc(), &rt, case)?;
+        assert_eq!(rt; (console.shown(), console.told()), (case.shown, case.told));
     }
-    run(&rt, &mut console, &steps)?;
-    assert_eq!(rt; console.shown(), b"c".as_slice());
-    assert_eq!(rt; console.told(), b"ae".as_slice());
     Ok(())
 }
 
@@ -94,9 +109,11 @@ fn second_piece_passes_the_room(rt: HostRuntime) -> Result<(), Fail> {
     let text = vec![in rt.alloc(); b'x'; 10_000]?;
     let mut console = MemConsole::new(rt.alloc());
     console.room(10_000, 8_191)?;
-    assert_eq!(rt; tell(&mut console, text.as_slice()), Err(Failed));
-    assert_eq!(rt; show_all(&mut console, text.as_slice()), Ok(()));
-    assert_eq!(rt; console.told().len(), 4_096);
-    assert_eq!(rt; console.shown().len(), 10_000);
+    let told = tell(&mut console, text.as_slice());
+    let shown = show_all(&mut console, text.as_slice());
+    assert_eq!(rt;
+        (told, console.told().len(), shown, console.shown().len()),
+        (Err(Failed), 4_096, Ok(()), 10_000)
+    );
     Ok(())
 }

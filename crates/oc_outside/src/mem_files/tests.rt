@@ -87,91 +87,89 @@ fn file_is_read_in_pieces(rt: HostRuntime) -> Result<(), Fail> {
     ];
     for (at, count, bytes) in cases {
         let mut to = *b"....";
-        assert_eq!(rt; files.read_at(NAME, at, &mut to), Ok(count), "at {at}");
-        assert_eq!(rt; to.as_slice(), bytes.as_slice(), "at {at}");
+        let read = files.read_at(NAME, at, &mut to);
+        assert_eq!(rt; (read, to), (Ok(count), *bytes), "at {at}");
     }
     Ok(())
 }
 
-#[test]
-fn names_without_a_file_or_room_fail(rt: HostRuntime) -> Result<(), Fail> {
-    let steps = [
-        Step::Absent,
-        Step::Read(0, Err(Failed)),
-        // No room.
-        Step::Create(Err(Failed)),
-        Step::Absent,
-        // Room makes no file.
-        Step::Room(0),
-        Step::Absent,
-        Step::Read(0, Err(Failed)),
-        Step::Create(Ok(())),
-        Step::Read(0, Ok(0)),
-        Step::Holds(b""),
-    ];
-    run(&rt, rt.alloc(), &[], &steps)?;
-    Ok(())
-}
+/// Names without a file or room fail.
+const ABSENT: [Step; 10] = [
+    Step::Absent,
+    Step::Read(0, Err(Failed)),
+    // No room.
+    Step::Create(Err(Failed)),
+    Step::Absent,
+    // Room makes no file.
+    Step::Room(0),
+    Step::Absent,
+    Step::Read(0, Err(Failed)),
+    Step::Create(Ok(())),
+    Step::Read(0, Ok(0)),
+    Step::Holds(b""),
+];
+
+/// Room ends where it says.
+const ROOM: [Step; 10] = [
+    Step::Room(0),
+    Step::Create(Ok(())),
+    Step::Append(b"a", Err(Failed)),
+    Step::Room(5),
+    Step::Append(b"abc", Ok(3)),
+    // One byte past the room: nothing of the piece is taken.
+    Step::Append(b"def", Err(Failed)),
+    Step::Holds(b"abc"),
+    Step::Append(b"de", Ok(2)),
+    Step::Append(b"f", Err(Failed)),
+    Step::Holds(b"abcde"),
+];
+
+/// Rooms rise and never fall.
+const RISING: [Step; 10] = [
+    Step::Room(5),
+    Step::Room(3),
+    Step::Set(b"xy"),
+    Step::Append(b"1234", Err(Failed)),
+    Step::Append(b"123", Ok(3)),
+    Step::Set(b"7 bytes"),
+    Step::Holds(b"7 bytes"),
+    Step::Append(b"8", Err(Failed)),
+    // A file that is there is made empty, and keeps its room.
+    Step::Create(Ok(())),
+    Step::Append(b"1234567", Ok(7)),
+];
+
+/// Calls fail by their number, where 0, 2, 4, 6 and again 6 are set to.
+const FAILING: [Step; 13] = [
+    // Call 1 finds no file, and is counted as a call.
+    Step::Read(0, Err(Failed)),
+    Step::Set(b"old"),
+    Step::Room(9),
+    Step::Read(0, Err(Failed)),
+    Step::Read(1, Ok(2)),
+    // Call 4: the file is as it was.
+    Step::Create(Err(Failed)),
+    Step::Holds(b"old"),
+    Step::Append(b"er", Ok(2)),
+    // Call 6, set to fail twice.
+    Step::Append(b"!", Err(Failed)),
+    Step::Holds(b"older"),
+    Step::Append(b"!", Ok(1)),
+    Step::Create(Ok(())),
+    Step::Holds(b""),
+];
 
 #[test]
-fn room_ends_where_it_says(rt: HostRuntime) -> Result<(), Fail> {
-    let steps = [
-        Step::Room(0),
-        Step::Create(Ok(())),
-        Step::Append(b"a", Err(Failed)),
-        Step::Room(5),
-        Step::Append(b"abc", Ok(3)),
-        // One byte past the room: nothing of the piece is taken.
-        Step::Append(b"def", Err(Failed)),
-        Step::Holds(b"abc"),
-        Step::Append(b"de", Ok(2)),
-        Step::Append(b"f", Err(Failed)),
-        Step::Holds(b"abcde"),
+fn files_in_memory(rt: HostRuntime) -> Result<(), Fail> {
+    let cases: [(&[u64], &[Step]); 4] = [
+        (&[], &ABSENT),
+        (&[], &ROOM),
+        (&[], &RISING),
+        (&[0, 2, 4, 6, 6], &FAILING),
     ];
-    run(&rt, rt.alloc(), &[], &steps)?;
-    Ok(())
-}
-
-#[test]
-fn rooms_rise_and_never_fall(rt: HostRuntime) -> Result<(), Fail> {
-    let steps = [
-        Step::Room(5),
-        Step::Room(3),
-        Step::Set(b"xy"),
-        Step::Append(b"1234", Err(Failed)),
-        Step::Append(b"123", Ok(3)),
-        Step::Set(b"7 bytes"),
-        Step::Holds(b"7 bytes"),
-        Step::Append(b"8", Err(Failed)),
-        // A file that is there is made empty, and keeps its room.
-        Step::Create(Ok(())),
-        Step::Append(b"1234567", Ok(7)),
-    ];
-    run(&rt, rt.alloc(), &[], &steps)?;
-    Ok(())
-}
-
-#[test]
-fn calls_fail_by_their_number(rt: HostRuntime) -> Result<(), Fail> {
-    let steps = [
-        // Call 1 finds no file, and is counted as a call.
-        Step::Read(0, Err(Failed)),
-        Step::Set(b"old"),
-        Step::Room(9),
-        Step::Read(0, Err(Failed)),
-        Step::Read(1, Ok(2)),
-        // Call 4: the file is as it was.
-        Step::Create(Err(Failed)),
-        Step::Holds(b"old"),
-        Step::Append(b"er", Ok(2)),
-        // Call 6, set to fail twice.
-        Step::Append(b"!", Err(Failed)),
-        Step::Holds(b"older"),
-        Step::Append(b"!", Ok(1)),
-        Step::Create(Ok(())),
-        Step::Holds(b""),
-    ];
-    run(&rt, rt.alloc(), &[0, 2, 4, 6, 6], &steps)?;
+    for (failing, steps) in &cases {
+        run(&rt, rt.alloc(), failing, steps)?;
+    }
     Ok(())
 }
 
@@ -213,12 +211,14 @@ fn fifth_append_fails(rt: HostRuntime) -> Result<(), Fail> {
     let mut files = MemFiles::new(rt.alloc());
     files.room(NAME, 980_128)?;
     files.fail_at(6)?;
-    assert_eq!(rt; write(&mut files, NAME, bytes.as_slice()), Err(Failed));
+    let cut = write(&mut files, NAME, bytes.as_slice());
     let part = read(rt.alloc(), &mut files, NAME)?.ok_or("the file is short")?;
-    assert_eq!(rt; part.len(), 16_384);
-    assert!(rt; bytes.as_slice().starts_with(part.as_slice()));
-    assert_eq!(rt; write(&mut files, NAME, bytes.as_slice()), Ok(()));
+    let done = write(&mut files, NAME, bytes.as_slice());
     let whole = read(rt.alloc(), &mut files, NAME)?.ok_or("the file is short")?;
-    assert!(rt; whole == bytes, "what was written is read");
+    let in_order = bytes.as_slice().starts_with(part.as_slice()) && whole == bytes;
+    assert_eq!(rt;
+        (cut, part.len(), done, in_order),
+        (Err(Failed), 16_384, Ok(()), true)
+    );
     Ok(())
 }
