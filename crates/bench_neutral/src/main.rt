@@ -2,18 +2,19 @@
 //!
 //! `bench_neutral KIND COUNT`, where KIND is `up` or `down` (relocations in ascending or in
 //! descending order of offset), `new` (symbols whose names are known to differ), `short` (symbols
-//! with names of seven bytes, which are compared) or `long` (with names of sixty bytes, which begin
-//! alike). What was built goes to the standard output, times to standard error.
+//! with names of seven bytes, which are compared), `long` (with names of sixty bytes, which begin
+//! alike) or `repeats` (the search for a repeat among names of both lengths, and std's sort of the
+//! same names). What was built or found goes to the standard output, times to standard error.
 #![tactic(auto)]
 
-ghost use Rattle.std.specs.Prelude.{◌≡◌, ◌<◌, ◌^◌, IfOk};
+ghost use Rattle.std.specs.Prelude.{◌≡◌, ◌<◌, ◌^◌, IfOk, None};
 ghost use Rattle.oc_neutral.specs.Invariants.{HasItsBytes};
 
 use anyhow::{Result, anyhow};
 use oc_base::{Bytes, Format, NoMemory};
 use oc_neutral::{
     Base, Binding, Builder, Check, Form, Hint, Kind, Less, Mark, Reloc, Section, Symbol, Target,
-    Visibility, Width,
+    Visibility, Width, first_repeat,
 };
 use std::alloc::Global;
 use std::env;
@@ -25,7 +26,8 @@ const MOST: u32 = 16_000_000;
 
 /// A section of that many bytes of code, all zero.
 fn code(alloc: Global, size: u32) -> Result<Section, NoMemory>
-    ensures { IfOk result HasItsBytes }
+    ensures bytes { IfOk result HasItsBytes }
+    ensures alone { IfOk result (λ s. s.group ≡ None) }
 {
     Ok(Section {
         name: Bytes::from_slice(alloc, b".text")?,
@@ -35,6 +37,7 @@ fn code(alloc: Global, size: u32) -> Result<Section, NoMemory>
         bytes: Bytes::from_vec(vec![in alloc; 0u8; size as usize]?),
         tag: 6,
         number: 1,
+        group: None,
     })
 }
 
@@ -157,6 +160,31 @@ fn new_symbols(alloc: Global, count: u32) -> Result<Builder>
     Ok(builder)
 }
 
+/// Searches a repeat among names that differ, and tells how long that took, and how long a sort.
+fn search<R: Clock + Print + Eprint>(
+    rt: &R,
+    alloc: Global,
+    front: usize,
+    count: u32,
+) -> Result<()> {
+    let names = names(alloc, front, count)?;
+    let mut listed = Vec::new(alloc);
+    let mut sorted = Vec::new(alloc);
+    for name in names.iter() {
+        listed.push(Some(name.as_slice()))?;
+        sorted.push(name.as_slice())?;
+    }
+    let start = Instant::now(rt)?;
+    let found = first_repeat(alloc, listed.as_slice())?;
+    let searched = start.elapsed(rt)?.as_micros();
+    let start = Instant::now(rt)?;
+    sorted.sort_unstable();
+    let took = start.elapsed(rt)?.as_micros();
+    println!(rt; "repeats: {count} names behind {front} bytes, {found:?}")?;
+    eprintln!(rt; "{searched} us, sorted in {took} us")?;
+    Ok(())
+}
+
 /// Builds the object, and tells how long it took.
 fn measure<R: Clock + Print + Eprint>(rt: &R, alloc: Global, kind: &str, count: u32) -> Result<()>
     requires { count < 2 ^ 30 }
@@ -165,7 +193,7 @@ fn measure<R: Clock + Print + Eprint>(rt: &R, alloc: Global, kind: &str, count: 
     let relocs = kind == "up" || kind == "down";
     let named = kind == "short" || kind == "long";
     if !relocs && !named && kind != "new" {
-        return Err(anyhow!("KIND is up, down, new, short or long"));
+        return Err(anyhow!("KIND is up, down, new, short, long or repeats"));
     }
     let mut builder = prepared(alloc, if relocs { count } else { 0 })?;
     let names = names(alloc, front, if named { count } else { 0 })?;
@@ -200,6 +228,10 @@ fn main(rt: HostRuntime) -> Result<()> {
     };
     if count > MOST {
         return Err(anyhow!("at most {MOST} can be added"));
+    }
+    if kind.as_str() == "repeats" {
+        search(&rt, alloc, 0, count)?;
+        return search(&rt, alloc, 53, count);
     }
     measure(&rt, alloc, kind.as_str(), count)
 }

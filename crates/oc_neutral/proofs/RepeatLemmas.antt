@@ -77,11 +77,10 @@ module _ (names : Names) where
   -- of where a repeat ends, one is told
   repeat_some : (r : Repeat) → IsRepeat names r → (s : Repeat) × (repeat_at names r.later ≡ Some s)
   repeat_some r is =
-      let found = place_some r.later is.name r.earlier is.before is.first in
-      (
+      let found = place_some r.later is.name r.earlier is.before is.first in (
         record { earlier = found.0; later = r.later },
         ap (λ o. option_map (λ p. record { earlier = p; later = r.later }) (option_and_then (place_of names r.later) o)) is.again
-        ∙ ap (λ o. option_map (λ p. record { earlier = p; later = r.later }) o) found.1,
+            ∙ ap (λ o. option_map (λ p. record { earlier = p; later = r.later }) o) found.1,
       )
 
   -- the first repeat is one

@@ -251,31 +251,35 @@ module _ (names : Names) where
 
         by : (k : ℕ) → k + 1 < length es → get_or es (k + 1) z ≡ z → here.0 ≤ k
             → (k : ℕ) × (k + 1 < length es) × ((d : Entry) → (are_tied names (get_or es k d) (get_or es (k + 1) d) ≡ true) × ((get_or es (k + 1) d).at ≡ r.later))
-        by k low at_z up = (k, low, λ d.
-          let last : get_or es (k + 1) d ≡ z = get_or_default es (k + 1) d z low ∙ at_z in
-          let y : Entry = get_or es k d in
-          let first : get_or es here.0 d ≡ x = get_or_default es here.0 d x here.1 ∙ here.2 in
-          let from : is_lt (order names y x) ≡ false
-          = ap (λ e. is_lt (order names y e)) (sym first) ∙ sorted_far (λ a b. is_lt (order names a b)) (ranks_by order_total (λ e. e)) es sorted here.0 k d up (omega (arith, low)) in
-          let to : is_lt (order names z y) ≡ false = ap (λ e. is_lt (order names e y)) (sym last) ∙ sorted k d (omega arith) low in
-          let level : front y z ≡ Equal = between x y z (front_tied x z tied) (front_kept y x from) (front_kept z y to) in
-          (ap (are_tied names y) last ∙ tied_is y z ∙ ap is_eq level, ap (λ (e : Entry). e.at) last))
+        by k low at_z up = (
+          k,
+          low,
+          λ d.
+              let last : get_or es (k + 1) d ≡ z = get_or_default es (k + 1) d z low ∙ at_z in
+              let y : Entry = get_or es k d in
+              let first : get_or es here.0 d ≡ x = get_or_default es here.0 d x here.1 ∙ here.2 in
+              let from : is_lt (order names y x) ≡ false
+              = ap (λ e. is_lt (order names y e)) (sym first) ∙ sorted_far (λ a b. is_lt (order names a b)) (ranks_by order_total (λ e. e)) es sorted here.0 k d up (omega (arith, low)) in
+              let to : is_lt (order names z y) ≡ false = ap (λ e. is_lt (order names e y)) (sym last) ∙ sorted k d (omega arith) low in
+              let level : front y z ≡ Equal = between x y z (front_tied x z tied) (front_kept y x from) (front_kept z y to) in
+              (ap (are_tied names y) last ∙ tied_is y z ∙ ap is_eq level, ap (λ (e : Entry). e.at) last),
+        )
 
     -- the least of the pairs that tie is the first repeat
     pub found_first : (n : ℕ) (found : Option Repeat) → length es ≤ n → IsLeast names es n found → found ≡ first_repeat names
     found_first n None end is = sym (no_repeat names (λ s told.
-      let p = pair_of s told in
-      let m = is.met p.0 none (omega (arith, p.1, end)) (p.2 none).0 in
-      none-some m.0 m.1))
+        let p = pair_of s told in
+        let m = is.met p.0 none (omega (arith, p.1, end)) (p.2 none).0 in
+        none-some m.0 m.1))
     found_first n (Some r) end is =
         let f = is.from r refl in
         let t = f.2 none in
         let told : IsRepeat names r = subst (IsRepeat names) (sym t.1) (pair_is f.0 none f.1 t.0) in
         sym (repeat_first names r told (λ s other.
-          let p = pair_of s other in
-          let m = is.met p.0 none (omega (arith, p.1, end)) (p.2 none).0 in
-          let same : r ≡ m.0 = same_Some r m.0 m.1 in
-          omega (arith, m.2, ap (λ (s : Repeat). s.later) same, (p.2 none).1)))
+        let p = pair_of s other in
+        let m = is.met p.0 none (omega (arith, p.1, end)) (p.2 none).0 in
+        let same : r ≡ m.0 = same_Some r m.0 m.1 in
+        omega (arith, m.2, ap (λ (s : Repeat). s.later) same, (p.2 none).1)))
 
 -- one entry more is looked at
 module _ (names : Names) (es : List Entry) (i : ℕ) (found : Option Repeat) (x y : Entry) (is : IsLeast names es i found) (some : 1 ≤ i) (low : i < length es)
@@ -313,13 +317,15 @@ module _ (names : Names) (es : List Entry) (i : ℕ) (found : Option Repeat) (x 
         stands : (new ≡ pair) ⊎ (found ≡ Some new) → IsPair names es new
         stands (inr e) = is.from new e
         stands (inl e) =
-            let next : i - 1 + 1 ≡ i = omega (arith, some) in
-            (i - 1, omega (arith, next, low), λ d.
-              let last : y ≡ get_or es (i - 1 + 1) d = at_y d ∙ ap (λ k. get_or es k d) (sym next) in
-              (
-                ap (are_tied names (get_or es (i - 1) d)) (sym last) ∙ ap (λ e. are_tied names e y) (sym (at_x d)) ∙ tied,
-                e ∙ ap (λ (e : Entry). record { earlier = e.at; later = y.at }) (at_x d) ∙ ap (λ (e : Entry). record { earlier = (get_or es (i - 1) d).at; later = e.at }) last,
-              ))
+            let next : i - 1 + 1 ≡ i = omega (arith, some) in (
+              i - 1,
+              omega (arith, next, low),
+              λ d.
+                  let last : y ≡ get_or es (i - 1 + 1) d = at_y d ∙ ap (λ k. get_or es k d) (sym next) in (
+                    ap (are_tied names (get_or es (i - 1) d)) (sym last) ∙ ap (λ e. are_tied names e y) (sym (at_x d)) ∙ tied,
+                    e ∙ ap (λ (e : Entry). record { earlier = e.at; later = y.at }) (at_x d) ∙ ap (λ (e : Entry). record { earlier = (get_or es (i - 1) d).at; later = e.at }) last,
+                  ),
+            )
 
     -- it ties
     pub least_more : IsLeast names es (i + 1) (Some (sooner found pair))

@@ -6,7 +6,9 @@ use Rattle.std.specs.declared.cmp.Ordering.{Ordering}
 use Rattle.std.specs.Ordering.{nat_cmp, ordering_then}
 use Rattle.std.specs.Cmp.Lexicographic.{slice_cmp}
 use denote.Ref.{Bor}
+use Rattle.oc_linking.specs.declared.terms.Binding.{Binding}
 use Rattle.oc_linking.specs.Numbers.{first_upto}
+use Rattle.oc_linking.specs.Parts.{is_local}
 use Rattle.oc_neutral.specs.declared.repeats.Repeat.{Repeat}
 use Rattle.oc_neutral.specs.declared.repeats.Entry.{Entry}
 
@@ -33,6 +35,10 @@ repeat_at names k = option_map (λ place. record { earlier = place; later = k })
 -- the first position at which a name stands that stood before
 abbrev pub first_repeat : Names → Option Repeat
 first_repeat names = first_upto (repeat_at names) (length names)
+
+-- the name of a symbol, where it is nonlocal
+abbrev pub nonlocal_name : Binding → List ℕ → Option (List ℕ)
+nonlocal_name binding name = if is_local binding then None else Some name
 
 -- byte i of a name, 0 behind its end
 abbrev pub byte_at : List ℕ → ℕ → ℕ

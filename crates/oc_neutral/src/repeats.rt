@@ -3,6 +3,9 @@ ghost use Rattle.std.specs.Prelude.{◌≡◌, IfOk, length};
 ghost use Rattle.std.specs.List.Sorted.{IsPermutation, IsSorted};
 ghost use Rattle.oc_neutral.specs.Repeats as repeats;
 
+#[cfg(test)]
+mod tests;
+
 use oc_base::NoMemory;
 use std::alloc::Global;
 use std::cmp::Ordering;
@@ -120,10 +123,7 @@ fn sort(names: &[Option<&[u8]>], entries: &mut Vec<Entry>)
 /// `NoMemory` where memory ran out. Takes sixteen bytes of memory for each name. The time is that
 /// of about n log2(n) comparisons of two of n names, whoever chose them. A comparison that the first
 /// eight bytes do not decide walks along both names up to the first byte that differs.
-pub fn first_repeat(
-    alloc: Global,
-    names: &[Option<&[u8]>],
-) -> Result<Option<Repeat>, NoMemory>
+pub fn first_repeat(alloc: Global, names: &[Option<&[u8]>]) -> Result<Option<Repeat>, NoMemory>
     ensures { IfOk result (λ found. found ≡ repeats.first_repeat (repeats.names_of names.now)) }
 {
     let mut entries = entries_of(alloc, names)?;
