@@ -42,7 +42,7 @@ use Rattle.oc_neutral.specs.Dialects.{kept_fields, look_of}
 use Rattle.oc_neutral.specs.Shows.{reloc_look}
 use Rattle.objconv.specs.declared.headers.Headers.{Headers}
 use Rattle.objconv.specs.Plain.{headers_in, symbol_count, field_at}
-use Rattle.objconv.specs.Links.{text_in, AreFields}
+use Rattle.objconv.specs.Fields.{text_in, AreFields}
 use Rattle.objconv.specs.Dialects.{address_less, elf_shape, elf_shapes, plain_dialect}
 use Rattle.objconv.specs.Neutral.{neutral_target, neutral_less, neutral_reloc, neutral_field, neutral_of}
 use Rattle.objconv.proofs.HeaderLemmas.{IsPlain}

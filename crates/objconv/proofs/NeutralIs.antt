@@ -24,15 +24,14 @@ use Rattle.oc_elf_read.specs.declared.rel.Rel.{Rel}
 use Rattle.oc_elf_read.specs.Rel.{rel_sym, rel_type}
 use Rattle.objconv.specs.declared.headers.Headers.{Headers}
 use Rattle.objconv.specs.Plain.{headers_in, symbol_count}
-use Rattle.objconv.specs.Links.{AreFields, text_in}
+use Rattle.objconv.specs.Fields.{AreFields, text_in}
 use Rattle.objconv.specs.Neutral.{blanked, neutral_draft, neutral_field, neutral_of, neutral_reloc, neutral_section, neutral_symbol, neutral_symbols, neutral_target}
 use Rattle.objconv.proofs.HeaderLemmas.{IsPlain}
-use Rattle.objconv.proofs.ObjectLemmas.{length-text}
+use Rattle.objconv.proofs.ObjectLemmas.{length-text, text-bytes}
 use Rattle.objconv.proofs.NeutralBuilding.{and-false, blanked-more, first_symbols, limits, meets_none, nameless, placed-more}
 use Rattle.std.proofs.Common.{length-append}
 use Rattle.oc_chains.specs.Lists.{is_taken}
 use Rattle.oc_neutral.specs.Keeping.{is_again}
-use Rattle.objconv.proofs.ConvertedPlain.{text-bytes}
 use Rattle.objconv.proofs.NeutralBytes.{length-blanked}
 use Rattle.objconv.proofs.NeutralFields.{cancels-plain, takes-plain}
 use Rattle.objconv.proofs.NeutralNext.{behind, inside, less_there, target_there, unplaced_target}

@@ -28,7 +28,7 @@ use Rattle.oc_neutral.specs.Invariants.{AreBytes, IsBinding, IsSymbol as IsNeutr
 use Rattle.oc_neutral.specs.Readable.{IsBlankWhereTyped, IsReadable}
 use Rattle.objconv.specs.declared.headers.Headers.{Headers}
 use Rattle.objconv.specs.Plain.{headers_in, is_plain, symbol_count, symbol_in, name_of, exponent_of}
-use Rattle.objconv.specs.Links.{text_in, AreFields}
+use Rattle.objconv.specs.Fields.{text_in, AreFields}
 use Rattle.objconv.specs.Neutral.{binding_of, neutral_symbol, neutral_symbols, neutral_target, neutral_reloc, neutral_field, neutral_section, neutral_of, neutral_draft}
 use Rattle.objconv.proofs.HeaderLemmas.{IsPlain, plain_is}
 use Rattle.objconv.proofs.ObjectLemmas.{exponent_is}

@@ -25,7 +25,7 @@ use Rattle.oc_neutral.specs.Dialects.{is_difference, is_folded, kept_fields, loo
 use Rattle.oc_neutral.specs.Shows.{frame_of, reloc_look, looks_of, patches_of, ShowsAt, Shows}
 use Rattle.objconv.specs.declared.headers.Headers.{Headers}
 use Rattle.objconv.specs.Plain.{headers_in, exponent_of, field_at}
-use Rattle.objconv.specs.Links.{text_in, AreFields}
+use Rattle.objconv.specs.Fields.{text_in, AreFields}
 use Rattle.objconv.specs.Dialects.{elf_shapes, plain_dialect}
 use Rattle.objconv.specs.Neutral.{neutral_of}
 use Rattle.objconv.proofs.HeaderLemmas.{IsPlain}

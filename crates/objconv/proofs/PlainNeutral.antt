@@ -25,7 +25,7 @@ use Rattle.objconv.specs.declared.headers.Headers.{Headers}
 use Rattle.objconv.specs.Plain.{exponent_of, headers_in, name_of, rel_count, symbol_count, symbol_in}
 use Rattle.oc_chains.specs.declared.field.Field.{Field}
 use Rattle.oc_neutral.specs.declared.reloc.Reloc.{Reloc}
-use Rattle.objconv.specs.Links.{text_in}
+use Rattle.objconv.specs.Fields.{text_in}
 use Rattle.objconv.specs.Neutral.{binding_of, neutral_section, neutral_symbol, neutral_symbols, neutral_reloc, neutral_field, neutral_of}
 use Rattle.objconv.specs.Coded.{is_plain_binding, is_plain_form, is_plain_mark, is_plain_object, is_plain_section, is_plain_symbol, plain_tag}
 use Rattle.objconv.proofs.HeaderLemmas.{IsPlain}

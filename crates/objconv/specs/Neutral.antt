@@ -29,7 +29,7 @@ use Rattle.oc_elf_read.specs.Rel.{rel_sym, rel_type}
 use Rattle.oc_elf_read.specs.Sections.{tag_of}
 use Rattle.oc_elf_read.specs.Symbols.{mark_of, visibility_of}
 use Rattle.objconv.specs.declared.headers.Headers.{Headers}
-use Rattle.objconv.specs.Links.{text_in}
+use Rattle.objconv.specs.Fields.{text_in}
 use Rattle.objconv.specs.Plain.{headers_in, name_of, symbol_count, symbol_in}
 
 -- without a section a symbol is Undefined, and else a Global at a place in `.text`
