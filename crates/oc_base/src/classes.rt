@@ -58,6 +58,7 @@ pub fn class(code: Code) -> Class
         | Code::KindUnavailable
         | Code::AlignTooBig
         | Code::NameForm
+        | Code::GroupForm
         | Code::AbsoluteForm
         | Code::CommonForm
         | Code::WeakForm

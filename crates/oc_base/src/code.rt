@@ -85,6 +85,8 @@ pub enum Code {
     AlignTooBig,
     /// The target cannot hold the name.
     NameForm,
+    /// The target cannot say that the section belongs to its group.
+    GroupForm,
     /// The target has no such absolute symbol.
     AbsoluteForm,
     /// The target has no such common symbol.

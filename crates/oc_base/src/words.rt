@@ -79,6 +79,7 @@ pub fn code_name(code: Code) -> &'static str
         Code::KindUnavailable => "KindUnavailable",
         Code::AlignTooBig => "AlignTooBig",
         Code::NameForm => "NameForm",
+        Code::GroupForm => "GroupForm",
         Code::AbsoluteForm => "AbsoluteForm",
         Code::CommonForm => "CommonForm",
         Code::WeakForm => "WeakForm",
