@@ -1,5 +1,5 @@
 -- The neutral object of a plain object is one: it is what a Builder holds when all was added.
-use Rattle.std.proofs.Common.{◌≡◌, ℕ, zero, suc, ◌+◌, ◌-◌, ◌<◌, ◌≤◌, false, List, [], ◌∷◌, ◌++◌, length, get_or, map, refl, sym, ◌∙◌, ap, subst, arith, append_assoc, append-nil}
+use Rattle.std.proofs.Common.{◌≡◌, ℕ, zero, suc, ◌+◌, ◌-◌, ◌<◌, ◌≤◌, false, List, [], ◌∷◌, ◌++◌, length, get_or, map, None, refl, sym, ◌∙◌, ap, subst, arith, append_assoc, append-nil}
 use Rattle.std.specs.Prelude.{pos, codes}
 use Rattle.oc_linking.specs.declared.terms.Kind.TheVariants.{Code}
 use Rattle.oc_chains.specs.Fields.{placed}
@@ -42,11 +42,13 @@ draft_empty : IsDraft (empty_draft Elf32)
 draft_empty = record {
   built = record {
     bytes = tt;
+    groups = tt;
     sections = tt;
+    members = tt;
     limits = record { each = tt; sum = omega arith; bytes = omega arith };
     distinct = λ i j s t l here there a c. absurd (none-some s here);
     fields = record { counted = refl; each = λ s x here. absurd (none-some x here); apart = λ s. omega arith };
-    few = record { sections = omega arith; symbols = omega arith; relocs = omega arith };
+    few = record { groups = omega arith; sections = omega arith; symbols = omega arith; relocs = omega arith };
   };
   folded = record { counted = refl; inside = λ s x here. absurd (none-some x here); apart = λ s. omega arith; beside = λ s. tt };
 }
@@ -72,7 +74,7 @@ module _ (b : List ℕ) (is : IsPlain b) (small : length b ≤ 67108864) (bytes 
         bytes = are_bytes (text_in b h) (text-bytes b h bytes);
         tag = let type = is.types.text in let flags = is.types.text_flags in omega (arith, type, flags);
         number = omega arith;
-      }) (limits b h size_small) (omega arith)
+      }) tt (limits b h size_small) (omega arith)
 
   -- and the first symbols
   draft_symbols : (j : ℕ) → j ≤ symbol_count h - 2 → IsDraft (neutral_draft b h (first_symbols b h j) [])
@@ -122,7 +124,8 @@ module _ (b : List ℕ) (is : IsPlain b) (small : length b ≤ 67108864) (bytes 
       made bs fs = record {
         object = record {
           format = Elf32;
-          sections = record { name = codes ".text"; kind = Code; align = h.text.sh_addralign; size = h.text.sh_size; bytes = bs; tag = tag_of h.text; number = 1 } ∷ [];
+          groups = [];
+          sections = record { name = codes ".text"; kind = Code; align = h.text.sh_addralign; size = h.text.sh_size; bytes = bs; tag = tag_of h.text; number = 1; group = None } ∷ [];
           symbols = neutral_symbols b h;
           relocs = fs ∷ [];
         };

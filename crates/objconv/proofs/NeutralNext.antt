@@ -11,7 +11,7 @@ use Rattle.std.proofs.lemmas.Bool.Decides.{nat_tests}
 use Rattle.std.proofs.lemmas.Option.{none-some, same_Some}
 use Rattle.oc_linking.specs.declared.terms.Value.TheVariants.{Place}
 use Rattle.oc_linking.specs.declared.terms.Binding.TheVariants.{Global, Undefined}
-use Rattle.oc_algebra.specs.declared.form.Less.TheVariants as less
+use Rattle.oc_linking.specs.declared.terms.Less.TheVariants as less
 use Rattle.oc_elf_read.specs.declared.sym.Sym.{Sym}
 use Rattle.oc_elf_read.specs.declared.rel.Rel.{Rel}
 use Rattle.oc_elf_read.specs.Rel.{rel_sym, rel_type}

@@ -25,6 +25,7 @@ text_section b h = record {
   contents = text_in b h;
   tag = tag_of h.text;
   number = 1;
+  group = None;
 }
 
 -- PROGBITS that is allocated and executed is code

@@ -21,11 +21,11 @@ use Rattle.objconv.proofs.ListedLemmas.{own_local, carried, symbols_of-plain, se
 
 -- a symbol of number k by its place in the valuation
 abbrev pub symbolic : ℕ → Target
-symbolic k = record { named = Symbolic k; address = λ p v. (v k).site.address }
+symbolic k = record { named = Symbolic k; worth = λ p v. v k }
 
 -- the section itself
 abbrev pub sectional : Target
-sectional = record { named = Sectional 0; address = λ p v. (own_site W32 p (Place 0 0)).address }
+sectional = record { named = Sectional 0; worth = λ p v. record { site = own_site W32 p (Place 0 0); slot = 0 } }
 
 -- the symbol of a number, of symbols that are numbered in order from 2 on
 numbered-range : (g : ℕ → Symbol) (n j i : ℕ) → ((k : ℕ) → (g k).number ≡ k + 2) → i < n → numbered (map g (range_with_len j n)) (j + i + 2) ≡ Some (g (j + i))
@@ -46,7 +46,7 @@ carried-target : (b : List ℕ) (h : Headers) (k : ℕ) → symbol_target (carri
 unfolding symbol_with
 carried-target b h k =
     elim (eqb (symbol_in b h k).st_shndx 0) as (λ t.
-    option_map (λ named. record { named = named; address = λ p v. (v k).site.address }) (named_by k (cond t Undefined (Global (Place 0 (symbol_in b h k).st_value)))) ≡ Some (symbolic k)) [
+    option_map (λ named. record { named = named; worth = λ p v. v k }) (named_by k (cond t Undefined (Global (Place 0 (symbol_in b h k).st_value)))) ≡ Some (symbolic k)) [
       | true ↦ refl
       | false ↦ refl
     ]

@@ -9,6 +9,7 @@ use Rattle.oc_outside.specs.Held.{Held, file_of, with_file, HasPart}
 use Rattle.oc_outside.specs.Reading.{IsAbsent}
 use Rattle.oc_outside.specs.Texts.{grown, TakesPrefix}
 use Rattle.oc_linking.specs.Keeping.{all}
+use Rattle.oc_linking.specs.Parts.{with_keys}
 use Rattle.oc_linking.specs.Faithful.{Faithful}
 use Rattle.oc_convert.specs.Converted.{IsPlanned}
 use Rattle.objconv.specs.declared.command.RunFault.{RunFault}
@@ -52,7 +53,7 @@ pub record IsOutput (input : List ℕ) (files : Option Held) (c : List ℕ) : Ty
   pub accepted : HasRefusal input files None
   pub planned : (m : Held) → files ≡ Some m → IsSomeAnd (file_of input m) (λ b. IsPlanned plain_dialect coff_dialect coff_file b c)
   pub faithful : (m : Held) → files ≡ Some m → IsSomeAnd (file_of input m)
-      (λ b. Faithful plain_dialect.rules b all (plain_dialect.rules.symbols b all) coff_dialect.rules c)
+      (λ b. Faithful plain_dialect.rules b all (with_keys (plain_dialect.rules.symbols b all)) coff_dialect.rules c)
 
 -- the output holds the output for the input, and all other files stay
 pub record IsWritten (input output : List ℕ) (before now : Option Held) : Type 0 where

@@ -2,6 +2,7 @@
 ghost use Rattle.std.specs.Prelude.{◌≡◌, ◌≤◌, None, length, IfOk, IfErr, OnOk};
 ghost use Rattle.oc_linking.specs.Faithful.{Faithful};
 ghost use Rattle.oc_linking.specs.Keeping.{all};
+ghost use Rattle.oc_linking.specs.Parts.{with_keys};
 ghost use Rattle.oc_convert.specs.Converted.{IsPlanned};
 ghost use Rattle.objconv.specs.Coded.{coff_file};
 ghost use Rattle.objconv.specs.Dialects.{plain_dialect, coff_dialect};
@@ -24,7 +25,7 @@ pub fn convert_plain(alloc: Global, file: &[u8]) -> Result<PlannedFile, ConvertF
     ensures accepted { OnOk result (plain_refusal file.now ≡ None) }
     ensures planned { IfOk result (λ plan. IsPlanned plain_dialect coff_dialect coff_file file.now plan) }
     ensures faithful { IfOk result (λ plan. Faithful plain_dialect.rules file.now all
-        (plain_dialect.rules.symbols file.now all) coff_dialect.rules plan) }
+        (with_keys (plain_dialect.rules.symbols file.now all)) coff_dialect.rules plan) }
     ensures refused { IfErr result (IsJudged (plain_refusal file.now)) }
 {
     convert(alloc, &PlainReader, &CoffFitter, &CoffWriter, file)

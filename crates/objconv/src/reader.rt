@@ -64,6 +64,7 @@ fn section_of(alloc: Global, file: &[u8], headers: &Headers) -> Result<Section, 
         bytes: Bytes::from_slice(alloc, text_of(file, headers))?,
         tag: tag_of(text),
         number: 1,
+        group: None,
     })
 }
 

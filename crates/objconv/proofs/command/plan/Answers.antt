@@ -1,6 +1,7 @@
 -- What was read decides the first refusal of the file.
 use Rattle.std.proofs.Common.{◌≡◌, ℕ, ◌<◌, ◌≤◌, List, length, None, Some, sym, ◌∙◌, subst, arith}
 use Rattle.oc_linking.specs.Keeping.{all}
+use Rattle.oc_linking.specs.Parts.{with_keys}
 use Rattle.oc_linking.specs.Faithful.{Faithful}
 use Rattle.oc_convert.specs.Converted.{IsPlanned}
 use Rattle.objconv.specs.declared.command.RunFault.{RunFault}
@@ -16,7 +17,7 @@ abbrev Planned : List ℕ → List ℕ → Type 0
 Planned c b = IsPlanned plain_dialect coff_dialect coff_file b c
 
 abbrev IsFaithful : List ℕ → List ℕ → Type 0
-IsFaithful c b = Faithful plain_dialect.rules b all (plain_dialect.rules.symbols b all) coff_dialect.rules c
+IsFaithful c b = Faithful plain_dialect.rules b all (with_keys (plain_dialect.rules.symbols b all)) coff_dialect.rules c
 
 pub returns-then-len-gt-LIMIT-clause-fault : goal.returns-then-len-gt-LIMIT-clause-fault
 returns-then-len-gt-LIMIT-clause-fault g c =
