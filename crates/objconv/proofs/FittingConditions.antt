@@ -24,13 +24,13 @@ use Rattle.oc_linking.specs.declared.terms.Less.TheVariants as less
 use Rattle.oc_algebra.specs.declared.form.Form.{Form}
 use Rattle.oc_chains.specs.declared.field.Field.{Field}
 use Rattle.oc_chains.specs.Lists.{Lists, list_of}
+use Rattle.oc_neutral.specs.KindRules.{has_nul}
 use Rattle.oc_neutral.specs.declared.section.Section.{Section}
 use Rattle.oc_neutral.specs.declared.symbol.Symbol.{Symbol}
 use Rattle.oc_neutral.specs.declared.reloc.Target.{Target}
 use Rattle.oc_neutral.specs.declared.reloc.Target.TheVariants as target
 use Rattle.oc_neutral.specs.declared.reloc.Reloc.{Reloc}
 use Rattle.oc_neutral.specs.Objects.{Object}
-use Rattle.oc_neutral.specs.GivenTags.{has_nul}
 use Rattle.oc_neutral.specs.HomeNames.{output_names}
 use Rattle.oc_neutral.specs.Rows.{same_base, same_width, same_check}
 use Rattle.oc_neutral.specs.Spelling.{written_row}

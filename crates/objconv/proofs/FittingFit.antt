@@ -16,12 +16,13 @@ use Rattle.oc_linking.specs.Images.{overlays}
 use Rattle.oc_linking.specs.Linking.{patch_of}
 use Rattle.oc_linking.specs.Shows.{unders}
 use Rattle.oc_chains.specs.Lists.{Lists, list_of}
+use Rattle.oc_neutral.specs.Powers.{power_upto}
 use Rattle.oc_neutral.specs.declared.section.Section.{Section}
 use Rattle.oc_neutral.specs.declared.symbol.Symbol.{Symbol}
 use Rattle.oc_neutral.specs.declared.reloc.Reloc.{Reloc}
 use Rattle.oc_neutral.specs.Objects.{Object, reloc_at}
 use Rattle.oc_neutral.specs.Invariants.{IsAlign, IsObject}
-use Rattle.oc_neutral.specs.Alignments.{output_align, power_upto}
+use Rattle.oc_neutral.specs.Alignments.{output_align}
 use Rattle.oc_neutral.specs.HomeNames.{output_names, wanted_names, output_tag}
 use Rattle.oc_neutral.specs.Faces.{contents_of, field_of, shown_sections}
 use Rattle.oc_neutral.specs.Shows.{frame_of, patches_of}

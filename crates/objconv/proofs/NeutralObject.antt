@@ -19,11 +19,12 @@ use Rattle.oc_elf_read.specs.Names.{text_within, table_bytes, name_in}
 use Rattle.oc_elf_read.specs.Rel.{rel_sym}
 use Rattle.oc_elf_read.specs.Sections.{tag_of}
 use Rattle.oc_elf_read.specs.Sym.{sym_in}
+use Rattle.oc_neutral.specs.Elf.Family.{elf_gives}
 use Rattle.oc_neutral.specs.declared.section.Section.{Section}
 use Rattle.oc_neutral.specs.declared.reloc.Reloc.{Reloc}
 use Rattle.oc_neutral.specs.declared.reloc.Target.TheVariants as target
 use Rattle.oc_neutral.specs.Elf.Kinds.{elf_kind}
-use Rattle.oc_neutral.specs.GivenTags.{elf_gives, family_gives, can_have, is_blank_type}
+use Rattle.oc_neutral.specs.GivenTags.{family_gives, can_have, is_blank_type}
 use Rattle.oc_neutral.specs.Invariants.{AreBytes, IsBinding, IsSymbol as IsNeutralSymbol, IsHinted, NamesOriginal, IsComplete}
 use Rattle.oc_neutral.specs.Readable.{IsBlankWhereTyped, IsReadable}
 use Rattle.objconv.specs.declared.headers.Headers.{Headers}

@@ -14,7 +14,6 @@ use Rattle.oc_linking.specs.declared.terms.Width.TheVariants.{Four}
 use Rattle.oc_linking.specs.declared.terms.Check.TheVariants.{Wrap}
 use Rattle.oc_linking.specs.declared.terms.Base.TheVariants.{Address}
 use Rattle.oc_linking.specs.declared.terms.Less.TheVariants as less
-use Rattle.oc_neutral.specs.GivenTags.{has_nul}
 use Rattle.oc_elf_read.specs.declared.sym.Sym.{Sym}
 use Rattle.oc_elf_read.specs.Sym.{type_of}
 use Rattle.oc_elf_read.specs.Rel.{rel_type}
@@ -23,6 +22,7 @@ use Rattle.oc_elf_read.specs.Sections.{tag_of}
 use Rattle.objconv.specs.declared.headers.Headers.{Headers}
 use Rattle.objconv.specs.Plain.{exponent_of, headers_in, name_of, rel_count, symbol_count, symbol_in}
 use Rattle.oc_chains.specs.declared.field.Field.{Field}
+use Rattle.oc_neutral.specs.KindRules.{has_nul}
 use Rattle.oc_neutral.specs.declared.reloc.Reloc.{Reloc}
 use Rattle.objconv.specs.Fields.{text_in}
 use Rattle.objconv.specs.Neutral.{binding_of, neutral_section, neutral_symbol, neutral_symbols, neutral_reloc, neutral_field, neutral_of}

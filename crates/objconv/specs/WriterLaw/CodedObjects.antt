@@ -19,6 +19,7 @@ use Rattle.oc_linking.proofs.Upto.{first_upto_from}
 use Rattle.oc_linking.specs.declared.terms.Less.{Less}
 use Rattle.oc_chains.specs.declared.field.Field.{Field}
 use Rattle.oc_chains.specs.Lists.{list_of}
+use Rattle.oc_neutral.specs.KindRules.{has_nul}
 use Rattle.oc_neutral.specs.declared.section.Section.{Section}
 use Rattle.oc_neutral.specs.declared.symbol.Symbol.{Symbol}
 use Rattle.oc_neutral.specs.declared.reloc.Target.{Target}
@@ -28,7 +29,6 @@ use Rattle.oc_neutral.specs.Objects.{Object, reloc_at}
 use Rattle.oc_neutral.specs.Invariants.{IsAlign, HasOffset, IsBinding, IsThere, IsHeld}
 use Rattle.oc_neutral.specs.Fitted.{IsFitted}
 use Rattle.oc_neutral.specs.Building.{is_zero, stored_sum}
-use Rattle.oc_neutral.specs.GivenTags.{has_nul}
 use Rattle.oc_neutral.proofs.Positions.{each_at}
 use Rattle.oc_coff_read.specs.Canonical.{FitsEntry, IsExternal, IsCodeObject}
 use Rattle.objconv.specs.Plain.{exponent_of}
