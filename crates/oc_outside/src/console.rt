@@ -1,4 +1,4 @@
-ghost use Rattle.std.specs.Prelude.{◌≡◌, ℕ, ◌+◌, ◌-◌, ◌^◌, ◌<◌, ◌≤◌, List, Option, length, take, IfOk, OnErr};
+ghost use Rattle.std.specs.Prelude.{◌≡◌, ℕ, ◌+◌, ◌-◌, ◌^◌, ◌<◌, ◌≤◌, List, Option, length, take, IfOk, OnOk, OnErr};
 ghost use Rattle.oc_outside.specs.Causes.{Rose};
 ghost use Rattle.oc_outside.specs.Texts.{grown, LeavesOther};
 
@@ -7,8 +7,9 @@ use crate::failed::Failed;
 /// The two texts that a program writes: standard output and standard error.
 ///
 /// What was written may be told, as of texts in memory, or not, as of real streams. Failed calls
-/// are counted, one count for each text. No count falls, and a call leaves the other call's text
-/// and count. A count that stands at its last value, 2^64 - 1, is said to rise as well.
+/// are counted, one count for each text. No count falls, a call leaves the other call's text and
+/// count, and one that succeeds leaves both counts. A count that stands at its last value, 2^64 - 1,
+/// is said to rise as well.
 pub trait Console {
     /// What standard output was given so far, where that is told.
     ghost shown: { Self → Option (List ℕ) };
@@ -32,6 +33,7 @@ pub trait Console {
         ensures ok { IfOk result (λ n. shown self.new ≡ grown (take n piece.now) (shown self.old)) }
         ensures err { OnErr result (shown self.new ≡ shown self.old) }
         ensures counts { out_faults self.old ≤ out_faults self.new }
+        ensures steady { OnOk result (out_faults self.new ≡ out_faults self.old) }
         ensures cause { OnErr result (Rose (out_faults self.old) (out_faults self.new)) }
         ensures other { LeavesOther (told self.old) (told self.new)
             (err_faults self.old) (err_faults self.new) };
@@ -46,6 +48,7 @@ pub trait Console {
         ensures ok { IfOk result (λ n. told self.new ≡ grown (take n piece.now) (told self.old)) }
         ensures err { OnErr result (told self.new ≡ told self.old) }
         ensures counts { err_faults self.old ≤ err_faults self.new }
+        ensures steady { OnOk result (err_faults self.new ≡ err_faults self.old) }
         ensures cause { OnErr result (Rose (err_faults self.old) (err_faults self.new)) }
         ensures other { LeavesOther (shown self.old) (shown self.new)
             (out_faults self.old) (out_faults self.new) };

@@ -139,6 +139,7 @@ impl Console for MemConsole {
             ≡ count_after (refuses_out self.old (length piece.now))
             (next_call self.old.calls) self.old.out_faults }
         ensures counts { self.old.out_faults ≤ self.new.out_faults }
+        ensures steady { OnOk result (self.new.out_faults ≡ self.old.out_faults) }
     {
         if self.begin() || self.out.append(piece).is_err() {
             self.out_faults = risen(self.calls, self.out_faults);
@@ -166,6 +167,7 @@ impl Console for MemConsole {
             ≡ count_after (refuses_err self.old (length piece.now))
             (next_call self.old.calls) self.old.err_faults }
         ensures counts { self.old.err_faults ≤ self.new.err_faults }
+        ensures steady { OnOk result (self.new.err_faults ≡ self.old.err_faults) }
     {
         if self.begin() || self.err.append(piece).is_err() {
             self.err_faults = risen(self.calls, self.err_faults);
