@@ -1,7 +1,6 @@
 -- What fields and addends promise each other.
 use Rattle.std.proofs.Common.{◌≡◌, ℕ, ◌+◌, ◌%◌, ◌<◌, ◌≤◌, refl, sym, ◌∙◌, ap, arith, Bool, true, false, cond, true≢false, Ok, Err, MatchResult}
 use Rattle.std.specs.Prelude.{ℤ, pos, negsuc, ◌+ℤ◌, ◌-ℤ◌}
-use Rattle.std.proofs.Math.Nat.{mod-mod}
 use borrow.Author.Differences.{ints}
 use Rattle.std.proofs.lemmas.Bool.Decides.{nat_tests}
 use Rattle.oc_base.specs.declared.format.Word.{Word}
@@ -10,7 +9,7 @@ use Rattle.oc_linking.specs.declared.terms.Width.{Width}
 use Rattle.oc_linking.specs.declared.terms.Width.TheVariants.{One, Two, Four, Eight}
 use Rattle.oc_linking.specs.Numbers.{modulus}
 use Rattle.oc_linking.specs.Fits.{span, half}
-use Rattle.oc_algebra.specs.Residues.{modulo, centred, residue_of, reduced_number, is_signed_in}
+use Rattle.oc_algebra.specs.Residues.{modulo, residue_of, reduced_number, is_signed_in}
 use Rattle.oc_algebra.specs.Fields.{extended, field_for, from_field_of, to_field_of, too_wide}
 use Rattle.oc_algebra.specs.Promises.{Holds, Written, ReadAgain}
 use Rattle.oc_algebra.proofs.Laws.{residue_add, residue_reduced, reduced_same, reduced_reduced}
