@@ -8,9 +8,9 @@ use Rattle.oc_linking.specs.declared.terms.Kind.TheVariants.{Code, Note}
 use Rattle.oc_linking.specs.Parts as parts
 use Rattle.oc_convert.specs.declared.fault.ConvertFault.{ConvertFault}
 use Rattle.oc_convert.specs.declared.fault.ConvertFault.TheVariants as fault
-use Rattle.oc_convert.specs.Refusals.{IsFirstRefusal, IsJudged as IsJudgedBy, KeepsNotes}
+use Rattle.oc_convert.specs.Refusals.{IsFaultOf, first_refusal, KeepsNotes}
 use Rattle.objconv.specs.Plain.{headers_in, rel_count}
-use Rattle.objconv.specs.Refusals.{IsJudged, plain_refusal}
+use Rattle.objconv.specs.Refusals.{plain_refusal}
 use Rattle.objconv.specs.Dialects.{plain_dialect}
 use Rattle.objconv.specs.Coded.{unfit_for_coff}
 use Rattle.objconv.proofs.HeaderLemmas.{plain_is}
@@ -36,17 +36,13 @@ module _ (b : List ℕ) (small : length b ≤ 67108864) (bytes : (k : ℕ) → g
   fine is small = neutral_is_object b is small bytes (gathered b (headers_in b) (rel_count (headers_in b))) (gathered_fields b (headers_in b) is.rels)
 
   -- the first refusal, in the terms of the first path
-  first : (x : Option _) → IsFirstRefusal plain_dialect unfit_for_coff b x → plain_refusal b ≡ x
-  first x f = refusal_is_plain b x small fine f
+  first : first_refusal plain_dialect unfit_for_coff b ≡ plain_refusal b
+  first = refusal_is_plain b small fine
 
   -- what is accepted is not refused
-  pub accepted_plain : {X : Type 0} (r : Result X ConvertFault) → OnOk r (IsFirstRefusal plain_dialect unfit_for_coff b None) → OnOk r (plain_refusal b ≡ None)
-  accepted_plain r f = on_ok_weaker r (λ f. first None f) f
+  pub accepted_plain : {X : Type 0} (r : Result X ConvertFault) → OnOk r (first_refusal plain_dialect unfit_for_coff b ≡ None) → OnOk r (plain_refusal b ≡ None)
+  accepted_plain r f = on_ok_weaker r (λ e. sym first ∙ e) f
 
   -- what is refused is the first refusal
-  pub refused_judged : {X : Type 0} (r : Result X ConvertFault) → IfErr r (IsJudgedBy plain_dialect unfit_for_coff b) → IfErr r (IsJudged (plain_refusal b))
-  refused_judged r = IfErr-weaker r _ _ by
-    where
-      by : (e : ConvertFault) → IsJudgedBy plain_dialect unfit_for_coff b e → IsJudged (plain_refusal b) e
-      by (fault.Refused g) f = first (Some g) f
-      by fault.NoMemory f = tt
+  pub refused_judged : {X : Type 0} (r : Result X ConvertFault) → IfErr r (IsFaultOf (first_refusal plain_dialect unfit_for_coff b)) → IfErr r (IsFaultOf (plain_refusal b))
+  refused_judged r f = subst (λ o. IfErr r (IsFaultOf o)) first f

@@ -8,8 +8,10 @@ use Rattle.oc_base.specs.declared.fault.Fault.{Fault}
 use Rattle.oc_linking.specs.Keeping.{all}
 use Rattle.oc_neutral.specs.Objects.{Object}
 use Rattle.oc_neutral.specs.Invariants.{IsObject}
-use Rattle.oc_neutral.proofs.OneObject.{shown_is_one}
-use Rattle.oc_convert.specs.Refusals.{IsFirstRefusal, symbols_refusal, object_refusal}
+use Rattle.oc_linking.specs.Numbers.{or_else}
+use Rattle.oc_neutral.specs.Computed.{object_in}
+use Rattle.oc_neutral.proofs.ShownComputed.{shown_is_computed}
+use Rattle.oc_convert.specs.Refusals.{symbols_refusal, object_refusal, first_refusal}
 use Rattle.objconv.specs.Plain.{headers_in, is_plain, rel_count, symbol_count}
 use Rattle.objconv.specs.Refusals.{not_built, plain_refusal}
 use Rattle.objconv.specs.Dialects.{plain_dialect}
@@ -55,11 +57,14 @@ abbrev pub ObjectsFine : List ℕ → Type 0
 ObjectsFine b = (is : IsPlain b) (small : length b ≤ 67108864) → IsObject (object b is small)
 
 -- the first refusal of the first path is that of what is no plain object
-pub refusal_is_plain : (b : List ℕ) (x : Option Fault) → length b ≤ 67108864 → ObjectsFine b → IsFirstRefusal plain_dialect unfit_for_coff b x → plain_refusal b ≡ x
-refusal_is_plain b x small fine (inl p) = p.1 ∙ sym p.2
-refusal_is_plain b x small fine (inr p) =
-    let is : IsPlain b = plain_is b (plain_from b p.well_formed) in
-    let fields : AreFields b (headers_in b) (gathered b (headers_in b) (rel_count (headers_in b))) = gathered_fields b (headers_in b) is.rels in
-    let same : p.object ≡ object b is small
-    = shown_is_one plain_dialect b all p.object (object b is small) p.is_object (fine is small) p.shows (shows b is (gathered b (headers_in b) (rel_count (headers_in b))) fields all) in
-    p.well_formed ∙ sym (object_accepted b is small) ∙ ap (object_refusal unfit_for_coff) (sym same) ∙ sym p.refusal_is
+pub refusal_is_plain : (b : List ℕ) → length b ≤ 67108864 → ObjectsFine b → first_refusal plain_dialect unfit_for_coff b ≡ plain_refusal b
+refusal_is_plain b small fine = by (plain_refusal b) refl
+  where
+    by : (o : Option Fault) → plain_refusal b ≡ o → or_else o (object_refusal unfit_for_coff (object_in plain_dialect b all)) ≡ o
+    by (Some f) e = refl
+    by None e =
+        let is : IsPlain b = plain_is b (plain_from b e) in
+        let fields : AreFields b (headers_in b) (gathered b (headers_in b) (rel_count (headers_in b))) = gathered_fields b (headers_in b) is.rels in
+        let same : object b is small ≡ object_in plain_dialect b all
+        = shown_is_computed plain_dialect b all (object b is small) (fine is small) (shows b is (gathered b (headers_in b) (rel_count (headers_in b))) fields all) in
+        ap (object_refusal unfit_for_coff) (sym same) ∙ object_accepted b is small

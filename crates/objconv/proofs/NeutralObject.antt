@@ -24,7 +24,7 @@ use Rattle.oc_neutral.specs.declared.section.Section.{Section}
 use Rattle.oc_neutral.specs.declared.reloc.Reloc.{Reloc}
 use Rattle.oc_neutral.specs.declared.reloc.Target.TheVariants as target
 use Rattle.oc_neutral.specs.Elf.Kinds.{elf_kind}
-use Rattle.oc_neutral.specs.GivenTags.{family_gives, can_have, is_blank_type}
+use Rattle.oc_neutral.specs.GivenTags.{can_have, is_blank_type}
 use Rattle.oc_neutral.specs.Invariants.{AreBytes, IsBinding, IsSymbol as IsNeutralSymbol, IsHinted, NamesOriginal, IsComplete}
 use Rattle.oc_neutral.specs.Readable.{IsBlankWhereTyped, IsReadable}
 use Rattle.objconv.specs.declared.headers.Headers.{Headers}
@@ -156,7 +156,7 @@ module _ (b : List ℕ) (is : IsPlain b) (small : length b ≤ 67108864) (are : 
 -- ... as readers give it
 
 tag_given : (s : Shdr) → s.sh_type ≡ 1 → s.sh_flags ≡ 6 → can_have Elf32 Code (codes ".text") (tag_of s) ≡ true
-unfolding family_gives elf_gives elf_kind
+unfolding elf_gives elf_kind
 tag_given s type flags = rw (type, flags) refl
 
 tag_filled : (s : Shdr) → s.sh_type ≡ 1 → s.sh_flags ≡ 6 → is_blank_type Elf32 (tag_of s) ≡ false

@@ -6,8 +6,6 @@ use Rattle.oc_base.specs.declared.fault.Class.{Class}
 use Rattle.oc_base.specs.declared.fault.Class.TheVariants.{Malformed, Refused, Limit}
 use Rattle.oc_base.specs.declared.fault.Fault.{Fault}
 use Rattle.oc_base.specs.Codes.{class_of}
-use Rattle.oc_convert.specs.declared.fault.ConvertFault.{ConvertFault}
-use Rattle.oc_convert.specs.declared.fault.ConvertFault.TheVariants as fault
 use Rattle.objconv.specs.Plain.{is_plain}
 
 -- the refusal of what is not built yet
@@ -25,11 +23,6 @@ plain_refusal b = if is_plain b then None else Some not_built
 -- the first refusal: the input is too long, or else no plain object
 unfoldable pub first_refusal : List ℕ → Option Fault
 first_refusal b = if nat_lt 67108864 (length b) then Some too_long else plain_refusal b
-
--- the fault says what is refused; want of memory says nothing
-abbrev pub IsJudged : Option Fault → ConvertFault → Type 0
-IsJudged refusal (fault.Refused f) = refusal ≡ Some f
-IsJudged refusal fault.NoMemory = Unit {0}
 
 -- the status of a class of refusals
 abbrev pub status_by : Class → ℕ

@@ -11,7 +11,7 @@ use Rattle.oc_outside.specs.Texts.{grown, TakesPrefix}
 use Rattle.oc_linking.specs.Keeping.{all}
 use Rattle.oc_linking.specs.Parts.{with_keys}
 use Rattle.oc_linking.specs.Faithful.{Faithful}
-use Rattle.oc_convert.specs.Converted.{IsPlanned}
+use Rattle.oc_convert.specs.Converted.{planned_file}
 use Rattle.objconv.specs.declared.command.RunFault.{RunFault}
 use Rattle.objconv.specs.declared.command.RunFault.TheVariants as fault
 use Rattle.objconv.specs.Coded.{coff_file}
@@ -51,7 +51,7 @@ pub record HasRefusal (input : List ℕ) (files : Option Held) (refusal : Option
 -- the object that shows it, fitted to COFF, and c links as it does, where all is kept and nothing is edited
 pub record IsOutput (input : List ℕ) (files : Option Held) (c : List ℕ) : Type 0 where
   pub accepted : HasRefusal input files None
-  pub planned : (m : Held) → files ≡ Some m → IsSomeAnd (file_of input m) (λ b. IsPlanned plain_dialect coff_dialect coff_file b c)
+  pub planned : (m : Held) → files ≡ Some m → IsSomeAnd (file_of input m) (λ b. c ≡ planned_file plain_dialect coff_dialect coff_file b)
   pub faithful : (m : Held) → files ≡ Some m → IsSomeAnd (file_of input m)
       (λ b. Faithful plain_dialect.rules b all (with_keys (plain_dialect.rules.symbols b all)) coff_dialect.rules c)
 

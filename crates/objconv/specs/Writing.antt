@@ -4,15 +4,16 @@ use Rattle.oc_neutral.specs.declared.section.Section.{Section}
 use Rattle.oc_neutral.specs.Alignments as neutral
 use Rattle.oc_neutral.specs.Objects.{Object}
 use Rattle.oc_neutral.specs.Targets.{IsDialect, WritesCanonical}
+use Rattle.oc_linking.specs.Keeping.{all}
+use Rattle.oc_neutral.specs.Shows.{Shows}
 use Rattle.oc_neutral.specs.Written.{IsWritten}
 use Rattle.oc_coff_read.specs.Alignments as coff
 use Rattle.oc_coff_read.specs.Canonical.{code_file}
 use Rattle.objconv.specs.Coded.{IsWritable, coded_with, coded_by, coded, coff_file}
 use Rattle.objconv.specs.Dialects.{coff_dialect}
 use Rattle.objconv.specs.WriterLaw.CodedLemmas.{IsCoded, coded_is}
-use Rattle.objconv.specs.WriterLaw.SeenObjects.{seen_object}
+use Rattle.objconv.specs.WriterLaw.SeenIs.{seen_is}
 use Rattle.objconv.specs.WriterLaw.SeenShows.{shows_seen}
-use Rattle.objconv.specs.WriterLaw.SeenAlike.{alike_seen}
 
 -- COFF for i386 has the words and the alignments of its format
 pub coff_is_dialect : IsDialect coff_dialect
@@ -24,7 +25,7 @@ pub coff_file-coded : (m : Object) (s : Section) → IsCoded m s → coff_file m
 unfolding coded coff_file
 coff_file-coded m s is = ap (λ xs. code_file (coded_by m xs)) is.sections
 
--- every object of one section of code that is ready for COFF is written: its file is well formed, and shows an object that looks like it
+-- every object of one section of code that is ready for COFF is written: its file is well formed, and shows what a reader shows of the object
 pub writes_coff : WritesCanonical coff_dialect IsWritable coff_file
 writes_coff = record {
   dialect = coff_is_dialect;
@@ -33,8 +34,6 @@ writes_coff = record {
       let s : Section = one.0 in
       subst (λ file. IsWritten coff_dialect m file) (sym (coff_file-coded m s one.1)) (record {
         well_formed = refl;
-        seen = seen_object m s;
-        shows = shows_seen m s fits one.1;
-        alike = alike_seen m s fits one.1;
+        shows = subst (λ n. Shows coff_dialect (code_file (coded_with m s)) all n) (sym (seen_is m s fits one.1)) (shows_seen m s fits one.1);
       });
 }

@@ -3,10 +3,11 @@ ghost use Rattle.std.specs.Prelude.{◌≡◌, ◌≤◌, None, length, IfOk, If
 ghost use Rattle.oc_linking.specs.Faithful.{Faithful};
 ghost use Rattle.oc_linking.specs.Keeping.{all};
 ghost use Rattle.oc_linking.specs.Parts.{with_keys};
-ghost use Rattle.oc_convert.specs.Converted.{IsPlanned};
+ghost use Rattle.oc_convert.specs.Converted.{planned_file};
+ghost use Rattle.oc_convert.specs.Refusals.{IsFaultOf};
 ghost use Rattle.objconv.specs.Coded.{coff_file};
 ghost use Rattle.objconv.specs.Dialects.{plain_dialect, coff_dialect};
-ghost use Rattle.objconv.specs.Refusals.{IsJudged, plain_refusal};
+ghost use Rattle.objconv.specs.Refusals.{plain_refusal};
 
 use crate::fitter::CoffFitter;
 use crate::planned::PlannedFile;
@@ -23,10 +24,10 @@ use std::alloc::Global;
 pub fn convert_plain(alloc: Global, file: &[u8]) -> Result<PlannedFile, ConvertFault>
     requires { length file.now ≤ 67108864 }
     ensures accepted { OnOk result (plain_refusal file.now ≡ None) }
-    ensures planned { IfOk result (λ plan. IsPlanned plain_dialect coff_dialect coff_file file.now plan) }
+    ensures planned { IfOk result (λ plan. plan ≡ planned_file plain_dialect coff_dialect coff_file file.now) }
     ensures faithful { IfOk result (λ plan. Faithful plain_dialect.rules file.now all
         (with_keys (plain_dialect.rules.symbols file.now all)) coff_dialect.rules plan) }
-    ensures refused { IfErr result (IsJudged (plain_refusal file.now)) }
+    ensures refused { IfErr result (IsFaultOf (plain_refusal file.now)) }
 {
     convert(alloc, &PlainReader, &CoffFitter, &CoffWriter, file)
 }

@@ -2,7 +2,7 @@
 ghost use Rattle.std.specs.Prelude.{◌≡◌, nat_le, length, OnOk, true};
 ghost use Rattle.std.specs.List.{list_all};
 ghost use Rattle.oc_chains.specs.Lists.{list_of};
-ghost use Rattle.oc_neutral.specs.GivenTags.{has_nul};
+ghost use Rattle.oc_neutral.specs.KindRules.{has_nul};
 ghost use Rattle.oc_neutral.specs.Families.{same_format};
 ghost use Rattle.oc_neutral.specs.Rows.{same_base, same_width, same_check};
 ghost use Rattle.objconv.specs.Coded as coded;

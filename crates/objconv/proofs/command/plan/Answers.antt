@@ -3,7 +3,8 @@ use Rattle.std.proofs.Common.{◌≡◌, ℕ, ◌<◌, ◌≤◌, List, length, 
 use Rattle.oc_linking.specs.Keeping.{all}
 use Rattle.oc_linking.specs.Parts.{with_keys}
 use Rattle.oc_linking.specs.Faithful.{Faithful}
-use Rattle.oc_convert.specs.Converted.{IsPlanned}
+use Rattle.oc_outside.specs.Reading.{IsWholeOrLonger}
+use Rattle.oc_convert.specs.Converted.{planned_file}
 use Rattle.objconv.specs.declared.command.RunFault.{RunFault}
 use Rattle.objconv.specs.Coded.{coff_file}
 use Rattle.objconv.specs.Dialects.{plain_dialect, coff_dialect}
@@ -14,7 +15,7 @@ use Rattle.objconv.proofs.command.plan.Goals as goal
 
 -- what is said of the planned file and the bytes of the input
 abbrev Planned : List ℕ → List ℕ → Type 0
-Planned c b = IsPlanned plain_dialect coff_dialect coff_file b c
+Planned c b = c ≡ planned_file plain_dialect coff_dialect coff_file b
 
 abbrev IsFaithful : List ℕ → List ℕ → Type 0
 IsFaithful c b = Faithful plain_dialect.rules b all (with_keys (plain_dialect.rules.symbols b all)) coff_dialect.rules c
@@ -37,7 +38,7 @@ returns-in-Ok-convert_plain-clause-planned g c =
     let faithful : IsFaithful c.in-Ok-convert_plain.plan bytes = subst (IsFaithful c.in-Ok-convert_plain.plan) c.as_slice.ensures.value c.in-Ok-convert_plain.ensures.faithful in
     record {
       accepted = record { held = λ m told. some_and _ (λ (file : List ℕ) read. whole_judged bytes file read short ∙ accepted) (c.in-Ok.ensures.bytes m told) };
-      planned = λ m told. some_and _ (λ (file : List ℕ) read. subst (Planned c.in-Ok-convert_plain.plan) (read.whole short) planned) (c.in-Ok.ensures.bytes m told);
+      planned = λ m told. some_and _ (λ (file : List ℕ) (read : IsWholeOrLonger 67108864 bytes file). subst (Planned c.in-Ok-convert_plain.plan) (read.whole short) planned) (c.in-Ok.ensures.bytes m told);
       faithful = λ m told. some_and _ (λ (file : List ℕ) read. subst (IsFaithful c.in-Ok-convert_plain.plan) (read.whole short) faithful) (c.in-Ok.ensures.bytes m told);
     }
 
