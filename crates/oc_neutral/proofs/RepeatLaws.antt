@@ -14,13 +14,13 @@ use Rattle.oc_neutral.specs.declared.symbol.Symbol.{Symbol}
 use Rattle.oc_neutral.specs.Building.{has_name}
 use Rattle.oc_neutral.specs.Invariants.{AreDistinct}
 use Rattle.oc_neutral.specs.Keeping.{is_again, is_named}
-use Rattle.oc_neutral.specs.Repeats.{Names, name_at, place_of, repeat_at, first_repeat, nonlocal_name}
+use Rattle.oc_neutral.specs.Repeats.{NameList, name_at, place_of, repeat_at, first_repeat, nonlocal_name}
 use Rattle.oc_neutral.proofs.MoreSymbols.{name_more}
 use Rattle.oc_neutral.proofs.RepeatLemmas.{IsRepeat, first_is, no_repeat, none_repeat}
 
 -- a symbol's binding and name, in whatever record they are
 module _ {X : Type 0} (binding : X → Binding) (name : X → List ℕ) (xs : List X) where
-  abbrev names : Names
+  abbrev names : NameList
   names = map (λ x. nonlocal_name (binding x) (name x)) xs
 
   at : (k : ℕ) (x : X) → slice_get xs k ≡ Some x → name_at names k ≡ nonlocal_name (binding x) (name x)
@@ -44,7 +44,7 @@ pub names_differ : (symbols : List parts.Symbol) → first_repeat (map (λ (s : 
 names_differ symbols none i j s t low here there own also = differ (λ (s : parts.Symbol). s.binding) (λ (s : parts.Symbol). s.name) symbols none i j s t low here there own also
 
 module _ (symbols : List Symbol) where
-  abbrev nonlocal_names : Names
+  abbrev nonlocal_names : NameList
   nonlocal_names = map (λ (s : Symbol). nonlocal_name s.binding s.name) symbols
 
   abbrev place : List ℕ → ℕ → Option ℕ

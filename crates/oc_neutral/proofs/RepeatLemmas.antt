@@ -7,24 +7,24 @@ use Rattle.std.proofs.lemmas.Slice.Eq.{bytes_eq-Decides}
 use Rattle.oc_linking.specs.Numbers.{first_upto}
 use Rattle.oc_linking.proofs.FirstFaultLaws.{first_upto_none, first_upto_least}
 use Rattle.oc_neutral.specs.declared.repeats.Repeat.{Repeat}
-use Rattle.oc_neutral.specs.Repeats.{Names, name_at, place_of, repeat_at, first_repeat}
+use Rattle.oc_neutral.specs.Repeats.{NameList, name_at, place_of, repeat_at, first_repeat}
 
 -- a name stands at both positions
-pub record IsRepeat (names : Names) (r : Repeat) : Type 0 where
+pub record IsRepeat (names : NameList) (r : Repeat) : Type 0 where
   pub before : r.earlier < r.later
   pub name : List ℕ
   pub first : name_at names r.earlier ≡ Some name
   pub again : name_at names r.later ≡ Some name
 
 -- there is no name past the end
-pub named_within : (names : Names) (k : ℕ) (name : List ℕ) → name_at names k ≡ Some name → k < length names
+pub named_within : (names : NameList) (k : ℕ) (name : List ℕ) → name_at names k ≡ Some name → k < length names
 named_within names k name here = by (slice_get names k) refl here
   where
     by : (o : Option (Option (List ℕ))) → slice_get names k ≡ o → option_flatten o ≡ Some name → k < length names
     by None e here = absurd (none-some name here)
     by (Some x) e here = slice_get_within names k x e
 
-module _ (names : Names) where
+module _ (names : NameList) where
   module _ (n : ℕ) (name : List ℕ) where
     -- that the name stands at a position
     abbrev place : ℕ → Option ℕ
