@@ -1,10 +1,10 @@
 -- What the first repeat of the names of nonlocal symbols says of the symbols.
-use Rattle.std.proofs.Common.{◌≡◌, ◌≢◌, ℕ, zero, suc, ◌+◌, ◌<◌, ◌≤◌, Bool, true, false, not, cond, ◌&&◌, ◌||◌, true≢false, List, [], ◌∷◌, ◌++◌, map, take, length, bytes_eq, get_or, slice_get, Option, Some, None, inl, inr, refl, sym, ◌∙◌, ap, arith, subst}
+use Rattle.std.proofs.Common.{◌≡◌, ◌≢◌, ℕ, zero, suc, ◌+◌, ◌<◌, ◌≤◌, Bool, true, false, not, cond, ◌&&◌, ◌||◌, List, [], ◌∷◌, ◌++◌, map, take, length, bytes_eq, slice_get, Option, Some, None, inl, inr, refl, sym, ◌∙◌, ap, arith}
 use Rattle.std.specs.Option.{is_some, option_and_then, option_flatten, option_map, option_map_or}
 use Rattle.std.proofs.lemmas.List.{length-map, take_more}
-use Rattle.std.proofs.lemmas.Option.{none-some, same_Some, slice_get-map, slice_get_cases, slice_get_within, get_or_from_slice_get}
+use Rattle.std.proofs.lemmas.Option.{slice_get-map, slice_get_cases, slice_get_within, get_or_from_slice_get}
 use Rattle.std.proofs.lemmas.Cmp.{nat_list_eq_equiv}
-use Rattle.oc_linking.specs.Numbers.{first_upto, or_else}
+use Rattle.oc_linking.specs.Numbers.{or_else}
 use Rattle.oc_linking.specs.Parts as parts
 use Rattle.oc_linking.specs.Parts.{is_local, NamesDiffer}
 use Rattle.oc_linking.specs.declared.terms.Binding.{Binding}
@@ -16,7 +16,7 @@ use Rattle.oc_neutral.specs.Invariants.{AreDistinct}
 use Rattle.oc_neutral.specs.Keeping.{is_again, is_named}
 use Rattle.oc_neutral.specs.Repeats.{NameList, name_at, place_of, repeat_at, first_repeat, nonlocal_name}
 use Rattle.oc_neutral.proofs.MoreSymbols.{name_more}
-use Rattle.oc_neutral.proofs.RepeatLemmas.{IsRepeat, first_is, no_repeat, none_repeat}
+use Rattle.oc_neutral.proofs.RepeatLemmas.{none_repeat}
 
 -- a symbol's binding and name, in whatever record they are
 module _ {X : Type 0} (binding : X → Binding) (name : X → List ℕ) (xs : List X) where

@@ -1,5 +1,5 @@
 -- Names that stand twice in a list (our profile).
-use Rattle.std.specs.Prelude.{◌≡◌, ℕ, zero, suc, Bool, true, false, ◌&&◌, nat_eq, nat_le, bytes_eq, if◌then◌else◌, List, [], ◌∷◌, ◌++◌, length, map, slice_get, get_or, Option, Some, None}
+use Rattle.std.specs.Prelude.{ℕ, zero, suc, Bool, false, ◌&&◌, nat_eq, nat_le, bytes_eq, if◌then◌else◌, List, [], ◌∷◌, ◌++◌, length, map, slice_get, get_or, Option, Some, None}
 use Rattle.std.specs.Int.{w64, from_be_bytes}
 use Rattle.std.specs.Option.{option_and_then, option_copied, option_flatten, option_map, option_map_or, option_to_list, unwrap_or}
 use Rattle.std.specs.declared.cmp.Ordering.{Ordering}
