@@ -1,10 +1,10 @@
 -- What the first repeat of the names of nonlocal symbols says of the symbols.
-use Rattle.std.proofs.Common.{◌≡◌, ◌≢◌, ℕ, zero, suc, ◌+◌, ◌<◌, ◌≤◌, Bool, true, false, not, cond, ◌&&◌, ◌||◌, true≢false, List, [], ◌∷◌, ◌++◌, map, take, length, bytes_eq, get_or, slice_get, Option, Some, None, inl, inr, refl, sym, ◌∙◌, ap, arith, subst}
+use Rattle.std.proofs.Common.{◌≡◌, ◌≢◌, ℕ, zero, suc, ◌+◌, ◌<◌, ◌≤◌, Bool, true, false, not, cond, ◌&&◌, ◌||◌, List, [], ◌∷◌, ◌++◌, map, take, length, bytes_eq, slice_get, Option, Some, None, inl, inr, refl, sym, ◌∙◌, ap, arith}
 use Rattle.std.specs.Option.{is_some, option_and_then, option_flatten, option_map, option_map_or}
 use Rattle.std.proofs.lemmas.List.{length-map, take_more}
-use Rattle.std.proofs.lemmas.Option.{none-some, same_Some, slice_get-map, slice_get_cases, slice_get_within, get_or_from_slice_get}
+use Rattle.std.proofs.lemmas.Option.{slice_get-map, slice_get_cases, slice_get_within, get_or_from_slice_get}
 use Rattle.std.proofs.lemmas.Cmp.{nat_list_eq_equiv}
-use Rattle.oc_linking.specs.Numbers.{first_upto, or_else}
+use Rattle.oc_linking.specs.Numbers.{or_else}
 use Rattle.oc_linking.specs.Parts as parts
 use Rattle.oc_linking.specs.Parts.{is_local, NamesDiffer}
 use Rattle.oc_linking.specs.declared.terms.Binding.{Binding}
@@ -14,13 +14,13 @@ use Rattle.oc_neutral.specs.declared.symbol.Symbol.{Symbol}
 use Rattle.oc_neutral.specs.Building.{has_name}
 use Rattle.oc_neutral.specs.Invariants.{AreDistinct}
 use Rattle.oc_neutral.specs.Keeping.{is_again, is_named}
-use Rattle.oc_neutral.specs.Repeats.{Names, name_at, place_of, repeat_at, first_repeat, nonlocal_name}
+use Rattle.oc_neutral.specs.Repeats.{NameList, name_at, place_of, repeat_at, first_repeat, nonlocal_name}
 use Rattle.oc_neutral.proofs.MoreSymbols.{name_more}
-use Rattle.oc_neutral.proofs.RepeatLemmas.{IsRepeat, first_is, no_repeat, none_repeat}
+use Rattle.oc_neutral.proofs.RepeatLemmas.{none_repeat}
 
 -- a symbol's binding and name, in whatever record they are
 module _ {X : Type 0} (binding : X → Binding) (name : X → List ℕ) (xs : List X) where
-  abbrev names : Names
+  abbrev names : NameList
   names = map (λ x. nonlocal_name (binding x) (name x)) xs
 
   at : (k : ℕ) (x : X) → slice_get xs k ≡ Some x → name_at names k ≡ nonlocal_name (binding x) (name x)
@@ -44,7 +44,7 @@ pub names_differ : (symbols : List parts.Symbol) → first_repeat (map (λ (s : 
 names_differ symbols none i j s t low here there own also = differ (λ (s : parts.Symbol). s.binding) (λ (s : parts.Symbol). s.name) symbols none i j s t low here there own also
 
 module _ (symbols : List Symbol) where
-  abbrev nonlocal_names : Names
+  abbrev nonlocal_names : NameList
   nonlocal_names = map (λ (s : Symbol). nonlocal_name s.binding s.name) symbols
 
   abbrev place : List ℕ → ℕ → Option ℕ

@@ -1,5 +1,5 @@
 -- Entries in order: those with the same name stand together.
-use Rattle.std.proofs.Common.{◌≡◌, ℕ, zero, suc, ◌+◌, ◌-◌, ◌<◌, ◌≤◌, Bool, true, false, cond, ◌&&◌, nat_eq, nat_le, nat_lt, bytes_eq, List, [], ◌∷◌, ◌++◌, length, get_or, Option, Some, None, inl, inr, ◌⊎◌, refl, sym, ◌∙◌, ap, arith, subst}
+use Rattle.std.proofs.Common.{◌≡◌, ℕ, zero, suc, ◌+◌, ◌-◌, ◌<◌, ◌≤◌, Bool, true, false, cond, ◌&&◌, nat_eq, nat_le, nat_lt, bytes_eq, List, [], ◌++◌, length, get_or, Option, Some, None, inl, inr, ◌⊎◌, refl, sym, ◌∙◌, ap, arith, subst}
 use Rattle.std.specs.declared.cmp.Ordering.{Ordering}
 use Rattle.std.specs.declared.cmp.Ordering.TheVariants.{Less, Equal, Greater}
 use Rattle.std.specs.Cmp.{IsTotalOrder, tied_then}
@@ -22,11 +22,11 @@ use denote.Ref.{Bor}
 use Rattle.std.proofs.lemmas.Slice.Eq.{bytes_eq-Decides}
 use Rattle.oc_neutral.specs.declared.repeats.Entry.{Entry}
 use Rattle.oc_neutral.specs.declared.repeats.Repeat.{Repeat}
-use Rattle.oc_neutral.specs.Repeats.{Names, are_tied, bytes_at, entries_of, first_repeat, front_number, name_at, names_of, order, sooner}
+use Rattle.oc_neutral.specs.Repeats.{NameList, are_tied, bytes_at, entries_of, first_repeat, front_number, name_at, names_of, order, sooner}
 use Rattle.oc_neutral.proofs.RepeatLemmas.{IsRepeat, named_within, no_repeat, repeat_first}
 
 -- an entry has the number of the name at its position
-pub record IsEntry (names : Names) (e : Entry) : Type 0 where
+pub record IsEntry (names : NameList) (e : Entry) : Type 0 where
   pub name : List ℕ
   pub here : name_at names e.at ≡ Some name
   pub number : e.number ≡ front_number name
@@ -42,16 +42,16 @@ abbrev none : Entry
 none = record { number = 0; at = 0 }
 
 -- the positions of neighbours that tie
-abbrev IsPair : Names → List Entry → Repeat → Type 0
+abbrev IsPair : NameList → List Entry → Repeat → Type 0
 IsPair names es r = (k : ℕ) × (k + 1 < length es)
     × ((d : Entry) → (are_tied names (get_or es k d) (get_or es (k + 1) d) ≡ true) × (r ≡ record { earlier = (get_or es k d).at; later = (get_or es (k + 1) d).at }))
 
 -- what was found among the pairs of neighbours up to entry n is the one that ends least
-pub record IsLeast (names : Names) (es : List Entry) (n : ℕ) (found : Option Repeat) : Type 0 where
+pub record IsLeast (names : NameList) (es : List Entry) (n : ℕ) (found : Option Repeat) : Type 0 where
   pub met : (k : ℕ) (d : Entry) → k + 1 < n → are_tied names (get_or es k d) (get_or es (k + 1) d) ≡ true → (r : Repeat) × (found ≡ Some r) × (r.later ≤ (get_or es (k + 1) d).at)
   pub from : (r : Repeat) → found ≡ Some r → IsPair names es r
 
-module _ (names : Names) where
+module _ (names : NameList) where
   abbrev with_last : ℕ → Option (List ℕ) → List Entry
   with_last n o = entries_of names n ++ option_to_list (option_map (entry n) o)
 
@@ -282,7 +282,7 @@ module _ (names : Names) where
         omega (arith, m.2, ap (λ (s : Repeat). s.later) same, (p.2 none).1)))
 
 -- one entry more is looked at
-module _ (names : Names) (es : List Entry) (i : ℕ) (found : Option Repeat) (x y : Entry) (is : IsLeast names es i found) (some : 1 ≤ i) (low : i < length es)
+module _ (names : NameList) (es : List Entry) (i : ℕ) (found : Option Repeat) (x y : Entry) (is : IsLeast names es i found) (some : 1 ≤ i) (low : i < length es)
     (at_x : (d : Entry) → x ≡ get_or es (i - 1) d) (at_y : (d : Entry) → y ≡ get_or es i d) where
   abbrev pair : Repeat
   pair = record { earlier = x.at; later = y.at }
@@ -347,7 +347,7 @@ module _ (names : Names) (es : List Entry) (i : ℕ) (found : Option Repeat) (x 
         by (Some r) e = chosen r e (nat_le r.later y.at) refl
 
 -- one position more is looked at
-pub entries_more : (names : Names) (n : ℕ) (es : List Entry) (o : Option (List ℕ)) → name_at names n ≡ o → es ≡ entries_of names n → es ++ option_to_list (option_map (entry n) o) ≡ entries_of names (n + 1)
+pub entries_more : (names : NameList) (n : ℕ) (es : List Entry) (o : Option (List ℕ)) → name_at names n ≡ o → es ≡ entries_of names n → es ++ option_to_list (option_map (entry n) o) ≡ entries_of names (n + 1)
 entries_more names n es o here are =
     let next : suc n ≡ n + 1 = omega arith in
     ap (λ xs. xs ++ option_to_list (option_map (entry n) o)) are ∙ ap (with_last names n) (sym here) ∙ ap (entries_of names) next

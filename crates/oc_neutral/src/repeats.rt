@@ -97,7 +97,7 @@ fn sooner(found: Option<Repeat>, next: Repeat) -> Repeat
 fn entries_of(alloc: Global, names: &[Option<&[u8]>]) -> Result<Vec<Entry>, NoMemory>
     ensures { IfOk result (λ entries. entries.items ≡ repeats.entries_of (repeats.names_of names.now) (length names.now)) }
 {
-    let mut entries = Vec::new(alloc);
+    let mut entries = Vec::with_capacity(alloc, names.len())?;
     for at in 0..names.len() {
         if let Some(name) = names[at] {
             entries.push(Entry {
@@ -117,12 +117,12 @@ fn sort(names: &[Option<&[u8]>], entries: &mut Vec<Entry>)
     entries.sort_unstable_by(|x, y| order(names, x, y));
 }
 
-/// The first position at which a name stands that stood before, and where it stood; a position
+/// The first position at which a name stands that stood before, and where it stood. A position
 /// without a name counts for nothing.
 ///
-/// `NoMemory` where memory ran out. Takes sixteen bytes of memory for each name. The time is that
-/// of about n log2(n) comparisons of two of n names, whoever chose them. A comparison that the first
-/// eight bytes do not decide walks along both names up to the first byte that differs.
+/// `NoMemory` where memory ran out; it takes sixteen bytes a position. The time is that of about
+/// n log2(n) comparisons for n names, whoever chose them. A comparison takes constant time where
+/// the first eight bytes differ, and else a walk along both names up to where they differ.
 pub fn first_repeat(alloc: Global, names: &[Option<&[u8]>]) -> Result<Option<Repeat>, NoMemory>
     ensures { IfOk result (λ found. found ≡ repeats.first_repeat (repeats.names_of names.now)) }
 {

@@ -1,8 +1,7 @@
 -- One position more.
-use Rattle.std.proofs.Common.{◌≡◌, ℕ, ◌+◌, ◌∷◌, ◌++◌, [], Some, None, arith, sym, ◌∙◌, ap}
+use Rattle.std.proofs.Common.{ℕ, ◌∷◌, ◌++◌, [], Some, None, sym, ◌∙◌, ap}
 use Rattle.std.specs.Option.{option_copied}
 use Rattle.std.proofs.lemmas.List.{append-nil}
-use Rattle.oc_neutral.specs.declared.repeats.Entry.{Entry}
 use Rattle.oc_neutral.specs.Repeats.{names_of}
 use Rattle.oc_neutral.proofs.RepeatSorting.{entries_more, named_by, unnamed_by}
 use Rattle.oc_neutral.proofs.repeats.entries_of.Goals.{in-Some+in_ok-push, in_default}
