@@ -73,6 +73,7 @@ position-refit target number = is_position_or_len (λ symbols. position_of (map 
 
 -- fields of which some are left out
 module _ (keeps : Field Reloc → Bool) where
+  -- they follow one another still
   follow_filter : (p : ℕ) (xs : List (Field Reloc)) → FollowFrom p xs → FollowFrom p (filter keeps xs)
   follow_filter p [] follow = follow
   follow_filter p (x ∷ xs) follow = elim (keeps x) as (λ b. FollowFrom p (cond b (x ∷ filter keeps xs) (filter keeps xs))) [
@@ -80,6 +81,7 @@ module _ (keeps : Field Reloc → Bool) where
     | false ↦ let from = follow.0 in follows_from p (end_of x) (filter keeps xs) (omega (arith, from)) (follow_filter (end_of x) xs follow.2)
   ]
 
+  -- and what holds of each holds of each that is left
   each_filter : (P : Field Reloc → Type 0) (xs : List (Field Reloc)) → AllByRecursion P xs → AllByRecursion P (filter keeps xs)
   each_filter P [] each = tt
   each_filter P (x ∷ xs) each = elim (keeps x) as (λ b. AllByRecursion P (cond b (x ∷ filter keeps xs) (filter keeps xs))) [
@@ -119,31 +121,38 @@ none_mapped f None e = refl
 none_mapped f (Some x) e = absurd (none-some (f x) (sym e))
 
 module _ (target : Format) (n m : Object) (word : word_for target ≡ word_for n.format) (is : IsObject n) (fine : IsObject m) (fit : IsFit target n m) where
+  -- no symbol is worth anything
   abbrev no_worth : Valuation
   no_worth number = worthless
 
+  -- the contents and the fields, where all numbers are 0
   fits : FitsAt target n m zeros no_worth
   fits = fit.at zeros no_worth
 
+  -- the sections are in the same groups
   same_groups : (groups_of m.sections ≡ groups_of n.sections) × (m.groups ≡ n.groups)
   same_groups =
       groups_same m.groups n.groups fine.complete.keys is.complete.keys (groups_of m.sections) (groups_of n.sections) 0 (λ k l. absurd (omega (arith, l))) fine.complete.begun is.complete.begun
       fine.built.members is.built.members
       (sym (keys-shown m.groups m.sections) ∙ ap (map (λ (s : parts.Section). s.group)) fit.sections ∙ frames-groups target n.format n.groups (output_names target n) n.sections)
 
+  -- they are as many
   counted : length m.sections ≡ length n.sections
   counted = sym (length-map m.sections (λ (s : Section). s.group)) ∙ ap length same_groups.0 ∙ length-map n.sections (λ (s : Section). s.group)
 
   module _ (k : ℕ) (y x : Section) (there : slice_get m.sections k ≡ Some y) (here : slice_get n.sections k ≡ Some x) where
+    -- the name that the section gets
     abbrev name : List ℕ
     name = get_or (output_names target n) k x.name
 
+    -- its frame is the one that the target gives it
     framed : frame_of (shown_section m.groups y) ≡ fitted_frame target n.format n.groups name x
     framed = same_Some (frame_of (shown_section m.groups y)) (fitted_frame target n.format n.groups name x)
         (sym (slice_get-map frame_of (shown_sections m) k ∙ ap (option_map frame_of) (slice_get-map (shown_section m.groups) m.sections k ∙ ap (option_map (shown_section m.groups)) there))
         ∙ ap (λ xs. slice_get xs k) fit.sections
         ∙ frame_at target n.format n.groups (output_names target n) n.sections k x here)
 
+    -- its contents hold the constants
     contained : contents_of y ≡ overlay (constants target n k) 0 (contents_of x)
     contained = same_Some (contents_of y) (overlay (constants target n k) 0 (contents_of x))
         (sym (slice_get-map contents_of m.sections k ∙ ap (option_map contents_of) there) ∙ ap (λ cs. slice_get cs k) fits.contents
@@ -151,6 +160,7 @@ module _ (target : Format) (n m : Object) (word : word_for target ≡ word_for n
         (slice_get-map contents_of n.sections k ∙ ap (option_map contents_of) here)
         ∙ ap Some (constants_fill target n is no_worth k x here))
 
+    -- so it is what fitting makes of it
     section-fitted : y ≡ fitted_section target n (k, x)
     section-fitted =
         ap (λ s. filled s y.group y.bytes) framed
@@ -210,6 +220,7 @@ module _ (target : Format) (n m : Object) (word : word_for target ≡ word_for n
       (widths_at m fine s (omega (arith, inside, counted))) (each_filter (stays target s) HasWidth (list_of n.relocs s) (widths_at n is s inside))
       (λ at. found-fitted s at inside ∙ sym (found_staying target s 0 (list_of n.relocs s) at (is.built.fields.apart s)))
 
+  -- and so for all sections
   relocs-fitted : m.relocs ≡ map (staying target) (enumerate_from 0 n.relocs)
   relocs-fitted = computed_list (staying target) 0 m.relocs n.relocs (fine.built.fields.counted ∙ counted ∙ sym is.built.fields.counted)
       (λ s i ys xs at there here.

@@ -73,6 +73,7 @@ under_both true (Some q) = refl
 under_both false None = refl
 under_both false (Some q) = refl
 
+-- those that are stored
 live_stored : (stored : Bool) (o : Option Patch) → live_of (not stored) (under_of stored o) ≡ cond stored o None
 live_stored true None = refl
 live_stored true (Some q) = refl
@@ -89,6 +90,7 @@ module _ (target : Format) (n : Object) (is : IsObject n) (v : Valuation) (s : �
   abbrev under : ℕ → Option Patch
   under = unders (is_stored_at target n) (patches_of n zeros v) s
 
+  -- no two of them meet
   under_apart : Apart under
   under_apart i j q r here there l =
       let a = under_wide (is_stored_at target n s i) (patches_of n zeros v s i) q here in
