@@ -1,4 +1,4 @@
+pub mod Firsts
 pub mod Notes
-pub mod OneRefusal
 pub mod Outlines
 pub mod Whole

@@ -1,5 +1,5 @@
 -- The first refusal of a conversion in which all is kept and nothing is edited (our profile).
-use Rattle.std.specs.Prelude.{◌≡◌, ℕ, ◌⊎◌, nat_lt, if◌then◌else◌, List, length, slice_get, Option, Some, None}
+use Rattle.std.specs.Prelude.{◌≡◌, ℕ, nat_lt, if◌then◌else◌, List, length, slice_get, Option, Some, None}
 use Rattle.oc_base.specs.declared.format.Format.{Format}
 use Rattle.oc_base.specs.declared.code.Code.TheVariants.{LimitSymbols}
 use Rattle.oc_base.specs.declared.fault.Phase.TheVariants.{Edit}
@@ -11,7 +11,7 @@ use Rattle.oc_linking.specs.Numbers.{or_else}
 use Rattle.oc_neutral.specs.Objects.{Object}
 use Rattle.oc_neutral.specs.Invariants.{IsObject}
 use Rattle.oc_neutral.specs.Dialects.{Dialect}
-use Rattle.oc_neutral.specs.Shows.{Shows}
+use Rattle.oc_neutral.specs.Computed.{object_in}
 use Rattle.oc_neutral.specs.Fitted.{IsFit, IsFitted}
 use Rattle.oc_convert.specs.declared.fault.ConvertFault.{ConvertFault}
 use Rattle.oc_convert.specs.declared.fault.ConvertFault.TheVariants as fault
@@ -40,26 +40,9 @@ symbols_refusal n = if nat_lt 16777216 (length n.symbols) then Some (too_many_sy
 abbrev pub object_refusal : (Object → Option Fault) → Object → Option Fault
 object_refusal unfit n = or_else (symbols_refusal n) (unfit n)
 
--- the refusal is the first fault of the file
-abbrev pub RefusedInReading : Dialect → List ℕ → Option Fault → Type 0
-RefusedInReading f b refusal = (fault : Fault) × (f.rules.fault b all ≡ Some fault) × (refusal ≡ Some fault)
-
--- the file has no fault, and the refusal, if any, is the first of the object that it shows
-pub record JudgedAsObject (f : Dialect) (unfit : Object → Option Fault) (b : List ℕ) (refusal : Option Fault) : Type 0 where
-  pub well_formed : f.rules.fault b all ≡ None
-  pub object : Object
-  pub is_object : IsObject object
-  pub shows : Shows f b all object
-  pub refusal_is : refusal ≡ object_refusal unfit object
-
--- the first refusal of a file of the dialect for a target, or none
-abbrev pub IsFirstRefusal : Dialect → (Object → Option Fault) → List ℕ → Option Fault → Type 0
-IsFirstRefusal f unfit b refusal = RefusedInReading f b refusal ⊎ JudgedAsObject f unfit b refusal
-
--- what is refused is the first refusal; want of memory says nothing
-abbrev pub IsJudged : Dialect → (Object → Option Fault) → List ℕ → ConvertFault → Type 0
-IsJudged f unfit b (fault.Refused g) = IsFirstRefusal f unfit b (Some g)
-IsJudged f unfit b fault.NoMemory = Unit {0}
+-- the first refusal of a file of the dialect for a target, or none: the file's first fault, or else the first refusal of the file's object
+abbrev pub first_refusal : Dialect → (Object → Option Fault) → List ℕ → Option Fault
+first_refusal f unfit b = or_else (f.rules.fault b all) (object_refusal unfit (object_in f b all))
 
 -- notes stay within their format: a file that has some is converted to its own
 abbrev pub KeepsNotes : Dialect → Format → List ℕ → Type 0
@@ -68,7 +51,3 @@ KeepsNotes f target b = (k : ℕ) (s : parts.Section) → slice_get (f.rules.sec
 -- whatever the object, a target's writer takes what it is fitted to, where it is not refused
 abbrev pub TakesFitted : Format → (Object → Option Fault) → (Object → Type 0) → Type 0
 TakesFitted target unfit accepts = (n m : Object) → IsObject n → unfit n ≡ None → IsFit target n m → IsFitted target m → accepts m
-
--- a file has one first refusal, or none
-abbrev pub FirstRefusalIsOne : Type 0
-FirstRefusalIsOne = (f : Dialect) (unfit : Object → Option Fault) (b : List ℕ) (x y : Option Fault) → IsFirstRefusal f unfit b x → IsFirstRefusal f unfit b y → x ≡ y

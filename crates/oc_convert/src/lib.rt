@@ -5,9 +5,7 @@
 mod conversion;
 mod fault;
 mod fits;
-mod laws;
 
 pub use conversion::convert;
 pub use fault::ConvertFault;
 pub use fits::{FitFault, Fits};
-pub use laws::first_refusal_is_one;

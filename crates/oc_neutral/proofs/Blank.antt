@@ -128,7 +128,7 @@ module _ (n : Object) (is : IsObject n) (p : Placement) (v : Valuation) where
       (zero_stored (under s) i k.0 b q.1 q.2 q.0 q.3 r.3 k.2, subst (λ m. get_or x.bytes m 0 ≡ 0) back (bytes_under s x here (i - k.0) k.0 r.0 r.1 inside))
 
   -- so the contents of a section stay
-  section_blank : (s : ℕ) (x : Section) → slice_get n.sections s ≡ Some x → overlay (under s) 0 (contents_of x) ≡ contents_of x
+  pub section_blank : (s : ℕ) (x : Section) → slice_get n.sections s ≡ Some x → overlay (under s) 0 (contents_of x) ≡ contents_of x
   section_blank s x here = overlay_stays (under s) (contents_of x) (λ i b stored. let z = byte_zero s x here i b stored in contents_zero x i z.1 ∙ sym z.0)
 
   -- and those of the object

@@ -16,7 +16,7 @@ use Rattle.oc_linking.specs.Values.{Valuation, worthless}
 use Rattle.oc_linking.specs.Rules.{Named, Symbolic, Sectional}
 use Rattle.oc_linking.specs.Images.{overlay}
 use Rattle.oc_linking.specs.Linking.{patch_of}
-use Rattle.oc_linking.specs.Shows.{live_of}
+use Rattle.oc_linking.specs.Shows.{live_of, unders}
 use Rattle.oc_chains.specs.declared.field.Field.{Field}
 use Rattle.oc_chains.specs.Fields.{end_of, FollowFrom}
 use Rattle.oc_chains.specs.Lists.{list_of}
@@ -31,17 +31,18 @@ use Rattle.oc_neutral.specs.HomeNames.{output_names}
 use Rattle.oc_neutral.specs.Stored.{is_stored}
 use Rattle.oc_neutral.specs.Relocated.{stays}
 use Rattle.oc_neutral.specs.Faces.{key_of, contents_of, field_of, shown_section, shown_sections, shown_symbols}
-use Rattle.oc_neutral.specs.Shows.{frame_of, reloc_look}
+use Rattle.oc_neutral.specs.Shows.{frame_of, reloc_look, patches_of}
 use Rattle.oc_neutral.specs.Fitted.{fitted_frame, fitted_frames, is_stored_at, FitsAt, IsFit}
 use Rattle.oc_neutral.specs.Laws.{FitIsComputed}
 use Rattle.oc_neutral.specs.Computed.{position_of, placed_target, reloc_for}
-use Rattle.oc_neutral.specs.Fitting.{stored_patches, fitted_section, staying, fit_of}
+use Rattle.oc_neutral.specs.Fitting.{constants, fitted_section, staying, fit_of}
 use Rattle.oc_neutral.proofs.Positions.{each_at, images_same}
 use Rattle.oc_neutral.proofs.GroupLemmas.{keys_of, keys-shown, groups_same}
 use Rattle.oc_neutral.proofs.Numbered.{computed_list, overlay_at}
 use Rattle.oc_neutral.proofs.SameParts.{bytes_are, filled, parts_same}
 use Rattle.oc_neutral.proofs.FitLinks.{from_mapped, shown-fit}
 use Rattle.oc_neutral.proofs.Refit.{refit}
+use Rattle.oc_neutral.proofs.StoredConstants.{constants_fill}
 use Rattle.oc_neutral.proofs.FoundRelocs.{widths_at, found_at}
 use Rattle.oc_neutral.proofs.ComputedRelocs.{reloc-computed}
 use Rattle.oc_neutral.proofs.Scanning.{follows_from}
@@ -118,11 +119,11 @@ none_mapped f None e = refl
 none_mapped f (Some x) e = absurd (none-some (f x) (sym e))
 
 module _ (target : Format) (n m : Object) (word : word_for target ≡ word_for n.format) (is : IsObject n) (fine : IsObject m) (fit : IsFit target n m) where
-  abbrev nowhere_worth : Valuation
-  nowhere_worth number = worthless
+  abbrev no_worth : Valuation
+  no_worth number = worthless
 
-  fits : FitsAt target n m zeros nowhere_worth
-  fits = fit.at zeros nowhere_worth
+  fits : FitsAt target n m zeros no_worth
+  fits = fit.at zeros no_worth
 
   same_groups : (groups_of m.sections ≡ groups_of n.sections) × (m.groups ≡ n.groups)
   same_groups =
@@ -143,10 +144,12 @@ module _ (target : Format) (n m : Object) (word : word_for target ≡ word_for n
         ∙ ap (λ xs. slice_get xs k) fit.sections
         ∙ frame_at target n.format n.groups (output_names target n) n.sections k x here)
 
-    contained : contents_of y ≡ overlay (stored_patches target n k) 0 (contents_of x)
-    contained = same_Some (contents_of y) (overlay (stored_patches target n k) 0 (contents_of x))
+    contained : contents_of y ≡ overlay (constants target n k) 0 (contents_of x)
+    contained = same_Some (contents_of y) (overlay (constants target n k) 0 (contents_of x))
         (sym (slice_get-map contents_of m.sections k ∙ ap (option_map contents_of) there) ∙ ap (λ cs. slice_get cs k) fits.contents
-        ∙ overlay_at (stored_patches target n) 0 (map contents_of n.sections) k k (contents_of x) (omega arith) (slice_get-map contents_of n.sections k ∙ ap (option_map contents_of) here))
+        ∙ overlay_at (unders (is_stored_at target n) (patches_of n zeros no_worth)) 0 (map contents_of n.sections) k k (contents_of x) (omega arith)
+        (slice_get-map contents_of n.sections k ∙ ap (option_map contents_of) here)
+        ∙ ap Some (constants_fill target n is no_worth k x here))
 
     section-fitted : y ≡ fitted_section target n (k, x)
     section-fitted =
@@ -154,18 +157,18 @@ module _ (target : Format) (n m : Object) (word : word_for target ≡ word_for n
         ∙ ap (λ g. filled (fitted_frame target n.format n.groups name x) g y.bytes)
         (images_same (λ (s : Section). s.group) (λ (s : Section). s.group) m.sections n.sections same_groups.0 k y x there here)
         ∙ ap (filled (fitted_frame target n.format n.groups name x) x.group)
-        (bytes_are (is_zero y.kind) y.size y.bytes (overlay (stored_patches target n k) 0 (contents_of x)) contained (each_at HasItsBytes m.sections k y fine.built.bytes there)
-        ∙ ap (λ (s : parts.Section). cond (is_zero s.kind) [] (overlay (stored_patches target n k) 0 (contents_of x))) framed
-        ∙ filled_bytes (is_zero x.kind) x.size (stored_patches target n k) x.bytes (each_at HasItsBytes n.sections k x is.built.bytes here))
+        (bytes_are (is_zero y.kind) y.size y.bytes (overlay (constants target n k) 0 (contents_of x)) contained (each_at HasItsBytes m.sections k y fine.built.bytes there)
+        ∙ ap (λ (s : parts.Section). cond (is_zero s.kind) [] (overlay (constants target n k) 0 (contents_of x))) framed
+        ∙ filled_bytes (is_zero x.kind) x.size (constants target n k) x.bytes (each_at HasItsBytes n.sections k x is.built.bytes here))
 
   -- a relocation that has the look and the value of one is that one
   reloc-same : (s at : ℕ) (q r : Reloc) → s < length n.sections → reloc_at m s at ≡ Some q → reloc_at n s at ≡ Some r → reloc_look m q ≡ reloc_look n r
-      → (patch_of zeros nowhere_worth (field_of m s at q)).residue ≡ (patch_of zeros nowhere_worth (field_of n s at r)).residue → q ≡ r
+      → (patch_of zeros no_worth (field_of m s at q)).residue ≡ (patch_of zeros no_worth (field_of n s at r)).residue → q ≡ r
   reloc-same s at q r inside there here looks residues =
-      let v : Valuation = nowhere_worth in
+      let v : Valuation = no_worth in
       let a = found_at m fine s (omega (arith, inside, counted)) at q there in
       let b = found_at n is s inside at r here in
-      let residue : ℕ = (patch_of zeros nowhere_worth (field_of n s at r)).residue in
+      let residue : ℕ = (patch_of zeros no_worth (field_of n s at r)).residue in
       sym (reloc-computed m v s at q a.0 a.1)
       ∙ ap (λ x. reloc_for (word_for m.format) (shown_symbols m) v s at (reloc_look m q) x) residues
       ∙ ap (λ l. reloc_for (word_for m.format) (shown_symbols m) v s at l residue) looks
@@ -193,10 +196,10 @@ module _ (target : Format) (n m : Object) (word : word_for target ≡ word_for n
         | false ↦ λ stays.
             let q = from_mapped (reloc_look m) (reloc_at m s at) (reloc_look n r)
             (fit.looks s at ∙ ap (λ o. cond (option_map_or (is_stored target s) o false) None (option_map (reloc_look n) o)) e ∙ ap (λ b. cond b None (Some (reloc_look n r))) stays) in
-            let patch = same_Some (patch_of zeros nowhere_worth (field_of m s at q.0)) (patch_of zeros nowhere_worth (field_of n s at r))
-            (ap (λ o. option_map (patch_of zeros nowhere_worth) (option_map (field_of m s at) o)) (sym q.1) ∙ fits.patches s at
-            ∙ ap (λ o. live_of (option_map_or (is_stored target s) o false) (option_map (patch_of zeros nowhere_worth) (option_map (field_of n s at) o))) e
-            ∙ ap (λ b. live_of b (Some (patch_of zeros nowhere_worth (field_of n s at r)))) stays) in
+            let patch = same_Some (patch_of zeros no_worth (field_of m s at q.0)) (patch_of zeros no_worth (field_of n s at r))
+            (ap (λ o. option_map (patch_of zeros no_worth) (option_map (field_of m s at) o)) (sym q.1) ∙ fits.patches s at
+            ∙ ap (λ o. live_of (option_map_or (is_stored target s) o false) (option_map (patch_of zeros no_worth) (option_map (field_of n s at) o))) e
+            ∙ ap (λ b. live_of b (Some (patch_of zeros no_worth (field_of n s at r)))) stays) in
             q.1 ∙ ap Some (reloc-same s at q.0 r inside q.1 e q.2 (ap (λ (x : Patch). x.residue) patch))
       ] refl
 
