@@ -1,19 +1,16 @@
 -- The contents of an object that holds what is given are the file's, with constants in folded fields and zeros under the others.
-use Rattle.std.proofs.Common.{◌≡◌, ℕ, zero, suc, ◌+◌, ◌-◌, ◌/◌, ◌%◌, ◌^◌, ◌<◌, ◌≤◌, ◌⊎◌, inl, inr, Bool, true, false, cond, List, [], ◌∷◌, length, map, get_or, replicate, Option, Some, None, refl, sym, ◌∙◌, ap, subst, arith}
+use Rattle.std.proofs.Common.{◌≡◌, ℕ, zero, suc, ◌+◌, ◌-◌, ◌/◌, ◌%◌, ◌^◌, ◌<◌, ◌⊎◌, Bool, true, false, cond, List, [], ◌∷◌, length, map, get_or, replicate, Option, Some, None, refl, sym, ◌∙◌, ap, arith}
 use Rattle.std.specs.Prelude.{slice_get}
 use Rattle.std.specs.Option.{option_map, option_map_or, unwrap_or}
 use Rattle.std.proofs.lemmas.Bool.{lt-ltb}
 use Rattle.std.proofs.lemmas.Grind.{same_number_lists}
 use Rattle.std.proofs.lemmas.List.{length-map, length-replicate}
-use Rattle.std.proofs.lemmas.Option.{none-some, same_Some, slice_get-map}
+use Rattle.std.proofs.lemmas.Option.{none-some, same_Some}
 use Rattle.oc_linking.specs.declared.terms.Check.TheVariants.{Wrap}
 use Rattle.oc_linking.specs.declared.terms.Keep.{Keep}
-use Rattle.oc_linking.specs.declared.terms.Kind.{Kind}
-use Rattle.oc_linking.specs.declared.terms.Patch.{Patch}
 use Rattle.oc_linking.specs.declared.terms.Width.{Width}
 use Rattle.oc_linking.specs.Fits.{bytes_of}
 use Rattle.oc_linking.specs.Images.{Patches, byte_by, byte_upto, overlay, overlays}
-use Rattle.oc_linking.specs.Linking.{patch_of}
 use Rattle.oc_linking.specs.Parts as parts
 use Rattle.oc_linking.specs.Placing.{Placement}
 use Rattle.oc_linking.specs.Values.{Valuation}
@@ -29,14 +26,14 @@ use Rattle.oc_neutral.specs.declared.section.Section.{Section}
 use Rattle.oc_neutral.specs.declared.reloc.Reloc.{Reloc}
 use Rattle.oc_neutral.specs.Building.{Draft, is_zero, stored_size}
 use Rattle.oc_neutral.specs.Invariants.{HasItsBytes}
-use Rattle.oc_neutral.specs.Faces.{contents_of, shown_section, shown_sections}
+use Rattle.oc_neutral.specs.Faces.{contents_of, shown_section}
 use Rattle.oc_neutral.specs.Dialects.{Dialect, is_difference, is_folded, patches_in}
 use Rattle.oc_neutral.specs.Shows.{frame_of, IsTrueToFixed}
 use Rattle.oc_neutral.specs.Built.{Given, IsStarted, IsFree, IsGiven}
 use Rattle.oc_neutral.proofs.Adding.{wide_enough}
 use Rattle.oc_neutral.proofs.BuiltSeen.{under-from, under-given}
-use Rattle.oc_neutral.proofs.Holding.{IsHolding, IsCovered, left_in, stored_at}
-use Rattle.oc_neutral.proofs.Positions.{each_at, images_same, lengths_same, lists_same, there_at}
+use Rattle.oc_neutral.proofs.Holding.{IsHolding, IsCovered, stored_at}
+use Rattle.oc_neutral.proofs.Positions.{each_at, images_same, lengths_same, lists_same}
 use Rattle.oc_neutral.proofs.WrittenBytes.{byte_at}
 
 -- a byte of the low part of a number is one of the number

@@ -1,15 +1,12 @@
 -- An object that was built of a file shows it, and a Builder refuses nothing of a clean file.
-use Rattle.std.proofs.Common.{◌≡◌, ℕ, ◌⊎◌, inl, inr, List, [], ◌∷◌, map, refl, sym, ◌∙◌, ap}
-use Rattle.oc_linking.specs.declared.terms.Keep.{Keep}
+use Rattle.std.proofs.Common.{◌≡◌, List, [], ◌∷◌, map, refl, sym, ◌∙◌, ap}
 use Rattle.oc_linking.specs.Parts as parts
 use Rattle.oc_neutral.specs.declared.group.Group.{Group}
 use Rattle.oc_neutral.specs.declared.section.Section.{Section}
 use Rattle.oc_neutral.specs.declared.symbol.Symbol.{Symbol}
-use Rattle.oc_neutral.specs.Building.{Draft}
-use Rattle.oc_neutral.specs.Faces.{shown_section, shown_sections, shown_symbol}
-use Rattle.oc_neutral.specs.Dialects.{Dialect}
-use Rattle.oc_neutral.specs.Shows.{frame_of, Shows}
-use Rattle.oc_neutral.specs.Built.{Given, IsStarted, HasAdded, IsFree, IsGiven, BuiltShows}
+use Rattle.oc_neutral.specs.Faces.{shown_section, shown_symbol}
+use Rattle.oc_neutral.specs.Shows.{frame_of}
+use Rattle.oc_neutral.specs.Built.{BuiltShows}
 use Rattle.oc_neutral.proofs.BuiltContents.{contents-shown}
 use Rattle.oc_neutral.proofs.BuiltSeen.{looks-shown, patches-shown, patches-apart, patches-fit}
 use Rattle.oc_neutral.proofs.Holding.{IsHolding, holds_all}

@@ -1,8 +1,7 @@
 -- What is given of the fields of a file is what the object shows of them.
-use Rattle.std.proofs.Common.{◌≡◌, ℕ, zero, suc, ◌+◌, ◌-◌, ◌/◌, ◌%◌, ◌^◌, ◌<◌, ◌≤◌, ◌⊎◌, inl, inr, Bool, true, false, cond, List, [], ◌∷◌, length, map, Option, Some, None, refl, sym, ◌∙◌, ap, subst, arith}
-use Rattle.std.specs.Prelude.{not, slice_get, if◌then◌else◌}
+use Rattle.std.proofs.Common.{◌≡◌, ℕ, ◌+◌, ◌≤◌, ◌⊎◌, inl, inr, Bool, true, false, cond, List, map, Option, Some, None, refl, sym, ◌∙◌, ap, subst}
+use Rattle.std.specs.Prelude.{not, if◌then◌else◌}
 use Rattle.std.specs.Option.{option_map, option_and_then, option_map_or}
-use Rattle.std.proofs.lemmas.Bool.{true≢false}
 use Rattle.std.proofs.lemmas.Option.{none-some, same_Some}
 use Rattle.oc_base.specs.declared.format.Format.{Format}
 use Rattle.oc_base.specs.declared.format.Word.{Word}
@@ -15,22 +14,21 @@ use Rattle.oc_linking.specs.Linking.{patch_of}
 use Rattle.oc_linking.specs.Parts as parts
 use Rattle.oc_linking.specs.Placing.{Placement}
 use Rattle.oc_linking.specs.Values.{Valuation}
-use Rattle.oc_linking.specs.Rules.{Field, Named, Sectional}
-use Rattle.oc_linking.specs.Shows.{Apart, blank, lives, unders, under_of, live_of}
+use Rattle.oc_linking.specs.Rules.{Field, Sectional}
+use Rattle.oc_linking.specs.Shows.{Apart, blank, lives, unders, under_of}
 use Rattle.oc_algebra.specs.Folds.{low_of}
-use Rattle.oc_neutral.specs.declared.section.Section.{Section}
 use Rattle.oc_neutral.specs.declared.symbol.Symbol.{Symbol}
 use Rattle.oc_neutral.specs.declared.reloc.Reloc.{Reloc}
 use Rattle.oc_neutral.specs.declared.reloc.Target.{Target}
 use Rattle.oc_neutral.specs.Objects.{Object, reloc_at}
-use Rattle.oc_neutral.specs.Normal.{Place, place_among, cancels}
+use Rattle.oc_neutral.specs.Normal.{Place, place_among}
 use Rattle.oc_neutral.specs.Building.{Draft}
 use Rattle.oc_neutral.specs.Faces.{named_of, shown_symbol, field_of}
 use Rattle.oc_neutral.specs.Worth.{IsTrueToLocals, residue_at}
-use Rattle.oc_neutral.specs.Dialects.{Dialect, Look, kept_fields, is_difference, is_folded, look_of, looks_in, patches_in, target_by}
+use Rattle.oc_neutral.specs.Dialects.{Dialect, Look, kept_fields, is_difference, is_folded, look_of, looks_in, patches_in}
 use Rattle.oc_neutral.specs.Shows.{looks_of, patches_of, IsTrueToFixed}
 use Rattle.oc_neutral.specs.Built.{Given, IsStarted, IsFree, IsGiven, IsField, named_in}
-use Rattle.oc_neutral.proofs.Added.{kept_of, number_left, IsFitting}
+use Rattle.oc_neutral.proofs.Added.{kept_of}
 use Rattle.oc_neutral.proofs.Holding.{IsHolding, normal_in, left_in}
 use Rattle.oc_neutral.proofs.Looking.{folds, normal_look, patch_at, look_among, look-normal, patch-normal, number-normal, fits-normal, cancels-named, true_to_locals}
 use Rattle.oc_neutral.proofs.NormalLemmas.{section_for}
@@ -101,12 +99,12 @@ module _ (f : Dialect) (b : List ℕ) (keep : Keep) (base d : Draft) (given : Gi
   looks-shown s at = elim (all s at) [
     | inl free ↦ rw (folded-free s at free.field, free.field, reloc-free s at free.none) refl
     | inr is ↦
-      ap (λ (ys : List Symbol). option_map (look_among ys) (reloc_at d.object s at)) has.symbols
-      ∙ ap (option_map (look_among symbols)) (reloc-given s at is.reloc is.there)
-      ∙ look-normal word symbols s at is.reloc
-      ∙ ap (λ c. cond c None (Some (normal_look symbols s is.reloc))) (folds-field f b keep base.object s at is.reloc is.field is.is)
-      ∙ ap (λ (l : Look). cond (is_difference is.field) None (Some l)) (look-field f b keep base.object s at is.reloc is.field is.is)
-      ∙ sym (rw (folded-given s at is.field is.here, is.here) refl)
+        ap (λ (ys : List Symbol). option_map (look_among ys) (reloc_at d.object s at)) has.symbols
+        ∙ ap (option_map (look_among symbols)) (reloc-given s at is.reloc is.there)
+        ∙ look-normal word symbols s at is.reloc
+        ∙ ap (λ c. cond c None (Some (normal_look symbols s is.reloc))) (folds-field f b keep base.object s at is.reloc is.field is.is)
+        ∙ ap (λ (l : Look). cond (is_difference is.field) None (Some l)) (look-field f b keep base.object s at is.reloc is.field is.is)
+        ∙ sym (rw (folded-given s at is.field is.here, is.here) refl)
   ]
 
   module _ (p : Placement) (v : Valuation) (fixed : IsTrueToFixed f.rules.word (f.rules.symbols b keep) p v) where
@@ -135,14 +133,14 @@ module _ (f : Dialect) (b : List ℕ) (keep : Keep) (base d : Draft) (given : Gi
     patches-shown s at = elim (all s at) [
       | inl free ↦ rw (folded-free s at free.field, patched-free s at free.field, reloc-free s at free.none) refl
       | inr is ↦
-        of (reloc_at d.object s at)
-        ∙ ap (λ (g : Format). option_map (patch_at (word_for g) d.object.symbols p v s at) (reloc_at d.object s at)) has.format
-        ∙ ap (λ (ys : List Symbol). option_map (patch_at word ys p v s at) (reloc_at d.object s at)) has.symbols
-        ∙ ap (option_map (patch_at word symbols p v s at)) (reloc-given s at is.reloc is.there)
-        ∙ patch-normal word symbols s at is.reloc p v (locals p v fixed)
-        ∙ ap (λ c. cond c None (Some (patch_at word symbols p v s at is.reloc))) (folds-field f b keep base.object s at is.reloc is.field is.is)
-        ∙ ap (λ (q : Patch). cond (is_difference is.field) None (Some q)) (patch-given s at is)
-        ∙ sym (rw (folded-given s at is.field is.here, patched-given s at is.field is.here) refl)
+          of (reloc_at d.object s at)
+          ∙ ap (λ (g : Format). option_map (patch_at (word_for g) d.object.symbols p v s at) (reloc_at d.object s at)) has.format
+          ∙ ap (λ (ys : List Symbol). option_map (patch_at word ys p v s at) (reloc_at d.object s at)) has.symbols
+          ∙ ap (option_map (patch_at word symbols p v s at)) (reloc-given s at is.reloc is.there)
+          ∙ patch-normal word symbols s at is.reloc p v (locals p v fixed)
+          ∙ ap (λ c. cond c None (Some (patch_at word symbols p v s at is.reloc))) (folds-field f b keep base.object s at is.reloc is.field is.is)
+          ∙ ap (λ (q : Patch). cond (is_difference is.field) None (Some q)) (patch-given s at is)
+          ∙ sym (rw (folded-given s at is.field is.here, patched-given s at is.field is.here) refl)
     ]
       where
         of : (o : Option Reloc) → option_map (patch_of p v) (option_map (field_of d.object s at) o) ≡ option_map (patch_at (word_for d.object.format) d.object.symbols p v s at) o
@@ -218,9 +216,9 @@ module _ (f : Dialect) (b : List ℕ) (keep : Keep) (base d : Draft) (given : Gi
     under-given s at r there = elim (all s at) [
       | inl free ↦ absurd (none-some r (sym free.none ∙ there))
       | inr is ↦
-        let same : is.reloc ≡ r = same_Some is.reloc r (sym is.there ∙ there) in
-        let width : is.field.width ≡ r.form.width = sym is.is.width ∙ ap (λ (z : Reloc). z.form.width) same in
-        by is (is_folded f b keep s at) refl width
+          let same : is.reloc ≡ r = same_Some is.reloc r (sym is.there ∙ there) in
+          let width : is.field.width ≡ r.form.width = sym is.is.width ∙ ap (λ (z : Reloc). z.form.width) same in
+          by is (is_folded f b keep s at) refl width
     ]
       where
         by : (is : IsGiven f b keep base.object given s at) (c : Bool) → is_folded f b keep s at ≡ c → is.field.width ≡ r.form.width → (q : Patch) × (under s at ≡ Some q) × (q.width ≡ r.form.width)

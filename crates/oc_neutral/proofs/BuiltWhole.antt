@@ -1,10 +1,10 @@
 -- An object to which a file's relocations were added is whole and readable, where it was before.
-use Rattle.std.proofs.Common.{◌≡◌, ℕ, zero, suc, ◌<◌, ◌≤◌, ◌⊎◌, inl, inr, Bool, true, false, cond, List, [], ◌∷◌, length, map, get_or, Option, Some, None, Ok, refl, sym, ◌∙◌, ap, subst, arith}
+use Rattle.std.proofs.Common.{◌≡◌, ℕ, suc, ◌<◌, ◌≤◌, true, List, [], ◌∷◌, length, get_or, Option, Some, None, Ok, refl, sym, ◌∙◌, ap, subst, arith}
 use Rattle.std.specs.Prelude.{slice_get}
 use Rattle.std.specs.List.{AllByRecursion}
-use Rattle.std.specs.Option.{option_map, option_map_or}
+use Rattle.std.specs.Option.{option_map_or}
 use Rattle.std.proofs.lemmas.Grind.{same_number_lists}
-use Rattle.std.proofs.lemmas.Option.{none-some, same_Some, slice_get-map, slice_get_within}
+use Rattle.std.proofs.lemmas.Option.{none-some, slice_get_within}
 use Rattle.oc_base.specs.declared.format.Format.{Format}
 use Rattle.oc_base.specs.Formats.{word_for}
 use Rattle.oc_linking.specs.declared.terms.Value.{Value}
@@ -13,7 +13,6 @@ use Rattle.oc_linking.specs.declared.terms.Fallback.{Fallback}
 use Rattle.oc_linking.specs.declared.terms.Fallback.TheVariants as fallback
 use Rattle.oc_linking.specs.declared.terms.Binding.{Binding}
 use Rattle.oc_linking.specs.declared.terms.Binding.TheVariants.{Local, Global, Undefined, Common, Weak}
-use Rattle.oc_linking.specs.Numbers.{modulus}
 use Rattle.oc_linking.specs.Parts as parts
 use Rattle.oc_linking.specs.Fits.{bytes_of}
 use Rattle.oc_chains.specs.declared.field.Field.{Field}
@@ -23,27 +22,24 @@ use Rattle.oc_neutral.specs.declared.group.Group.{Group}
 use Rattle.oc_neutral.specs.declared.section.Section.{Section}
 use Rattle.oc_neutral.specs.declared.symbol.Symbol.{Symbol}
 use Rattle.oc_neutral.specs.declared.reloc.Target.{Target}
-use Rattle.oc_neutral.specs.declared.reloc.Target.TheVariants as target
 use Rattle.oc_neutral.specs.declared.reloc.Reloc.{Reloc}
 use Rattle.oc_neutral.specs.declared.normal.Normal.TheVariants as normal
 use Rattle.oc_neutral.specs.Objects.{Object}
-use Rattle.oc_neutral.specs.Normal.{Place, place_among, normal_of}
+use Rattle.oc_neutral.specs.Normal.{Place, place_among}
 use Rattle.oc_neutral.specs.Building.{Draft, reloc_added, stored_size}
 use Rattle.oc_neutral.specs.Faces.{shown_section}
 use Rattle.oc_neutral.specs.GivenTags.{can_have, is_blank_type}
-use Rattle.oc_neutral.specs.Invariants.{CanAdd, HasItsBytes, HasOffset, IsAlign, IsBinding, IsBuilt, IsComplete, IsDraft, IsFallback, IsHinted, IsSymbol, IsValue, HaveKeys, AreBegun, NamesOriginal, groups_of}
-use Rattle.oc_neutral.specs.Readable.{AreZeros, IsReadable}
+use Rattle.oc_neutral.specs.Invariants.{CanAdd, HasItsBytes, HasOffset, IsAlign, IsBinding, IsDraft, IsFallback, IsHinted, IsSymbol, IsValue, HaveKeys, AreBegun, NamesOriginal, groups_of}
+use Rattle.oc_neutral.specs.Readable.{AreZeros}
 use Rattle.oc_neutral.specs.Shows.{frame_of}
-use Rattle.oc_neutral.specs.Built.{Entry, Given, given_by, HasAdded, IsStarted, Makes}
-use Rattle.oc_neutral.specs.Finished.{AreFinal, LeavesBlanks, BuiltIsComplete, BuiltIsReadable}
-use Rattle.oc_neutral.proofs.Added.{IsAdded, added}
-use Rattle.oc_neutral.proofs.Addable.{sections-added}
+use Rattle.oc_neutral.specs.Built.{Entry, Given, given_by, Makes}
+use Rattle.oc_neutral.specs.Finished.{BuiltIsComplete, BuiltIsReadable}
+use Rattle.oc_neutral.proofs.Added.{added}
 use Rattle.oc_neutral.proofs.DraftAdded.{IsOne, kept, constant, one}
 use Rattle.oc_neutral.proofs.Holding.{IsCovered, IsHolding, found-more, still-more, normal-base, holds_all, holds_by, normal_in}
 use Rattle.oc_neutral.proofs.MoreRelocs.{all_placed, by_list}
 use Rattle.oc_neutral.proofs.NormalLemmas.{kept_hinted, kept_left, section_for}
 use Rattle.oc_neutral.proofs.Positions.{each_at, images_same, lengths_same, there_at}
-use Rattle.oc_neutral.proofs.WrittenBytes.{byte_at}
 
 -- what holds of each element holds of all
 all_from : {X : Type 0} (P : X → Type 0) (xs : List X) → ((k : ℕ) (x : X) → slice_get xs k ≡ Some x → P x) → AllByRecursion P xs

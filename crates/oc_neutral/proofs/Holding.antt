@@ -1,7 +1,6 @@
 -- What a draft holds to which entries were added, one by one.
-use Rattle.std.proofs.Common.{◌≡◌, ℕ, zero, suc, ◌+◌, ◌-◌, ◌/◌, ◌%◌, ◌^◌, ◌<◌, ◌≤◌, ◌⊎◌, inl, inr, Bool, true, false, ◌&&◌, ◌||◌, cond, eqb, List, [], ◌∷◌, length, map, Option, Some, None, Ok, Err, refl, sym, ◌∙◌, ap, subst, arith}
-use Rattle.std.specs.Prelude.{nat_eq, nat_le, nat_lt, slice_get, if◌then◌else◌}
-use Rattle.std.specs.List.{list_any}
+use Rattle.std.proofs.Common.{◌≡◌, ℕ, ◌+◌, ◌-◌, ◌/◌, ◌%◌, ◌^◌, ◌<◌, ◌≤◌, ◌⊎◌, inl, inr, Bool, true, false, ◌&&◌, ◌||◌, cond, eqb, List, [], ◌∷◌, map, Option, Some, None, Ok, refl, sym, ◌∙◌, ap, subst, arith}
+use Rattle.std.specs.Prelude.{nat_eq, nat_le, nat_lt, slice_get}
 use Rattle.std.specs.Option.{option_map, option_and_then, option_map_or}
 use Rattle.std.proofs.lemmas.Bool.{eqb-true, eq-eqb, leb-true, ltb-true, true≢false}
 use Rattle.std.proofs.lemmas.Bool.Decides.{nat_tests}
@@ -10,9 +9,7 @@ use Rattle.oc_base.specs.declared.format.Format.{Format}
 use Rattle.oc_base.specs.declared.format.Word.{Word}
 use Rattle.oc_base.specs.Formats.{word_for}
 use Rattle.oc_linking.specs.Fits.{bytes_of}
-use Rattle.oc_linking.specs.Parts as parts
 use Rattle.oc_chains.specs.Lists.{list_of}
-use Rattle.oc_neutral.specs.declared.group.Group.{Group}
 use Rattle.oc_neutral.specs.declared.section.Section.{Section}
 use Rattle.oc_neutral.specs.declared.symbol.Symbol.{Symbol}
 use Rattle.oc_neutral.specs.declared.reloc.Reloc.{Reloc}
@@ -23,7 +20,7 @@ use Rattle.oc_neutral.specs.Building.{Draft, is_met, stored_size, reloc_added}
 use Rattle.oc_neutral.specs.Invariants.{CanAdd, IsDraft, groups_of}
 use Rattle.oc_neutral.specs.Faces.{shown_section}
 use Rattle.oc_neutral.specs.Shows.{frame_of}
-use Rattle.oc_neutral.specs.Built.{Entry, Given, and_one, given_by, IsStep, Makes, HasAdded}
+use Rattle.oc_neutral.specs.Built.{Entry, Given, and_one, given_by, Makes, HasAdded}
 use Rattle.oc_neutral.proofs.Added.{kept_of, number_left, IsFitting, IsAdded, added}
 use Rattle.oc_neutral.proofs.Addable.{sections-added}
 use Rattle.oc_neutral.proofs.Adding.{have_common, wide_enough}
