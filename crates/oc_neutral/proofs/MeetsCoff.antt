@@ -24,7 +24,7 @@ use Rattle.oc_neutral.specs.Families.{Family, IsCoff, family_of, family_number}
 use Rattle.oc_neutral.specs.Fitted.{fitted_binding, IsFitted}
 use Rattle.oc_neutral.specs.GivenTags.{has_nul, family_gives}
 use Rattle.oc_neutral.specs.HomeNames.{is_home}
-use Rattle.oc_neutral.specs.Invariants.{IsSymbol, IsBinding}
+use Rattle.oc_neutral.specs.Invariants.{IsAlign, IsSymbol, IsBinding}
 use Rattle.oc_neutral.specs.KeySymbols.{has_key_symbol}
 use Rattle.oc_neutral.specs.Meets.{has_calls, MeetsReloc, HoldsAddend}
 use Rattle.oc_neutral.specs.Objects.{Object, reloc_at}
@@ -37,7 +37,7 @@ use Rattle.oc_neutral.specs.TargetSymbols.{is_absolute_form, is_unnatural, is_co
 use Rattle.oc_neutral.proofs.MeetsConditions.{neither, not_below, section_count_met, section_met, symbol_met}
 use Rattle.oc_neutral.proofs.MeetsCounts.{bounded_object}
 use Rattle.oc_neutral.proofs.MeetsKinds.{IsCoffTag, coff_named}
-use Rattle.oc_neutral.proofs.MeetsParts.{not_false, positive, uncut, led, taken_alike, plain_shift}
+use Rattle.oc_neutral.proofs.MeetsParts.{not_false, positive, power, uncut, led, taken_alike, plain_shift}
 use Rattle.oc_neutral.proofs.MeetsRelocs.{reloc_meets}
 use Rattle.oc_neutral.proofs.MeetsRows.{of_table}
 use Rattle.oc_neutral.proofs.MeetsStrings.{section_given, symbol_given, default_given}
@@ -153,7 +153,7 @@ module _ (format : Format) (n : Object) (family : family_of format ≡ IsCoff) (
             let member : not (has_key_symbol n g) ≡ false
             = subst (λ f. (unwritable_in f).member n g ≡ false) family (ap (λ o. option_map_or ((unwritable_in (family_of format)).member n) o false) (sym e) ∙ met.1.1.1.1.1.0) in
             led n g (not_false (has_key_symbol n g) member);
-        align = not_below (2 ^ 13) s.align low;
+        align = power 13 s.align (omega arith) (each_at (λ (x : Section). IsAlign x.align) n.sections k s fits.object.complete.aligns here) (not_below (2 ^ 13) s.align low);
         small = tag.small;
         tag = tag.own;
         read = tag.read;

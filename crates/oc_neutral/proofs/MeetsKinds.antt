@@ -1,6 +1,7 @@
 -- What names and tags that go with a kind say: the format's own rule gives the kind back.
 use Rattle.std.proofs.Common.{◌≡◌, ℕ, zero, suc, ◌+◌, ◌^◌, ◌<◌, ◌≤◌, Bool, true, false, cond, not, ◌&&◌, ◌||◌, eqb, List, [], ◌∷◌, get_or, Option, Some, None, refl, sym, ◌∙◌, ap, subst, arith, bytes_eq}
 use Rattle.std.specs.Prelude.{codes, nat_lt, nat_eq}
+use Rattle.std.specs.List.{AllByRecursion, list_any}
 use Rattle.std.specs.Option.{option_map_or}
 use Rattle.std.proofs.lemmas.Bool.{true≢false, and_parts, eqb-true, ltb-true}
 use Rattle.std.proofs.lemmas.Option.{none-some, same_Some}
@@ -10,15 +11,18 @@ use Rattle.oc_base.specs.declared.format.Format.TheVariants.{Elf32, Elf64, Coff3
 use Rattle.oc_linking.specs.declared.terms.Kind.{Kind}
 use Rattle.oc_linking.specs.declared.terms.Kind.TheVariants.{Code, ReadOnly, Data, Zero, Init, Fini, Debug, Exception, Note}
 use Rattle.oc_neutral.specs.Building.{is_zero}
-use Rattle.oc_neutral.specs.Constants.{SHT_X86_64_UNWIND, SHF_ALLOC, IMAGE_SCN_CNT_UNINITIALIZED_DATA}
+use Rattle.oc_neutral.specs.Constants.{SHT_NOTE, SHT_INIT_ARRAY, SHT_FINI_ARRAY, SHT_X86_64_UNWIND, SHF_WRITE, SHF_ALLOC, SHF_EXECINSTR}
+use Rattle.oc_neutral.specs.Constants.{IMAGE_SCN_CNT_CODE, IMAGE_SCN_CNT_UNINITIALIZED_DATA, IMAGE_SCN_LNK_INFO, IMAGE_SCN_LNK_REMOVE, IMAGE_SCN_MEM_EXECUTE, IMAGE_SCN_MEM_WRITE}
 use Rattle.oc_neutral.specs.KindRules.{first_rule, begins, has, kind_number, same_kind}
-use Rattle.oc_neutral.specs.ElfKinds.{is_carried_type, is_unwind_name, elf_kind, elf_tag_type, elf_tag_flags, is_nobits_tag}
+use Rattle.oc_neutral.specs.ElfKinds.{carried_types, is_carried_type, is_unwind_name, is_debug_name, elf_kind, elf_tag_type, elf_tag_flags, is_nobits_tag}
 use Rattle.oc_neutral.specs.CoffKinds.{coff_kind, coff_tag}
 use Rattle.oc_neutral.specs.CoffKinds as coff
 use Rattle.oc_neutral.specs.GivenTags.{elf_gives, coff_gives, family_gives}
 use Rattle.oc_neutral.specs.Families.{IsElf, IsCoff}
 use Rattle.oc_neutral.specs.HomeNames.{is_home}
 use Rattle.oc_neutral.specs.Meets.{IsReadAs}
+use Rattle.oc_neutral.proofs.MeetsParts.{any_passes}
+use Rattle.oc_neutral.proofs.Positions.{each_at}
 
 -- ... tests
 
@@ -50,6 +54,26 @@ one_of false y e left right = right e
 pub name_is : (a b : List ℕ) → (bytes_eq a b || false) ≡ true → a ≡ b
 name_is a b e = one_of (bytes_eq a b) false e (λ h. (bytes_eq-Decides a b).0 h) (λ h. absurd (true≢false (sym h)))
 
+-- where what the first rule says passes a test, so does what some rule says that holds, or what is said otherwise
+pub rule_told : {X : Type 0} (test : X → Bool) (rules : List (Bool × X)) (otherwise : X) → test (first_rule rules otherwise) ≡ true
+    → (list_any (λ (r : Bool × X). cond (test r.1) r.0 false) rules || test otherwise) ≡ true
+rule_told test [] otherwise e = e
+rule_told {X} test (rule ∷ rules) otherwise e = by rule.0 refl (rule_told test rules otherwise) e
+  where
+    neither_way : (b : Bool) → cond b false false ≡ false
+    neither_way true = refl
+    neither_way false = refl
+
+    by : (b : Bool) → rule.0 ≡ b → (test (first_rule rules otherwise) ≡ true → (list_any (λ (r : Bool × X). cond (test r.1) r.0 false) rules || test otherwise) ≡ true)
+        → test (cond b rule.1 (first_rule rules otherwise)) ≡ true → ((cond (test rule.1) b false || list_any (λ (r : Bool × X). cond (test r.1) r.0 false) rules) || test otherwise) ≡ true
+    by true h rest e = rw e refl
+    by false h rest e = rw (neither_way (test rule.1)) (rest e)
+
+-- the one rule that can have said it holds
+pub told_alone : (b : Bool) → ((b || false) || false) ≡ true → b ≡ true
+told_alone true e = refl
+told_alone false e = absurd (true≢false (sym e))
+
 -- a kind that is read back as itself
 pub read_same : (but kind read : Kind) → read ≡ kind → IsReadAs but kind read
 read_same but kind read e = record { same = λ other. e; zero = ap is_zero e }
@@ -61,6 +85,28 @@ pub record IsElfTag (kind : Kind) (name : List ℕ) (tag : ℕ) : Type 0 where
   pub carried : is_carried_type (elf_tag_type tag) ≡ true
   pub allocated : is_nobits_tag tag ≡ true → has (elf_tag_flags tag) SHF_ALLOC ≡ true
   pub kind_read : IsReadAs Exception kind (elf_kind name (elf_tag_type tag) (elf_tag_flags tag))
+
+-- the types that are carried have 32 bits
+pub carried_small : (t : ℕ) → is_carried_type t ≡ true → t < 2 ^ 32
+carried_small t e =
+    let c = any_passes (nat_eq t) carried_types e in
+    let small : AllByRecursion (λ x. x < 2 ^ 32) carried_types = (omega arith, (omega arith, (omega arith, (omega arith, (omega arith, (omega arith, tt)))))) in
+    subst (λ x. x < 2 ^ 32) (sym (eqb-true t c.1 c.3)) (each_at (λ x. x < 2 ^ 32) carried_types c.0 c.1 small c.2)
+
+-- zeros are told by the type NOBITS
+pub elf_zero : (name : List ℕ) (tag : ℕ) → elf_kind name (elf_tag_type tag) (elf_tag_flags tag) ≡ Zero → is_nobits_tag tag ≡ true
+unfolding elf_kind
+elf_zero name tag told = told_alone (is_nobits_tag tag) (rule_told (same_kind Zero) (
+    (is_unwind_name name || nat_eq (elf_tag_type tag) SHT_X86_64_UNWIND, Exception)
+    ∷ (not (has (elf_tag_flags tag) SHF_ALLOC) && is_debug_name name, Debug)
+    ∷ (not (has (elf_tag_flags tag) SHF_ALLOC), Note)
+    ∷ (nat_eq (elf_tag_type tag) SHT_NOTE, Note)
+    ∷ (nat_eq (elf_tag_type tag) SHT_INIT_ARRAY, Init)
+    ∷ (nat_eq (elf_tag_type tag) SHT_FINI_ARRAY, Fini)
+    ∷ (is_nobits_tag tag, Zero)
+    ∷ (has (elf_tag_flags tag) SHF_EXECINSTR, Code)
+    ∷ (has (elf_tag_flags tag) SHF_WRITE, Data)
+    ∷ []) ReadOnly (ap (same_kind Zero) told))
 
 -- at the home of a kind
 elf_at : (kind : Kind) (name home : List ℕ) (tag at : ℕ) → (nat_eq tag at && (bytes_eq name home || false)) ≡ true → IsElfTag kind home at → IsElfTag kind name tag
@@ -150,23 +196,21 @@ exception_coff name =
     by false false false false = (ReadOnly, refl, refl)
 
 -- zeros are told by their flag
-zero_told : (a b c d e f g h i : Bool) → first_rule (
-    (a, Some Debug) ∷ (b, Some Exception) ∷ (c, Some Note) ∷ (d, None) ∷ (e, Some Init) ∷ (f, Some Fini) ∷ (g, Some Zero) ∷ (h, Some Code) ∷ (i, Some Data) ∷ []
-    ) (Some ReadOnly) ≡ Some Zero → g ≡ true
-zero_told true b c d e f g h i told = absurd (cc)
-zero_told false true c d e f g h i told = absurd (cc)
-zero_told false false true d e f g h i told = absurd (cc)
-zero_told false false false true e f g h i told = absurd (cc)
-zero_told false false false false true f g h i told = absurd (cc)
-zero_told false false false false false true g h i told = absurd (cc)
-zero_told false false false false false false true h i told = refl
-zero_told false false false false false false false true i told = absurd (cc)
-zero_told false false false false false false false false true told = absurd (cc)
-zero_told false false false false false false false false false told = absurd (cc)
-
 coff_zero : (name : List ℕ) (tag : ℕ) → coff_kind name tag ≡ Some Zero → has tag IMAGE_SCN_CNT_UNINITIALIZED_DATA ≡ true
 unfolding coff_kind
-coff_zero name tag told = zero_told _ _ _ _ _ _ (has tag IMAGE_SCN_CNT_UNINITIALIZED_DATA) _ _ told
+coff_zero name tag told =
+    told_alone (has tag IMAGE_SCN_CNT_UNINITIALIZED_DATA)
+    (rule_told (λ o. option_map_or (same_kind Zero) o false) (
+    (begins name (codes ".debug"), Some Debug)
+    ∷ (coff.is_unwind_name name, Some Exception)
+    ∷ (has tag IMAGE_SCN_LNK_INFO, Some Note)
+    ∷ (has tag IMAGE_SCN_LNK_REMOVE, None)
+    ∷ (begins name (codes ".CRT$XC"), Some Init)
+    ∷ (begins name (codes ".CRT$XT"), Some Fini)
+    ∷ (has tag IMAGE_SCN_CNT_UNINITIALIZED_DATA, Some Zero)
+    ∷ (has tag IMAGE_SCN_CNT_CODE || has tag IMAGE_SCN_MEM_EXECUTE, Some Code)
+    ∷ (has tag IMAGE_SCN_MEM_WRITE, Some Data)
+    ∷ []) (Some ReadOnly) (ap (λ o. option_map_or (same_kind Zero) o false) told))
 
 coff_home : (k : ℕ) (kind : Kind) (name : List ℕ) (tag : ℕ) → is_home Coff32 k kind name tag ≡ true → IsCoffTag kind name tag
 unfolding is_home coff_kind coff_tag

@@ -12,24 +12,29 @@ use Rattle.oc_base.specs.Formats.{word_for}
 use Rattle.oc_linking.specs.declared.terms.Width.{Width}
 use Rattle.oc_linking.specs.declared.terms.Width.TheVariants.{Four}
 use Rattle.oc_linking.specs.declared.terms.Kind.{Kind}
+use Rattle.oc_linking.specs.declared.terms.Kind.TheVariants.{ReadOnly, Zero}
 use Rattle.oc_linking.specs.declared.terms.Hint.TheVariants.{Plain}
 use Rattle.oc_linking.specs.declared.terms.Less.TheVariants as less
 use Rattle.oc_linking.specs.declared.terms.Fallback.TheVariants as fallback
 use Rattle.oc_linking.specs.declared.terms.Binding.TheVariants.{Common, Weak}
 use Rattle.oc_linking.specs.Parts.{is_local}
 use Rattle.oc_algebra.specs.Fields.{to_field_of}
+use Rattle.oc_chains.specs.Lists.{list_of}
 use Rattle.oc_neutral.specs.declared.section.Section.{Section}
 use Rattle.oc_neutral.specs.declared.symbol.Symbol.{Symbol}
 use Rattle.oc_neutral.specs.declared.reloc.Reloc.{Reloc}
 use Rattle.oc_neutral.specs.Alignments.{most_in}
 use Rattle.oc_neutral.specs.Families.{Family, IsMach, family_of, family_number}
 use Rattle.oc_neutral.specs.Fitted.{IsFitted}
-use Rattle.oc_neutral.specs.GivenTags.{has_nul, family_gives}
+use Rattle.oc_neutral.specs.GivenTags.{has_nul, family_gives, is_blank}
 use Rattle.oc_neutral.specs.HomeNames.{is_home}
+use Rattle.oc_neutral.specs.Invariants.{HasItsBytes, IsAlign, IsSymbol, IsBinding}
+use Rattle.oc_neutral.specs.MachKinds.{segment_of, section_of, is_zerofill_tag}
 use Rattle.oc_neutral.specs.MachMeets.{MachSection, MachSymbol, IsWrittenDifference, MachReloc, MeetsMach, FittedMeetsMach}
 use Rattle.oc_neutral.specs.MachRelocs.{MachRow, length_of}
 use Rattle.oc_neutral.specs.Meets.{has_calls, MeetsReloc, HoldsAddend}
-use Rattle.oc_neutral.specs.Objects.{Object, reloc_at}
+use Rattle.oc_neutral.specs.Objects.{Object, reloc_among, reloc_at}
+use Rattle.oc_neutral.specs.Readable.{AreZeros}
 use Rattle.oc_neutral.specs.RelocTables.{rows_of, entries_of, entry_of}
 use Rattle.oc_neutral.specs.Rows.{Row, TakesSection, taken_of}
 use Rattle.oc_neutral.specs.SectionSymbols.{needed_sections}
@@ -40,11 +45,11 @@ use Rattle.oc_neutral.specs.TargetSections.{most_counted, counted_in, unwritable
 use Rattle.oc_neutral.specs.TargetSymbols.{mach_symbol_count, symbol_bound, bounded, is_common_in, is_common_form, is_weak_in, is_weak_form, symbol_conditions}
 use Rattle.oc_neutral.proofs.MeetsConditions.{AreMet, neither, not_below, below_length, section_count_met, section_met, symbol_met, reloc_met}
 use Rattle.oc_neutral.proofs.MeetsCounts.{symbols_bounded, bounded_object}
-use Rattle.oc_neutral.proofs.MeetsMachKinds.{IsMachTag, mach_named}
-use Rattle.oc_neutral.proofs.MeetsParts.{positive, is_something, uncut, steady, taken_alike}
+use Rattle.oc_neutral.proofs.MeetsMachKinds.{IsMachTag, mach_zero, mach_named}
+use Rattle.oc_neutral.proofs.MeetsParts.{all_bytes, positive, power, is_something, uncut, steady, taken_alike}
 use Rattle.oc_neutral.proofs.MeetsRelocs.{no_error, reloc_meets}
 use Rattle.oc_neutral.proofs.MeetsRows.{of_table}
-use Rattle.oc_neutral.proofs.Positions.{images_same}
+use Rattle.oc_neutral.proofs.Positions.{each_at, images_same}
 use Rattle.oc_neutral.proofs.ShiftLemmas.{four_bytes_hold}
 
 -- the homes of kinds are the same in both formats
@@ -131,6 +136,10 @@ module _ (format : Format) (n : Object) (family : family_of format ≡ IsMach) (
       let low : mach_symbol_count Mac64 (needed_sections n) n ≤ 0xFFFFFF = not_below 0xFFFFFF (mach_symbol_count Mac64 (needed_sections n) n) met.0 in
       omega (arith, low)
 
+  -- a section of type ZEROFILL has zeros and no field
+  blank : (k : ℕ) (s : Section) → slice_get n.sections k ≡ Some s → is_zerofill_tag s.tag ≡ true → AreZeros s.bytes × (list_of n.relocs k ≡ [])
+  blank k s here fill = fits.blanks k s here (ap (λ f. is_blank f s.tag) (ap family_of fits.format ∙ family) ∙ fill)
+
   section : (k : ℕ) (s : Section) → slice_get n.sections k ≡ Some s → MachSection s
   unfolding section_conditions
   section k s here =
@@ -145,7 +154,7 @@ module _ (format : Format) (n : Object) (family : family_of format ≡ IsMach) (
       record {
         uncut = (uncut n s (subst (λ f. (unwritable_in f).name format n s.name s ≡ false) family met.1.1.1.1.0)).name;
         alone = alone s.group (subst (λ f. option_map_or ((unwritable_in f).member n) s.group false ≡ false) family met.1.1.1.1.1.0);
-        align = not_below (2 ^ 15) s.align low;
+        align = power 15 s.align (omega arith) (each_at (λ (x : Section). IsAlign x.align) n.sections k s fits.object.complete.aligns here) (not_below (2 ^ 15) s.align low);
         name = tag.parted;
         segment = tag.segment;
         section = tag.section;
@@ -153,6 +162,10 @@ module _ (format : Format) (n : Object) (family : family_of format ≡ IsMach) (
         tag = tag.own;
         type = tag.type;
         kind = tag.read;
+        zeros = λ fill. (blank k s here fill).0;
+        stored = λ bytes. all_bytes s (each_at HasItsBytes n.sections k s fits.object.built.bytes here) (λ zero.
+            true≢false
+            (sym (mach_zero (segment_of s.name) (section_of s.name) s.tag (tag.read.same (λ other. absurd (let e : Zero ≡ ReadOnly = sym zero ∙ other in cc)) ∙ zero)) ∙ bytes));
       }
 
   symbol : (k : ℕ) (s : Symbol) → slice_get n.symbols k ≡ Some s → MachSymbol n s
@@ -164,7 +177,7 @@ module _ (format : Format) (n : Object) (family : family_of format ≡ IsMach) (
         common = λ size align e.
             let form : is_common_in (family_of format) size align ≡ false = ap (is_common_form format) (sym e) ∙ met.1.1.0 in
             let parts = neither (nat_eq size 0) (nat_lt (2 ^ 15) align) (subst (λ f. is_common_in f size align ≡ false) family form) in
-            (positive size parts.0, not_below (2 ^ 15) align parts.1);
+            (positive size parts.0, power 15 align (omega arith) (subst (IsBinding n) e (each_at (IsSymbol n) n.symbols k s fits.object.complete.symbols here).binding).1 (not_below (2 ^ 15) align parts.1));
         steady = λ j e.
             let weak : is_weak_in (family_of format) n (fallback.Name j) ≡ false = ap (is_weak_form format n) (sym e) ∙ met.1.1.1.0 in
             steady n j (subst (λ f. is_weak_in f n (fallback.Name j) ≡ false) family weak);
@@ -193,6 +206,7 @@ module _ (format : Format) (n : Object) (family : family_of format ≡ IsMach) (
       let row : IsEntryRow format m.row = entry_row format family m.is.position m.row m.is.there in
       record {
         meets = m;
+        stored = by (is_zerofill_tag m.section.tag) refl;
         entry = row.entry;
         row = row.own;
         found = row.found;
@@ -210,6 +224,12 @@ module _ (format : Format) (n : Object) (family : family_of format ≡ IsMach) (
             (ap (option_map (written_shift at r.form.less)) (subst (λ f. written_row f r.form r.hint ≡ Some m.row) is m.is.written)));
         hint = λ is. m.is.hint ∙ ap (λ f. cond (has_calls f) r.hint Plain) is;
       }
+    where
+      by : (b : Bool) → is_zerofill_tag (reloc_meets format n fits s at r here).section.tag ≡ b → is_zerofill_tag (reloc_meets format n fits s at r here).section.tag ≡ false
+      by true e =
+          let m = reloc_meets format n fits s at r here in
+          absurd (none-some r (sym (ap (λ xs. reloc_among xs at) (blank s m.section m.there e).1) ∙ here))
+      by false e = e
 
 pub meets_mach : FittedMeetsMach
 meets_mach format n family fits = record {

@@ -8,13 +8,15 @@ use Rattle.std.proofs.lemmas.Slice.Eq.{bytes_eq-Decides}
 use Rattle.oc_base.specs.declared.format.Format.TheVariants.{Mac32, Omf}
 use Rattle.oc_linking.specs.declared.terms.Kind.{Kind}
 use Rattle.oc_linking.specs.declared.terms.Kind.TheVariants.{Code, ReadOnly, Data, Zero, Init, Fini, Debug, Exception, Note}
-use Rattle.oc_neutral.specs.MachKinds.{is_comma, mach_name, segment_of, section_of, is_read_type, mach_kind, mach_tag}
+use Rattle.oc_neutral.specs.Constants.{S_MOD_INIT_FUNC_POINTERS, S_MOD_TERM_FUNC_POINTERS, S_ATTR_SOME_INSTRUCTIONS, S_ATTR_PURE_INSTRUCTIONS}
+use Rattle.oc_neutral.specs.KindRules.{has, same_kind}
+use Rattle.oc_neutral.specs.MachKinds.{is_comma, mach_name, segment_of, section_of, type_of, is_read_type, mach_kind, mach_tag, is_zerofill_tag}
 use Rattle.oc_neutral.specs.OmfKinds.{omf_kind, omf_class, omf_tag}
 use Rattle.oc_neutral.specs.GivenTags.{mach_gives, family_gives}
 use Rattle.oc_neutral.specs.Families.{IsMach, IsOmf}
 use Rattle.oc_neutral.specs.HomeNames.{numbered_name, is_home}
 use Rattle.oc_neutral.specs.Meets.{IsReadAs}
-use Rattle.oc_neutral.proofs.MeetsKinds.{kind_is, one_of, read_same}
+use Rattle.oc_neutral.proofs.MeetsKinds.{kind_is, one_of, rule_told, told_alone, read_same}
 
 -- ... Mach-O
 
@@ -27,6 +29,21 @@ pub record IsMachTag (kind : Kind) (name : List ℕ) (tag : ℕ) : Type 0 where
   pub own : mach_tag tag ≡ tag
   pub type : is_read_type tag ≡ true
   pub read : IsReadAs ReadOnly kind (mach_kind (segment_of name) (section_of name) tag)
+
+-- zeros are told by the type ZEROFILL
+pub mach_zero : (segment section : List ℕ) (tag : ℕ) → mach_kind segment section tag ≡ Zero → is_zerofill_tag tag ≡ true
+unfolding mach_kind
+mach_zero segment section tag told = told_alone (is_zerofill_tag tag) (rule_told (same_kind Zero) (
+    (bytes_eq segment (codes "__DWARF"), Debug)
+    ∷ (bytes_eq segment (codes "__LD"), Exception)
+    ∷ (bytes_eq section (codes "__eh_frame"), Exception)
+    ∷ (bytes_eq section (codes "__gcc_except_tab"), Exception)
+    ∷ (nat_eq (type_of tag) S_MOD_INIT_FUNC_POINTERS, Init)
+    ∷ (nat_eq (type_of tag) S_MOD_TERM_FUNC_POINTERS, Fini)
+    ∷ (is_zerofill_tag tag, Zero)
+    ∷ (bytes_eq segment (codes "__TEXT") && (has tag S_ATTR_PURE_INSTRUCTIONS || has tag S_ATTR_SOME_INSTRUCTIONS), Code)
+    ∷ (bytes_eq segment (codes "__TEXT"), ReadOnly)
+    ∷ []) Data (ap (same_kind Zero) told))
 
 -- a name with a comma is what stands before the first, the comma, and what stands after it
 parted_by : (name : List ℕ) → list_any is_comma name ≡ true → name ≡ before_first is_comma name ++ 44 ∷ after_first is_comma name

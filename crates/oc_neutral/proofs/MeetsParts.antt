@@ -1,13 +1,16 @@
 -- Parts of what families meet: names, symbols that are placed, and rows that take no section.
-use Rattle.std.proofs.Common.{◌≡◌, ℕ, zero, suc, ◌<◌, ◌≤◌, Bool, true, false, cond, not, ◌&&◌, ◌||◌, List, [], ◌∷◌, Option, Some, None, inl, inr, refl, sym, ◌∙◌, ap, subst, arith, bytes_eq}
+use Rattle.std.proofs.Common.{◌≡◌, ℕ, zero, suc, ◌+◌, ◌^◌, ◌<◌, ◌≤◌, Bool, true, false, cond, not, ◌&&◌, ◌||◌, List, [], ◌∷◌, length, Option, Some, None, inl, inr, refl, sym, ◌∙◌, ap, subst, arith, bytes_eq}
 use Rattle.std.specs.Prelude.{slice_get, nat_eq, pos, is_none}
 use Rattle.std.specs.List.{list_any}
 use Rattle.std.specs.Option.{option_map, option_map_or, option_and_then}
-use Rattle.std.proofs.lemmas.Bool.{true≢false, and_parts, eqb-true, not-true}
+use Rattle.std.proofs.lemmas.Bool.{true≢false, and_parts, eqb-true, cases_lt}
+use Rattle.std.proofs.Math.Pow.{pow_mono}
 use Rattle.std.proofs.lemmas.Option.{none-some, same_Some}
 use Rattle.std.proofs.lemmas.Slice.Eq.{bytes_eq-Decides}
 use Rattle.oc_base.specs.declared.format.Format.{Format}
 use Rattle.oc_base.specs.declared.format.Format.TheVariants.{Mac64}
+use Rattle.oc_linking.specs.declared.terms.Kind.{Kind}
+use Rattle.oc_linking.specs.declared.terms.Kind.TheVariants.{Code, ReadOnly, Data, Zero, Init, Fini, Debug, Exception, Note}
 use Rattle.oc_linking.specs.declared.terms.Less.{Less}
 use Rattle.oc_linking.specs.declared.terms.Fallback.{Fallback}
 use Rattle.oc_linking.specs.declared.terms.Fallback.TheVariants as fallback
@@ -16,10 +19,12 @@ use Rattle.oc_linking.specs.declared.terms.Base.TheVariants.{Address, Slot, GotB
 use Rattle.oc_algebra.specs.declared.form.Form.{Form}
 use Rattle.oc_neutral.specs.declared.section.Section.{Section}
 use Rattle.oc_neutral.specs.declared.symbol.Symbol.{Symbol}
+use Rattle.oc_neutral.specs.Building.{is_zero}
 use Rattle.oc_neutral.specs.Faces.{key_of}
 use Rattle.oc_neutral.specs.GivenTags.{has_nul}
+use Rattle.oc_neutral.specs.Invariants.{HasItsBytes, IsAlign}
 use Rattle.oc_neutral.specs.KeySymbols.{global_place, group_at, is_key_name, lies_in, has_key_symbol}
-use Rattle.oc_neutral.specs.Meets.{IsUncut, HasKeySymbol, IsSteadyAt, IsTakenBy}
+use Rattle.oc_neutral.specs.Meets.{IsUncut, HasKeySymbol, IsSteadyAt, IsPower, IsTakenBy}
 use Rattle.oc_neutral.specs.Normal.{Place}
 use Rattle.oc_neutral.specs.Objects.{Object}
 use Rattle.oc_neutral.specs.Rows.{Row, Taken, TakesPlace, TakesSection, taken_of, same_taken, same_base, shift_of}
@@ -98,6 +103,33 @@ steady n k e =
     let found = some_passes (is_steady n) (slice_get n.symbols k) (not_false _ e) in
     let place = some_passes (λ (p : Place). is_none (group_at n p.0)) (global_place found.0.binding) found.2 in
     record { symbol = found.0; there = found.1; place = place.0; placed = place.1; alone = is_nothing (group_at n place.0.0) place.2 }
+
+-- an alignment that is not above a power of two
+pub power : (most align : ℕ) → 2 ^ most < 2 ^ (most + 1) → IsAlign align → align ≤ 2 ^ most → IsPower most align
+power most align rises is low = elim (cases_lt most is.0) [
+  | inl l ↦ absurd (let more : 2 ^ (most + 1) ≤ 2 ^ is.0 = pow_mono (omega (arith, l)) in let own = is.2 in omega (arith, rises, more, own, low))
+  | inr l ↦ record { exponent = is.0; low = l; is = is.2 }
+]
+
+-- a section whose kind is Zero
+zero_kind : (kind : Kind) → is_zero kind ≡ true → kind ≡ Zero
+zero_kind Zero e = refl
+zero_kind Code e = absurd (true≢false (sym e))
+zero_kind ReadOnly e = absurd (true≢false (sym e))
+zero_kind Data e = absurd (true≢false (sym e))
+zero_kind Init e = absurd (true≢false (sym e))
+zero_kind Fini e = absurd (true≢false (sym e))
+zero_kind Debug e = absurd (true≢false (sym e))
+zero_kind Exception e = absurd (true≢false (sym e))
+zero_kind Note e = absurd (true≢false (sym e))
+
+-- a section has all its bytes, where its kind is not Zero
+pub all_bytes : (s : Section) → HasItsBytes s → (s.kind ≡ Zero → ⊥) → length s.bytes ≡ s.size
+all_bytes s own other = by (is_zero s.kind) refl
+  where
+    by : (b : Bool) → is_zero s.kind ≡ b → length s.bytes ≡ s.size
+    by true e = absurd (other (zero_kind s.kind e))
+    by false e = own ∙ ap (λ b. cond b 0 s.size) e
 
 -- what is taken, in another format than mac64
 pub taken_alike : (format : Format) (l : Less) (t : Taken) → (format ≡ Mac64 → ⊥) → IsTakenBy format l t → t ≡ taken_of l

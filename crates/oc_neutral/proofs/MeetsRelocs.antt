@@ -22,7 +22,7 @@ use Rattle.oc_neutral.specs.declared.reloc.Target.{Target}
 use Rattle.oc_neutral.specs.declared.reloc.Target.TheVariants as target
 use Rattle.oc_neutral.specs.declared.reloc.Reloc.{Reloc}
 use Rattle.oc_neutral.specs.Fitted.{IsFitted}
-use Rattle.oc_neutral.specs.Invariants.{IsHeld, IsHinted, IsNormal, IsObject}
+use Rattle.oc_neutral.specs.Invariants.{IsHeld, IsHinted, IsNormal, IsObject, NamesOriginal}
 use Rattle.oc_neutral.specs.Meets.{IsRowFor, HoldsAddend, MeetsReloc}
 use Rattle.oc_neutral.specs.Normal.{local_place, place_among}
 use Rattle.oc_neutral.specs.Objects.{Object, reloc_among, reloc_at}
@@ -30,9 +30,9 @@ use Rattle.oc_neutral.specs.Rows.{Row}
 use Rattle.oc_neutral.specs.Shifts.{field_shift}
 use Rattle.oc_neutral.specs.Spelling.{numbers_in, written_row}
 use Rattle.oc_neutral.specs.TargetRelocations.{is_local_number, is_nonlocal, is_homeless, is_target, needs_slot, needs_home, is_wrong_target, has_no_form, is_too_wide, spot_of, reloc_conditions}
-use Rattle.oc_neutral.proofs.MeetsConditions.{AreMet, neither, reloc_met}
+use Rattle.oc_neutral.proofs.MeetsConditions.{AreMet, field_found, neither, reloc_met}
 use Rattle.oc_neutral.proofs.MeetsRows.{IsCallForm, row_means}
-use Rattle.oc_neutral.proofs.Positions.{there_at}
+use Rattle.oc_neutral.proofs.Positions.{each_at, there_at}
 use Rattle.oc_neutral.proofs.SortedFields.{found_held}
 
 -- a section in which a relocation is found has a list
@@ -42,20 +42,28 @@ held_below zero (x ∷ lists) at r h = omega arith
 held_below (suc k) (x ∷ lists) at r h = let l = held_below k lists at r h in omega (arith, l)
 
 -- what is known of a field where a relocation is found: its section, and that it is held there
-pub record IsFoundField (n : Object) (s : ℕ) (r : Reloc) : Type 0 where
+pub record IsFoundField (n : Object) (s at : ℕ) (r : Reloc) : Type 0 where
   pub section : Section
   pub there : slice_get n.sections s ≡ Some section
   pub field : Field Reloc
   pub item : field.item ≡ r
+  pub place : field.at ≡ at
   pub held : IsHeld n s section.bytes field
 
-pub field_of : (n : Object) → IsObject n → (s at : ℕ) (r : Reloc) → reloc_at n s at ≡ Some r → IsFoundField n s r
+pub field_of : (n : Object) → IsObject n → (s at : ℕ) (r : Reloc) → reloc_at n s at ≡ Some r → IsFoundField n s at r
 field_of n is s at r here =
     let below = held_below s n.relocs at r here in
     let counted = is.built.fields.counted in
     let x = there_at n.sections s (omega (arith, below, counted)) in
-    let f = found_held (IsHeld n s x.0.bytes) (list_of n.relocs s) at r (is.built.fields.each s x.0 x.1) here in
-    record { section = x.0; there = x.1; field = f.0; item = f.1; held = f.2 }
+    let f = field_found (list_of n.relocs s) at r here in
+    record {
+      section = x.0;
+      there = x.1;
+      field = f.1;
+      item = f.3;
+      place = f.4;
+      held = each_at (IsHeld n s x.0.bytes) (list_of n.relocs s) f.0 f.1 (is.built.fields.each s x.0 x.1) f.2;
+    }
 
 -- a relocation is in normal form
 pub normal_of : (n : Object) → IsObject n → (s at : ℕ) (r : Reloc) → reloc_at n s at ≡ Some r → IsNormal n s r
@@ -92,6 +100,13 @@ last_of false y e both = absurd (true≢false (sym e))
 first_of : (x y : Bool) → y ≡ true → (x && y) ≡ false → x ≡ false
 first_of true y e both = sym e ∙ both
 first_of false y e both = refl
+
+-- what is named by the relocations of an object
+originals : (symbols : List Symbol) (xs : List (Field Reloc)) (at : ℕ) (r : Reloc) → AllByRecursion (λ (x : Field Reloc). NamesOriginal symbols x.item.target) xs → reloc_among xs at ≡ Some r
+    → NamesOriginal symbols r.target
+originals symbols xs at r all here =
+    let f = found_held (λ (x : Field Reloc). NamesOriginal symbols x.item.target) xs at r all here in
+    subst (λ (q : Reloc). NamesOriginal symbols q.target) f.1 f.2
 
 -- the hints of an object
 hints : (xs : List (Field Reloc)) (at : ℕ) (r : Reloc) → AllByRecursion (λ (x : Field Reloc). IsHinted x.item) xs → reloc_among xs at ≡ Some r → IsHinted r
@@ -137,7 +152,16 @@ module _ (format : Format) (n : Object) (fits : IsFitted format n) (s at : ℕ) 
   pub reloc_meets : MeetsReloc format n s at r
   reloc_meets =
       let row = some_row (λ (q : Row). numbers_in q.number q.second) (written_row format r.form r.hint) (neither _ _ formed).0 in
+      let f = field_of n fits.object s at r here in
+      let inside = f.held.inside in
+      let place = f.place in
+      let width : f.field.width ≡ bytes_of r.form.width = f.held.width ∙ ap (λ (q : Reloc). bytes_of q.form.width) f.item in
       record {
+        section = f.section;
+        there = f.there;
+        inside = omega (arith, inside, place, width);
+        normal = normal_of n fits.object s at r here;
+        original = originals n.symbols (list_of n.relocs s) at r (fits.object.complete.originals s) here;
         outer = outer;
         slot = slot;
         home = home;

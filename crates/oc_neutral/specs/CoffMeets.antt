@@ -19,7 +19,7 @@ use Rattle.oc_neutral.specs.Families.{IsCoff, family_of}
 use Rattle.oc_neutral.specs.Fitted.{IsFitted}
 use Rattle.oc_neutral.specs.GivenTags.{has_nul}
 use Rattle.oc_neutral.specs.KindRules.{has}
-use Rattle.oc_neutral.specs.Meets.{AreBounded, IsUncut, HasKeySymbol, IsReadAs, MeetsReloc, HoldsAddend}
+use Rattle.oc_neutral.specs.Meets.{AreBounded, IsUncut, HasKeySymbol, IsPower, IsReadAs, MeetsReloc, HoldsAddend}
 use Rattle.oc_neutral.specs.Objects.{Object, reloc_at}
 use Rattle.oc_neutral.specs.RelocTables.{row_of}
 use Rattle.oc_neutral.specs.Rows.{taken_of, shift_of}
@@ -33,7 +33,7 @@ pub record CoffSection (format : Format) (n : Object) (s : Section) : Type 0 whe
   pub near : is_tabled s.name ≡ true → string_offset format n s.name ≤ 9999999
   -- a group has its key symbol
   pub led : (g : ℕ) → s.group ≡ Some g → HasKeySymbol n g
-  pub align : s.align ≤ 2 ^ 13
+  pub align : IsPower 13 s.align
   -- its tag leaves nothing out of 32 bits of flags
   pub small : s.tag < 2 ^ 32
   pub tag : coff_tag s.tag ≡ s.tag

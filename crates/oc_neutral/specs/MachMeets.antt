@@ -12,10 +12,11 @@ use Rattle.oc_neutral.specs.declared.reloc.Reloc.{Reloc}
 use Rattle.oc_neutral.specs.Families.{IsMach, family_of}
 use Rattle.oc_neutral.specs.Fitted.{IsFitted}
 use Rattle.oc_neutral.specs.GivenTags.{has_nul}
-use Rattle.oc_neutral.specs.MachKinds.{mach_name, segment_of, section_of, is_read_type, mach_kind, mach_tag}
+use Rattle.oc_neutral.specs.MachKinds.{mach_name, segment_of, section_of, is_read_type, mach_kind, mach_tag, is_zerofill_tag}
 use Rattle.oc_neutral.specs.MachRelocs.{MachRow, length_of}
-use Rattle.oc_neutral.specs.Meets.{AreBounded, IsSteadyAt, IsReadAs, MeetsReloc, HoldsAddend}
+use Rattle.oc_neutral.specs.Meets.{AreBounded, IsSteadyAt, IsPower, IsReadAs, MeetsReloc, HoldsAddend}
 use Rattle.oc_neutral.specs.Objects.{Object, reloc_at}
+use Rattle.oc_neutral.specs.Readable.{AreZeros}
 use Rattle.oc_neutral.specs.RelocTables.{entry_of}
 use Rattle.oc_neutral.specs.Rows.{taken_of}
 use Rattle.oc_neutral.specs.SectionSymbols.{needed_sections}
@@ -27,7 +28,7 @@ use Rattle.oc_neutral.specs.TargetSymbols.{mach_symbol_count}
 pub record MachSection (s : Section) : Type 0 where
   pub uncut : has_nul s.name ≡ false
   pub alone : s.group ≡ None
-  pub align : s.align ≤ 2 ^ 15
+  pub align : IsPower 15 s.align
   -- its name is a segment and a section of up to 16 bytes each, with a comma between them
   pub name : s.name ≡ mach_name (segment_of s.name) (section_of s.name)
   pub segment : length (segment_of s.name) ≤ 16
@@ -37,11 +38,14 @@ pub record MachSection (s : Section) : Type 0 where
   pub tag : mach_tag s.tag ≡ s.tag
   pub type : is_read_type s.tag ≡ true
   pub kind : IsReadAs ReadOnly s.kind (mach_kind (segment_of s.name) (section_of s.name) s.tag)
+  -- what has no bytes in the file holds zeros, and what has bytes there has all
+  pub zeros : is_zerofill_tag s.tag ≡ true → AreZeros s.bytes
+  pub stored : is_zerofill_tag s.tag ≡ false → length s.bytes ≡ s.size
 
 -- a symbol
 pub record MachSymbol (n : Object) (s : Symbol) : Type 0 where
   pub name : has_nul s.name ≡ false
-  pub common : (size align : ℕ) → s.binding ≡ Common size align → (0 < size) × (align ≤ 2 ^ 15)
+  pub common : (size align : ℕ) → s.binding ≡ Common size align → (0 < size) × IsPower 15 align
   -- a fallback Name is written as the place of its Global
   pub steady : (k : ℕ) → s.binding ≡ Weak (fallback.Name k) → IsSteadyAt n k
 
@@ -56,6 +60,8 @@ pub record IsWrittenDifference (n : Object) (at : ℕ) (r : Reloc) (k : ℕ) : T
 -- a relocation
 pub record MachReloc (format : Format) (n : Object) (s at : ℕ) (r : Reloc) : Type 0 where
   pub meets : MeetsReloc format n s at r
+  -- it stands in a section that has bytes in the file
+  pub stored : is_zerofill_tag meets.section.tag ≡ false
   -- the entry is found by its type, r_pcrel and r_length
   pub entry : MachRow
   pub row : entry.row ≡ meets.row

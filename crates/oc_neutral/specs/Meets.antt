@@ -9,6 +9,7 @@ use Rattle.oc_linking.specs.declared.terms.Hint.{Hint}
 use Rattle.oc_linking.specs.declared.terms.Hint.TheVariants.{Plain, Call}
 use Rattle.oc_linking.specs.declared.terms.Less.{Less}
 use Rattle.oc_linking.specs.declared.terms.Less.TheVariants as less
+use Rattle.oc_linking.specs.Fits.{bytes_of}
 use Rattle.oc_linking.specs.Parts.{is_local}
 use Rattle.oc_algebra.specs.declared.form.Form.{Form}
 use Rattle.oc_algebra.specs.Fields.{to_field_of}
@@ -23,6 +24,7 @@ use Rattle.oc_neutral.specs.Objects.{Object}
 use Rattle.oc_neutral.specs.Building.{is_zero, size_sum, stored_sum}
 use Rattle.oc_neutral.specs.Faces.{key_of}
 use Rattle.oc_neutral.specs.GivenTags.{has_nul}
+use Rattle.oc_neutral.specs.Invariants.{IsNormal, NamesOriginal}
 use Rattle.oc_neutral.specs.KeySymbols.{global_place, group_at}
 use Rattle.oc_neutral.specs.Normal.{Place}
 use Rattle.oc_neutral.specs.Rows.{Row, Taken, TakesSection, taken_of, same_hint}
@@ -76,6 +78,14 @@ pub record IsSteadyAt (n : Object) (k : ℕ) : Type 0 where
   pub placed : global_place symbol.binding ≡ Some place
   pub alone : group_at n place.0 ≡ None
 
+-- ... alignments
+
+-- the power of two that an alignment is
+pub record IsPower (most align : ℕ) : Type 0 where
+  pub exponent : ℕ
+  pub low : exponent ≤ most
+  pub is : align ≡ 2 ^ exponent
+
 -- ... kinds
 
 -- what a format reads of a section's name and tag is the section's kind, but for one kind, which may be read as another. It has bytes all the same.
@@ -112,6 +122,13 @@ HoldsAddend format r shift = (number : ℕ) × (to_field_of (word_for format) r.
 
 -- what a relocation at an offset of section s meets
 pub record MeetsReloc (format : Format) (n : Object) (s at : ℕ) (r : Reloc) : Type 0 where
+  -- its field lies in the bytes of the section
+  pub section : Section
+  pub there : slice_get n.sections s ≡ Some section
+  pub inside : at + bytes_of r.form.width ≤ length section.bytes
+  -- it is in normal form, what it names is there, and is no alias
+  pub normal : IsNormal n s r
+  pub original : NamesOriginal n.symbols r.target
   -- its target is no Local
   pub outer : (k : ℕ) (x : Symbol) → r.target ≡ target.Symbol k → slice_get n.symbols k ≡ Some x → is_local x.binding ≡ false
   -- a section has no slot
