@@ -41,6 +41,7 @@ use Rattle.oc_neutral.proofs.MeetsParts.{not_false, positive, power, uncut, led,
 use Rattle.oc_neutral.proofs.MeetsRelocs.{reloc_meets}
 use Rattle.oc_neutral.proofs.MeetsRows.{of_table}
 use Rattle.oc_neutral.proofs.MeetsStrings.{section_given, symbol_given, default_given}
+use Rattle.oc_neutral.proofs.MeetsStringSum.{strings_fit}
 use Rattle.oc_neutral.proofs.Positions.{each_at}
 
 -- the homes of kinds are the same in both formats
@@ -206,6 +207,9 @@ pub meets_coff : FittedMeetsCoff
 meets_coff format n family fits = record {
   bounds = bounded_object format n fits;
   few = few format n family fits;
+  strings =
+      let bounds = bounded_object format n fits in
+      strings_fit format n fits.format (few format n family fits) bounds.symbols bounds.texts;
   sections = section format n family fits;
   symbols = symbol format n family fits;
   relocs = reloc format n family fits;

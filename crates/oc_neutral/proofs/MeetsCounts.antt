@@ -26,7 +26,7 @@ use Rattle.oc_neutral.proofs.Positions.{each_at}
 -- ... sums
 
 -- a sum over what a list is made into
-sum_map : {X Y : Type 0} (f : Y → ℕ) (g : X → Y) (xs : List X) → sum_by f (map g xs) ≡ sum_by (λ x. f (g x)) xs
+pub sum_map : {X Y : Type 0} (f : Y → ℕ) (g : X → Y) (xs : List X) → sum_by f (map g xs) ≡ sum_by (λ x. f (g x)) xs
 sum_map f g [] = refl
 sum_map f g (x ∷ xs) = sum_by-cons f (g x) (map g xs) ∙ ap (λ m. f (g x) + m) (sum_map f g xs) ∙ sym (sum_by-cons (λ x. f (g x)) x xs)
 

@@ -1,5 +1,5 @@
 -- What a writer of COFF uses of an object that is ready to be written (PE/COFF, "Section Table", "COFF Relocations" and "COFF Symbol Table"; our profile).
-use Rattle.std.specs.Prelude.{◌≡◌, ℕ, ◌^◌, ◌<◌, ◌≤◌, true, false, List, length, slice_get, Option, Some, None}
+use Rattle.std.specs.Prelude.{◌≡◌, ℕ, ◌+◌, ◌^◌, ◌<◌, ◌≤◌, true, false, List, length, slice_get, sum_by, Option, Some, None}
 use Rattle.oc_base.specs.Strings.{is_given}
 use Rattle.oc_base.specs.declared.format.Format.{Format}
 use Rattle.oc_linking.specs.declared.terms.Kind.{Kind}
@@ -73,6 +73,8 @@ pub record CoffReloc (format : Format) (n : Object) (s at : ℕ) (r : Reloc) : T
 pub record MeetsCoff (format : Format) (n : Object) : Type 0 where
   pub bounds : AreBounded n
   pub few : length n.sections ≤ 65279
+  -- the names that are given to the string table, each with its NUL
+  pub strings : sum_by (λ (name : List ℕ). length name + 1) (coff_strings format n) ≤ 2 ^ 31
   pub sections : (k : ℕ) (s : Section) → slice_get n.sections k ≡ Some s → CoffSection format n s
   pub symbols : (k : ℕ) (s : Symbol) → slice_get n.symbols k ≡ Some s → CoffSymbol format n s
   pub relocs : (s at : ℕ) (r : Reloc) → reloc_at n s at ≡ Some r → CoffReloc format n s at r
