@@ -40,12 +40,14 @@ use Rattle.oc_neutral.specs.Rows.{Row, TakesSection, taken_of}
 use Rattle.oc_neutral.specs.SectionSymbols.{needed_sections}
 use Rattle.oc_neutral.specs.Shifts.{field_shift, written_shift}
 use Rattle.oc_neutral.specs.Spelling.{written_row}
+use Rattle.oc_neutral.specs.Stored.{is_stored}
 use Rattle.oc_neutral.specs.TargetRelocations.{taken_end, fixed_end, is_empty, has_empty_end, has_no_form, is_too_far, ends_in_nothing, spot_of, reloc_conditions}
 use Rattle.oc_neutral.specs.TargetSections.{most_counted, counted_in, unwritable_in, section_conditions}
 use Rattle.oc_neutral.specs.TargetSymbols.{mach_symbol_count, symbol_bound, bounded, is_common_in, is_common_form, is_weak_in, is_weak_form, symbol_conditions}
 use Rattle.oc_neutral.proofs.MeetsConditions.{AreMet, neither, not_below, below_length, section_count_met, section_met, symbol_met, reloc_met}
 use Rattle.oc_neutral.proofs.MeetsCounts.{symbols_bounded, bounded_object}
 use Rattle.oc_neutral.proofs.MeetsMachKinds.{IsMachTag, mach_zero, mach_named}
+use Rattle.oc_neutral.proofs.MeetsNames.{needed_there}
 use Rattle.oc_neutral.proofs.MeetsParts.{all_bytes, positive, power, is_something, uncut, steady, taken_alike}
 use Rattle.oc_neutral.proofs.MeetsRelocs.{no_error, reloc_meets}
 use Rattle.oc_neutral.proofs.MeetsRows.{of_table}
@@ -218,6 +220,8 @@ module _ (format : Format) (n : Object) (family : family_of format ≡ IsMach) (
             subst (λ f. HoldsAddend f r shift) (sym is)
             (no_error (to_field_of W32 r.form.width shift r.addend) (ap (λ w. is_err (to_field_of W32 w shift r.addend)) four ∙ four_bytes_hold shift r.addend));
         difference = difference s at r here;
+        needed = λ k is names.
+            needed_there n s at r m.section here m.there m.normal (subst (λ f. is_stored f s r ≡ false) is m.stays) k names;
         held = λ is.
             m.holds (written_shift at r.form.less m.row)
             (subst (λ f. field_shift f at r ≡ Some (written_shift at r.form.less m.row)) (sym is)

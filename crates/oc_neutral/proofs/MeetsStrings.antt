@@ -27,7 +27,7 @@ use Rattle.oc_neutral.proofs.MeetsParts.{some_passes}
 -- ... members of lists
 
 -- it stands in the list
-abbrev Stands : {X : Type 0} → List X → X → Type 0
+abbrev pub Stands : {X : Type 0} → List X → X → Type 0
 Stands xs x = (k : ℕ) × (slice_get xs k ≡ Some x)
 
 stands_first : {X : Type 0} (xs ys : List X) (k : ℕ) (x : X) → slice_get xs k ≡ Some x → Stands (xs ++ ys) x
@@ -39,7 +39,7 @@ stands_second : {X : Type 0} (xs ys : List X) (x : X) → Stands ys x → Stands
 stands_second [] ys x h = h
 stands_second (y ∷ xs) ys x h = let r = stands_second xs ys x h in (suc r.0, r.1)
 
-stands_filter : {X : Type 0} (test : X → Bool) (xs : List X) (k : ℕ) (x : X) → slice_get xs k ≡ Some x → test x ≡ true → Stands (filter test xs) x
+pub stands_filter : {X : Type 0} (test : X → Bool) (xs : List X) (k : ℕ) (x : X) → slice_get xs k ≡ Some x → test x ≡ true → Stands (filter test xs) x
 stands_filter test [] k x h passes = absurd (none-some x h)
 stands_filter test (y ∷ xs) zero x h passes = let own : test y ≡ true = ap test (same_Some y x h) ∙ passes in rw own (0, h)
 stands_filter {X} test (y ∷ xs) (suc k) x h passes = by (test y) (stands_filter test xs k x h passes)
@@ -58,7 +58,7 @@ stands_flat f (z ∷ xs) zero x y h s =
     stands_first (f z) (flat_map f xs) own.0 y own.1
 stands_flat f (z ∷ xs) (suc k) x y h s = stands_second (f z) (flat_map f xs) y (stands_flat f xs k x y h s)
 
-stands_enumerated : {X : Type 0} (i : ℕ) (xs : List X) (k : ℕ) (x : X) → slice_get xs k ≡ Some x → slice_get (enumerate_from i xs) k ≡ Some (i + k, x)
+pub stands_enumerated : {X : Type 0} (i : ℕ) (xs : List X) (k : ℕ) (x : X) → slice_get xs k ≡ Some x → slice_get (enumerate_from i xs) k ≡ Some (i + k, x)
 stands_enumerated i [] k x h = absurd (none-some x h)
 stands_enumerated i (y ∷ xs) zero x h = let e : i ≡ i + 0 = omega arith in ap (λ u. Some (i, u)) (same_Some y x h) ∙ ap (λ m. Some (m, x)) e
 stands_enumerated i (y ∷ xs) (suc k) x h = let e : i + 1 + k ≡ i + suc k = omega arith in stands_enumerated (i + 1) xs k x h ∙ ap (λ m. Some (m, x)) e

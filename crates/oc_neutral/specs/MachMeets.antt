@@ -19,7 +19,7 @@ use Rattle.oc_neutral.specs.Objects.{Object, reloc_at}
 use Rattle.oc_neutral.specs.Readable.{AreZeros}
 use Rattle.oc_neutral.specs.RelocTables.{entry_of}
 use Rattle.oc_neutral.specs.Rows.{taken_of}
-use Rattle.oc_neutral.specs.SectionSymbols.{needed_sections}
+use Rattle.oc_neutral.specs.SectionSymbols.{names_section, needed_sections}
 use Rattle.oc_neutral.specs.Shifts.{written_shift}
 use Rattle.oc_neutral.specs.TargetRelocations.{fixed_end}
 use Rattle.oc_neutral.specs.TargetSymbols.{mach_symbol_count}
@@ -71,7 +71,8 @@ pub record MachReloc (format : Format) (n : Object) (s at : ℕ) (r : Reloc) : T
   pub taken : format ≡ Mac32 → meets.row.taken ≡ taken_of r.form.less
   pub holds : (shift : ℤ) → format ≡ Mac32 → HoldsAddend format r shift
   pub difference : (k : ℕ) → format ≡ Mac32 → r.form.less ≡ less.Section k → IsWrittenDifference n at r k
-  -- in mac64 the field holds the addend
+  -- in mac64 each section that it names has a symbol, and the field holds the addend
+  pub needed : (k : ℕ) → format ≡ Mac64 → names_section k s r ≡ true → (i : ℕ) × (slice_get (needed_sections n) i ≡ Some k)
   pub held : format ≡ Mac64 → HoldsAddend format r (written_shift at r.form.less meets.row)
   pub hint : format ≡ Mac64 → meets.row.hint ≡ r.hint
 
