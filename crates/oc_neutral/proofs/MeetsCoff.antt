@@ -36,6 +36,7 @@ use Rattle.oc_neutral.specs.TargetSections.{most_counted, counted_in, is_cut, is
 use Rattle.oc_neutral.specs.TargetSymbols.{is_absolute_form, is_unnatural, is_common_in, is_common_form, symbol_conditions}
 use Rattle.oc_neutral.proofs.MeetsConditions.{neither, not_below, section_count_met, section_met, symbol_met}
 use Rattle.oc_neutral.proofs.MeetsCounts.{bounded_object}
+use Rattle.oc_neutral.proofs.MeetsGroups.{group_member}
 use Rattle.oc_neutral.proofs.MeetsKinds.{IsCoffTag, coff_named}
 use Rattle.oc_neutral.proofs.MeetsParts.{not_false, positive, power, uncut, led, taken_alike, plain_shift}
 use Rattle.oc_neutral.proofs.MeetsRelocs.{reloc_meets}
@@ -210,6 +211,9 @@ meets_coff format n family fits = record {
   strings =
       let bounds = bounded_object format n fits in
       strings_fit format n fits.format (few format n family fits) bounds.symbols bounds.texts;
+  groups = λ g low.
+      let m = group_member n fits.object g low in
+      (section format n family fits m.position m.section m.there).led g m.member;
   sections = section format n family fits;
   symbols = symbol format n family fits;
   relocs = reloc format n family fits;

@@ -37,6 +37,7 @@ use Rattle.oc_neutral.specs.TargetSections.{most_counted, counted_in, header_cou
 use Rattle.oc_neutral.specs.TargetSymbols.{elf_symbol_count, symbol_bound, bounded, is_weak_in, is_weak_form, symbol_conditions}
 use Rattle.oc_neutral.proofs.MeetsConditions.{AreMet, not_below, section_count_met, section_met, symbol_met}
 use Rattle.oc_neutral.proofs.MeetsCounts.{symbols_bounded, bounded_object}
+use Rattle.oc_neutral.proofs.MeetsGroups.{keys_uncut}
 use Rattle.oc_neutral.proofs.MeetsKinds.{IsElfTag, carried_small, elf_zero, elf_named}
 use Rattle.oc_neutral.proofs.MeetsParts.{all_bytes, power, uncut, steady, taken_alike, plain_shift, only_address}
 use Rattle.oc_neutral.proofs.MeetsRelocs.{reloc_meets}
@@ -182,6 +183,7 @@ meets_elf format n family fits = record {
   bounds = bounded_object format n fits;
   headers = headers format n family fits;
   table = table format n family fits;
+  keys = keys_uncut n fits.object (λ k s here. (section format n family fits k s here).uncut);
   sections = section format n family fits;
   symbols = symbol format n family fits;
   relocs = reloc format n family fits;

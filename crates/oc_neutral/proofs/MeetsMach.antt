@@ -46,6 +46,7 @@ use Rattle.oc_neutral.specs.TargetSections.{most_counted, counted_in, unwritable
 use Rattle.oc_neutral.specs.TargetSymbols.{mach_symbol_count, symbol_bound, bounded, is_common_in, is_common_form, is_weak_in, is_weak_form, symbol_conditions}
 use Rattle.oc_neutral.proofs.MeetsConditions.{AreMet, neither, not_below, below_length, section_count_met, section_met, symbol_met, reloc_met}
 use Rattle.oc_neutral.proofs.MeetsCounts.{symbols_bounded, bounded_object}
+use Rattle.oc_neutral.proofs.MeetsGroups.{no_groups}
 use Rattle.oc_neutral.proofs.MeetsMachKinds.{IsMachTag, mach_zero, mach_named}
 use Rattle.oc_neutral.proofs.MeetsNames.{needed_there}
 use Rattle.oc_neutral.proofs.MeetsParts.{all_bytes, positive, power, is_something, uncut, steady, taken_alike}
@@ -241,6 +242,7 @@ meets_mach format n family fits = record {
   few = few format n family fits;
   table_32 = table_32 format n family fits;
   table_64 = table_64 format n family fits;
+  groups = no_groups n fits.object (λ k s here. (section format n family fits k s here).alone);
   sections = section format n family fits;
   symbols = symbol format n family fits;
   relocs = reloc format n family fits;

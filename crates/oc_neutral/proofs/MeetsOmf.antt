@@ -31,6 +31,7 @@ use Rattle.oc_neutral.specs.TargetSymbols.{is_external, is_absolute_form, is_com
 use Rattle.oc_neutral.proofs.MeetsCoff.{natural, align_same, fitted_common}
 use Rattle.oc_neutral.proofs.MeetsConditions.{not_below, section_count_met, section_met, symbol_met}
 use Rattle.oc_neutral.proofs.MeetsCounts.{symbols_bounded, bounded_object}
+use Rattle.oc_neutral.proofs.MeetsGroups.{no_groups}
 use Rattle.oc_neutral.proofs.MeetsMach.{alone}
 use Rattle.oc_neutral.proofs.MeetsMachKinds.{IsOmfTag, omf_named}
 use Rattle.oc_neutral.proofs.MeetsParts.{taken_alike}
@@ -107,6 +108,7 @@ meets_omf n fits = record {
   bounds = bounded_object Omf n fits;
   few = not_below 30000 (length n.sections) (section_count_met Omf n fits).0;
   externals = not_below 32767 (count_by (λ (s : Symbol). is_external s.binding) n.symbols) (symbols_bounded Omf n fits).0;
+  groups = no_groups n fits.object (λ k s here. (section n fits k s here).alone);
   sections = section n fits;
   symbols = symbol n fits;
   relocs = reloc n fits;

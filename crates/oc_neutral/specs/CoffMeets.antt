@@ -75,6 +75,7 @@ pub record MeetsCoff (format : Format) (n : Object) : Type 0 where
   pub few : length n.sections ≤ 65279
   -- the names that are given to the string table, each with its NUL
   pub strings : sum_by (λ (name : List ℕ). length name + 1) (coff_strings format n) ≤ 2 ^ 31
+  pub groups : (g : ℕ) → g < length n.groups → HasKeySymbol n g
   pub sections : (k : ℕ) (s : Section) → slice_get n.sections k ≡ Some s → CoffSection format n s
   pub symbols : (k : ℕ) (s : Symbol) → slice_get n.symbols k ≡ Some s → CoffSymbol format n s
   pub relocs : (s at : ℕ) (r : Reloc) → reloc_at n s at ≡ Some r → CoffReloc format n s at r

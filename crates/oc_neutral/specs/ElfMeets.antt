@@ -6,6 +6,7 @@ use Rattle.oc_linking.specs.declared.terms.Kind.TheVariants.{Exception}
 use Rattle.oc_linking.specs.declared.terms.Base.TheVariants.{Address}
 use Rattle.oc_linking.specs.declared.terms.Fallback.TheVariants as fallback
 use Rattle.oc_linking.specs.declared.terms.Binding.TheVariants.{Weak}
+use Rattle.oc_neutral.specs.declared.group.Group.{Group}
 use Rattle.oc_neutral.specs.declared.section.Section.{Section}
 use Rattle.oc_neutral.specs.declared.symbol.Symbol.{Symbol}
 use Rattle.oc_neutral.specs.declared.reloc.Target.TheVariants as target
@@ -65,6 +66,7 @@ pub record MeetsElf (format : Format) (n : Object) : Type 0 where
   pub bounds : AreBounded n
   pub headers : header_count format n ≤ 65279
   pub table : format ≡ Elf32 → elf_symbol_count n < 2 ^ 24
+  pub keys : (g : ℕ) (x : Group) → slice_get n.groups g ≡ Some x → has_nul x.key ≡ false
   pub sections : (k : ℕ) (s : Section) → slice_get n.sections k ≡ Some s → ElfSection n s
   pub symbols : (k : ℕ) (s : Symbol) → slice_get n.symbols k ≡ Some s → ElfSymbol n s
   pub relocs : (s at : ℕ) (r : Reloc) → reloc_at n s at ≡ Some r → ElfReloc format n s at r

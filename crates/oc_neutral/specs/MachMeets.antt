@@ -83,6 +83,7 @@ pub record MeetsMach (format : Format) (n : Object) : Type 0 where
   -- in mac64 with the symbols of the sections that are named
   pub table_32 : format ≡ Mac32 → mach_symbol_count Mac32 [] n < 2 ^ 24
   pub table_64 : format ≡ Mac64 → mach_symbol_count Mac64 (needed_sections n) n < 2 ^ 24
+  pub groups : n.groups ≡ []
   pub sections : (k : ℕ) (s : Section) → slice_get n.sections k ≡ Some s → MachSection s
   pub symbols : (k : ℕ) (s : Symbol) → slice_get n.symbols k ≡ Some s → MachSymbol n s
   pub relocs : (s at : ℕ) (r : Reloc) → reloc_at n s at ≡ Some r → MachReloc format n s at r

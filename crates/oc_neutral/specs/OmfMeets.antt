@@ -1,5 +1,5 @@
 -- What a writer of OMF uses of an object that is ready to be written (TIS OMF 1.1, "SEGDEF", "EXTDEF" and "FIXUPP"; our profile).
-use Rattle.std.specs.Prelude.{◌≡◌, ℕ, ◌<◌, ◌≤◌, Bool, true, false, List, length, slice_get, count_by, ℤ, Option, Some, None}
+use Rattle.std.specs.Prelude.{◌≡◌, ℕ, ◌<◌, ◌≤◌, Bool, true, false, List, [], length, slice_get, count_by, ℤ, Option, Some, None}
 use Rattle.oc_base.specs.declared.format.Format.TheVariants.{Omf}
 use Rattle.oc_linking.specs.declared.terms.Width.TheVariants.{Four}
 use Rattle.oc_linking.specs.declared.terms.Kind.TheVariants.{Zero}
@@ -54,6 +54,7 @@ pub record MeetsOmf (n : Object) : Type 0 where
   pub bounds : AreBounded n
   pub few : length n.sections ≤ 30000
   pub externals : count_by (λ (s : Symbol). is_external s.binding) n.symbols ≤ 32767
+  pub groups : n.groups ≡ []
   pub sections : (k : ℕ) (s : Section) → slice_get n.sections k ≡ Some s → OmfSection s
   pub symbols : (k : ℕ) (s : Symbol) → slice_get n.symbols k ≡ Some s → OmfSymbol s
   pub relocs : (s at : ℕ) (r : Reloc) → reloc_at n s at ≡ Some r → OmfReloc n s at r
