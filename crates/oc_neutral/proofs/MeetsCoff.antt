@@ -1,16 +1,14 @@
 -- Every object that is ready for COFF meets what its writer uses.
-use Rattle.std.proofs.Common.{◌≡◌, ℕ, zero, suc, ◌+◌, ◌^◌, ◌<◌, ◌≤◌, Bool, true, false, cond, ◌&&◌, ◌||◌, List, [], ◌∷◌, length, map, Option, Some, None, refl, sym, ◌∙◌, ap, subst, arith}
+use Rattle.std.proofs.Common.{◌≡◌, ℕ, ◌+◌, ◌^◌, ◌<◌, ◌≤◌, true, false, cond, ◌&&◌, ◌||◌, List, length, Some, None, refl, sym, ◌∙◌, ap, subst, arith}
 use Rattle.std.specs.Prelude.{slice_get, nat_eq, nat_lt, not}
 use Rattle.std.specs.Option.{option_map, option_map_or}
-use Rattle.std.proofs.lemmas.Bool.{true≢false, and_parts, ltb-true}
+use Rattle.std.proofs.lemmas.Bool.{and_parts, ltb-true}
 use Rattle.oc_base.specs.declared.format.Format.{Format}
 use Rattle.oc_base.specs.declared.format.Format.TheVariants.{Elf32, Elf64, Coff32, Coff64, Mac32, Mac64, Omf}
 use Rattle.oc_base.specs.Formats.{word_for}
 use Rattle.oc_linking.specs.declared.terms.Kind.{Kind}
-use Rattle.oc_linking.specs.declared.terms.Kind.TheVariants.{Exception}
 use Rattle.oc_linking.specs.declared.terms.Hint.TheVariants.{Plain}
 use Rattle.oc_linking.specs.declared.terms.Value.TheVariants.{Absolute}
-use Rattle.oc_linking.specs.declared.terms.Binding.{Binding}
 use Rattle.oc_linking.specs.declared.terms.Binding.TheVariants.{Global, Common}
 use Rattle.oc_linking.specs.Numbers.{modulus}
 use Rattle.oc_linking.specs.Parts.{is_local}
@@ -18,7 +16,7 @@ use Rattle.oc_neutral.specs.declared.section.Section.{Section}
 use Rattle.oc_neutral.specs.declared.symbol.Symbol.{Symbol}
 use Rattle.oc_neutral.specs.declared.reloc.Reloc.{Reloc}
 use Rattle.oc_neutral.specs.Alignments.{most_in, natural_align, common_align_in, common_align}
-use Rattle.oc_neutral.specs.CoffMeets.{CoffSection, IsNaturalCommon, CoffSymbol, CoffReloc, MeetsCoff, FittedMeetsCoff}
+use Rattle.oc_neutral.specs.CoffMeets.{CoffSection, IsNaturalCommon, CoffSymbol, CoffReloc, FittedMeetsCoff}
 use Rattle.oc_neutral.specs.CoffStrings.{is_tabled, string_offset}
 use Rattle.oc_neutral.specs.Families.{Family, IsCoff, family_of, family_number}
 use Rattle.oc_neutral.specs.Fitted.{fitted_binding, IsFitted}
@@ -26,13 +24,13 @@ use Rattle.oc_neutral.specs.GivenTags.{has_nul, family_gives}
 use Rattle.oc_neutral.specs.HomeNames.{is_home}
 use Rattle.oc_neutral.specs.Invariants.{IsAlign, IsSymbol, IsBinding}
 use Rattle.oc_neutral.specs.KeySymbols.{has_key_symbol}
-use Rattle.oc_neutral.specs.Meets.{has_calls, MeetsReloc, HoldsAddend}
+use Rattle.oc_neutral.specs.Meets.{has_calls, MeetsReloc}
 use Rattle.oc_neutral.specs.Objects.{Object, reloc_at}
 use Rattle.oc_neutral.specs.RelocTables.{rows_of, row_of}
-use Rattle.oc_neutral.specs.Rows.{Row, TakesSection, taken_of, same_taken, shift_of}
+use Rattle.oc_neutral.specs.Rows.{Row, TakesSection, same_taken, shift_of}
 use Rattle.oc_neutral.specs.Shifts.{field_shift, written_shift}
 use Rattle.oc_neutral.specs.Spelling.{written_row}
-use Rattle.oc_neutral.specs.TargetSections.{most_counted, counted_in, is_cut, is_far, unwritable_in, is_group_form, section_conditions}
+use Rattle.oc_neutral.specs.TargetSections.{most_counted, counted_in, is_cut, is_far, unwritable_in, section_conditions}
 use Rattle.oc_neutral.specs.TargetSymbols.{is_absolute_form, is_unnatural, is_common_in, is_common_form, symbol_conditions}
 use Rattle.oc_neutral.proofs.MeetsConditions.{neither, not_below, section_count_met, section_met, symbol_met}
 use Rattle.oc_neutral.proofs.MeetsCounts.{bounded_object}
@@ -143,7 +141,7 @@ module _ (format : Format) (n : Object) (family : family_of format ≡ IsCoff) (
       let met = section_met format n fits k s here in
       let named : (is_home Coff32 (k + 1) s.kind s.name s.tag || family_gives IsCoff s.kind s.name s.tag) ≡ true
       = sym (ap (λ b. b || family_gives IsCoff s.kind s.name s.tag) (same_home format family (k + 1) s.kind s.name s.tag))
-          ∙ ap (λ f. is_home format (k + 1) s.kind s.name s.tag || family_gives f s.kind s.name s.tag) (sym family) ∙ fits.names k s here in
+      ∙ ap (λ f. is_home format (k + 1) s.kind s.name s.tag || family_gives f s.kind s.name s.tag) (sym family) ∙ fits.names k s here in
       let tag : IsCoffTag s.kind s.name s.tag = coff_named (k + 1) s.kind s.name s.tag named in
       let low : nat_lt (most_in IsCoff) s.align ≡ false = subst (λ f. nat_lt (most_in f) s.align ≡ false) family met.1.1.1.0 in
       let name = neither (is_cut n s.name s) (is_tabled s.name && is_far (string_offset format n s.name)) (subst (λ f. (unwritable_in f).name format n s.name s ≡ false) family met.1.1.1.1.0) in

@@ -1,5 +1,5 @@
 -- The counts and sums of an object that is ready to be written are bounded.
-use Rattle.std.proofs.Common.{◌≡◌, ℕ, zero, suc, ◌+◌, ◌^◌, ◌<◌, ◌≤◌, Bool, true, false, cond, List, [], ◌∷◌, ◌++◌, length, map, Option, Some, None, refl, sym, ◌∙◌, ap, subst, arith}
+use Rattle.std.proofs.Common.{◌≡◌, ℕ, suc, ◌+◌, ◌^◌, ◌≤◌, Bool, true, false, cond, List, [], ◌∷◌, ◌++◌, length, map, Option, Some, None, refl, sym, ◌∙◌, ap, arith}
 use Rattle.std.specs.Prelude.{slice_get, sum_by, nat_eq}
 use Rattle.std.specs.List.{AllByRecursion}
 use Rattle.std.specs.Option.{option_map_or}
@@ -9,14 +9,12 @@ use Rattle.oc_linking.specs.FirstFault.{Condition}
 use Rattle.oc_chains.specs.declared.field.Field.{Field}
 use Rattle.oc_chains.specs.Fields.{FollowFrom, end_of}
 use Rattle.oc_chains.specs.Lists.{Lists, list_of, held_in}
-use Rattle.oc_neutral.specs.declared.group.Group.{Group}
 use Rattle.oc_neutral.specs.declared.section.Section.{Section}
-use Rattle.oc_neutral.specs.declared.symbol.Symbol.{Symbol}
 use Rattle.oc_neutral.specs.declared.reloc.Reloc.{Reloc}
 use Rattle.oc_neutral.specs.Building.{stored_size, stored_sum}
 use Rattle.oc_neutral.specs.Fitted.{IsFitted}
 use Rattle.oc_neutral.specs.HomeNames.{output_names}
-use Rattle.oc_neutral.specs.Invariants.{AreBegun, begun_with, groups_of, HasItsBytes, IsHeld, IsObject}
+use Rattle.oc_neutral.specs.Invariants.{AreBegun, begun_with, groups_of, HasItsBytes, IsHeld}
 use Rattle.oc_neutral.specs.Meets.{text_sum, AreBounded}
 use Rattle.oc_neutral.specs.Objects.{Object}
 use Rattle.oc_neutral.specs.TargetSymbols.{symbol_bound, bounded, names_length, limited}
@@ -105,16 +103,16 @@ module _ (format : Format) (n : Object) (fits : IsFitted format n) where
   fields_in k s here =
       let fit : 0 + length (list_of n.relocs k) ≤ length s.bytes
       = fields_fit 0 (length s.bytes) (list_of n.relocs k) (fits.object.built.fields.apart k)
-          (ends n k s.bytes (list_of n.relocs k) (fits.object.built.fields.each k s here)) (omega arith) in
+      (ends n k s.bytes (list_of n.relocs k) (fits.object.built.fields.each k s here)) (omega arith) in
       omega (arith, fit)
 
   fields : held_in n.relocs ≤ 2 ^ 26
   fields =
       let sum : held_in n.relocs ≤ stored_sum n.sections
       = sums_fit n.relocs n.sections fits.object.built.fields.counted (λ k s here.
-          let own : length s.bytes ≡ stored_size s = each_at HasItsBytes n.sections k s fits.object.built.bytes here in
-          let few = fields_in k s here in
-          omega (arith, own, few)) in
+      let own : length s.bytes ≡ stored_size s = each_at HasItsBytes n.sections k s fits.object.built.bytes here in
+      let few = fields_in k s here in
+      omega (arith, own, few)) in
       let low = fits.object.built.limits.bytes in
       omega (arith, sum, low)
 

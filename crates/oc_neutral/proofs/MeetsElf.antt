@@ -1,5 +1,5 @@
 -- Every object that is ready for ELF meets what its writer uses.
-use Rattle.std.proofs.Common.{◌≡◌, ℕ, zero, suc, ◌+◌, ◌^◌, ◌<◌, ◌≤◌, Bool, true, false, cond, ◌&&◌, ◌||◌, List, [], ◌∷◌, length, map, Option, Some, None, refl, sym, ◌∙◌, ap, subst, arith}
+use Rattle.std.proofs.Common.{◌≡◌, ℕ, ◌+◌, ◌^◌, ◌<◌, ◌≤◌, Bool, true, false, cond, ◌&&◌, ◌||◌, List, [], length, Some, None, refl, sym, ◌∙◌, ap, subst, arith}
 use Rattle.std.specs.Prelude.{slice_get, nat_eq, nat_lt, not}
 use Rattle.std.specs.Option.{option_map, option_map_or}
 use Rattle.std.proofs.lemmas.Bool.{true≢false, and_parts, ltb-true}
@@ -8,29 +8,27 @@ use Rattle.oc_base.specs.declared.format.Format.{Format}
 use Rattle.oc_base.specs.declared.format.Format.TheVariants.{Elf32, Elf64, Coff32, Coff64, Mac32, Mac64, Omf}
 use Rattle.oc_linking.specs.declared.terms.Kind.{Kind}
 use Rattle.oc_linking.specs.declared.terms.Kind.TheVariants.{Zero, Exception}
-use Rattle.oc_linking.specs.declared.terms.Base.TheVariants.{Address, HomeNumber}
+use Rattle.oc_linking.specs.declared.terms.Base.TheVariants.{HomeNumber}
 use Rattle.oc_linking.specs.declared.terms.Hint.TheVariants.{Plain}
 use Rattle.oc_linking.specs.declared.terms.Fallback.TheVariants as fallback
-use Rattle.oc_linking.specs.declared.terms.Binding.TheVariants.{Weak}
 use Rattle.oc_linking.specs.Parts.{is_local}
 use Rattle.oc_chains.specs.Lists.{list_of}
 use Rattle.oc_neutral.specs.declared.section.Section.{Section}
 use Rattle.oc_neutral.specs.declared.symbol.Symbol.{Symbol}
-use Rattle.oc_neutral.specs.declared.reloc.Target.TheVariants as target
 use Rattle.oc_neutral.specs.declared.reloc.Reloc.{Reloc}
 use Rattle.oc_neutral.specs.Alignments.{most_in}
-use Rattle.oc_neutral.specs.ElfMeets.{ElfSection, ElfSymbol, ElfReloc, MeetsElf, FittedMeetsElf}
+use Rattle.oc_neutral.specs.ElfMeets.{ElfSection, ElfSymbol, ElfReloc, FittedMeetsElf}
 use Rattle.oc_neutral.specs.ElfKinds.{elf_tag_type, is_nobits_tag}
 use Rattle.oc_neutral.specs.Families.{Family, IsElf, family_of, family_number}
-use Rattle.oc_neutral.specs.Fitted.{IsFitted, IsNamed}
+use Rattle.oc_neutral.specs.Fitted.{IsFitted}
 use Rattle.oc_neutral.specs.GivenTags.{has_nul, family_gives, is_blank}
 use Rattle.oc_neutral.specs.HomeNames.{is_home}
 use Rattle.oc_neutral.specs.Invariants.{HasItsBytes, IsAlign}
-use Rattle.oc_neutral.specs.Meets.{has_calls, MeetsReloc, HoldsAddend}
+use Rattle.oc_neutral.specs.Meets.{has_calls, MeetsReloc}
 use Rattle.oc_neutral.specs.Objects.{Object, reloc_among, reloc_at}
 use Rattle.oc_neutral.specs.Readable.{AreZeros}
 use Rattle.oc_neutral.specs.RelocTables.{rows_of, row_of}
-use Rattle.oc_neutral.specs.Rows.{Row, TakesSection, taken_of, same_taken, same_base, shift_of}
+use Rattle.oc_neutral.specs.Rows.{Row, TakesSection, same_taken, same_base, shift_of}
 use Rattle.oc_neutral.specs.Shifts.{field_shift, written_shift}
 use Rattle.oc_neutral.specs.Spelling.{written_row}
 use Rattle.oc_neutral.specs.TargetSections.{most_counted, counted_in, header_count, unwritable_in, section_conditions}
@@ -121,7 +119,7 @@ module _ (format : Format) (n : Object) (family : family_of format ≡ IsElf) (f
       let met = section_met format n fits k s here in
       let named : (is_home Elf32 (k + 1) s.kind s.name s.tag || family_gives IsElf s.kind s.name s.tag) ≡ true
       = sym (ap (λ b. b || family_gives IsElf s.kind s.name s.tag) (same_home format family (k + 1) s.kind s.name s.tag))
-          ∙ ap (λ f. is_home format (k + 1) s.kind s.name s.tag || family_gives f s.kind s.name s.tag) (sym family) ∙ fits.names k s here in
+      ∙ ap (λ f. is_home format (k + 1) s.kind s.name s.tag || family_gives f s.kind s.name s.tag) (sym family) ∙ fits.names k s here in
       let tag : IsElfTag s.kind s.name s.tag = elf_named (k + 1) s.kind s.name s.tag named in
       let low : nat_lt (most_in IsElf) s.align ≡ false = subst (λ f. nat_lt (most_in f) s.align ≡ false) family met.1.1.1.0 in
       record {

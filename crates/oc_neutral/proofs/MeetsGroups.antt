@@ -1,14 +1,13 @@
 -- Each group of an object has a member.
-use Rattle.std.proofs.Common.{◌≡◌, ℕ, zero, suc, ◌+◌, ◌<◌, ◌≤◌, Bool, true, false, cond, List, [], ◌∷◌, length, map, Option, Some, None, inl, inr, refl, sym, ◌∙◌, ap, subst, arith}
+use Rattle.std.proofs.Common.{◌≡◌, ℕ, zero, suc, ◌+◌, ◌<◌, ◌≤◌, Bool, true, false, cond, List, [], ◌∷◌, length, Option, Some, None, inl, inr, refl, sym, ◌∙◌, ap, arith}
 use Rattle.std.specs.Prelude.{slice_get, nat_eq}
 use Rattle.std.specs.Option.{option_map}
 use Rattle.std.proofs.lemmas.Bool.{eqb-true, cases_lt}
 use Rattle.std.proofs.lemmas.Option.{none-some}
 use Rattle.oc_neutral.specs.declared.group.Group.{Group}
 use Rattle.oc_neutral.specs.declared.section.Section.{Section}
-use Rattle.oc_neutral.specs.Faces.{key_of}
 use Rattle.oc_neutral.specs.GivenTags.{has_nul}
-use Rattle.oc_neutral.specs.Invariants.{AreBegun, begun_with, groups_of, IsObject}
+use Rattle.oc_neutral.specs.Invariants.{AreBegun, groups_of, IsObject}
 use Rattle.oc_neutral.specs.Meets.{IsUncut}
 use Rattle.oc_neutral.specs.Objects.{Object}
 use Rattle.oc_neutral.proofs.MeetsConditions.{below_length}

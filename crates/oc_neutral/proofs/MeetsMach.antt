@@ -1,6 +1,6 @@
 -- Every object that is ready for Mach-O meets what its writer uses.
 use Rattle.std.proofs.Common.{◌≡◌, ℕ, zero, suc, ◌+◌, ◌^◌, ◌<◌, ◌≤◌, Bool, true, false, cond, ◌&&◌, ◌||◌, List, [], ◌∷◌, length, map, Option, Some, None, refl, sym, ◌∙◌, ap, subst, arith}
-use Rattle.std.specs.Prelude.{slice_get, nat_eq, nat_lt, nat_le, not, ℤ, is_none, is_err}
+use Rattle.std.specs.Prelude.{slice_get, nat_eq, nat_lt, nat_le, not, is_none, is_err}
 use Rattle.std.specs.Option.{option_map, option_map_or}
 use Rattle.std.proofs.lemmas.Bool.{true≢false, ltb-true}
 use Rattle.std.proofs.lemmas.Bool.Decides.{nat_tests}
@@ -8,15 +8,12 @@ use Rattle.std.proofs.lemmas.Option.{none-some, same_Some}
 use Rattle.oc_base.specs.declared.format.Format.{Format}
 use Rattle.oc_base.specs.declared.format.Format.TheVariants.{Elf32, Elf64, Coff32, Coff64, Mac32, Mac64, Omf}
 use Rattle.oc_base.specs.declared.format.Word.TheVariants.{W32}
-use Rattle.oc_base.specs.Formats.{word_for}
-use Rattle.oc_linking.specs.declared.terms.Width.{Width}
 use Rattle.oc_linking.specs.declared.terms.Width.TheVariants.{Four}
 use Rattle.oc_linking.specs.declared.terms.Kind.{Kind}
 use Rattle.oc_linking.specs.declared.terms.Kind.TheVariants.{ReadOnly, Zero}
 use Rattle.oc_linking.specs.declared.terms.Hint.TheVariants.{Plain}
 use Rattle.oc_linking.specs.declared.terms.Less.TheVariants as less
 use Rattle.oc_linking.specs.declared.terms.Fallback.TheVariants as fallback
-use Rattle.oc_linking.specs.declared.terms.Binding.TheVariants.{Common, Weak}
 use Rattle.oc_linking.specs.Parts.{is_local}
 use Rattle.oc_algebra.specs.Fields.{to_field_of}
 use Rattle.oc_chains.specs.Lists.{list_of}
@@ -30,18 +27,18 @@ use Rattle.oc_neutral.specs.GivenTags.{has_nul, family_gives, is_blank}
 use Rattle.oc_neutral.specs.HomeNames.{is_home}
 use Rattle.oc_neutral.specs.Invariants.{HasItsBytes, IsAlign, IsSymbol, IsBinding}
 use Rattle.oc_neutral.specs.MachKinds.{segment_of, section_of, is_zerofill_tag}
-use Rattle.oc_neutral.specs.MachMeets.{MachSection, MachSymbol, IsWrittenDifference, MachReloc, MeetsMach, FittedMeetsMach}
+use Rattle.oc_neutral.specs.MachMeets.{MachSection, MachSymbol, IsWrittenDifference, MachReloc, FittedMeetsMach}
 use Rattle.oc_neutral.specs.MachRelocs.{MachRow, length_of}
 use Rattle.oc_neutral.specs.Meets.{has_calls, MeetsReloc, HoldsAddend}
 use Rattle.oc_neutral.specs.Objects.{Object, reloc_among, reloc_at}
 use Rattle.oc_neutral.specs.Readable.{AreZeros}
 use Rattle.oc_neutral.specs.RelocTables.{rows_of, entries_of, entry_of}
-use Rattle.oc_neutral.specs.Rows.{Row, TakesSection, taken_of}
+use Rattle.oc_neutral.specs.Rows.{Row}
 use Rattle.oc_neutral.specs.SectionSymbols.{needed_sections}
 use Rattle.oc_neutral.specs.Shifts.{field_shift, written_shift}
 use Rattle.oc_neutral.specs.Spelling.{written_row}
 use Rattle.oc_neutral.specs.Stored.{is_stored}
-use Rattle.oc_neutral.specs.TargetRelocations.{taken_end, fixed_end, is_empty, has_empty_end, has_no_form, is_too_far, ends_in_nothing, spot_of, reloc_conditions}
+use Rattle.oc_neutral.specs.TargetRelocations.{taken_end, fixed_end, is_empty, has_empty_end, spot_of, reloc_conditions}
 use Rattle.oc_neutral.specs.TargetSections.{most_counted, counted_in, unwritable_in, section_conditions}
 use Rattle.oc_neutral.specs.TargetSymbols.{mach_symbol_count, symbol_bound, bounded, is_common_in, is_common_form, is_weak_in, is_weak_form, symbol_conditions}
 use Rattle.oc_neutral.proofs.MeetsConditions.{AreMet, neither, not_below, below_length, section_count_met, section_met, symbol_met, reloc_met}
@@ -149,7 +146,7 @@ module _ (format : Format) (n : Object) (family : family_of format ≡ IsMach) (
       let met = section_met format n fits k s here in
       let named : (is_home Mac32 (k + 1) s.kind s.name s.tag || family_gives IsMach s.kind s.name s.tag) ≡ true
       = sym (ap (λ b. b || family_gives IsMach s.kind s.name s.tag) (same_home format family (k + 1) s.kind s.name s.tag))
-          ∙ ap (λ f. is_home format (k + 1) s.kind s.name s.tag || family_gives f s.kind s.name s.tag) (sym family) ∙ fits.names k s here in
+      ∙ ap (λ f. is_home format (k + 1) s.kind s.name s.tag || family_gives f s.kind s.name s.tag) (sym family) ∙ fits.names k s here in
       let inside = below_length n.sections k s here in
       let most = few in
       let tag : IsMachTag s.kind s.name s.tag = mach_named (k + 1) (omega (arith, inside, most)) s.kind s.name s.tag named in

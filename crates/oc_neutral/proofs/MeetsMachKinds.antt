@@ -1,5 +1,5 @@
 -- What names and tags that go with a kind say in Mach-O and in OMF: the format's own rule gives the kind back.
-use Rattle.std.proofs.Common.{◌≡◌, ℕ, zero, suc, ◌+◌, ◌^◌, ◌<◌, ◌≤◌, Bool, true, false, cond, not, ◌&&◌, ◌||◌, List, [], ◌∷◌, ◌++◌, length, Option, Some, None, refl, sym, ◌∙◌, ap, subst, arith, bytes_eq}
+use Rattle.std.proofs.Common.{◌≡◌, ℕ, suc, ◌+◌, ◌^◌, ◌<◌, ◌≤◌, Bool, true, false, cond, not, ◌&&◌, ◌||◌, List, [], ◌∷◌, ◌++◌, length, Some, refl, sym, ◌∙◌, ap, subst, arith, bytes_eq}
 use Rattle.std.specs.Prelude.{codes, decimal, nat_eq, take, drop}
 use Rattle.std.specs.List.{list_any, before_first, after_first, position_or_len}
 use Rattle.std.proofs.lemmas.Bool.{true≢false, and_parts, eqb-true, leb-true, ltb-true}

@@ -1,13 +1,12 @@
 -- The names that writers make up, and the sections that mac64 has symbols for.
-use Rattle.std.proofs.Common.{◌≡◌, ℕ, zero, suc, ◌+◌, ◌^◌, ◌<◌, ◌≤◌, Bool, true, false, cond, not, ◌&&◌, ◌||◌, List, [], ◌∷◌, ◌++◌, length, map, Option, Some, None, refl, sym, ◌∙◌, ap, subst, arith}
-use Rattle.std.specs.Prelude.{slice_get, nat_eq, codes, decimal, drop, filter}
+use Rattle.std.proofs.Common.{◌≡◌, ℕ, zero, suc, ◌+◌, ◌^◌, ◌<◌, true, false, not, ◌&&◌, ◌||◌, List, [], ◌∷◌, length, map, Some, refl, sym, ◌∙◌, ap, subst, arith}
+use Rattle.std.specs.Prelude.{slice_get, nat_eq, codes, drop}
 use Rattle.std.specs.Int.Digits.{digits_of}
-use Rattle.std.specs.List.{list_any, range_with_len, enumerate_from}
+use Rattle.std.specs.List.{range_with_len, enumerate_from}
 use Rattle.std.proofs.lemmas.Bool.{true≢false, and_parts, eqb-true, ne_eqb}
 use Rattle.std.proofs.lemmas.Fmt.{decimal-digits_of, decimal_injective}
 use Rattle.std.proofs.lemmas.List.Folds.{list_any-append}
 use Rattle.std.proofs.lemmas.Map.Keys.{any_passes_from_place}
-use Rattle.std.proofs.lemmas.Option.{none-some, same_Some}
 use Rattle.oc_base.specs.declared.format.Format.TheVariants.{Mac64}
 use Rattle.oc_linking.specs.declared.terms.Less.{Less}
 use Rattle.oc_linking.specs.declared.terms.Less.TheVariants as less
@@ -29,7 +28,7 @@ use Rattle.oc_neutral.specs.Stored.{is_stored}
 use Rattle.oc_neutral.proofs.MeetsConditions.{below_length, field_found}
 use Rattle.oc_neutral.proofs.MeetsKinds.{one_of}
 use Rattle.oc_neutral.proofs.MeetsRelocs.{held_below}
-use Rattle.oc_neutral.proofs.MeetsStrings.{Stands, stands_filter, stands_enumerated}
+use Rattle.oc_neutral.proofs.MeetsStrings.{stands_filter, stands_enumerated}
 
 -- ... names
 
@@ -84,8 +83,8 @@ unfolding needed_sections needs_section_symbol
 needed_there n s at r x here there normal live k names =
     let low : k < length n.sections
     = one_of (is_section k r.target || takes_section k r.form.less) (nat_eq s k && is_long_distance r.form) names
-        (λ e. one_of (is_section k r.target) (takes_section k r.form.less) e (target_there n k r.target normal.target) (less_there n k r.form.less normal.less))
-        (λ e. subst (λ i. i < length n.sections) (eqb-true s k (and_parts _ _ e).0) (below_length n.sections s x there)) in
+    (λ e. one_of (is_section k r.target) (takes_section k r.form.less) e (target_there n k r.target normal.target) (less_there n k r.form.less normal.less))
+    (λ e. subst (λ i. i < length n.sections) (eqb-true s k (and_parts _ _ e).0) (below_length n.sections s x there)) in
     let f = field_found (list_of n.relocs s) at r here in
     let passes : (stays Mac64 s f.1 && names_section k s f.1.item) ≡ true
     = ap (λ q. not (is_stored Mac64 s q) && names_section k s q) f.3 ∙ ap (λ b. not b && names_section k s r) live ∙ names in

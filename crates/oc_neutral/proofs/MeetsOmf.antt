@@ -1,28 +1,21 @@
 -- Every object that is ready for OMF meets what its writer uses.
-use Rattle.std.proofs.Common.{◌≡◌, ℕ, zero, suc, ◌+◌, ◌^◌, ◌<◌, ◌≤◌, Bool, true, false, cond, ◌&&◌, ◌||◌, List, [], ◌∷◌, length, map, Option, Some, None, refl, sym, ◌∙◌, ap, subst, arith}
+use Rattle.std.proofs.Common.{◌≡◌, ℕ, zero, suc, ◌+◌, false, ◌&&◌, length, Option, Some, None, refl, sym, ◌∙◌, ap, subst}
 use Rattle.std.specs.Prelude.{slice_get, nat_le, nat_lt, not, count_by, find, is_err}
-use Rattle.std.specs.Option.{option_map_or, unwrap_or}
-use Rattle.std.proofs.lemmas.Bool.{true≢false, eq-eqb}
+use Rattle.std.specs.Option.{unwrap_or}
+use Rattle.std.proofs.lemmas.Bool.{true≢false}
 use Rattle.std.proofs.lemmas.Option.{none-some, same_Some}
-use Rattle.oc_base.specs.declared.format.Format.{Format}
-use Rattle.oc_base.specs.declared.format.Format.TheVariants.{Mac64, Omf}
+use Rattle.oc_base.specs.declared.format.Format.TheVariants.{Omf}
 use Rattle.oc_base.specs.declared.format.Word.TheVariants.{W32}
 use Rattle.oc_linking.specs.declared.terms.Width.TheVariants.{Four}
-use Rattle.oc_linking.specs.declared.terms.Kind.{Kind}
-use Rattle.oc_linking.specs.declared.terms.Kind.TheVariants.{Debug}
-use Rattle.oc_linking.specs.declared.terms.Value.TheVariants.{Absolute}
-use Rattle.oc_linking.specs.declared.terms.Binding.TheVariants.{Global, Common, Weak}
-use Rattle.oc_linking.specs.Parts.{is_local}
 use Rattle.oc_algebra.specs.Fields.{to_field_of}
 use Rattle.oc_neutral.specs.declared.section.Section.{Section}
 use Rattle.oc_neutral.specs.declared.symbol.Symbol.{Symbol}
 use Rattle.oc_neutral.specs.declared.reloc.Reloc.{Reloc}
 use Rattle.oc_neutral.specs.Alignments.{omf_aligns, output_align, natural_align}
-use Rattle.oc_neutral.specs.Families.{IsOmf}
 use Rattle.oc_neutral.specs.Fitted.{fitted_binding, IsFitted}
 use Rattle.oc_neutral.specs.Meets.{MeetsReloc}
 use Rattle.oc_neutral.specs.Objects.{Object, reloc_at}
-use Rattle.oc_neutral.specs.OmfMeets.{OmfSection, OmfSymbol, OmfReloc, MeetsOmf, FittedMeetsOmf}
+use Rattle.oc_neutral.specs.OmfMeets.{OmfSection, OmfSymbol, OmfReloc, FittedMeetsOmf}
 use Rattle.oc_neutral.specs.OmfRelocs.{Framed, ByFlat, ByTarget, BySelf, fixup_row}
 use Rattle.oc_neutral.specs.RelocTables.{rows_of}
 use Rattle.oc_neutral.specs.Rows.{Row}

@@ -1,18 +1,16 @@
 -- Parts of what families meet: names, symbols that are placed, and rows that take no section.
-use Rattle.std.proofs.Common.{◌≡◌, ℕ, zero, suc, ◌+◌, ◌^◌, ◌<◌, ◌≤◌, Bool, true, false, cond, not, ◌&&◌, ◌||◌, List, [], ◌∷◌, length, Option, Some, None, inl, inr, refl, sym, ◌∙◌, ap, subst, arith, bytes_eq}
+use Rattle.std.proofs.Common.{◌≡◌, ℕ, zero, suc, ◌+◌, ◌^◌, ◌<◌, ◌≤◌, Bool, true, false, cond, not, ◌&&◌, ◌||◌, List, [], ◌∷◌, length, Option, Some, None, inl, inr, refl, sym, ◌∙◌, ap, arith, bytes_eq}
 use Rattle.std.specs.Prelude.{slice_get, nat_eq, pos, is_none}
 use Rattle.std.specs.List.{list_any}
-use Rattle.std.specs.Option.{option_map, option_map_or, option_and_then}
+use Rattle.std.specs.Option.{option_map_or, option_and_then}
 use Rattle.std.proofs.lemmas.Bool.{true≢false, and_parts, eqb-true, cases_lt}
 use Rattle.std.proofs.Math.Pow.{pow_mono}
-use Rattle.std.proofs.lemmas.Option.{none-some, same_Some}
 use Rattle.std.proofs.lemmas.Slice.Eq.{bytes_eq-Decides}
 use Rattle.oc_base.specs.declared.format.Format.{Format}
 use Rattle.oc_base.specs.declared.format.Format.TheVariants.{Mac64}
 use Rattle.oc_linking.specs.declared.terms.Kind.{Kind}
 use Rattle.oc_linking.specs.declared.terms.Kind.TheVariants.{Code, ReadOnly, Data, Zero, Init, Fini, Debug, Exception, Note}
 use Rattle.oc_linking.specs.declared.terms.Less.{Less}
-use Rattle.oc_linking.specs.declared.terms.Fallback.{Fallback}
 use Rattle.oc_linking.specs.declared.terms.Fallback.TheVariants as fallback
 use Rattle.oc_linking.specs.declared.terms.Base.{Base}
 use Rattle.oc_linking.specs.declared.terms.Base.TheVariants.{Address, Slot, GotBase, HomeNumber}
@@ -133,7 +131,7 @@ all_bytes s own other = by (is_zero s.kind) refl
 
 -- what is taken, in another format than mac64
 pub taken_alike : (format : Format) (l : Less) (t : Taken) → (format ≡ Mac64 → ⊥) → IsTakenBy format l t → t ≡ taken_of l
-taken_alike format l t other taken = elim taken [ | inl e ↦ e | inr e ↦ absurd (other e.0) ]
+taken_alike format l t other taken = elim taken [ inl e ↦ e | inr e ↦ absurd (other e.0) ]
 
 -- the shift of a row that takes no section
 pub plain_shift : (at : ℕ) (l : Less) (row : Row) → same_taken row.taken TakesSection ≡ false → written_shift at l row ≡ shift_of row

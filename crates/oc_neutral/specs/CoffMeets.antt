@@ -1,5 +1,5 @@
 -- What a writer of COFF uses of an object that is ready to be written (PE/COFF, "Section Table", "COFF Relocations" and "COFF Symbol Table"; our profile).
-use Rattle.std.specs.Prelude.{◌≡◌, ℕ, ◌+◌, ◌^◌, ◌<◌, ◌≤◌, true, false, List, length, slice_get, sum_by, Option, Some, None}
+use Rattle.std.specs.Prelude.{◌≡◌, ℕ, ◌+◌, ◌^◌, ◌<◌, ◌≤◌, true, false, List, length, slice_get, sum_by, Some, None}
 use Rattle.oc_base.specs.Strings.{is_given}
 use Rattle.oc_base.specs.declared.format.Format.{Format}
 use Rattle.oc_linking.specs.declared.terms.Kind.{Kind}

@@ -1,5 +1,5 @@
 -- What a writer of Mach-O uses of an object that is ready to be written (Mach-O reference, "section", "nlist" and "Relocation Data Structures"; our profile).
-use Rattle.std.specs.Prelude.{◌≡◌, ℕ, ◌^◌, ◌<◌, ◌≤◌, true, false, List, [], length, slice_get, ℤ, Option, Some, None}
+use Rattle.std.specs.Prelude.{◌≡◌, ℕ, ◌^◌, ◌<◌, ◌≤◌, true, false, [], length, slice_get, ℤ, Some, None}
 use Rattle.oc_base.specs.declared.format.Format.{Format}
 use Rattle.oc_base.specs.declared.format.Format.TheVariants.{Mac32, Mac64}
 use Rattle.oc_linking.specs.declared.terms.Kind.TheVariants.{ReadOnly}

@@ -1,5 +1,5 @@
 -- What a writer of OMF uses of an object that is ready to be written (TIS OMF 1.1, "SEGDEF", "EXTDEF" and "FIXUPP"; our profile).
-use Rattle.std.specs.Prelude.{◌≡◌, ℕ, ◌<◌, ◌≤◌, Bool, true, false, List, [], length, slice_get, count_by, ℤ, Option, Some, None}
+use Rattle.std.specs.Prelude.{◌≡◌, ℕ, ◌≤◌, Bool, false, List, [], length, slice_get, count_by, ℤ, Some, None}
 use Rattle.oc_base.specs.declared.format.Format.TheVariants.{Omf}
 use Rattle.oc_linking.specs.declared.terms.Width.TheVariants.{Four}
 use Rattle.oc_linking.specs.declared.terms.Kind.TheVariants.{Zero}
