@@ -1,16 +1,14 @@
 -- Every object that is ready for COFF meets what its writer uses.
-use Rattle.std.proofs.Common.{◌≡◌, ℕ, zero, suc, ◌+◌, ◌^◌, ◌<◌, ◌≤◌, Bool, true, false, cond, ◌&&◌, ◌||◌, List, [], ◌∷◌, length, map, Option, Some, None, refl, sym, ◌∙◌, ap, subst, arith}
+use Rattle.std.proofs.Common.{◌≡◌, ℕ, ◌+◌, ◌^◌, ◌<◌, ◌≤◌, true, false, cond, ◌&&◌, ◌||◌, List, length, Some, None, refl, sym, ◌∙◌, ap, subst, arith}
 use Rattle.std.specs.Prelude.{slice_get, nat_eq, nat_lt, not}
 use Rattle.std.specs.Option.{option_map, option_map_or}
-use Rattle.std.proofs.lemmas.Bool.{true≢false, and_parts, ltb-true}
+use Rattle.std.proofs.lemmas.Bool.{and_parts, ltb-true}
 use Rattle.oc_base.specs.declared.format.Format.{Format}
 use Rattle.oc_base.specs.declared.format.Format.TheVariants.{Elf32, Elf64, Coff32, Coff64, Mac32, Mac64, Omf}
 use Rattle.oc_base.specs.Formats.{word_for}
 use Rattle.oc_linking.specs.declared.terms.Kind.{Kind}
-use Rattle.oc_linking.specs.declared.terms.Kind.TheVariants.{Exception}
 use Rattle.oc_linking.specs.declared.terms.Hint.TheVariants.{Plain}
 use Rattle.oc_linking.specs.declared.terms.Value.TheVariants.{Absolute}
-use Rattle.oc_linking.specs.declared.terms.Binding.{Binding}
 use Rattle.oc_linking.specs.declared.terms.Binding.TheVariants.{Global, Common}
 use Rattle.oc_linking.specs.Numbers.{modulus}
 use Rattle.oc_linking.specs.Parts.{is_local}
@@ -22,30 +20,32 @@ use Rattle.oc_neutral.specs.declared.section.Section.{Section}
 use Rattle.oc_neutral.specs.declared.symbol.Symbol.{Symbol}
 use Rattle.oc_neutral.specs.declared.reloc.Reloc.{Reloc}
 use Rattle.oc_neutral.specs.Alignments.{common_align}
-use Rattle.oc_neutral.specs.CoffMeets.{offset_of, CoffSection, IsNaturalCommon, CoffSymbol, CoffReloc, MeetsCoff, FittedMeetsCoff}
+use Rattle.oc_neutral.specs.CoffMeets.{offset_of, strings_of, CoffSection, IsNaturalCommon, CoffSymbol, CoffReloc, FittedMeetsCoff}
 use Rattle.oc_neutral.specs.Coff.Strings.{is_tabled, string_offset}
 use Rattle.oc_neutral.specs.Families.{family_of, container_of}
 use Rattle.oc_neutral.specs.Relocated.{is_relocated}
 use Rattle.oc_neutral.specs.Coff.Family.{coff_family, is_far}
 use Rattle.oc_neutral.specs.Fitted.{fitted_binding, IsFitted}
 use Rattle.oc_neutral.specs.HomeNames.{is_home, output_names}
-use Rattle.oc_neutral.specs.Invariants.{IsSymbol, IsBinding}
+use Rattle.oc_neutral.specs.Invariants.{IsAlign, IsSymbol, IsBinding}
 use Rattle.oc_neutral.specs.KeySymbols.{has_key_symbol}
-use Rattle.oc_neutral.specs.Meets.{has_calls, MeetsReloc, HoldsAddend}
+use Rattle.oc_neutral.specs.Meets.{has_calls, MeetsReloc}
 use Rattle.oc_neutral.specs.Objects.{Object, reloc_at}
 use Rattle.oc_neutral.specs.RelocTables.{rows_of, row_of}
-use Rattle.oc_neutral.specs.Rows.{Row, TakesSection, taken_of, same_taken, shift_of}
+use Rattle.oc_neutral.specs.Rows.{Row, TakesSection, same_taken, shift_of}
 use Rattle.oc_neutral.specs.Shifts.{field_shift, written_shift}
 use Rattle.oc_neutral.specs.Spelling.{written_row}
-use Rattle.oc_neutral.specs.TargetSections.{is_group_form, section_conditions}
+use Rattle.oc_neutral.specs.TargetSections.{section_conditions}
 use Rattle.oc_neutral.specs.TargetSymbols.{is_absolute_form, is_common_form, symbol_conditions}
 use Rattle.oc_neutral.proofs.MeetsConditions.{neither, not_below, section_count_met, section_met, symbol_met}
 use Rattle.oc_neutral.proofs.MeetsCounts.{bounded_object}
+use Rattle.oc_neutral.proofs.MeetsGroups.{group_member}
 use Rattle.oc_neutral.proofs.MeetsKinds.{IsCoffTag, coff_named}
-use Rattle.oc_neutral.proofs.MeetsParts.{not_false, positive, uncut, led, taken_alike, plain_shift}
+use Rattle.oc_neutral.proofs.MeetsParts.{not_false, positive, power, uncut, led, taken_alike, plain_shift}
 use Rattle.oc_neutral.proofs.MeetsRelocs.{reloc_meets}
 use Rattle.oc_neutral.proofs.MeetsRows.{of_table}
 use Rattle.oc_neutral.proofs.MeetsStrings.{section_given, symbol_given, default_given}
+use Rattle.oc_neutral.proofs.MeetsStringSum.{strings_fit}
 use Rattle.oc_neutral.proofs.Positions.{each_at}
 
 -- the family of such a format
@@ -159,7 +159,7 @@ module _ (format : Format) (n : Object) (family : container_of format ≡ IsCoff
       let met = section_met format n fits k s here in
       let named : (is_home Coff32 (k + 1) s.kind s.name s.tag || (coff_family (family_of format).word).gives s.kind s.name s.tag) ≡ true
       = sym (ap (λ b. b || (coff_family (family_of format).word).gives s.kind s.name s.tag) (same_home format family (k + 1) s.kind s.name s.tag))
-          ∙ ap (λ f. is_home format (k + 1) s.kind s.name s.tag || f.gives s.kind s.name s.tag) (sym whole) ∙ fits.names k s here in
+      ∙ ap (λ f. is_home format (k + 1) s.kind s.name s.tag || f.gives s.kind s.name s.tag) (sym whole) ∙ fits.names k s here in
       let tag : IsCoffTag s.kind s.name s.tag = coff_named (k + 1) s.kind s.name s.tag named in
       let low : nat_lt (coff_family (family_of format).word).most_align s.align ≡ false = subst (λ (f : Family). nat_lt f.most_align s.align ≡ false) whole met.1.1.1.0 in
       let lacks : (coff_family (family_of format).word).lacks_name (output_names format n) n s.name s ≡ false
@@ -174,7 +174,7 @@ module _ (format : Format) (n : Object) (family : container_of format ≡ IsCoff
             let member : not (has_key_symbol n g) ≡ false
             = subst (λ (f : Family). f.lacks_member n g ≡ false) whole (ap (λ o. option_map_or ((family_of format).lacks_member n) o false) (sym e) ∙ met.1.1.1.1.1.0) in
             led n g (not_false (has_key_symbol n g) member);
-        align = not_below (2 ^ 13) s.align low;
+        align = power 13 s.align (omega arith) (each_at (λ (x : Section). IsAlign x.align) n.sections k s fits.object.complete.aligns here) (not_below (2 ^ 13) s.align low);
         small = tag.small;
         tag = tag.own;
         read = tag.read;
@@ -227,6 +227,12 @@ pub meets_coff : FittedMeetsCoff
 meets_coff format n family fits = record {
   bounds = bounded_object format n fits;
   few = few format n family fits;
+  strings =
+      let bounds = bounded_object format n fits in
+      strings_fit format n fits.format (few format n family fits) bounds.symbols bounds.texts;
+  groups = λ g low.
+      let m = group_member n fits.object g low in
+      (section format n family fits m.position m.section m.there).led g m.member;
   sections = section format n family fits;
   symbols = symbol format n family fits;
   relocs = reloc format n family fits;

@@ -1,5 +1,5 @@
 -- An object that is ready to be written breaks no condition of its target: each section, symbol and relocation meets each.
-use Rattle.std.proofs.Common.{◌≡◌, ℕ, zero, suc, ◌+◌, ◌<◌, ◌≤◌, Bool, true, false, cond, ◌||◌, eqb, List, [], ◌∷◌, ◌++◌, length, map, get_or, Option, Some, None, refl, sym, ◌∙◌, ap, subst, arith}
+use Rattle.std.proofs.Common.{◌≡◌, ℕ, zero, suc, ◌+◌, ◌<◌, ◌≤◌, Bool, true, false, cond, ◌||◌, eqb, List, [], ◌∷◌, ◌++◌, length, map, get_or, Some, None, refl, sym, ◌∙◌, ap, subst, arith}
 use Rattle.std.specs.Prelude.{slice_get, nat_lt}
 use Rattle.std.specs.List.{AllByRecursion}
 use Rattle.std.specs.Option.{option_map, option_map_or}
@@ -89,9 +89,11 @@ stands_among s (fields ∷ lists) zero i x here = (i, first (standing_in s field
     first (w ∷ xs) ys (suc j) y h = first xs ys j y h
 stands_among s (fields ∷ lists) (suc k) i x here =
     let r = stands_among (s + 1) lists k i x here in
-    let e : s + 1 + k ≡ s + suc k = omega arith in
-    (length (standing_in s fields) + r.0, second (standing_in s fields) (standing_from (s + 1) lists) r.0 (record { section = s + 1 + k; at = x.at; reloc = x.item }) r.1
-    ∙ ap (λ m. Some (record { section = m; at = x.at; reloc = x.item })) e)
+    let e : s + 1 + k ≡ s + suc k = omega arith in (
+      length (standing_in s fields) + r.0,
+      second (standing_in s fields) (standing_from (s + 1) lists) r.0 (record { section = s + 1 + k; at = x.at; reloc = x.item }) r.1
+          ∙ ap (λ m. Some (record { section = m; at = x.at; reloc = x.item })) e,
+    )
   where
     second : (xs ys : List Standing) (j : ℕ) (y : Standing) → slice_get ys j ≡ Some y → slice_get (xs ++ ys) (length xs + j) ≡ Some y
     second [] ys j y h = let e : j ≡ 0 + j = omega arith in ap (slice_get ys) (sym e) ∙ h
@@ -146,7 +148,7 @@ module _ (target : Format) (n : Object) (fits : IsFitted target n) where
   section_met k s here =
       let name : get_or (output_names target n) k [] ≡ s.name
       = get_there (output_names target n) k s.name []
-          (ap (λ names. slice_get names k) (own_names target n fits.format) ∙ slice_get-map (λ (x : Section). x.name) n.sections k ∙ ap (option_map (λ (x : Section). x.name)) here) in
+      (ap (λ names. slice_get names k) (own_names target n fits.format) ∙ slice_get-map (λ (x : Section). x.name) n.sections k ∙ ap (option_map (λ (x : Section). x.name)) here) in
       subst (λ name. AreMet (section_conditions target n name s)) name
       (each_met (section_conditions target n (get_or (output_names target n) k [])) n.sections k s here
       (stage_met stages 1 (record { count = length n.sections; conditions = conditions_at target n }) none refl k (below_length n.sections k s here)))
@@ -173,8 +175,8 @@ module _ (target : Format) (n : Object) (fits : IsFitted target n) where
       let z : Standing = record { section = s; at = at; reloc = r } in
       let own : slice_get (standing n) j.0 ≡ Some z
       = j.1 ∙ ap (λ q. Some (record { section = q; at = m.1.at; reloc = m.1.item })) e ∙ ap (λ q. Some (record { section = s; at = q; reloc = m.1.item })) m.4
-          ∙ ap (λ q. Some (record { section = s; at = at; reloc = q })) m.3 in
+      ∙ ap (λ q. Some (record { section = s; at = at; reloc = q })) m.3 in
       let met : AreMet (standing_conditions target n z)
       = each_met (standing_conditions target n) (standing n) j.0 z own
-          (stage_met stages 4 (record { count = length (standing n); conditions = λ i. option_map_or (standing_conditions target n) (slice_get (standing n) i) [] }) none refl j.0 (below_length (standing n) j.0 z own)) in
+      (stage_met stages 4 (record { count = length (standing n); conditions = λ i. option_map_or (standing_conditions target n) (slice_get (standing n) i) [] }) none refl j.0 (below_length (standing n) j.0 z own)) in
       subst (λ b. AreMet (cond b [] (reloc_conditions target n at r (spot_of n s at)))) (fits.stored s at r here) met

@@ -1,42 +1,49 @@
 -- Every object that is ready for ELF meets what its writer uses.
-use Rattle.std.proofs.Common.{◌≡◌, ℕ, zero, suc, ◌+◌, ◌^◌, ◌<◌, ◌≤◌, Bool, true, false, cond, ◌&&◌, ◌||◌, List, [], ◌∷◌, length, map, Option, Some, None, refl, sym, ◌∙◌, ap, subst, arith}
+use Rattle.std.proofs.Common.{◌≡◌, ℕ, ◌+◌, ◌^◌, ◌<◌, ◌≤◌, Bool, true, false, cond, ◌&&◌, ◌||◌, List, [], length, Some, None, refl, sym, ◌∙◌, ap, subst, arith}
 use Rattle.std.specs.Prelude.{slice_get, nat_eq, nat_lt, not}
 use Rattle.std.specs.Option.{option_map, option_map_or}
 use Rattle.std.proofs.lemmas.Bool.{true≢false, and_parts, ltb-true}
+use Rattle.std.proofs.lemmas.Option.{none-some}
 use Rattle.oc_base.specs.declared.format.Format.{Format}
 use Rattle.oc_base.specs.declared.format.Format.TheVariants.{Elf32, Elf64, Coff32, Coff64, Mac32, Mac64, Omf}
 use Rattle.oc_linking.specs.declared.terms.Kind.{Kind}
-use Rattle.oc_linking.specs.declared.terms.Base.TheVariants.{Address, HomeNumber}
+use Rattle.oc_linking.specs.declared.terms.Kind.TheVariants.{Zero, Exception}
+use Rattle.oc_linking.specs.declared.terms.Base.TheVariants.{HomeNumber}
 use Rattle.oc_linking.specs.declared.terms.Hint.TheVariants.{Plain}
 use Rattle.oc_linking.specs.declared.terms.Fallback.TheVariants as fallback
-use Rattle.oc_linking.specs.declared.terms.Binding.TheVariants.{Weak}
 use Rattle.oc_linking.specs.Parts.{is_local}
+use Rattle.oc_chains.specs.Lists.{list_of}
 use Rattle.oc_neutral.specs.KindRules.{has_nul}
 use Rattle.oc_neutral.specs.Family.{IsElf, Family}
 use Rattle.oc_neutral.specs.declared.section.Section.{Section}
 use Rattle.oc_neutral.specs.declared.symbol.Symbol.{Symbol}
-use Rattle.oc_neutral.specs.declared.reloc.Target.TheVariants as target
 use Rattle.oc_neutral.specs.declared.reloc.Reloc.{Reloc}
-use Rattle.oc_neutral.specs.ElfMeets.{ElfSection, ElfSymbol, ElfReloc, MeetsElf, FittedMeetsElf}
+use Rattle.oc_neutral.specs.ElfMeets.{ElfSection, ElfSymbol, ElfReloc, FittedMeetsElf}
+use Rattle.oc_neutral.specs.Elf.Kinds.{elf_tag_type, is_nobits_tag}
 use Rattle.oc_neutral.specs.Families.{family_of, container_of}
 use Rattle.oc_neutral.specs.Relocated.{is_relocated}
 use Rattle.oc_neutral.specs.Elf.Family.{elf_family, header_count, elf_symbol_count}
-use Rattle.oc_neutral.specs.Fitted.{IsFitted, IsNamed}
+use Rattle.oc_neutral.specs.Fitted.{IsFitted}
+
 use Rattle.oc_neutral.specs.HomeNames.{is_home, output_names}
-use Rattle.oc_neutral.specs.Meets.{has_calls, MeetsReloc, HoldsAddend}
-use Rattle.oc_neutral.specs.Objects.{Object, reloc_at}
+use Rattle.oc_neutral.specs.Invariants.{HasItsBytes, IsAlign}
+use Rattle.oc_neutral.specs.Meets.{has_calls, MeetsReloc}
+use Rattle.oc_neutral.specs.Objects.{Object, reloc_among, reloc_at}
+use Rattle.oc_neutral.specs.Readable.{AreZeros}
 use Rattle.oc_neutral.specs.RelocTables.{rows_of, row_of}
-use Rattle.oc_neutral.specs.Rows.{Row, TakesSection, taken_of, same_taken, same_base, shift_of}
+use Rattle.oc_neutral.specs.Rows.{Row, TakesSection, same_taken, same_base, shift_of}
 use Rattle.oc_neutral.specs.Shifts.{field_shift, written_shift}
 use Rattle.oc_neutral.specs.Spelling.{written_row}
 use Rattle.oc_neutral.specs.TargetSections.{section_conditions}
 use Rattle.oc_neutral.specs.TargetSymbols.{bounded, is_weak_form, symbol_conditions}
 use Rattle.oc_neutral.proofs.MeetsConditions.{AreMet, not_below, section_count_met, section_met, symbol_met}
 use Rattle.oc_neutral.proofs.MeetsCounts.{symbols_bounded, bounded_object}
-use Rattle.oc_neutral.proofs.MeetsKinds.{IsElfTag, elf_named}
-use Rattle.oc_neutral.proofs.MeetsParts.{uncut, steady, taken_alike, plain_shift, only_address}
+use Rattle.oc_neutral.proofs.MeetsGroups.{keys_uncut}
+use Rattle.oc_neutral.proofs.MeetsKinds.{IsElfTag, carried_small, elf_zero, elf_named}
+use Rattle.oc_neutral.proofs.MeetsParts.{all_bytes, power, uncut, steady, taken_alike, plain_shift, only_address}
 use Rattle.oc_neutral.proofs.MeetsRelocs.{reloc_meets}
 use Rattle.oc_neutral.proofs.MeetsRows.{of_table}
+use Rattle.oc_neutral.proofs.Positions.{each_at}
 
 -- the family of such a format
 elf_whole : (format : Format) → container_of format ≡ IsElf → family_of format ≡ elf_family (family_of format).word
@@ -117,21 +124,30 @@ module _ (format : Format) (n : Object) (family : container_of format ≡ IsElf)
       let low : elf_symbol_count n ≤ 0xFFFFFF = not_below 0xFFFFFF (elf_symbol_count n) met.0 in
       omega (arith, low)
 
+  -- a section of type NOBITS has zeros and no field
+  blank : (k : ℕ) (s : Section) → slice_get n.sections k ≡ Some s → is_nobits_tag s.tag ≡ true → AreZeros s.bytes × (list_of n.relocs k ≡ [])
+  blank k s here nobits =
+      fits.blanks k s here (ap (λ (f : Family). f.is_blank s.tag) (ap family_of fits.format ∙ whole) ∙ nobits)
+
   section : (k : ℕ) (s : Section) → slice_get n.sections k ≡ Some s → ElfSection n s
   unfolding section_conditions
   section k s here =
       let met = section_met format n fits k s here in
       let named : (is_home Elf32 (k + 1) s.kind s.name s.tag || (elf_family (family_of format).word).gives s.kind s.name s.tag) ≡ true
       = sym (ap (λ b. b || (elf_family (family_of format).word).gives s.kind s.name s.tag) (same_home format family (k + 1) s.kind s.name s.tag))
-          ∙ ap (λ f. is_home format (k + 1) s.kind s.name s.tag || f.gives s.kind s.name s.tag) (sym whole) ∙ fits.names k s here in
+      ∙ ap (λ f. is_home format (k + 1) s.kind s.name s.tag || f.gives s.kind s.name s.tag) (sym whole) ∙ fits.names k s here in
       let tag : IsElfTag s.kind s.name s.tag = elf_named (k + 1) s.kind s.name s.tag named in
       let low : nat_lt (elf_family (family_of format).word).most_align s.align ≡ false = subst (λ (f : Family). nat_lt f.most_align s.align ≡ false) whole met.1.1.1.0 in
       record {
         uncut = uncut n s (subst (λ (f : Family). f.lacks_name (output_names format n) n s.name s ≡ false) whole met.1.1.1.1.0);
-        align = not_below (2 ^ 20) s.align low;
+        align = power 20 s.align (omega arith) (each_at (λ (x : Section). IsAlign x.align) n.sections k s fits.object.complete.aligns here) (not_below (2 ^ 20) s.align low);
+        small = carried_small (elf_tag_type s.tag) tag.carried;
         carried = tag.carried;
         allocated = tag.allocated;
         kind = tag.kind_read;
+        zeros = λ nobits. (blank k s here nobits).0;
+        stored = λ bits. all_bytes s (each_at HasItsBytes n.sections k s fits.object.built.bytes here) (λ zero.
+            true≢false (sym (elf_zero s.name s.tag (tag.kind_read.same (λ exception. absurd (let e : Zero ≡ Exception = sym zero ∙ exception in cc)) ∙ zero)) ∙ bits));
       }
 
   symbol : (k : ℕ) (s : Symbol) → slice_get n.symbols k ≡ Some s → ElfSymbol n s
@@ -153,6 +169,7 @@ module _ (format : Format) (n : Object) (family : container_of format ≡ IsElf)
       let number = and_parts _ _ row.number in
       record {
         meets = m;
+        stored = by (is_nobits_tag m.section.tag) refl;
         found = row.found;
         number = (ltb-true 0 m.row.number number.0, ltb-true m.row.number (2 ^ 8) number.1);
         single = row.single;
@@ -166,6 +183,12 @@ module _ (format : Format) (n : Object) (family : container_of format ≡ IsElf)
             (ap (option_map (written_shift at r.form.less)) (subst (λ f. written_row f r.form r.hint ≡ Some m.row) is m.is.written) ∙ ap Some (plain_shift at r.form.less m.row row.no_section)));
       }
     where
+      by : (b : Bool) → is_nobits_tag (reloc_meets format n fits s at r here).section.tag ≡ b → is_nobits_tag (reloc_meets format n fits s at r here).section.tag ≡ false
+      by true e =
+          let m = reloc_meets format n fits s at r here in
+          absurd (none-some r (sym (ap (λ xs. reloc_among xs at) (blank s m.section m.there e).1) ∙ here))
+      by false e = e
+
       other : format ≡ Mac64 → ⊥
       other is = absurd (let e : container_of Mac64 ≡ IsElf = subst (λ f. container_of f ≡ IsElf) is family in cc)
 
@@ -174,6 +197,7 @@ meets_elf format n family fits = record {
   bounds = bounded_object format n fits;
   headers = headers format n family fits;
   table = table format n family fits;
+  keys = keys_uncut n fits.object (λ k s here. (section format n family fits k s here).uncut);
   sections = section format n family fits;
   symbols = symbol format n family fits;
   relocs = reloc format n family fits;

@@ -1,23 +1,23 @@
 -- Every object that is ready for Mach-O meets what its writer uses.
 use Rattle.std.proofs.Common.{◌≡◌, ℕ, zero, suc, ◌+◌, ◌^◌, ◌<◌, ◌≤◌, Bool, true, false, cond, ◌&&◌, ◌||◌, List, [], ◌∷◌, length, map, Option, Some, None, refl, sym, ◌∙◌, ap, subst, arith}
-use Rattle.std.specs.Prelude.{slice_get, nat_eq, nat_lt, nat_le, not, ℤ, is_none, is_err}
+use Rattle.std.specs.Prelude.{slice_get, nat_eq, nat_lt, nat_le, not, is_none, is_err}
 use Rattle.std.specs.Option.{option_map, option_map_or}
 use Rattle.std.proofs.lemmas.Bool.{true≢false, ltb-true}
 use Rattle.std.proofs.lemmas.Bool.Decides.{nat_tests}
 use Rattle.std.proofs.lemmas.Option.{none-some, same_Some}
+use Rattle.oc_base.specs.Formats.{word_for}
 use Rattle.oc_base.specs.declared.format.Format.{Format}
 use Rattle.oc_base.specs.declared.format.Format.TheVariants.{Elf32, Elf64, Coff32, Coff64, Mac32, Mac64, Omf}
 use Rattle.oc_base.specs.declared.format.Word.TheVariants.{W32, W64}
-use Rattle.oc_base.specs.Formats.{word_for}
-use Rattle.oc_linking.specs.declared.terms.Width.{Width}
 use Rattle.oc_linking.specs.declared.terms.Width.TheVariants.{Four}
 use Rattle.oc_linking.specs.declared.terms.Kind.{Kind}
+use Rattle.oc_linking.specs.declared.terms.Kind.TheVariants.{ReadOnly, Zero}
 use Rattle.oc_linking.specs.declared.terms.Hint.TheVariants.{Plain}
 use Rattle.oc_linking.specs.declared.terms.Less.TheVariants as less
 use Rattle.oc_linking.specs.declared.terms.Fallback.TheVariants as fallback
-use Rattle.oc_linking.specs.declared.terms.Binding.TheVariants.{Common, Weak}
 use Rattle.oc_linking.specs.Parts.{is_local}
 use Rattle.oc_algebra.specs.Fields.{to_field_of}
+use Rattle.oc_chains.specs.Lists.{list_of}
 use Rattle.oc_neutral.specs.KindRules.{has_nul}
 use Rattle.oc_neutral.specs.Family.{IsMach, Family}
 use Rattle.oc_neutral.specs.declared.section.Section.{Section}
@@ -27,26 +27,33 @@ use Rattle.oc_neutral.specs.Families.{family_of, container_of}
 use Rattle.oc_neutral.specs.Relocated.{is_relocated}
 use Rattle.oc_neutral.specs.Mach.Family.{mach_family, mach_symbol_count}
 use Rattle.oc_neutral.specs.Fitted.{IsFitted}
+
 use Rattle.oc_neutral.specs.HomeNames.{is_home, output_names}
-use Rattle.oc_neutral.specs.MachMeets.{MachSection, MachSymbol, IsWrittenDifference, MachReloc, MeetsMach, FittedMeetsMach}
+use Rattle.oc_neutral.specs.Invariants.{HasItsBytes, IsAlign, IsSymbol, IsBinding}
+use Rattle.oc_neutral.specs.Mach.Kinds.{segment_of, section_of, is_zerofill_tag}
+use Rattle.oc_neutral.specs.MachMeets.{MachSection, MachSymbol, IsWrittenDifference, MachReloc, FittedMeetsMach}
 use Rattle.oc_neutral.specs.Mach.Relocs.{MachRow, length_of, mach_entries, entry_among}
 use Rattle.oc_neutral.specs.Meets.{has_calls, MeetsReloc, HoldsAddend}
-use Rattle.oc_neutral.specs.Objects.{Object, reloc_at}
+use Rattle.oc_neutral.specs.Objects.{Object, reloc_among, reloc_at}
+use Rattle.oc_neutral.specs.Readable.{AreZeros}
 use Rattle.oc_neutral.specs.RelocTables.{rows_of}
-use Rattle.oc_neutral.specs.Rows.{Row, TakesSection, taken_of}
+use Rattle.oc_neutral.specs.Rows.{Row}
 use Rattle.oc_neutral.specs.Mach.SectionSymbols.{needed_sections}
 use Rattle.oc_neutral.specs.Shifts.{field_shift, written_shift}
 use Rattle.oc_neutral.specs.Spelling.{written_row}
-use Rattle.oc_neutral.specs.TargetRelocations.{taken_end, fixed_end, is_empty, has_empty_end, has_no_form, is_too_far, ends_in_nothing, spot_of, reloc_conditions}
+use Rattle.oc_neutral.specs.Stored.{is_stored}
+use Rattle.oc_neutral.specs.TargetRelocations.{taken_end, fixed_end, is_empty, has_empty_end, spot_of, reloc_conditions}
 use Rattle.oc_neutral.specs.TargetSections.{section_conditions}
 use Rattle.oc_neutral.specs.TargetSymbols.{bounded, is_common_form, is_weak_form, symbol_conditions}
 use Rattle.oc_neutral.proofs.MeetsConditions.{AreMet, neither, not_below, below_length, section_count_met, section_met, symbol_met, reloc_met}
 use Rattle.oc_neutral.proofs.MeetsCounts.{symbols_bounded, bounded_object}
-use Rattle.oc_neutral.proofs.MeetsMachKinds.{IsMachTag, mach_named}
-use Rattle.oc_neutral.proofs.MeetsParts.{positive, is_something, uncut, steady, taken_alike}
+use Rattle.oc_neutral.proofs.MeetsGroups.{no_groups}
+use Rattle.oc_neutral.proofs.MeetsMachKinds.{IsMachTag, mach_zero, mach_named}
+use Rattle.oc_neutral.proofs.MeetsNames.{needed_there}
+use Rattle.oc_neutral.proofs.MeetsParts.{all_bytes, positive, power, is_something, uncut, steady, taken_alike}
 use Rattle.oc_neutral.proofs.MeetsRelocs.{no_error, reloc_meets}
 use Rattle.oc_neutral.proofs.MeetsRows.{of_table}
-use Rattle.oc_neutral.proofs.Positions.{images_same}
+use Rattle.oc_neutral.proofs.Positions.{each_at, images_same}
 use Rattle.oc_neutral.proofs.ShiftLemmas.{four_bytes_hold}
 
 -- the family of such a format
@@ -146,13 +153,17 @@ module _ (format : Format) (n : Object) (family : container_of format ≡ IsMach
       let low : mach_symbol_count W64 n ≤ 0xFFFFFF = not_below 0xFFFFFF (mach_symbol_count W64 n) met.0 in
       omega (arith, low)
 
+  -- a section of type ZEROFILL has zeros and no field
+  blank : (k : ℕ) (s : Section) → slice_get n.sections k ≡ Some s → is_zerofill_tag s.tag ≡ true → AreZeros s.bytes × (list_of n.relocs k ≡ [])
+  blank k s here fill = fits.blanks k s here (ap (λ (f : Family). f.is_blank s.tag) (ap family_of fits.format ∙ whole) ∙ fill)
+
   section : (k : ℕ) (s : Section) → slice_get n.sections k ≡ Some s → MachSection s
   unfolding section_conditions
   section k s here =
       let met = section_met format n fits k s here in
       let named : (is_home Mac32 (k + 1) s.kind s.name s.tag || (mach_family (family_of format).word).gives s.kind s.name s.tag) ≡ true
       = sym (ap (λ b. b || (mach_family (family_of format).word).gives s.kind s.name s.tag) (same_home format family (k + 1) s.kind s.name s.tag))
-          ∙ ap (λ f. is_home format (k + 1) s.kind s.name s.tag || f.gives s.kind s.name s.tag) (sym whole) ∙ fits.names k s here in
+      ∙ ap (λ f. is_home format (k + 1) s.kind s.name s.tag || f.gives s.kind s.name s.tag) (sym whole) ∙ fits.names k s here in
       let inside = below_length n.sections k s here in
       let most = few in
       let tag : IsMachTag s.kind s.name s.tag = mach_named (k + 1) (omega (arith, inside, most)) s.kind s.name s.tag named in
@@ -160,7 +171,7 @@ module _ (format : Format) (n : Object) (family : container_of format ≡ IsMach
       record {
         uncut = (uncut n s (subst (λ (f : Family). f.lacks_name (output_names format n) n s.name s ≡ false) whole met.1.1.1.1.0)).name;
         alone = alone s.group (subst (λ (f : Family). option_map_or (f.lacks_member n) s.group false ≡ false) whole met.1.1.1.1.1.0);
-        align = not_below (2 ^ 15) s.align low;
+        align = power 15 s.align (omega arith) (each_at (λ (x : Section). IsAlign x.align) n.sections k s fits.object.complete.aligns here) (not_below (2 ^ 15) s.align low);
         name = tag.parted;
         segment = tag.segment;
         section = tag.section;
@@ -168,6 +179,10 @@ module _ (format : Format) (n : Object) (family : container_of format ≡ IsMach
         tag = tag.own;
         type = tag.type;
         kind = tag.read;
+        zeros = λ fill. (blank k s here fill).0;
+        stored = λ bytes. all_bytes s (each_at HasItsBytes n.sections k s fits.object.built.bytes here) (λ zero.
+            true≢false
+            (sym (mach_zero (segment_of s.name) (section_of s.name) s.tag (tag.read.same (λ other. absurd (let e : Zero ≡ ReadOnly = sym zero ∙ other in cc)) ∙ zero)) ∙ bytes));
       }
 
   symbol : (k : ℕ) (s : Symbol) → slice_get n.symbols k ≡ Some s → MachSymbol n s
@@ -179,7 +194,7 @@ module _ (format : Format) (n : Object) (family : container_of format ≡ IsMach
         common = λ size align e.
             let form : (family_of format).lacks_common size align ≡ false = ap (is_common_form format) (sym e) ∙ met.1.1.0 in
             let parts = neither (nat_eq size 0) (nat_lt (2 ^ 15) align) (subst (λ (f : Family). f.lacks_common size align ≡ false) whole form) in
-            (positive size parts.0, not_below (2 ^ 15) align parts.1);
+            (positive size parts.0, power 15 align (omega arith) (subst (IsBinding n) e (each_at (IsSymbol n) n.symbols k s fits.object.complete.symbols here).binding).1 (not_below (2 ^ 15) align parts.1));
         steady = λ j e.
             let weak : (family_of format).lacks_weak n (fallback.Name j) ≡ false = ap (is_weak_form format n) (sym e) ∙ met.1.1.1.0 in
             steady n j (subst (λ (f : Family). f.lacks_weak n (fallback.Name j) ≡ false) whole weak);
@@ -208,6 +223,7 @@ module _ (format : Format) (n : Object) (family : container_of format ≡ IsMach
       let row : IsEntryRow format m.row = entry_row format family m.is.position m.row m.is.there in
       record {
         meets = m;
+        stored = by (is_zerofill_tag m.section.tag) refl;
         entry = row.entry;
         row = row.own;
         found = row.found;
@@ -219,12 +235,20 @@ module _ (format : Format) (n : Object) (family : container_of format ≡ IsMach
             subst (λ f. HoldsAddend f r shift) (sym is)
             (no_error (to_field_of W32 r.form.width shift r.addend) (ap (λ w. is_err (to_field_of W32 w shift r.addend)) four ∙ four_bytes_hold shift r.addend));
         difference = difference s at r here;
+        needed = λ k is names.
+            needed_there n s at r m.section here m.there m.normal (subst (λ f. is_stored f s r ≡ false) is m.stays) k names;
         held = λ is.
             m.holds (written_shift at r.form.less m.row)
             (subst (λ f. field_shift f at r ≡ Some (written_shift at r.form.less m.row)) (sym is)
             (ap (option_map (written_shift at r.form.less)) (subst (λ f. written_row f r.form r.hint ≡ Some m.row) is m.is.written)));
         hint = λ is. m.is.hint ∙ ap (λ f. cond (has_calls f) r.hint Plain) is;
       }
+    where
+      by : (b : Bool) → is_zerofill_tag (reloc_meets format n fits s at r here).section.tag ≡ b → is_zerofill_tag (reloc_meets format n fits s at r here).section.tag ≡ false
+      by true e =
+          let m = reloc_meets format n fits s at r here in
+          absurd (none-some r (sym (ap (λ xs. reloc_among xs at) (blank s m.section m.there e).1) ∙ here))
+      by false e = e
 
 pub meets_mach : FittedMeetsMach
 meets_mach format n family fits = record {
@@ -232,6 +256,7 @@ meets_mach format n family fits = record {
   few = few format n family fits;
   table_32 = table_32 format n family fits;
   table_64 = table_64 format n family fits;
+  groups = no_groups n fits.object (λ k s here. (section format n family fits k s here).alone);
   sections = section format n family fits;
   symbols = symbol format n family fits;
   relocs = reloc format n family fits;

@@ -1,6 +1,6 @@
 -- The row that is written for a form means that form, and stands in the table.
-use Rattle.std.proofs.Common.{◌≡◌, ℕ, zero, suc, Bool, true, false, cond, not, ◌&&◌, List, [], ◌∷◌, map, Option, Some, None, Result, Ok, Err, inl, inr, refl, sym, ◌∙◌, ap, subst}
-use Rattle.std.specs.Prelude.{◌⊎◌, slice_get, find, is_err}
+use Rattle.std.proofs.Common.{◌≡◌, ℕ, suc, Bool, true, false, cond, List, [], ◌∷◌, map, Option, Some, None, inl, inr, refl, sym, ◌∙◌, ap, subst}
+use Rattle.std.specs.Prelude.{◌⊎◌, slice_get, find}
 use Rattle.std.proofs.lemmas.Bool.{true≢false, and_parts}
 use Rattle.std.proofs.lemmas.Option.{none-some, same_Some}
 use Rattle.oc_base.specs.declared.format.Format.{Format}
@@ -137,7 +137,7 @@ module _ (format : Format) (form : Form) where
         check = check_is row.check form.check d.1;
         base = base_is row.base form.base c.1;
         taken = taken_is row.taken t b.1;
-        hint = elim either [ | inl x ↦ inl (own ∙ x) | inr x ↦ inr (own ∙ x) ];
+        hint = elim either [ inl x ↦ inl (own ∙ x) | inr x ↦ inr (own ∙ x) ];
       }
 
   from_taking : (hint : Hint) (t : Taken) (row : Row) → row_taking format form hint t ≡ Some row → IsFoundRow format form hint t row
@@ -196,7 +196,7 @@ IsCallForm form hint = hint ≡ Call → (form.base ≡ Address) × (form.less �
 hinted : (format : Format) (form : Form) (hint : Hint) (row : Row) → IsCallForm form hint → written_row format form hint ≡ Some row
     → (k : ℕ) → slice_get (rows_of format) k ≡ Some row → (row.hint ≡ hint) ⊎ (row.hint ≡ Plain) → row.hint ≡ cond (has_calls format) hint Plain
 hinted format form Plain row call e k there either =
-    let plain : row.hint ≡ Plain = elim either [ | inl x ↦ x | inr x ↦ x ] in
+    let plain : row.hint ≡ Plain = elim either [ inl x ↦ x | inr x ↦ x ] in
     plain ∙ one (has_calls format)
   where
     one : (b : Bool) → Plain ≡ cond b Plain Plain

@@ -1,5 +1,5 @@
 -- What a writer of COFF uses of an object that is ready to be written (PE/COFF, "Section Table", "COFF Relocations" and "COFF Symbol Table"; our profile).
-use Rattle.std.specs.Prelude.{◌≡◌, ℕ, ◌^◌, ◌<◌, ◌≤◌, true, false, List, length, slice_get, Option, Some, None}
+use Rattle.std.specs.Prelude.{◌≡◌, ℕ, ◌+◌, ◌^◌, ◌<◌, ◌≤◌, true, false, List, length, slice_get, sum_by, Some, None}
 use Rattle.oc_base.specs.Strings.{is_given}
 use Rattle.oc_base.specs.declared.format.Format.{Format}
 use Rattle.oc_linking.specs.declared.terms.Kind.{Kind}
@@ -20,7 +20,7 @@ use Rattle.oc_neutral.specs.Families.{family_of, container_of}
 use Rattle.oc_neutral.specs.HomeNames.{output_names}
 use Rattle.oc_neutral.specs.Fitted.{IsFitted}
 use Rattle.oc_neutral.specs.KindRules.{has, has_nul}
-use Rattle.oc_neutral.specs.Meets.{AreBounded, IsUncut, HasKeySymbol, IsReadAs, MeetsReloc, HoldsAddend}
+use Rattle.oc_neutral.specs.Meets.{AreBounded, IsUncut, HasKeySymbol, IsPower, IsReadAs, MeetsReloc, HoldsAddend}
 use Rattle.oc_neutral.specs.Objects.{Object, reloc_at}
 use Rattle.oc_neutral.specs.RelocTables.{row_of}
 use Rattle.oc_neutral.specs.Rows.{taken_of, shift_of}
@@ -41,7 +41,7 @@ pub record CoffSection (format : Format) (n : Object) (s : Section) : Type 0 whe
   pub near : is_tabled s.name ≡ true → offset_of format n s.name ≤ 9999999
   -- a group has its key symbol
   pub led : (g : ℕ) → s.group ≡ Some g → HasKeySymbol n g
-  pub align : s.align ≤ 2 ^ 13
+  pub align : IsPower 13 s.align
   -- its tag leaves nothing out of 32 bits of flags
   pub small : s.tag < 2 ^ 32
   pub tag : coff_tag s.tag ≡ s.tag
@@ -81,6 +81,9 @@ pub record CoffReloc (format : Format) (n : Object) (s at : ℕ) (r : Reloc) : T
 pub record MeetsCoff (format : Format) (n : Object) : Type 0 where
   pub bounds : AreBounded n
   pub few : length n.sections ≤ 65279
+  -- the names that are given to the string table, each with its NUL
+  pub strings : sum_by (λ (name : List ℕ). length name + 1) (strings_of format n) ≤ 2 ^ 31
+  pub groups : (g : ℕ) → g < length n.groups → HasKeySymbol n g
   pub sections : (k : ℕ) (s : Section) → slice_get n.sections k ≡ Some s → CoffSection format n s
   pub symbols : (k : ℕ) (s : Symbol) → slice_get n.symbols k ≡ Some s → CoffSymbol format n s
   pub relocs : (s at : ℕ) (r : Reloc) → reloc_at n s at ≡ Some r → CoffReloc format n s at r

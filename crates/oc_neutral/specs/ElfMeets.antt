@@ -1,5 +1,5 @@
 -- What a writer of ELF uses of an object that is ready to be written (gABI, "Section Header" and "Symbol Table"; i386 and x86-64 psABI; our profile).
-use Rattle.std.specs.Prelude.{◌≡◌, ℕ, ◌^◌, ◌<◌, ◌≤◌, true, false, slice_get, Option, Some, None}
+use Rattle.std.specs.Prelude.{◌≡◌, ℕ, ◌^◌, ◌<◌, ◌≤◌, true, false, length, slice_get, Some, None}
 use Rattle.oc_base.specs.declared.format.Format.{Format}
 use Rattle.oc_base.specs.declared.format.Format.TheVariants.{Elf32}
 use Rattle.oc_linking.specs.declared.terms.Kind.TheVariants.{Exception}
@@ -7,6 +7,7 @@ use Rattle.oc_linking.specs.declared.terms.Base.TheVariants.{Address}
 use Rattle.oc_linking.specs.declared.terms.Fallback.TheVariants as fallback
 use Rattle.oc_linking.specs.declared.terms.Binding.TheVariants.{Weak}
 use Rattle.oc_neutral.specs.Family.{IsElf}
+use Rattle.oc_neutral.specs.declared.group.Group.{Group}
 use Rattle.oc_neutral.specs.declared.section.Section.{Section}
 use Rattle.oc_neutral.specs.declared.symbol.Symbol.{Symbol}
 use Rattle.oc_neutral.specs.declared.reloc.Target.TheVariants as target
@@ -16,8 +17,9 @@ use Rattle.oc_neutral.specs.Elf.Kinds.{is_carried_type, elf_kind, elf_tag_type, 
 use Rattle.oc_neutral.specs.Families.{container_of}
 use Rattle.oc_neutral.specs.Fitted.{IsFitted}
 use Rattle.oc_neutral.specs.KindRules.{has, has_nul}
-use Rattle.oc_neutral.specs.Meets.{AreBounded, IsUncut, IsSteadyAt, IsReadAs, MeetsReloc, HoldsAddend}
+use Rattle.oc_neutral.specs.Meets.{AreBounded, IsUncut, IsSteadyAt, IsPower, IsReadAs, MeetsReloc, HoldsAddend}
 use Rattle.oc_neutral.specs.Objects.{Object, reloc_at}
+use Rattle.oc_neutral.specs.Readable.{AreZeros}
 use Rattle.oc_neutral.specs.RelocTables.{row_of}
 use Rattle.oc_neutral.specs.Rows.{taken_of, shift_of}
 use Rattle.oc_neutral.specs.Elf.Family.{header_count, elf_symbol_count}
@@ -26,11 +28,15 @@ use Rattle.oc_neutral.specs.Relocated.{is_relocated}
 -- a section
 pub record ElfSection (n : Object) (s : Section) : Type 0 where
   pub uncut : IsUncut n s
-  pub align : s.align ≤ 2 ^ 20
-  -- its tag has a type that is carried, and is allocated where that is NOBITS
+  pub align : IsPower 20 s.align
+  -- its tag has a type of 32 bits that is carried, and is allocated where that is NOBITS
+  pub small : elf_tag_type s.tag < 2 ^ 32
   pub carried : is_carried_type (elf_tag_type s.tag) ≡ true
   pub allocated : is_nobits_tag s.tag ≡ true → has (elf_tag_flags s.tag) SHF_ALLOC ≡ true
   pub kind : IsReadAs Exception s.kind (elf_kind s.name (elf_tag_type s.tag) (elf_tag_flags s.tag))
+  -- what has no bytes in the file holds zeros, and what has bytes there has all
+  pub zeros : is_nobits_tag s.tag ≡ true → AreZeros s.bytes
+  pub stored : is_nobits_tag s.tag ≡ false → length s.bytes ≡ s.size
 
 -- a symbol
 pub record ElfSymbol (n : Object) (s : Symbol) : Type 0 where
@@ -41,6 +47,8 @@ pub record ElfSymbol (n : Object) (s : Symbol) : Type 0 where
 -- a relocation
 pub record ElfReloc (format : Format) (n : Object) (s at : ℕ) (r : Reloc) : Type 0 where
   pub meets : MeetsReloc format n s at r
+  -- it stands in a section that has bytes in the file
+  pub stored : is_nobits_tag meets.section.tag ≡ false
   -- the type is one entry's, is found by its number of eight bits, and says something
   pub found : row_of format meets.row.number ≡ Some meets.row
   pub number : (0 < meets.row.number) × (meets.row.number < 2 ^ 8)
@@ -58,6 +66,7 @@ pub record MeetsElf (format : Format) (n : Object) : Type 0 where
   pub bounds : AreBounded n
   pub headers : header_count (is_relocated format n) n ≤ 65279
   pub table : format ≡ Elf32 → elf_symbol_count n < 2 ^ 24
+  pub keys : (g : ℕ) (x : Group) → slice_get n.groups g ≡ Some x → has_nul x.key ≡ false
   pub sections : (k : ℕ) (s : Section) → slice_get n.sections k ≡ Some s → ElfSection n s
   pub symbols : (k : ℕ) (s : Symbol) → slice_get n.symbols k ≡ Some s → ElfSymbol n s
   pub relocs : (s at : ℕ) (r : Reloc) → reloc_at n s at ≡ Some r → ElfReloc format n s at r

@@ -1,5 +1,5 @@
 -- What a writer of Mach-O uses of an object that is ready to be written (Mach-O reference, "section", "nlist" and "Relocation Data Structures"; our profile).
-use Rattle.std.specs.Prelude.{◌≡◌, ℕ, ◌^◌, ◌<◌, ◌≤◌, true, false, List, [], length, slice_get, ℤ, Option, Some, None}
+use Rattle.std.specs.Prelude.{◌≡◌, ℕ, ◌^◌, ◌<◌, ◌≤◌, true, false, [], length, slice_get, ℤ, Some, None}
 use Rattle.oc_base.specs.Formats.{word_for}
 use Rattle.oc_base.specs.declared.format.Word.TheVariants.{W32, W64}
 use Rattle.oc_base.specs.declared.format.Format.{Format}
@@ -15,13 +15,14 @@ use Rattle.oc_neutral.specs.declared.symbol.Symbol.{Symbol}
 use Rattle.oc_neutral.specs.declared.reloc.Reloc.{Reloc}
 use Rattle.oc_neutral.specs.Families.{container_of}
 use Rattle.oc_neutral.specs.Fitted.{IsFitted}
-use Rattle.oc_neutral.specs.Mach.Kinds.{mach_name, segment_of, section_of, is_read_type, mach_kind, mach_tag}
+use Rattle.oc_neutral.specs.Mach.Kinds.{mach_name, segment_of, section_of, is_read_type, mach_kind, mach_tag, is_zerofill_tag}
 use Rattle.oc_neutral.specs.Mach.Relocs.{MachRow, length_of, mach_entries, entry_among}
 use Rattle.oc_neutral.specs.Mach.Family.{mach_symbol_count}
-use Rattle.oc_neutral.specs.Meets.{AreBounded, IsSteadyAt, IsReadAs, MeetsReloc, HoldsAddend}
+use Rattle.oc_neutral.specs.Meets.{AreBounded, IsSteadyAt, IsPower, IsReadAs, MeetsReloc, HoldsAddend}
 use Rattle.oc_neutral.specs.Objects.{Object, reloc_at}
+use Rattle.oc_neutral.specs.Readable.{AreZeros}
 use Rattle.oc_neutral.specs.Rows.{taken_of}
-use Rattle.oc_neutral.specs.Mach.SectionSymbols.{needed_sections}
+use Rattle.oc_neutral.specs.Mach.SectionSymbols.{names_section, needed_sections}
 use Rattle.oc_neutral.specs.Shifts.{written_shift}
 use Rattle.oc_neutral.specs.TargetRelocations.{fixed_end}
 
@@ -29,7 +30,7 @@ use Rattle.oc_neutral.specs.TargetRelocations.{fixed_end}
 pub record MachSection (s : Section) : Type 0 where
   pub uncut : has_nul s.name ≡ false
   pub alone : s.group ≡ None
-  pub align : s.align ≤ 2 ^ 15
+  pub align : IsPower 15 s.align
   -- its name is a segment and a section of up to 16 bytes each, with a comma between them
   pub name : s.name ≡ mach_name (segment_of s.name) (section_of s.name)
   pub segment : length (segment_of s.name) ≤ 16
@@ -39,11 +40,14 @@ pub record MachSection (s : Section) : Type 0 where
   pub tag : mach_tag s.tag ≡ s.tag
   pub type : is_read_type s.tag ≡ true
   pub kind : IsReadAs ReadOnly s.kind (mach_kind (segment_of s.name) (section_of s.name) s.tag)
+  -- what has no bytes in the file holds zeros, and what has bytes there has all
+  pub zeros : is_zerofill_tag s.tag ≡ true → AreZeros s.bytes
+  pub stored : is_zerofill_tag s.tag ≡ false → length s.bytes ≡ s.size
 
 -- a symbol
 pub record MachSymbol (n : Object) (s : Symbol) : Type 0 where
   pub name : has_nul s.name ≡ false
-  pub common : (size align : ℕ) → s.binding ≡ Common size align → (0 < size) × (align ≤ 2 ^ 15)
+  pub common : (size align : ℕ) → s.binding ≡ Common size align → (0 < size) × IsPower 15 align
   -- a fallback Name is written as the place of its Global
   pub steady : (k : ℕ) → s.binding ≡ Weak (fallback.Name k) → IsSteadyAt n k
 
@@ -58,6 +62,8 @@ pub record IsWrittenDifference (n : Object) (at : ℕ) (r : Reloc) (k : ℕ) : T
 -- a relocation
 pub record MachReloc (format : Format) (n : Object) (s at : ℕ) (r : Reloc) : Type 0 where
   pub meets : MeetsReloc format n s at r
+  -- it stands in a section that has bytes in the file
+  pub stored : is_zerofill_tag meets.section.tag ≡ false
   -- the entry is found by its type, r_pcrel and r_length
   pub entry : MachRow
   pub row : entry.row ≡ meets.row
@@ -67,7 +73,8 @@ pub record MachReloc (format : Format) (n : Object) (s at : ℕ) (r : Reloc) : T
   pub taken : format ≡ Mac32 → meets.row.taken ≡ taken_of r.form.less
   pub holds : (shift : ℤ) → format ≡ Mac32 → HoldsAddend format r shift
   pub difference : (k : ℕ) → format ≡ Mac32 → r.form.less ≡ less.Section k → IsWrittenDifference n at r k
-  -- in mac64 the field holds the addend
+  -- in mac64 each section that it names has a symbol, and the field holds the addend
+  pub needed : (k : ℕ) → format ≡ Mac64 → names_section k s r ≡ true → (i : ℕ) × (slice_get (needed_sections n) i ≡ Some k)
   pub held : format ≡ Mac64 → HoldsAddend format r (written_shift at r.form.less meets.row)
   pub hint : format ≡ Mac64 → meets.row.hint ≡ r.hint
 
@@ -78,6 +85,7 @@ pub record MeetsMach (format : Format) (n : Object) : Type 0 where
   -- in mac64 with the symbols of the sections that are named
   pub table_32 : format ≡ Mac32 → mach_symbol_count W32 n < 2 ^ 24
   pub table_64 : format ≡ Mac64 → mach_symbol_count W64 n < 2 ^ 24
+  pub groups : n.groups ≡ []
   pub sections : (k : ℕ) (s : Section) → slice_get n.sections k ≡ Some s → MachSection s
   pub symbols : (k : ℕ) (s : Symbol) → slice_get n.symbols k ≡ Some s → MachSymbol n s
   pub relocs : (s at : ℕ) (r : Reloc) → reloc_at n s at ≡ Some r → MachReloc format n s at r
