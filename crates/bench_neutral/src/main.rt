@@ -35,6 +35,7 @@ fn code(alloc: Global, size: u32) -> Result<Section, NoMemory>
         bytes: Bytes::from_vec(vec![in alloc; 0u8; size as usize]?),
         tag: 6,
         number: 1,
+        group: None,
     })
 }
 

@@ -1,36 +1,23 @@
 -- What the generic conversion promises of the first path, in its own terms.
-use Rattle.std.proofs.Common.{◌≡◌, ℕ, zero, suc, ◌<◌, ◌≤◌, true, List, [], ◌∷◌, length, get_or, Option, None, Some, Ok, Err, Result, IfOk, IfErr, OnOk, sym, ◌∙◌, ap, subst}
+use Rattle.std.proofs.Common.{◌≡◌, ℕ, zero, suc, ◌<◌, ◌≤◌, List, [], ◌∷◌, length, get_or, Option, None, Some, Result, IfErr, OnOk, sym, ◌∙◌, ap, subst}
 use Rattle.std.specs.Prelude.{slice_get}
 use Rattle.std.proofs.lemmas.Option.{none-some, same_Some}
-use Rattle.std.proofs.lemmas.Result.{IfOk-weaker, IfErr-weaker, on_ok_weaker}
+use Rattle.std.proofs.lemmas.Result.{IfErr-weaker, on_ok_weaker}
 use Rattle.oc_base.specs.declared.format.Format.TheVariants.{Coff32}
 use Rattle.oc_linking.specs.declared.terms.Kind.TheVariants.{Code, Note}
 use Rattle.oc_linking.specs.Parts as parts
-use Rattle.oc_linking.specs.Keeping.{all}
-use Rattle.oc_linking.specs.Faithful.{Faithful}
 use Rattle.oc_convert.specs.declared.fault.ConvertFault.{ConvertFault}
 use Rattle.oc_convert.specs.declared.fault.ConvertFault.TheVariants as fault
-use Rattle.oc_convert.specs.Converted.{IsPlanned}
 use Rattle.oc_convert.specs.Refusals.{IsFirstRefusal, IsJudged as IsJudgedBy, KeepsNotes}
-use Rattle.oc_elf_read.specs.Symbols.{symbols_of}
-use Rattle.oc_coff_read.specs.Coff32.{coff32_rules}
-use Rattle.objconv.specs.Plain.{headers_in, is_plain, rel_count}
-use Rattle.objconv.specs.Links.{IsConverted, LinksAlike}
+use Rattle.objconv.specs.Plain.{headers_in, rel_count}
 use Rattle.objconv.specs.Refusals.{IsJudged, plain_refusal}
-use Rattle.objconv.specs.Dialects.{plain_dialect, plain_rules, coff_dialect}
-use Rattle.objconv.specs.Coded.{coff_file, unfit_for_coff}
+use Rattle.objconv.specs.Dialects.{plain_dialect}
+use Rattle.objconv.specs.Coded.{unfit_for_coff}
 use Rattle.objconv.proofs.HeaderLemmas.{plain_is}
 use Rattle.objconv.proofs.SectionLemmas.{text_section, sections_of-plain}
 use Rattle.objconv.proofs.Gathered.{gathered, gathered_fields}
 use Rattle.objconv.proofs.NeutralIs.{neutral_is_object}
 use Rattle.objconv.proofs.Judged.{ObjectsFine, plain_from, refusal_is_plain}
-use Rattle.objconv.proofs.PlannedPlain.{planned-converted}
-use Rattle.objconv.proofs.KeptAlike.{links-plain}
-
--- what holds of the value in two ways
-ok_both : {X E : Type 0} (P Q : X → Type 0) (r : Result X E) → IfOk r P → IfOk r Q → IfOk r (λ x. P x × Q x)
-ok_both P Q (Ok x) p q = (p, q)
-ok_both P Q (Err e) p q = tt
 
 -- a plain object has no notes
 pub plain_notes : (b : List ℕ) → plain_refusal b ≡ None → KeepsNotes plain_dialect Coff32 b
@@ -52,21 +39,9 @@ module _ (b : List ℕ) (small : length b ≤ 67108864) (bytes : (k : ℕ) → g
   first : (x : Option _) → IsFirstRefusal plain_dialect unfit_for_coff b x → plain_refusal b ≡ x
   first x f = refusal_is_plain b x small fine f
 
-  -- what is accepted is plain
-  pub accepted_plain : {X : Type 0} (r : Result X ConvertFault) → OnOk r (IsFirstRefusal plain_dialect unfit_for_coff b None) → OnOk r (is_plain b ≡ true)
-  accepted_plain r f = on_ok_weaker r (λ f. plain_from b (first None f)) f
-
-  -- what is planned is what it becomes
-  pub planned_converted : {X : Type 0} (file : X → List ℕ) (r : Result X ConvertFault) → OnOk r (IsFirstRefusal plain_dialect unfit_for_coff b None)
-      → IfOk r (λ x. IsPlanned plain_dialect coff_dialect coff_file b (file x)) → IfOk r (λ x. IsConverted b (file x))
-  planned_converted file r f p = IfOk-weaker r _ _ (λ x e. planned-converted b (plain_is b (plain_from b (first None e.0))) small fine bytes (file x) e.1) (ok_both _ _ r f p)
-
-  -- and links as it does
-  pub planned_links : {X : Type 0} (file : X → List ℕ) (r : Result X ConvertFault) → OnOk r (IsFirstRefusal plain_dialect unfit_for_coff b None)
-      → IfOk r (λ x. Faithful plain_rules b all (symbols_of b all) coff32_rules (file x)) → IfOk r (λ x. LinksAlike b (file x))
-  planned_links file r f p =
-      IfOk-weaker r _ _ (λ x e. links-plain b (file x) (plain_is b (plain_from b (first None e.0)))
-      (record { outline = record { well_formed = e.1.outline.well_formed; sections = e.1.outline.sections; names = e.1.outline.names }; links = e.1.links })) (ok_both _ _ r f p)
+  -- what is accepted is not refused
+  pub accepted_plain : {X : Type 0} (r : Result X ConvertFault) → OnOk r (IsFirstRefusal plain_dialect unfit_for_coff b None) → OnOk r (plain_refusal b ≡ None)
+  accepted_plain r f = on_ok_weaker r (λ f. first None f) f
 
   -- what is refused is the first refusal
   pub refused_judged : {X : Type 0} (r : Result X ConvertFault) → IfErr r (IsJudgedBy plain_dialect unfit_for_coff b) → IfErr r (IsJudged (plain_refusal b))

@@ -17,10 +17,10 @@ use Rattle.oc_linking.specs.declared.terms.Binding.{Binding}
 use Rattle.oc_linking.specs.declared.terms.Binding.TheVariants.{Local, Global, Undefined, Common, Weak}
 use Rattle.oc_linking.specs.Numbers.{or_else, first_upto}
 use Rattle.oc_linking.specs.FirstFault.{Stage, first_broken, fault_of, first_fault}
-use Rattle.oc_algebra.specs.declared.form.Base.{Base}
-use Rattle.oc_algebra.specs.declared.form.Base.TheVariants.{Address, Slot, GotBase, HomeNumber}
-use Rattle.oc_algebra.specs.declared.form.Less.{Less}
-use Rattle.oc_algebra.specs.declared.form.Less.TheVariants as less
+use Rattle.oc_linking.specs.declared.terms.Base.{Base}
+use Rattle.oc_linking.specs.declared.terms.Base.TheVariants.{Address, Slot, GotBase, HomeNumber}
+use Rattle.oc_linking.specs.declared.terms.Less.{Less}
+use Rattle.oc_linking.specs.declared.terms.Less.TheVariants as less
 use Rattle.oc_algebra.specs.declared.form.Form.{Form}
 use Rattle.oc_chains.specs.declared.field.Field.{Field}
 use Rattle.oc_chains.specs.Lists.{Lists, list_of}

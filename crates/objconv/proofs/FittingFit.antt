@@ -78,7 +78,7 @@ module _ (s : Section) (symbols : List Symbol) (relocs : Lists Reloc) where
 
   module _ (is : IsObject from) (few : s.align ≤ 8192) (plain : list_all is_plain_symbol symbols ≡ true) where
     -- the section's frame
-    frames : map frame_of (shown_sections to) ≡ fitted_frames Coff32 Elf32 (output_names Coff32 from) from.sections
+    frames : map frame_of (shown_sections to) ≡ fitted_frames Coff32 Elf32 [] (output_names Coff32 from) from.sections
     unfolding output_names wanted_names output_tag
     frames = rw (align_stays s.align is.complete.aligns.0 few) refl
 
@@ -111,6 +111,6 @@ module _ (s : Section) (symbols : List Symbol) (relocs : Lists Reloc) where
 -- so it is for every plain object of ELF
 pub fit_recoded : (n : Object) → IsObject n → n.format ≡ Elf32 → Plain plain_tag n → IsFit Coff32 n (recoded n)
 fit_recoded n is format plain =
-    let made_of : n ≡ made Elf32 plain_tag plain.section n.symbols n.relocs = is_made n Elf32 plain_tag plain.section format plain.sections in
+    let made_of : n ≡ made Elf32 plain_tag plain.section n.symbols n.relocs = is_made n Elf32 plain_tag plain.section is format plain.sections in
     subst (λ (m : Object). IsFit Coff32 m (recoded m)) (sym made_of)
     (fit_made plain.section n.symbols n.relocs (subst (λ (m : Object). IsObject m) made_of is) plain.align plain.symbols)

@@ -1,7 +1,8 @@
 -- What the conditions of a plain object say of its parts.
-use Rattle.std.proofs.Common.{◌≡◌, ℕ, ◌≤◌, Bool, true, List, [], ◌∷◌, length, refl, sym, ◌∙◌, ap}
+use Rattle.std.proofs.Common.{◌≡◌, ℕ, ◌≤◌, Bool, true, List, [], ◌∷◌, length, Option, None, Some, refl, sym, ◌∙◌, ap, subst, arith}
 use Rattle.std.specs.Prelude.{nat_eq, nat_le, codes}
 use Rattle.std.specs.List.{AllByRecursion, list_all}
+use Rattle.std.specs.Option.{is_none}
 use Rattle.std.proofs.lemmas.Bool.{true≢false, leb-true, le-leb, eqb-true, eq-eqb, and_parts, and_from}
 use Rattle.std.proofs.lemmas.Slice.Eq.{bytes_eq-Decides}
 use Rattle.oc_base.specs.declared.format.Format.{Format}
@@ -9,11 +10,13 @@ use Rattle.oc_linking.specs.declared.terms.Kind.{Kind}
 use Rattle.oc_linking.specs.declared.terms.Kind.TheVariants.{Code, ReadOnly, Data, Zero, Init, Fini, Debug, Exception, Note}
 use Rattle.oc_chains.specs.declared.field.Field.{Field}
 use Rattle.oc_chains.specs.Lists.{Lists, list_of}
+use Rattle.oc_neutral.specs.declared.group.Group.{Group}
 use Rattle.oc_neutral.specs.declared.section.Section.{Section}
 use Rattle.oc_neutral.specs.declared.symbol.Symbol.{Symbol}
 use Rattle.oc_neutral.specs.declared.reloc.Reloc.{Reloc}
 use Rattle.oc_neutral.specs.KindRules.{same_kind}
 use Rattle.oc_neutral.specs.Objects.{Object}
+use Rattle.oc_neutral.specs.Invariants.{AreBegun, IsObject, groups_of}
 use Rattle.objconv.specs.Coded.{is_plain_form, is_plain_symbol, is_plain_section, has_one_section, is_plain_object}
 
 -- a test that all pass holds of each
@@ -33,20 +36,28 @@ kind_of Debug e = absurd (true≢false (sym e))
 kind_of Exception e = absurd (true≢false (sym e))
 kind_of Note e = absurd (true≢false (sym e))
 
--- `.text` with that tag
+-- `.text` with that tag, in no group
 abbrev pub text_with : ℕ → Section → Section
-text_with tag s = record { name = codes ".text"; kind = Code; align = s.align; size = s.size; bytes = s.bytes; tag = tag; number = s.number }
+text_with tag s = record { name = codes ".text"; kind = Code; align = s.align; size = s.size; bytes = s.bytes; tag = tag; number = s.number; group = None }
+
+-- no group
+none_is : (o : Option ℕ) → is_none o ≡ true → o ≡ None
+none_is None e = refl
+none_is (Some g) e = absurd (true≢false (sym e))
 
 -- a section that is plain is `.text`
 section_is : (tag : ℕ) (s : Section) → is_plain_section tag s ≡ true → (s ≡ text_with tag s) × (s.align ≤ 8192)
 section_is tag s e =
-    let a = and_parts _ _ e in
+    let alone = and_parts _ _ e in
+    let a = and_parts _ _ alone.0 in
     let b = and_parts _ _ a.0 in
     let c = and_parts _ _ b.0 in
-    let with : List ℕ → Kind → ℕ → Section = λ name kind tag. record { name = name; kind = kind; align = s.align; size = s.size; bytes = s.bytes; tag = tag; number = s.number } in (
-      ap (λ name. with name s.kind s.tag) ((bytes_eq-Decides s.name (codes ".text")).0 c.1)
-          ∙ ap (λ kind. with (codes ".text") kind s.tag) (kind_of s.kind c.0)
-          ∙ ap (λ t. with (codes ".text") Code t) (eqb-true s.tag tag a.1),
+    let with : List ℕ → Kind → ℕ → Option ℕ → Section
+    = λ name kind tag group. record { name = name; kind = kind; align = s.align; size = s.size; bytes = s.bytes; tag = tag; number = s.number; group = group } in (
+      ap (λ name. with name s.kind s.tag s.group) ((bytes_eq-Decides s.name (codes ".text")).0 c.1)
+          ∙ ap (λ kind. with (codes ".text") kind s.tag s.group) (kind_of s.kind c.0)
+          ∙ ap (λ t. with (codes ".text") Code t s.group) (eqb-true s.tag tag a.1)
+          ∙ ap (λ group. with (codes ".text") Code tag group) (none_is s.group alone.1),
       leb-true s.align 8192 b.1,
     )
 
@@ -90,10 +101,18 @@ plain_passes tag n is =
 
 -- an object with that section
 abbrev pub made : Format → ℕ → Section → List Symbol → Lists Reloc → Object
-made format tag s symbols relocs = record { format = format; sections = text_with tag s ∷ []; symbols = symbols; relocs = relocs }
+made format tag s symbols relocs = record { format = format; groups = []; sections = text_with tag s ∷ []; symbols = symbols; relocs = relocs }
+
+-- an object has no group without a member
+no_groups : (n : Object) (tag : ℕ) (s : Section) → IsObject n → n.sections ≡ text_with tag s ∷ [] → n.groups ≡ []
+no_groups n tag s is sections = none n.groups (subst (λ xs. AreBegun (length n.groups) 0 (groups_of xs)) sections is.complete.begun).1
+  where
+    none : (groups : List Group) → 0 ≡ length groups → groups ≡ []
+    none [] e = refl
+    none (g ∷ groups) e = absurd (omega (arith, e))
 
 -- an object of that format with that section
-pub is_made : (n : Object) (format : Format) (tag : ℕ) (s : Section) → n.format ≡ format → n.sections ≡ text_with tag s ∷ [] → n ≡ made format tag s n.symbols n.relocs
-is_made n format tag s from sections =
-    let with : Format → List Section → Object = λ f xs. record { format = f; sections = xs; symbols = n.symbols; relocs = n.relocs } in
-    ap (λ f. with f n.sections) from ∙ ap (with format) sections
+pub is_made : (n : Object) (format : Format) (tag : ℕ) (s : Section) → IsObject n → n.format ≡ format → n.sections ≡ text_with tag s ∷ [] → n ≡ made format tag s n.symbols n.relocs
+is_made n format tag s is from sections =
+    let with : Format → List Group → List Section → Object = λ f groups xs. record { format = f; groups = groups; sections = xs; symbols = n.symbols; relocs = n.relocs } in
+    ap (λ f. with f n.groups n.sections) from ∙ ap (λ groups. with format groups n.sections) (no_groups n tag s is sections) ∙ ap (with format []) sections

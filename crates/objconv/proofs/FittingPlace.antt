@@ -24,5 +24,5 @@ module _ (n : Object) (plain : Plain plain_tag n) where
       = ap (λ (y : Section). dressed_section (codes ".text") code_tag y.align s ∷ []) (sym same) in
       let sections : dressed_among n.sections 0 (codes ".text") code_tag x.align (slice_get n.sections 0) ≡ map recoded_section n.sections
       = subst (λ xs. dressed_among xs 0 (codes ".text") code_tag x.align (slice_get xs 0) ≡ map recoded_section xs) (sym plain.sections) one in
-      let with : List Section → Object = λ xs. record { format = Coff32; sections = xs; symbols = n.symbols; relocs = n.relocs } in
+      let with : List Section → Object = λ xs. record { format = Coff32; groups = n.groups; sections = xs; symbols = n.symbols; relocs = n.relocs } in
       ap with sections

@@ -16,9 +16,9 @@ use Rattle.oc_neutral.specs.HomeNames.{is_home}
 use Rattle.oc_neutral.specs.Fitted.{IsNamed, IsFitted, fitted_binding}
 use Rattle.oc_neutral.proofs.Dressing.{in_format-object, dressed-object}
 use Rattle.oc_neutral.proofs.Positions.{each_weaker}
-use Rattle.objconv.specs.Coded.{plain_tag, code_tag, is_plain_symbol, IsWritable}
+use Rattle.objconv.specs.Coded.{plain_tag, code_tag, is_plain_symbol}
 use Rattle.objconv.specs.Recoded.{recoded}
-use Rattle.objconv.proofs.FittingParts.{every, text_with, made, is_made, has_plain_form, Plain, plain_passes}
+use Rattle.objconv.proofs.FittingParts.{every, text_with, made, is_made, has_plain_form, Plain}
 use Rattle.objconv.proofs.FittingFit.{align_stays, binding_of, binding_stays}
 use Rattle.objconv.proofs.FittingConditions.{made_expressible}
 
@@ -63,14 +63,6 @@ module _ (n : Object) (plain : Plain plain_tag n) where
   -- so it is for every plain object of ELF
   pub fitted_recoded : IsObject n → n.format ≡ Elf32 → length n.symbols ≤ 2 ^ 24 → IsFitted Coff32 (recoded n)
   fitted_recoded is format few =
-      let made_of : n ≡ made Elf32 plain_tag plain.section n.symbols n.relocs = is_made n Elf32 plain_tag plain.section format plain.sections in
+      let made_of : n ≡ made Elf32 plain_tag plain.section n.symbols n.relocs = is_made n Elf32 plain_tag plain.section is format plain.sections in
       subst (λ (m : Object). IsFitted Coff32 (recoded m)) (sym made_of)
       (made_ready plain.section n.symbols n.relocs (subst (λ (m : Object). IsObject m) made_of is) plain.align few plain.symbols plain.forms)
-
-  -- and it is written
-  pub writable_recoded : n.format ≡ Elf32 → IsWritable (recoded n)
-  writable_recoded format =
-      let made_of : n ≡ made Elf32 plain_tag plain.section n.symbols n.relocs = is_made n Elf32 plain_tag plain.section format plain.sections in
-      subst (λ (m : Object). IsWritable (recoded m)) (sym made_of)
-      (plain_passes code_tag (made Coff32 code_tag plain.section n.symbols n.relocs)
-      (record { section = plain.section; sections = refl; align = plain.align; symbols = plain.symbols; few = plain.few; forms = plain.forms }))

@@ -1,8 +1,8 @@
 -- The writer takes whatever a plain object of ELF is fitted to.
-use Rattle.std.proofs.Common.{◌≡◌, ℕ, ◌≤◌, Bool, true, false, cond, List, [], ◌∷◌, length, map, Some, None, refl, sym, ◌∙◌, ap, subst}
+use Rattle.std.proofs.Common.{◌≡◌, ℕ, ◌≤◌, Bool, true, false, cond, List, [], ◌∷◌, length, map, Option, Some, None, refl, sym, ◌∙◌, ap, subst}
 use Rattle.std.specs.Prelude.{pos, nat_eq, nat_le, bytes_eq, ◌&&◌, codes, slice_get}
 use Rattle.std.specs.List.{AllByRecursion, list_all}
-use Rattle.std.specs.Option.{option_map}
+use Rattle.std.specs.Option.{option_map, option_and_then, is_none}
 use Rattle.std.proofs.lemmas.Bool.{and_parts, le-leb}
 use Rattle.std.proofs.lemmas.List.{length-map}
 use Rattle.std.proofs.lemmas.List.Folds.{list_all-map}
@@ -15,17 +15,19 @@ use Rattle.oc_linking.specs.Parts as parts
 use Rattle.oc_chains.specs.declared.field.Field.{Field}
 use Rattle.oc_chains.specs.Fields.{FollowFrom, end_of}
 use Rattle.oc_chains.specs.Lists.{list_of}
+use Rattle.oc_neutral.specs.declared.group.Group.{Group}
 use Rattle.oc_neutral.specs.declared.section.Section.{Section}
 use Rattle.oc_neutral.specs.declared.reloc.Target.TheVariants as target
 use Rattle.oc_neutral.specs.declared.reloc.Reloc.{Reloc}
 use Rattle.oc_neutral.specs.Objects.{Object, reloc_among, reloc_at}
-use Rattle.oc_neutral.specs.Invariants.{IsObject}
+use Rattle.oc_neutral.specs.Invariants.{IsMember, IsObject, groups_of}
 use Rattle.oc_neutral.specs.KindRules.{same_kind}
 use Rattle.oc_neutral.specs.Families.{same_format}
 use Rattle.oc_neutral.specs.Dialects.{Look}
-use Rattle.oc_neutral.specs.Faces.{shown_section}
+use Rattle.oc_neutral.specs.Faces.{key_of, shown_section}
 use Rattle.oc_neutral.specs.Shows.{frame_of, reloc_look, looks_of}
 use Rattle.oc_neutral.specs.Fitted.{IsFit}
+use Rattle.oc_neutral.proofs.Positions.{there_at}
 use Rattle.oc_neutral.proofs.SortedFields.{HasWidth, fields_same}
 use Rattle.oc_neutral.proofs.Standing.{wide_in}
 use Rattle.oc_convert.specs.Refusals.{TakesFitted}
@@ -66,19 +68,25 @@ fit_parts n e = let a = and_parts (same_format n.format Elf32) (is_plain_object 
 
 -- ... sections: what is asked of them, their frames say
 
--- the frame of `.text` with that tag
+-- the frame of `.text` with that tag, in no group
 abbrev is_text : ℕ → parts.Section → Bool
-is_text tag s = same_kind s.kind Code && bytes_eq s.name (codes ".text") && nat_le s.align 8192 && nat_eq s.tag tag
+is_text tag s = same_kind s.kind Code && bytes_eq s.name (codes ".text") && nat_le s.align 8192 && nat_eq s.tag tag && is_none s.group
 
 abbrev is_one : ℕ → List parts.Section → Bool
 is_one tag [] = false
 is_one tag (s ∷ []) = is_text tag s
 is_one tag (s ∷ t ∷ sections) = false
 
-by_frames : (tag : ℕ) (sections : List Section) → has_one_section tag sections ≡ is_one tag (map frame_of (map shown_section sections))
-by_frames tag [] = refl
-by_frames tag (s ∷ []) = refl
-by_frames tag (s ∷ t ∷ sections) = refl
+-- a member of a group shows its key
+none_shown : (groups : List Group) (g : Option ℕ) → IsMember (length groups) g → is_none g ≡ is_none (option_and_then (key_of groups) g)
+none_shown groups None is = refl
+none_shown groups (Some g) is = sym (ap (λ o. is_none (option_map (λ (x : Group). x.key) o)) (there_at groups g is).1)
+
+by_frames : (tag : ℕ) (groups : List Group) (sections : List Section) → AllByRecursion (IsMember (length groups)) (groups_of sections)
+    → has_one_section tag sections ≡ is_one tag (map frame_of (map (shown_section groups) sections))
+by_frames tag groups [] all = refl
+by_frames tag groups (s ∷ []) all = ap (λ t. same_kind s.kind Code && bytes_eq s.name (codes ".text") && nat_le s.align 8192 && nat_eq s.tag tag && t) (none_shown groups s.group all.0)
+by_frames tag groups (s ∷ t ∷ sections) all = refl
 
 -- ... relocations: forms and offsets, their looks say
 
@@ -132,8 +140,8 @@ pub takes_plain : (n m : Object) → IsObject n → n.format ≡ Elf32 → Plain
 takes_plain n m is format plain fit are =
     let own : IsFit Coff32 n (recoded n) = fit_recoded n is format plain in
     let one : has_one_section code_tag m.sections ≡ true =
-    by_frames code_tag m.sections ∙ ap (is_one code_tag) (fit.sections ∙ sym own.sections) ∙ sym (by_frames code_tag (recoded n).sections)
-    ∙ ap (λ xs. has_one_section code_tag (map recoded_section xs)) plain.sections ∙ one_text in
+    by_frames code_tag m.groups m.sections are.built.members ∙ ap (is_one code_tag) (fit.sections ∙ sym own.sections)
+    ∙ ap (λ xs. is_one code_tag (map frame_of (map (shown_section n.groups) (map recoded_section xs)))) plain.sections ∙ one_text in
     let s = sections_are code_tag m.sections one in
     let same : map bare_field (list_of m.relocs 0) ≡ map bare_field (list_of n.relocs 0) =
     forms_same m n are is (text_with code_tag s.0) (text_with plain_tag plain.section) (ap (λ xs. slice_get xs 0) s.1) (ap (λ xs. slice_get xs 0) plain.sections)
@@ -147,7 +155,7 @@ takes_plain n m is format plain fit are =
       forms = plain_by (list_of m.relocs 0) (list_of n.relocs 0) same ∙ plain.forms;
     })
   where
-    one_text : has_one_section code_tag (text_with code_tag plain.section ∷ []) ≡ true
+    one_text : is_one code_tag (frame_of (shown_section n.groups (text_with code_tag plain.section)) ∷ []) ≡ true
     one_text = rw (le-leb plain.section.align 8192 plain.align) refl
 
 -- whatever the object, the writer takes what it is fitted to

@@ -1,11 +1,9 @@
--- Relocations as they are found at an offset, in a plain object and in what it becomes.
+-- Relocations as they are found at an offset of a plain object.
 use Rattle.std.proofs.Common.{◌≡◌, ℕ, zero, suc, ◌+◌, ◌<◌, ◌≤◌, ◌⊎◌, inl, inr, Bool, true, false, cond, eqb, List, [], ◌∷◌, map, Option, Some, None, refl, sym, ◌∙◌, ap, subst, arith}
 use Rattle.std.specs.Prelude.{◌&&◌, not, find, slice_get}
 use Rattle.std.specs.List.{range_with_len}
-use Rattle.std.specs.Option.{option_map, option_and_then, option_or}
+use Rattle.std.specs.Option.{option_and_then, option_or}
 use Rattle.std.specs.Ordering.{nat_cmp, is_eq}
-use Rattle.std.specs.Map.{lookup}
-use Rattle.std.specs.BTreeMap.{is_at}
 use Rattle.std.proofs.lemmas.Bool.{eqb-true, eq-eqb, leb-true, ltb-true}
 use Rattle.std.proofs.lemmas.Bool.Decides.{nat_tests}
 use Rattle.std.proofs.lemmas.Option.{none-some}
@@ -19,13 +17,11 @@ use Rattle.oc_elf_read.specs.declared.rel.Rel.{Rel}
 use Rattle.oc_elf_read.specs.Rel.{rel_sym, rel_type}
 use Rattle.oc_elf_read.specs.Sections.{relocations_of}
 use Rattle.oc_elf_read.specs.Fields as elf
-use Rattle.oc_coff_read.specs.Fields as coff
 use Rattle.objconv.specs.declared.headers.Headers.{Headers}
 use Rattle.objconv.specs.Plain.{headers_in, symbol_count, rel_count, entry_in, is_plain_rel, has_rels, field_at}
-use Rattle.objconv.specs.Converted.{relocation_for}
-use Rattle.objconv.specs.Links.{text_in}
+use Rattle.objconv.specs.Fields.{text_in}
 use Rattle.objconv.proofs.PlainLemmas.{both}
-use Rattle.objconv.proofs.FieldLemmas.{at_offset, offset_found, none_before}
+use Rattle.objconv.proofs.FieldLemmas.{at_offset, offset_found}
 use Rattle.objconv.proofs.RelsLemmas.{rel_plain}
 use Rattle.objconv.proofs.HeaderLemmas.{IsPlain}
 use Rattle.objconv.proofs.SectionLemmas.{sections_of-plain, relocations_of-text}
@@ -75,17 +71,6 @@ is_found b h at r all e =
       plain = subst (IsRel h) here.1 (each_rel b h m.0 all m.1);
     }
 
--- at each relocation's offset one is found
-pub finds_each : (b : List ℕ) (h : Headers) (j : ℕ) → j < rel_count h → (r : Rel) × (field_at b h (entry_in b h j).r_offset ≡ Some r)
-unfolding field_at
-finds_each b h j low = elim (field_at b h (entry_in b h j).r_offset) as (λ o. field_at b h (entry_in b h j).r_offset ≡ o → (r : Rel) × (o ≡ Some r)) [
-  | Some r ↦ λ e. (r, refl)
-  | None ↦ λ e.
-      let own : at_offset b h (entry_in b h j).r_offset j ≡ Some (entry_in b h j)
-      = ap (λ t. cond t (Some (entry_in b h j)) None) (eq-eqb (entry_in b h j).r_offset (entry_in b h j).r_offset refl) in
-      absurd (none-some (entry_in b h j) (sym (none_before (at_offset b h (entry_in b h j).r_offset) (rel_count h) j e low) ∙ own))
-] refl
-
 either-option : {X : Type 0} (x y : Option X) → option_or x y ≡ or_else x y
 either-option None y = refl
 either-option (Some x) y = refl
@@ -134,19 +119,3 @@ fields_of-plain b keep is at =
 
 pub swapped : (x y : ℕ) → is_eq (nat_cmp x y) ≡ eqb y x
 swapped x y = grind (arith, nat_tests)
-
-relocates-coff : (at : ℕ) (e : ℕ × Rel) → coff.relocates at (relocation_for e) ≡ eqb e.0 at
-relocates-coff at e = elim (eqb (rel_type e.1) 1) as (λ t. (eqb e.0 at && not (eqb (cond t 6 20) 0)) ≡ eqb e.0 at) [ true ↦ and-true (eqb e.0 at) | false ↦ and-true (eqb e.0 at) ]
-
--- what is found in COFF is what the map has
-pub find-entries : (at : ℕ) (entries : List (ℕ × Rel))
-    → find (coff.relocates at) (map relocation_for entries) ≡ option_map (λ (r : Rel). relocation_for (at, r)) (lookup (is_at (nat_cmp at)) entries)
-find-entries at [] = refl
-find-entries at (e ∷ entries) =
-    ap (λ t. cond t (Some (relocation_for e)) (find (coff.relocates at) (map relocation_for entries))) (relocates-coff at e)
-    ∙ (elim (eqb e.0 at) as (λ t. eqb e.0 at ≡ t → cond t (Some (relocation_for e)) (find (coff.relocates at) (map relocation_for entries))
-    ≡ option_map (λ (r : Rel). relocation_for (at, r)) (cond t (Some e.1) (lookup (is_at (nat_cmp at)) entries))) [
-      | true ↦ λ t. ap (λ (k : ℕ). Some (relocation_for (k, e.1))) (eqb-true e.0 at t)
-      | false ↦ λ t. find-entries at entries
-    ] refl)
-    ∙ ap (λ t. option_map (λ (r : Rel). relocation_for (at, r)) (cond t (Some e.1) (lookup (is_at (nat_cmp at)) entries))) (sym (swapped at e.0))

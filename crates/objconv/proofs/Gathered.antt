@@ -13,7 +13,7 @@ use Rattle.std.proofs.lemmas.Bool.Decides.{nat_tests}
 use Rattle.std.proofs.lemmas.Option.{none-some}
 use Rattle.oc_elf_read.specs.declared.rel.Rel.{Rel}
 use Rattle.objconv.specs.declared.headers.Headers.{Headers}
-use Rattle.objconv.specs.Links.{AreFields}
+use Rattle.objconv.specs.Fields.{AreFields}
 use Rattle.objconv.specs.Plain.{are_apart, entry_in, field_at, field_below, has_rels, meets_earlier, rel_count}
 use Rattle.objconv.proofs.BelowLemmas.{all_below_at}
 use Rattle.objconv.proofs.FieldLemmas.{field_more, meets_found, same_test}

@@ -17,7 +17,7 @@ use Rattle.objconv.specs.Neutral.{neutral_of, neutral_symbol}
 use Rattle.objconv.specs.Coded.{is_fit_for_coff, unfit_for_coff}
 use Rattle.objconv.proofs.HeaderLemmas.{IsPlain, plain_is}
 use Rattle.objconv.proofs.Gathered.{gathered, gathered_fields}
-use Rattle.objconv.specs.Links.{AreFields}
+use Rattle.objconv.specs.Fields.{AreFields}
 use Rattle.objconv.proofs.NeutralShows.{shows}
 use Rattle.objconv.proofs.PlainNeutral.{object-fits}
 

@@ -1,12 +1,8 @@
-pub mod AlikeLemmas
 pub mod BelowLemmas
-pub mod CodedPlain
 pub mod ContentsLemmas
 pub mod Conversion
-pub mod ConvertedPlain
 pub mod EmissionLemmas
 pub mod FieldLemmas
-pub mod FilledPlain
 pub mod FittingBlank
 pub mod FittingConditions
 pub mod FittingFit
@@ -19,7 +15,6 @@ pub mod FoundLemmas
 pub mod Gathered
 pub mod HeaderLemmas
 pub mod Judged
-pub mod KeptAlike
 pub mod KeyLemmas
 pub mod ListedLemmas
 pub mod NeutralBuilding
@@ -35,10 +30,10 @@ pub mod ObjectLemmas
 pub mod PaddingLemmas
 pub mod PlainLemmas
 pub mod PlainNeutral
-pub mod PlannedPlain
 pub mod RefusalLemmas
 pub mod RelsLemmas
 pub mod RisingLemmas
+pub mod RunLemmas
 pub mod SectionLemmas
 pub mod SymbolLemmas
 pub mod SymbolsLemmas

@@ -1,4 +1,4 @@
--- The symbols of a plain object by the rules of ELF, and those of what it becomes.
+-- The symbols of a plain object by the rules of ELF.
 use Rattle.std.proofs.Common.{◌≡◌, ℕ, zero, suc, ◌+◌, ◌-◌, ◌/◌, ◌<◌, inl, inr, true, false, cond, eqb, List, [], ◌∷◌, map, Option, Some, None, refl, sym, ◌∙◌, ap, subst, arith}
 use Rattle.std.specs.Prelude.{filter_map}
 use Rattle.std.specs.List.{range_with_len, cons_option}
@@ -13,35 +13,24 @@ use Rattle.oc_elf_read.specs.declared.sym.Sym.{Sym}
 use Rattle.oc_elf_read.specs.Names.{name_in}
 use Rattle.oc_elf_read.specs.Sections.{header_of}
 use Rattle.oc_elf_read.specs.Symbols.{entry_of, symbol_name, binding_of, symbol_with, symbol_of, symbols_by, symbols_of, section_symbol_of, section_symbols_of}
-use Rattle.oc_coff_read.specs.Canonical.{External}
-use Rattle.oc_coff_read.specs.Seen.{seen_binding, seen_symbol, externals_from}
 use Rattle.objconv.specs.declared.headers.Headers.{Headers}
 use Rattle.objconv.specs.Plain.{headers_in, symbol_count, symbol_in, name_of}
-use Rattle.objconv.specs.Converted.{external_for, externals_for}
-use Rattle.objconv.proofs.AlikeLemmas.{IsFirm, IsLike, AreLike, End, Next}
 use Rattle.objconv.proofs.HeaderLemmas.{IsPlain, header_of-names}
 use Rattle.objconv.proofs.SectionLemmas.{position_of-text, symtab_of-plain}
 use Rattle.objconv.proofs.SymbolLemmas.{IsSymbol, IsOwn, own_symbol, plain_symbol, name_of-plain}
 
--- symbols that are there one by one, and are like the external ones, make like lists
-listed : (f : ℕ → Option Symbol) (g : ℕ → External) (n a j : ℕ)
-    → ((i : ℕ) → i < n → (s : Symbol) × (f (a + i) ≡ Some s) × IsLike s (seen_symbol (a + i) (g (j + i))))
-    → AreLike (filter_map f (range_with_len a n)) (externals_from a (map g (range_with_len j n)))
-listed f g zero a j each = End
-listed f g (suc n) a j each =
+-- items that are there one by one are listed
+listed : {X : Type 0} (f : ℕ → Option X) (g : ℕ → X) (n a j : ℕ) → ((i : ℕ) → i < n → f (a + i) ≡ Some (g (j + i))) → filter_map f (range_with_len a n) ≡ map g (range_with_len j n)
+listed f g zero a j each = refl
+listed {X} f g (suc n) a j each =
     let from : a + 0 ≡ a = omega arith in
     let onto : j + 0 ≡ j = omega arith in
-    let first : (s : Symbol) × (f a ≡ Some s) × IsLike s (seen_symbol a (g j))
-    = subst (λ (k : ℕ). (s : Symbol) × (f k ≡ Some s) × IsLike s (seen_symbol k (g j))) from
-    (subst (λ (m : ℕ). (s : Symbol) × (f (a + 0) ≡ Some s) × IsLike s (seen_symbol (a + 0) (g m))) onto (each 0 (omega arith))) in
-    let later : (i : ℕ) → i < n → (s : Symbol) × (f (a + 1 + i) ≡ Some s) × IsLike s (seen_symbol (a + 1 + i) (g (j + 1 + i)))
-    = λ i l.
-    let next : a + suc i ≡ a + 1 + i = omega arith in
+    let first : f a ≡ Some (g j) = ap f (sym from) ∙ each 0 (omega arith) ∙ ap (λ k. Some (g k)) onto in
+    let later : (i : ℕ) → i < n → f (a + 1 + i) ≡ Some (g (j + 1 + i)) = λ i l.
+    let next : a + 1 + i ≡ a + suc i = omega arith in
     let then : j + suc i ≡ j + 1 + i = omega arith in
-    subst (λ (k : ℕ). (s : Symbol) × (f k ≡ Some s) × IsLike s (seen_symbol k (g (j + 1 + i)))) next
-    (subst (λ (m : ℕ). (s : Symbol) × (f (a + suc i) ≡ Some s) × IsLike s (seen_symbol (a + suc i) (g m))) then (each (suc i) (omega arith))) in
-    subst (λ (o : Option Symbol). AreLike (cons_option o (filter_map f (range_with_len (a + 1) n))) (externals_from a (map g (range_with_len j (suc n))))) (sym first.1)
-    (Next first.0 (seen_symbol a (g j)) (filter_map f (range_with_len (a + 1) n)) (externals_from (a + 1) (map g (range_with_len (j + 1) n))) first.2 (listed f g n (a + 1) (j + 1) later))
+    ap f next ∙ each (suc i) (omega arith) ∙ ap (λ k. Some (g k)) then in
+    ap (λ (o : Option X). cons_option o (filter_map f (range_with_len (a + 1) n))) first ∙ ap (λ xs. g j ∷ xs) (listed f g n (a + 1) (j + 1) later)
 
 -- what gives nothing gives an empty list
 nothing : (f : ℕ → Option Symbol) (n a : ℕ) → ((i : ℕ) → i < n → f (a + i) ≡ None) → filter_map f (range_with_len a n) ≡ []
@@ -73,9 +62,6 @@ symbol_name-plain b is s named = symbol_name-there b is s named.name named.named
 abbrev pub binding_for : Sym → Binding
 binding_for s = cond (eqb s.st_shndx 0) Undefined (Global (Place 0 s.st_value))
 
-binding_for-firm : (s : Sym) → IsFirm (binding_for s)
-binding_for-firm s = elim (eqb s.st_shndx 0) as (λ t. IsFirm (cond t Undefined (Global (Place 0 s.st_value)))) [ true ↦ tt | false ↦ tt ]
-
 binding_of-plain : (b : List ℕ) (is : IsPlain b) (s : Sym) → IsSymbol b (headers_in b) s → binding_of b s ≡ Some (binding_for s)
 unfolding binding_of
 binding_of-plain b is s symbol = elim symbol.place [
@@ -87,29 +73,12 @@ binding_of-own : (b : List ℕ) (s : Sym) → IsOwn s → binding_of b s ≡ Non
 unfolding binding_of
 binding_of-own b s own = rw own.local refl
 
-seen_binding-for : (b : List ℕ) (h : Headers) (k : ℕ) → seen_binding (external_for b h k) ≡ binding_for (symbol_in b h k)
-unfolding external_for
-seen_binding-for b h k = refl
-
-external-name : (b : List ℕ) (h : Headers) (k : ℕ) → (external_for b h k).name ≡ name_of b h (symbol_in b h k)
-unfolding external_for
-external-name b h k = refl
-
--- symbol k in both
-like : (b : List ℕ) (is : IsPlain b) (k : ℕ) → IsSymbol b (headers_in b) (symbol_in b (headers_in b) k)
-    → IsLike (symbol_with b (headers_in b).symbols k (binding_for (symbol_in b (headers_in b) k))) (seen_symbol k (external_for b (headers_in b) k))
-unfolding symbol_with
-like b is k symbol =
-    let h : Headers = headers_in b in
-    record {
-      name = ap (symbol_name b h.symbols) (entry_of-symbol b k) ∙ symbol_name-plain b is (symbol_in b h k) symbol ∙ sym (external-name b h k);
-      binding = sym (seen_binding-for b h k);
-      number = refl;
-      firm = subst IsFirm (sym (seen_binding-for b h k)) (binding_for-firm (symbol_in b h k));
-    }
+-- symbol k as the rules carry it
+abbrev pub carried : List ℕ → Headers → ℕ → Symbol
+carried b h k = symbol_with b h.symbols k (binding_for (symbol_in b h k))
 
 pub symbol_of-plain : (b : List ℕ) (is : IsPlain b) (k : ℕ) → IsSymbol b (headers_in b) (symbol_in b (headers_in b) k)
-    → symbol_of b (headers_in b).symbols k ≡ Some (symbol_with b (headers_in b).symbols k (binding_for (symbol_in b (headers_in b) k)))
+    → symbol_of b (headers_in b).symbols k ≡ Some (carried b (headers_in b) k)
 unfolding symbol_of
 symbol_of-plain b is k symbol =
     ap (λ (s : Sym). option_map (symbol_with b (headers_in b).symbols k) (binding_of b s)) (entry_of-symbol b k)
@@ -125,26 +94,21 @@ symbol_of-own b is =
 pub count-split : (b : List ℕ) → IsPlain b → (headers_in b).symbols.sh_size / 16 - 1 ≡ suc (symbol_count (headers_in b) - 2)
 count-split b is = let two = is.laid.two_symbols in omega (arith, two)
 
--- the symbols are like those of what the object becomes
-pub symbols_of-plain : (b : List ℕ) (keep : Keep) (is : IsPlain b) → AreLike (symbols_of b keep) (externals_from 2 (externals_for b (headers_in b)))
+-- the symbols that are carried
+pub symbols_of-plain : (b : List ℕ) (keep : Keep) (is : IsPlain b) → symbols_of b keep ≡ map (λ j. carried b (headers_in b) (j + 2)) (range_with_len 0 (symbol_count (headers_in b) - 2))
 unfolding symbols_of
 symbols_of-plain b keep is =
     let h : Headers = headers_in b in
     let n : ℕ = symbol_count h - 2 in
     let f : ℕ → Option Symbol = symbol_of b h.symbols in
-    let each : (i : ℕ) → i < n → (s : Symbol) × (f (2 + i) ≡ Some s) × IsLike s (seen_symbol (2 + i) (external_for b h (0 + i + 2)))
-    = λ i low.
-    let e : i + 2 ≡ 2 + i = omega arith in
-    let z : 2 + i ≡ 0 + i + 2 = omega arith in
-    let symbol : IsSymbol b h (symbol_in b h (2 + i)) = subst (λ (k : ℕ). IsSymbol b h (symbol_in b h k)) e (plain_symbol b h is.symbols i low) in (
-      symbol_with b h.symbols (2 + i) (binding_for (symbol_in b h (2 + i))),
-      symbol_of-plain b is (2 + i) symbol,
-      subst (λ (k : ℕ). IsLike (symbol_with b h.symbols (2 + i) (binding_for (symbol_in b h (2 + i)))) (seen_symbol (2 + i) (external_for b h k))) z (like b is (2 + i) symbol),
-    ) in
-    let list : symbols_by (symbol_of b) (Some h.symbols) ≡ filter_map f (range_with_len 2 n)
-    = ap (λ (m : ℕ). filter_map f (range_with_len 1 m)) (count-split b is) ∙ ap (λ (o : Option Symbol). cons_option o (filter_map f (range_with_len 2 n))) (symbol_of-own b is) in
-    subst (λ (xs : List Symbol). AreLike xs (externals_from 2 (externals_for b h))) (sym (ap (symbols_by (symbol_of b)) (symtab_of-plain b is) ∙ list))
-    (listed f (λ j. external_for b h (j + 2)) n 2 0 each)
+    let each : (i : ℕ) → i < n → f (2 + i) ≡ Some (carried b h (0 + i + 2)) = λ i low.
+    let e : 2 + i ≡ i + 2 = omega arith in
+    let z : i + 2 ≡ 0 + i + 2 = omega arith in
+    ap f e ∙ symbol_of-plain b is (i + 2) (plain_symbol b h is.symbols i low) ∙ ap (λ k. Some (carried b h k)) z in
+    ap (symbols_by (symbol_of b)) (symtab_of-plain b is)
+    ∙ ap (λ (m : ℕ). filter_map f (range_with_len 1 m)) (count-split b is)
+    ∙ ap (λ (o : Option Symbol). cons_option o (filter_map f (range_with_len 2 n))) (symbol_of-own b is)
+    ∙ listed f (λ j. carried b h (j + 2)) n 2 0 each
 
 -- the symbol of `.text` as a Local
 abbrev pub own_local : List ℕ → Headers → Symbol

@@ -19,7 +19,7 @@ use Rattle.oc_neutral.specs.Building.{Draft, empty_draft, has_name, limit_by, se
 use Rattle.oc_neutral.specs.Normal.{place_among, by_section, folded}
 use Rattle.objconv.specs.declared.headers.Headers.{Headers}
 use Rattle.objconv.specs.Plain.{symbol_count, symbol_name, has_symbols, are_distinct, is_used}
-use Rattle.objconv.specs.Links.{text_in}
+use Rattle.objconv.specs.Fields.{text_in}
 use Rattle.objconv.specs.Neutral.{blanked, neutral_symbol, neutral_target, neutral_reloc, neutral_field, neutral_section, neutral_draft}
 use Rattle.objconv.proofs.PlainLemmas.{both}
 use Rattle.objconv.proofs.BelowLemmas.{all_below_at}

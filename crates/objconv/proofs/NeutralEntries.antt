@@ -9,7 +9,7 @@ use Rattle.std.proofs.lemmas.Map.Keys.{IsDistinct-from_sorted}
 use Rattle.std.proofs.lemmas.Map.Entries.{lookup_from_place, place_from_lookup}
 use Rattle.oc_elf_read.specs.declared.rel.Rel.{Rel}
 use Rattle.objconv.specs.Plain.{headers_in, entry_in, field_at}
-use Rattle.objconv.specs.Links.{AreFields}
+use Rattle.objconv.specs.Fields.{AreFields}
 use Rattle.objconv.proofs.FoundLemmas.{IsFound, is_found, swapped}
 use Rattle.objconv.proofs.HeaderLemmas.{IsPlain}
 use Rattle.objconv.proofs.RelsLemmas.{rels_apart, rels_apart_before}

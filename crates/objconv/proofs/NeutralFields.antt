@@ -22,8 +22,8 @@ use Rattle.oc_linking.specs.Values.{Valuation, worthless}
 use Rattle.oc_linking.specs.Rules.{Field, Symbolic}
 use Rattle.oc_linking.specs.Targets.{Target}
 use Rattle.oc_linking.specs.Linking.{patch_of}
-use Rattle.oc_algebra.specs.declared.form.Base.TheVariants.{Address}
-use Rattle.oc_algebra.specs.declared.form.Less.TheVariants as less
+use Rattle.oc_linking.specs.declared.terms.Base.TheVariants.{Address}
+use Rattle.oc_linking.specs.declared.terms.Less.TheVariants as less
 use Rattle.oc_algebra.specs.Residues.{residue_of}
 use Rattle.oc_algebra.specs.Fields.{extended, from_field_of}
 use Rattle.oc_algebra.proofs.FieldLaws.{residue-from_field}
@@ -38,12 +38,12 @@ use Rattle.oc_neutral.specs.Objects.{reloc_among, reloc_at}
 use Rattle.oc_neutral.specs.Normal.{cancels, takes_section}
 use Rattle.oc_neutral.specs.Worth.{target_worth, less_of, residue_at}
 use Rattle.oc_neutral.specs.Faces.{named_of, field_of}
-use Rattle.oc_neutral.specs.Dialects.{kept_fields, look_of}
+use Rattle.oc_neutral.specs.Dialects.{is_difference, kept_fields, look_of, target_by}
 use Rattle.oc_neutral.specs.Shows.{reloc_look}
 use Rattle.objconv.specs.declared.headers.Headers.{Headers}
 use Rattle.objconv.specs.Plain.{headers_in, symbol_count, field_at}
-use Rattle.objconv.specs.Links.{text_in, AreFields}
-use Rattle.objconv.specs.Dialects.{address_less, elf_shape, elf_shapes, plain_dialect}
+use Rattle.objconv.specs.Fields.{text_in, AreFields}
+use Rattle.objconv.specs.Dialects.{plain_dialect}
 use Rattle.objconv.specs.Neutral.{neutral_target, neutral_less, neutral_reloc, neutral_field, neutral_of}
 use Rattle.objconv.proofs.HeaderLemmas.{IsPlain}
 use Rattle.objconv.proofs.SectionLemmas.{sections_of-plain}
@@ -87,14 +87,6 @@ module _ (b : List ℕ) (keep : Keep) (is : IsPlain b) where
       ∙ ap (λ (xs : List parts.Section). option_and_then (λ section. elf.field_among (elf.target_of b keep) (suc s) section.contents (relocations_of b section.number) at) (slice_get xs (suc s)))
       (sections_of-plain b is)
 
-  -- their shapes
-  shapes-text : (at : ℕ) → elf_shapes b keep 0 at ≡ option_and_then (λ r. elf_shape (rel_type r)) (field_at b (headers_in b) at)
-  unfolding elf_shapes
-  shapes-text at =
-      ap (λ (xs : List parts.Section). option_and_then (λ (x : parts.Section). option_and_then (λ r. elf_shape (rel_type r)) (find (elf.relocates at) (relocations_of b x.number))) (slice_get xs 0))
-      (sections_of-plain b is)
-      ∙ ap (option_and_then (λ r. elf_shape (rel_type r))) (find-plain b is at)
-
 -- ... what they say
 
 -- no field is folded
@@ -133,7 +125,7 @@ record IsAimed (b : List ℕ) (keep : Keep) (xs : List Symbol) (k : ℕ) : Type 
   target : Target
   there : elf.target_of b keep k ≡ Some target
   named : target.named ≡ named_of xs (neutral_target k)
-  address : (p : Placement) (v : Valuation) → (target_worth xs p v (neutral_target k)).site.address % 2 ^ 32 ≡ target.address p v % 2 ^ 32
+  address : (p : Placement) (v : Valuation) → (target_worth xs p v (neutral_target k)).site.address % 2 ^ 32 ≡ (target.worth p v).site.address % 2 ^ 32
 
 module _ (b : List ℕ) (keep : Keep) (is : IsPlain b) where
   aimed-own : IsAimed b keep (symbols b is) 1
@@ -169,21 +161,21 @@ pub record IsSeen (b : List ℕ) (keep : Keep) (entries : List (ℕ × Rel)) (at
   pub field : Field
   pub width : field.width ≡ Four
   pub here : kept_fields plain_dialect b keep 0 at ≡ Some field
-  pub shape : elf_shapes b keep 0 at ≡ Some (address_less (neutral_less (rel_type r)))
-  pub look : look_of 0 field (address_less (neutral_less (rel_type r))) ≡ reloc_look (neutral_of b entries) (neutral_reloc (text_in b (headers_in b)) (at, r))
+  pub varies : is_difference field ≡ false
+  pub look : look_of 0 field ≡ reloc_look (neutral_of b entries) (neutral_reloc (text_in b (headers_in b)) (at, r))
   pub patch : (p : Placement) (v : Valuation)
       → patch_of p v field ≡ patch_of p v (field_of (neutral_of b entries) 0 at (neutral_reloc (text_in b (headers_in b)) (at, r)))
 
 module _ (targets : ℕ → Option Target) (contents : List ℕ) (r : Rel) (t : Target) (there : targets (rel_sym r) ≡ Some t) where
   abbrev field_with : (Placement → Valuation → ℕ) → Field
-  field_with residue = record { width = Four; check = Wrap; residue = residue; target = t.named; hint = Plain }
+  field_with residue = record { width = Four; check = Wrap; base = Address; less = neutral_less (rel_type r); residue = residue; target = t.named; hint = Plain }
 
-  field-absolute : rel_type r ≡ 1 → elf.field_by targets 0 contents r ≡ Some (field_with (λ p v. reduced W32 (t.address p v + number_at contents r.r_offset 4)))
+  field-absolute : rel_type r ≡ 1 → elf.field_by targets 0 contents r ≡ Some (field_with (λ p v. reduced W32 ((t.worth p v).site.address + number_at contents r.r_offset 4)))
   unfolding elf.field_by elf.value_by
   field-absolute type = rw (there, type) refl
 
   field-relative : rel_type r ≡ 2
-      → elf.field_by targets 0 contents r ≡ Some (field_with (λ p v. minus W32 (t.address p v + number_at contents r.r_offset 4) ((p.site 0).address + r.r_offset)))
+      → elf.field_by targets 0 contents r ≡ Some (field_with (λ p v. minus W32 ((t.worth p v).site.address + number_at contents r.r_offset 4) ((p.site 0).address + r.r_offset)))
   unfolding elf.field_by elf.value_by
   field-relative type = rw (there, type) refl
 
@@ -212,11 +204,8 @@ module _ (b : List ℕ) (keep : Keep) (is : IsPlain b) (entries : List (ℕ × R
   here_is : (field : Field) → elf.field_by (elf.target_of b keep) 0 text r ≡ Some field → kept_fields plain_dialect b keep 0 r.r_offset ≡ Some field
   here_is field e = kept_fields-text b keep is r.r_offset ∙ ap (option_and_then (elf.field_by (elf.target_of b keep) 0 text)) at ∙ e
 
-  shape_is : elf_shape (rel_type r) ≡ Some (address_less (neutral_less (rel_type r))) → elf_shapes b keep 0 r.r_offset ≡ Some (address_less (neutral_less (rel_type r)))
-  shape_is e = shapes-text b keep is r.r_offset ∙ ap (option_and_then (λ r. elf_shape (rel_type r))) at ∙ e
-
   look_is : (residue : Placement → Valuation → ℕ)
-      → look_of 0 (field_with (elf.target_of b keep) text r aim.target aim.there residue) (address_less (neutral_less (rel_type r)))
+      → look_of 0 (field_with (elf.target_of b keep) text r aim.target aim.there residue)
       ≡ reloc_look (neutral_of b entries) (neutral_reloc text (r.r_offset, r))
   unfolding neutral_reloc
   look_is residue = rw (takes-plain 0 (rel_type r), aim.named) refl
@@ -230,27 +219,27 @@ module _ (b : List ℕ) (keep : Keep) (is : IsPlain b) (entries : List (ℕ × R
   seen-own : IsSeen b keep entries r.r_offset r
   seen-own = elim rel.type [
     | inl one ↦
-        let residue : Placement → Valuation → ℕ = λ p v. reduced W32 (aim.target.address p v + number) in
+        let residue : Placement → Valuation → ℕ = λ p v. reduced W32 ((aim.target.worth p v).site.address + number) in
         record {
           field = field_with (elf.target_of b keep) text r aim.target aim.there residue;
           width = refl;
           here = here_is _ (field-absolute (elf.target_of b keep) text r aim.target aim.there one);
-          shape = shape_is (rw one refl);
+          varies = cancels-plain (target_by aim.target.named) (rel_type r);
           look = look_is residue;
           patch = λ p v. patch_is p v residue
-              (absolute (worth p v) (aim.target.address p v) number (residue_of W32 (from_field_of W32 Four (pos 0) number)) (aim.address p v) (addend_is number)
+              (absolute (worth p v) (aim.target.worth p v).site.address number (residue_of W32 (from_field_of W32 Four (pos 0) number)) (aim.address p v) (addend_is number)
               ∙ ap (λ n. minus W32 (worth p v + residue_of W32 (from_field_of W32 Four (pos 0) number)) n) (sym (ap (λ k. less_of p 0 r.r_offset (target_worth (symbols b is) p v (neutral_target (rel_sym r))) (neutral_less k)) one)));
         }
     | inr two ↦
-        let residue : Placement → Valuation → ℕ = λ p v. minus W32 (aim.target.address p v + number) ((p.site 0).address + r.r_offset) in
+        let residue : Placement → Valuation → ℕ = λ p v. minus W32 ((aim.target.worth p v).site.address + number) ((p.site 0).address + r.r_offset) in
         record {
           field = field_with (elf.target_of b keep) text r aim.target aim.there residue;
           width = refl;
           here = here_is _ (field-relative (elf.target_of b keep) text r aim.target aim.there two);
-          shape = shape_is (rw two refl);
+          varies = cancels-plain (target_by aim.target.named) (rel_type r);
           look = look_is residue;
           patch = λ p v. patch_is p v residue
-              (relative (worth p v) (aim.target.address p v) number (residue_of W32 (from_field_of W32 Four (pos 0) number)) ((p.site 0).address + r.r_offset) (aim.address p v) (addend_is number)
+              (relative (worth p v) (aim.target.worth p v).site.address number (residue_of W32 (from_field_of W32 Four (pos 0) number)) ((p.site 0).address + r.r_offset) (aim.address p v) (addend_is number)
               ∙ ap (λ n. minus W32 (worth p v + residue_of W32 (from_field_of W32 Four (pos 0) number)) n)
               (sym (ap (λ k. less_of p 0 r.r_offset (target_worth (symbols b is) p v (neutral_target (rel_sym r))) (neutral_less k)) two)));
         }

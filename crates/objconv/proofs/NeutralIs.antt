@@ -1,5 +1,5 @@
 -- The neutral object of a plain object is one: it is what a Builder holds when all was added.
-use Rattle.std.proofs.Common.{◌≡◌, ℕ, zero, suc, ◌+◌, ◌-◌, ◌<◌, ◌≤◌, false, List, [], ◌∷◌, ◌++◌, length, get_or, map, refl, sym, ◌∙◌, ap, subst, arith, append_assoc, append-nil}
+use Rattle.std.proofs.Common.{◌≡◌, ℕ, zero, suc, ◌+◌, ◌-◌, ◌<◌, ◌≤◌, false, List, [], ◌∷◌, ◌++◌, length, get_or, map, None, refl, sym, ◌∙◌, ap, subst, arith, append_assoc, append-nil}
 use Rattle.std.specs.Prelude.{pos, codes}
 use Rattle.oc_linking.specs.declared.terms.Kind.TheVariants.{Code}
 use Rattle.oc_chains.specs.Fields.{placed}
@@ -24,15 +24,14 @@ use Rattle.oc_elf_read.specs.declared.rel.Rel.{Rel}
 use Rattle.oc_elf_read.specs.Rel.{rel_sym, rel_type}
 use Rattle.objconv.specs.declared.headers.Headers.{Headers}
 use Rattle.objconv.specs.Plain.{headers_in, symbol_count}
-use Rattle.objconv.specs.Links.{AreFields, text_in}
+use Rattle.objconv.specs.Fields.{AreFields, text_in}
 use Rattle.objconv.specs.Neutral.{blanked, neutral_draft, neutral_field, neutral_of, neutral_reloc, neutral_section, neutral_symbol, neutral_symbols, neutral_target}
 use Rattle.objconv.proofs.HeaderLemmas.{IsPlain}
-use Rattle.objconv.proofs.ObjectLemmas.{length-text}
+use Rattle.objconv.proofs.ObjectLemmas.{length-text, text-bytes}
 use Rattle.objconv.proofs.NeutralBuilding.{and-false, blanked-more, first_symbols, limits, meets_none, nameless, placed-more}
 use Rattle.std.proofs.Common.{length-append}
 use Rattle.oc_chains.specs.Lists.{is_taken}
 use Rattle.oc_neutral.specs.Keeping.{is_again}
-use Rattle.objconv.proofs.ConvertedPlain.{text-bytes}
 use Rattle.objconv.proofs.NeutralBytes.{length-blanked}
 use Rattle.objconv.proofs.NeutralFields.{cancels-plain, takes-plain}
 use Rattle.objconv.proofs.NeutralNext.{behind, inside, less_there, target_there, unplaced_target}
@@ -43,11 +42,13 @@ draft_empty : IsDraft (empty_draft Elf32)
 draft_empty = record {
   built = record {
     bytes = tt;
+    groups = tt;
     sections = tt;
+    members = tt;
     limits = record { each = tt; sum = omega arith; bytes = omega arith };
     distinct = λ i j s t l here there a c. absurd (none-some s here);
     fields = record { counted = refl; each = λ s x here. absurd (none-some x here); apart = λ s. omega arith };
-    few = record { sections = omega arith; symbols = omega arith; relocs = omega arith };
+    few = record { groups = omega arith; sections = omega arith; symbols = omega arith; relocs = omega arith };
   };
   folded = record { counted = refl; inside = λ s x here. absurd (none-some x here); apart = λ s. omega arith; beside = λ s. tt };
 }
@@ -73,7 +74,7 @@ module _ (b : List ℕ) (is : IsPlain b) (small : length b ≤ 67108864) (bytes 
         bytes = are_bytes (text_in b h) (text-bytes b h bytes);
         tag = let type = is.types.text in let flags = is.types.text_flags in omega (arith, type, flags);
         number = omega arith;
-      }) (limits b h size_small) (omega arith)
+      }) tt (limits b h size_small) (omega arith)
 
   -- and the first symbols
   draft_symbols : (j : ℕ) → j ≤ symbol_count h - 2 → IsDraft (neutral_draft b h (first_symbols b h j) [])
@@ -123,7 +124,8 @@ module _ (b : List ℕ) (is : IsPlain b) (small : length b ≤ 67108864) (bytes 
       made bs fs = record {
         object = record {
           format = Elf32;
-          sections = record { name = codes ".text"; kind = Code; align = h.text.sh_addralign; size = h.text.sh_size; bytes = bs; tag = tag_of h.text; number = 1 } ∷ [];
+          groups = [];
+          sections = record { name = codes ".text"; kind = Code; align = h.text.sh_addralign; size = h.text.sh_size; bytes = bs; tag = tag_of h.text; number = 1; group = None } ∷ [];
           symbols = neutral_symbols b h;
           relocs = fs ∷ [];
         };

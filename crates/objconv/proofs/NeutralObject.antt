@@ -28,10 +28,10 @@ use Rattle.oc_neutral.specs.Invariants.{AreBytes, IsBinding, IsSymbol as IsNeutr
 use Rattle.oc_neutral.specs.Readable.{IsBlankWhereTyped, IsReadable}
 use Rattle.objconv.specs.declared.headers.Headers.{Headers}
 use Rattle.objconv.specs.Plain.{headers_in, is_plain, symbol_count, symbol_in, name_of, exponent_of}
-use Rattle.objconv.specs.Links.{text_in, AreFields}
+use Rattle.objconv.specs.Fields.{text_in, AreFields}
 use Rattle.objconv.specs.Neutral.{binding_of, neutral_symbol, neutral_symbols, neutral_target, neutral_reloc, neutral_field, neutral_section, neutral_of, neutral_draft}
 use Rattle.objconv.proofs.HeaderLemmas.{IsPlain, plain_is}
-use Rattle.objconv.proofs.ObjectLemmas.{exponent_is}
+use Rattle.objconv.specs.WriterLaw.CodedObjects.{exponent_is}
 use Rattle.objconv.proofs.SymbolLemmas.{IsSymbol, plain_symbol, name_of-plain}
 use Rattle.objconv.proofs.NeutralEntries.{entry_found}
 use Rattle.objconv.proofs.NeutralSymbols.{symbols, number_of-symbol}
@@ -141,6 +141,8 @@ module _ (b : List ℕ) (is : IsPlain b) (small : length b ≤ 67108864) (are : 
 
   pub complete : IsComplete (neutral_of b entries)
   complete = record {
+    keys = record { differ = λ i j g h low here. absurd (none-some g here); full = tt };
+    begun = (tt, refl);
     aligns =
         let power = exponent_is (headers_in b).text.sh_addralign is.laid.aligned in
         let exponent = power.small in ((unwrap_or (exponent_of (headers_in b).text.sh_addralign) 0, omega (arith, exponent), power.power), tt);

@@ -1,7 +1,7 @@
 -- The neutral object of a plain object shows it.
 use Rattle.std.proofs.Common.{◌≡◌, ℕ, zero, suc, ◌^◌, ◌<◌, ◌⊎◌, inl, inr, false, cond, List, [], ◌∷◌, map, Option, Some, None, refl, sym, ◌∙◌, ap, arith, max}
 use Rattle.std.specs.Prelude.{slice_get}
-use Rattle.std.specs.Option.{option_map, unwrap_or}
+use Rattle.std.specs.Option.{option_map, option_map_or, unwrap_or}
 use Rattle.std.proofs.Math.Pow.{pow_pos}
 use Rattle.std.proofs.lemmas.Bool.{true≢false}
 use Rattle.std.proofs.lemmas.Option.{none-some, same_Some}
@@ -21,19 +21,20 @@ use Rattle.oc_elf_read.specs.declared.rel.Rel.{Rel}
 use Rattle.oc_elf_read.specs.Rel.{rel_type}
 use Rattle.oc_elf_read.specs.Sections.{sections_of, section_name, tag_of}
 use Rattle.oc_neutral.specs.Faces.{field_of, shown_sections}
-use Rattle.oc_neutral.specs.Dialects.{is_difference, is_folded, kept_fields, look_by, looks_in, patches_in, target_by}
+use Rattle.oc_neutral.specs.Dialects.{is_difference, is_folded, kept_fields, look_of, looks_in, patches_in}
 use Rattle.oc_neutral.specs.Shows.{frame_of, reloc_look, looks_of, patches_of, ShowsAt, Shows}
 use Rattle.objconv.specs.declared.headers.Headers.{Headers}
 use Rattle.objconv.specs.Plain.{headers_in, exponent_of, field_at}
-use Rattle.objconv.specs.Links.{text_in, AreFields}
-use Rattle.objconv.specs.Dialects.{elf_shapes, plain_dialect}
+use Rattle.objconv.specs.Fields.{text_in, AreFields}
+use Rattle.objconv.specs.Dialects.{plain_dialect}
 use Rattle.objconv.specs.Neutral.{neutral_of}
 use Rattle.objconv.proofs.HeaderLemmas.{IsPlain}
 use Rattle.objconv.proofs.SectionLemmas.{section_name-text, sections_of-plain}
-use Rattle.objconv.proofs.ObjectLemmas.{exponent_is, length-text}
+use Rattle.objconv.specs.WriterLaw.CodedObjects.{exponent_is}
+use Rattle.objconv.proofs.ObjectLemmas.{length-text}
 use Rattle.objconv.proofs.NeutralBytes.{AreZeros, overlay-blanked}
 use Rattle.objconv.proofs.NeutralEntries.{entry_at, entry_found, at_entry, found_apart}
-use Rattle.objconv.proofs.NeutralFields.{IsFree, IsTaken, text_cases, kept_fields-none, cancels-plain}
+use Rattle.objconv.proofs.NeutralFields.{IsFree, IsTaken, text_cases, kept_fields-none}
 use Rattle.objconv.proofs.NeutralSymbols.{shown_symbols-plain, numbered-plain}
 
 module _ (b : List ℕ) (is : IsPlain b) (entries : List (ℕ × Rel)) (fields : AreFields b (headers_in b) entries) (keep : Keep) where
@@ -44,13 +45,10 @@ module _ (b : List ℕ) (is : IsPlain b) (entries : List (ℕ × Rel)) (fields :
   folded_none : (s at : ℕ) → is_folded plain_dialect b keep s at ≡ false
   unfolding is_folded
   folded_none zero at = elim (at_text at) [
-    | inl free ↦ ap (λ f. is_difference f (elf_shapes b keep 0 at)) free.field
-    | inr taken ↦
-        ap (λ f. is_difference f (elf_shapes b keep 0 at)) taken.seen.here
-        ∙ ap (is_difference (Some taken.seen.field)) taken.seen.shape
-        ∙ cancels-plain (target_by taken.seen.field.target) (rel_type taken.rel)
+    | inl free ↦ ap (λ f. option_map_or is_difference f false) free.field
+    | inr taken ↦ ap (λ f. option_map_or is_difference f false) taken.seen.here ∙ taken.seen.varies
   ]
-  folded_none (suc s) at = ap (λ f. is_difference f (elf_shapes b keep (suc s) at)) (kept_fields-none b keep is s at)
+  folded_none (suc s) at = ap (λ f. option_map_or is_difference f false) (kept_fields-none b keep is s at)
 
   -- the looks are the same
   looks_same : (s at : ℕ) → looks_of (neutral_of b entries) s at ≡ looks_in plain_dialect b keep s at
@@ -58,18 +56,17 @@ module _ (b : List ℕ) (is : IsPlain b) (entries : List (ℕ × Rel)) (fields :
   looks_same zero at = elim (at_text at) [
     | inl free ↦
         ap (option_map (reloc_look (neutral_of b entries))) free.reloc
-        ∙ sym (ap (λ t. cond t None (look_by 0 (kept_fields plain_dialect b keep 0 at) (elf_shapes b keep 0 at))) (folded_none 0 at)
-        ∙ ap (λ f. look_by 0 f (elf_shapes b keep 0 at)) free.field)
+        ∙ sym (ap (λ t. cond t None (option_map (look_of 0) (kept_fields plain_dialect b keep 0 at))) (folded_none 0 at)
+        ∙ ap (option_map (look_of 0)) free.field)
     | inr taken ↦
         ap (option_map (reloc_look (neutral_of b entries))) taken.reloc
         ∙ ap Some (sym taken.seen.look)
-        ∙ sym (ap (λ t. cond t None (look_by 0 (kept_fields plain_dialect b keep 0 at) (elf_shapes b keep 0 at))) (folded_none 0 at)
-        ∙ ap (λ f. look_by 0 f (elf_shapes b keep 0 at)) taken.seen.here
-        ∙ ap (look_by 0 (Some taken.seen.field)) taken.seen.shape)
+        ∙ sym (ap (λ t. cond t None (option_map (look_of 0) (kept_fields plain_dialect b keep 0 at))) (folded_none 0 at)
+        ∙ ap (option_map (look_of 0)) taken.seen.here)
   ]
   looks_same (suc s) at =
-      sym (ap (λ t. cond t None (look_by (suc s) (kept_fields plain_dialect b keep (suc s) at) (elf_shapes b keep (suc s) at))) (folded_none (suc s) at)
-      ∙ ap (λ f. look_by (suc s) f (elf_shapes b keep (suc s) at)) (kept_fields-none b keep is s at))
+      sym (ap (λ t. cond t None (option_map (look_of (suc s)) (kept_fields plain_dialect b keep (suc s) at))) (folded_none (suc s) at)
+      ∙ ap (option_map (look_of (suc s))) (kept_fields-none b keep is s at))
 
   module _ (p : Placement) (v : Valuation) where
     abbrev patched : ℕ → ℕ → Option Patch
@@ -168,7 +165,7 @@ module _ (b : List ℕ) (is : IsPlain b) (entries : List (ℕ × Rel)) (fields :
       ∙ ap (map frame_of) (sym (sections_of-plain b is))
     where
       framed : Headers → List ℕ → ℕ → List parts.Section
-      framed h name align = record { name = name; kind = Code; align = align; size = h.text.sh_size; contents = []; tag = tag_of h.text; number = 1 } ∷ []
+      framed h name align = record { name = name; kind = Code; align = align; size = h.text.sh_size; contents = []; tag = tag_of h.text; number = 1; group = None } ∷ []
 
   pub shows : Shows plain_dialect b keep (neutral_of b entries)
   shows = record {

@@ -1,7 +1,7 @@
 -- The symbols of a plain object's neutral object are those that it carries by the rules of ELF.
 use Rattle.std.proofs.Common.{◌≡◌, ℕ, zero, suc, ◌+◌, ◌-◌, ◌<◌, true, false, cond, eqb, List, [], ◌∷◌, length, map, Option, Some, None, refl, sym, ◌∙◌, ap, subst, arith}
-use Rattle.std.specs.Prelude.{filter_map, slice_get}
-use Rattle.std.specs.List.{range_with_len, cons_option}
+use Rattle.std.specs.Prelude.{slice_get}
+use Rattle.std.specs.List.{range_with_len}
 use Rattle.std.specs.Option.{option_map, option_map_or}
 use Rattle.std.proofs.lemmas.List.FromFn.{length-map-range_with_len}
 use Rattle.std.proofs.lemmas.Option.{none-some, same_Some, slice_get-map}
@@ -10,7 +10,7 @@ use Rattle.oc_linking.specs.declared.terms.Value.TheVariants.{Place}
 use Rattle.oc_linking.specs.declared.terms.Binding.TheVariants.{Global, Undefined}
 use Rattle.oc_linking.specs.Parts as parts
 use Rattle.oc_elf_read.specs.declared.sym.Sym.{Sym}
-use Rattle.oc_elf_read.specs.Symbols.{symbol_with, symbol_of, symbols_by, symbols_of}
+use Rattle.oc_elf_read.specs.Symbols.{symbol_with, symbols_of}
 use Rattle.oc_neutral.specs.declared.symbol.Symbol.{Symbol}
 use Rattle.oc_neutral.specs.Faces.{number_of, shown_binding, shown_symbol, shown_symbols}
 use Rattle.oc_neutral.specs.Shows.{AreNumbered}
@@ -18,24 +18,20 @@ use Rattle.objconv.specs.declared.headers.Headers.{Headers}
 use Rattle.objconv.specs.Plain.{headers_in, symbol_count, symbol_in}
 use Rattle.objconv.specs.Neutral.{binding_of, neutral_symbol, neutral_symbols, neutral_of}
 use Rattle.objconv.proofs.HeaderLemmas.{IsPlain}
-use Rattle.objconv.proofs.SectionLemmas.{symtab_of-plain}
 use Rattle.objconv.proofs.SymbolLemmas.{IsSymbol, plain_symbol}
-use Rattle.objconv.proofs.ListedLemmas.{entry_of-symbol, symbol_name-plain, binding_for, symbol_of-plain, symbol_of-own, count-split}
+use Rattle.objconv.proofs.ListedLemmas.{entry_of-symbol, symbol_name-plain, binding_for, carried, symbols_of-plain}
 use Rattle.oc_elf_read.specs.declared.rel.Rel.{Rel}
 
--- items that are there one by one are listed
-listed : {X Y : Type 0} (f : ℕ → Option Y) (g : ℕ → X) (to : X → Y) (n a j : ℕ) → ((i : ℕ) → i < n → f (a + i) ≡ Some (to (g (j + i))))
-    → filter_map f (range_with_len a n) ≡ map to (map g (range_with_len j n))
-listed f g to zero a j each = refl
-listed {Y = Y} f g to (suc n) a j each =
-    let from : a + 0 ≡ a = omega arith in
-    let onto : j + 0 ≡ j = omega arith in
-    let first : f a ≡ Some (to (g j)) = ap f (sym from) ∙ each 0 (omega arith) ∙ ap (λ k. Some (to (g k))) onto in
-    let later : (i : ℕ) → i < n → f (a + 1 + i) ≡ Some (to (g (j + 1 + i))) = λ i l.
-    let next : a + 1 + i ≡ a + suc i = omega arith in
-    let then : j + suc i ≡ j + 1 + i = omega arith in
-    ap f next ∙ each (suc i) (omega arith) ∙ ap (λ k. Some (to (g k))) then in
-    ap (λ (o : Option Y). cons_option o (filter_map f (range_with_len (a + 1) n))) first ∙ ap (λ ys. to (g j) ∷ ys) (listed f g to n (a + 1) (j + 1) later)
+-- what is made of made items, one by one
+made : {X Y : Type 0} (g : ℕ → X) (to : X → Y) (f : ℕ → Y) (n j : ℕ) → ((i : ℕ) → i < n → to (g (j + i)) ≡ f (j + i)) → map to (map g (range_with_len j n)) ≡ map f (range_with_len j n)
+made g to f zero j each = refl
+made {Y = Y} g to f (suc n) j each =
+    let onto : j ≡ j + 0 = omega arith in
+    let first : to (g j) ≡ f j = ap (λ k. to (g k)) onto ∙ each 0 (omega arith) ∙ ap f (sym onto) in
+    let later : (i : ℕ) → i < n → to (g (j + 1 + i)) ≡ f (j + 1 + i) = λ i l.
+    let next : j + 1 + i ≡ j + suc i = omega arith in
+    ap (λ k. to (g k)) next ∙ each (suc i) (omega arith) ∙ ap f (sym next) in
+    ap (λ (y : Y). y ∷ map to (map g (range_with_len (j + 1) n))) first ∙ ap (λ ys. f j ∷ ys) (made g to f n (j + 1) later)
 
 -- the element at a position of a list that is made from positions
 pub at_range : {X : Type 0} (g : ℕ → X) (n j i : ℕ) (x : X) → slice_get (map g (range_with_len j n)) i ≡ Some x → (i < n) × (x ≡ g (j + i))
@@ -57,7 +53,7 @@ binding_shown symbols s =
 
 -- a symbol is shown as the rules carry it
 symbol_shown : (b : List ℕ) (is : IsPlain b) (symbols : List Symbol) (k : ℕ) → IsSymbol b (headers_in b) (symbol_in b (headers_in b) k)
-    → shown_symbol symbols (neutral_symbol b (headers_in b) k) ≡ symbol_with b (headers_in b).symbols k (binding_for (symbol_in b (headers_in b) k))
+    → shown_symbol symbols (neutral_symbol b (headers_in b) k) ≡ carried b (headers_in b) k
 unfolding neutral_symbol symbol_with
 symbol_shown b is symbols k symbol =
     let h : Headers = headers_in b in
@@ -85,22 +81,11 @@ module _ (b : List ℕ) (is : IsPlain b) where
 
   -- they are those of the file
   pub shown_symbols-plain : (entries : List (ℕ × Rel)) (keep : Keep) → shown_symbols (neutral_of b entries) ≡ symbols_of b keep
-  unfolding symbols_of
   shown_symbols-plain entries keep =
       let h : Headers = headers_in b in
-      let n : ℕ = symbol_count h - 2 in
-      let f : ℕ → Option parts.Symbol = symbol_of b h.symbols in
-      let each : (i : ℕ) → i < n → f (2 + i) ≡ Some (shown_symbol symbols (neutral_symbol b h (0 + i + 2))) = λ i low.
-      let e : 2 + i ≡ i + 2 = omega arith in
-      let z : 0 + i + 2 ≡ i + 2 = omega arith in
-      ap f e ∙ symbol_of-plain b is (i + 2) (plain_symbol b h is.symbols i low)
-      ∙ ap Some (sym (symbol_shown b is symbols (i + 2) (plain_symbol b h is.symbols i low)))
-      ∙ ap (λ k. Some (shown_symbol symbols (neutral_symbol b h k))) (sym z) in
-      sym
-      (ap (symbols_by (symbol_of b)) (symtab_of-plain b is)
-      ∙ ap (λ (m : ℕ). filter_map f (range_with_len 1 m)) (count-split b is)
-      ∙ ap (λ (o : Option parts.Symbol). cons_option o (filter_map f (range_with_len 2 n))) (symbol_of-own b is)
-      ∙ listed f (λ j. neutral_symbol b h (j + 2)) (shown_symbol symbols) n 2 0 each)
+      made (λ j. neutral_symbol b h (j + 2)) (shown_symbol symbols) (λ j. carried b h (j + 2)) (symbol_count h - 2) 0 (λ i low.
+      symbol_shown b is symbols (0 + i + 2) (plain_symbol b h is.symbols (0 + i) (omega (arith, low))))
+      ∙ sym (symbols_of-plain b keep is)
 
   -- each has its own number
   numbered_at : (entries : List (ℕ × Rel)) (i : ℕ) (s : parts.Symbol) → slice_get (shown_symbols (neutral_of b entries)) i ≡ Some s → s.number ≡ i + 2

@@ -3,7 +3,6 @@ use Rattle.std.proofs.Common.{◌≡◌, ◌≢◌, ℕ, zero, suc, ◌+◌, ◌
 use Rattle.std.specs.Prelude.{◌&&◌, eqb, nat_eq, nat_le, All}
 use Rattle.std.specs.List.{list_all, range_with_len}
 use Rattle.std.specs.Option.{unwrap_or}
-use Rattle.std.proofs.Math.Nat.{pow-le-pow_right}
 use Rattle.std.proofs.lemmas.Bool.{le-leb}
 use Rattle.std.proofs.lemmas.Bool.Decides.{nat_tests}
 use Rattle.std.proofs.lemmas.List.{length-map}
@@ -13,8 +12,8 @@ use Rattle.oc_linking.specs.declared.terms.Mark.TheVariants.{NoType, Function}
 use Rattle.oc_linking.specs.declared.terms.Value.TheVariants as value
 use Rattle.oc_linking.specs.declared.terms.Width.TheVariants.{Four}
 use Rattle.oc_linking.specs.declared.terms.Check.TheVariants.{Wrap}
-use Rattle.oc_algebra.specs.declared.form.Base.TheVariants.{Address}
-use Rattle.oc_algebra.specs.declared.form.Less.TheVariants as less
+use Rattle.oc_linking.specs.declared.terms.Base.TheVariants.{Address}
+use Rattle.oc_linking.specs.declared.terms.Less.TheVariants as less
 use Rattle.oc_neutral.specs.GivenTags.{has_nul}
 use Rattle.oc_elf_read.specs.declared.sym.Sym.{Sym}
 use Rattle.oc_elf_read.specs.Sym.{type_of}
@@ -25,11 +24,11 @@ use Rattle.objconv.specs.declared.headers.Headers.{Headers}
 use Rattle.objconv.specs.Plain.{exponent_of, headers_in, name_of, rel_count, symbol_count, symbol_in}
 use Rattle.oc_chains.specs.declared.field.Field.{Field}
 use Rattle.oc_neutral.specs.declared.reloc.Reloc.{Reloc}
-use Rattle.objconv.specs.Links.{text_in}
+use Rattle.objconv.specs.Fields.{text_in}
 use Rattle.objconv.specs.Neutral.{binding_of, neutral_section, neutral_symbol, neutral_symbols, neutral_reloc, neutral_field, neutral_of}
 use Rattle.objconv.specs.Coded.{is_plain_binding, is_plain_form, is_plain_mark, is_plain_object, is_plain_section, is_plain_symbol, plain_tag}
 use Rattle.objconv.proofs.HeaderLemmas.{IsPlain}
-use Rattle.objconv.proofs.ObjectLemmas.{IsPower, exponent_is}
+use Rattle.objconv.proofs.ObjectLemmas.{align_small}
 use Rattle.objconv.proofs.Gathered.{Entry}
 use Rattle.objconv.proofs.SymbolLemmas.{IsSymbol, plain_symbol, name_of-plain, name-no_nul}
 
@@ -82,13 +81,9 @@ form-fits text e = elim (eqb (rel_type e.1) 2) as (λ t. is_plain_form (record {
 section-fits : (b : List ℕ) (is : IsPlain b) (entries : List Entry) → is_plain_section plain_tag (neutral_section b (headers_in b) entries) ≡ true
 section-fits b is entries =
     let h : Headers = headers_in b in
-    let power : IsPower h.text.sh_addralign (unwrap_or (exponent_of h.text.sh_addralign) 0) = exponent_is h.text.sh_addralign is.laid.aligned in
-    let low : nat_le h.text.sh_addralign 8192 ≡ true = le-leb h.text.sh_addralign 8192 (subst (λ a. a ≤ 8192) (sym power.power) (power_small (unwrap_or (exponent_of h.text.sh_addralign) 0) power.small)) in
+    let low : nat_le h.text.sh_addralign 8192 ≡ true = le-leb h.text.sh_addralign 8192 (align_small h.text.sh_addralign is.laid.aligned) in
     let tag : nat_eq (tag_of h.text) plain_tag ≡ true = rw (is.types.text, is.types.text_flags) refl in
     rw (low, tag) refl
-  where
-    power_small : (e : ℕ) → e ≤ 13 → 2 ^ e ≤ 8192
-    power_small e l = pow-le-pow_right (omega arith) l
 
 -- the object is written
 pub object-fits : (b : List ℕ) (is : IsPlain b) (entries : List Entry) → length entries ≡ rel_count (headers_in b) → is_plain_object plain_tag (neutral_of b entries) ≡ true

@@ -4,8 +4,7 @@ use Rattle.std.specs.Prelude.{nat_lt}
 use Rattle.std.specs.Option.{IsSomeAnd}
 use Rattle.std.proofs.lemmas.Bool.{lt-ltb, ltb-true}
 use Rattle.oc_outside.specs.Reading.{IsWholeOrLonger}
-use Rattle.objconv.specs.Plain.{is_plain}
-use Rattle.objconv.specs.Refusals.{first_refusal, plain_refusal, too_long, not_built}
+use Rattle.objconv.specs.Refusals.{first_refusal, plain_refusal, too_long}
 
 -- what holds of the value holds of it in other words
 pub some_and : {X : Type 0} {P Q : X → Type 0} (o : Option X) → ((x : X) → P x → Q x) → IsSomeAnd o P → IsSomeAnd o Q
@@ -25,11 +24,6 @@ short_judged b short = by (nat_lt 67108864 (length b)) refl
     by : (t : Bool) → nat_lt 67108864 (length b) ≡ t → cond t (Some too_long) (plain_refusal b) ≡ plain_refusal b
     by false e = refl
     by true e = absurd (omega (arith, ltb-true 67108864 (length b) e))
-
--- a plain object is not refused
-pub plain_accepted : (b : List ℕ) → is_plain b ≡ true → plain_refusal b ≡ None
-unfolding plain_refusal
-plain_accepted b plain = ap (λ t. cond t None (Some not_built)) plain
 
 -- bytes that are more than the limit are of a file that is too long
 pub longer_refused : (bytes file : List ℕ) → IsWholeOrLonger 67108864 bytes file → 67108864 < length bytes → first_refusal file ≡ Some too_long

@@ -1,23 +1,23 @@
 -- What the conditions on relocations say of each.
-use Rattle.std.proofs.Common.{◌≡◌, ℕ, ◌+◌, ◌<◌, ◌≤◌, inl, inr, true, false, List, refl, sym, ◌∙◌, ap, arith}
+use Rattle.std.proofs.Common.{◌≡◌, ℕ, ◌+◌, ◌<◌, ◌≤◌, ◌⊎◌, inl, inr, true, false, List, refl, sym, ◌∙◌, ap, arith}
 use Rattle.std.specs.Prelude.{◌&&◌, not, nat_lt}
 use Rattle.std.proofs.lemmas.Bool.{leb-true, lt-ltb, ltb-true, ltb-false}
 use Rattle.objconv.specs.declared.headers.Headers.{Headers}
 use Rattle.objconv.specs.Plain.{has_rels, are_plain_rels, are_apart, is_plain_rel, entry_in, meets, meets_earlier, rel_count}
-use Rattle.objconv.specs.Raising.{LiesBeside}
+use Rattle.oc_elf_read.specs.declared.rel.Rel.{Rel}
 use Rattle.objconv.proofs.PlainLemmas.{both}
 use Rattle.objconv.proofs.BelowLemmas.{all_below_at}
 use Rattle.objconv.proofs.FieldLemmas.{any_below_hit}
+
+-- the byte at k is not of the relocation's field
+abbrev pub LiesBeside : Rel → ℕ → Type 0
+LiesBeside r k = (k < r.r_offset) ⊎ (r.r_offset + 4 ≤ k)
 
 module _ (b : List ℕ) (h : Headers) where
   -- each relocation is plain
   pub rel_plain : (i : ℕ) → has_rels b h ≡ true → i < rel_count h → is_plain_rel h (entry_in b h i) ≡ true
   unfolding has_rels are_plain_rels
   rel_plain i all low = all_below_at (λ i. is_plain_rel h (entry_in b h i)) (rel_count h) i (both (are_plain_rels b h) (are_apart b h) all).0 low
-
-  -- each field lies in the text
-  pub rel_lies : (i : ℕ) → has_rels b h ≡ true → i < rel_count h → (entry_in b h i).r_offset + 4 ≤ h.text.sh_size
-  rel_lies i all low = leb-true ((entry_in b h i).r_offset + 4) h.text.sh_size (both _ _ (rel_plain i all low)).1
 
   -- no field meets an earlier one
   rel_apart : (i j : ℕ) → has_rels b h ≡ true → i < rel_count h → j < i → meets (entry_in b h j) (entry_in b h i) ≡ true → ⊥

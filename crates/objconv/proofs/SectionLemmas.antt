@@ -12,7 +12,7 @@ use Rattle.oc_elf_read.specs.Sections.{header_of, headers_of, kind_of, section_n
 use Rattle.oc_elf_read.specs.Symbols.{symtab_of}
 use Rattle.objconv.specs.declared.headers.Headers.{Headers}
 use Rattle.objconv.specs.Plain.{headers_in, is_named, rel_count, entry_in}
-use Rattle.objconv.specs.Links.{text_in}
+use Rattle.objconv.specs.Fields.{text_in}
 use Rattle.objconv.proofs.HeaderLemmas.{IsPlain, header_of-text, header_of-rels, header_of-symbols, header_of-names, header_of-section_names}
 
 -- `.text` as the rules carry it
@@ -25,6 +25,7 @@ text_section b h = record {
   contents = text_in b h;
   tag = tag_of h.text;
   number = 1;
+  group = None;
 }
 
 -- PROGBITS that is allocated and executed is code

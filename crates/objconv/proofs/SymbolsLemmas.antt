@@ -1,11 +1,8 @@
 -- What the conditions on symbols say of each.
-use Rattle.std.proofs.Common.{◌≡◌, ℕ, ◌+◌, ◌-◌, ◌<◌, ◌≤◌, Bool, true, false, List, ◌^◌, cond, eqb, Option, Some, None, refl, arith}
+use Rattle.std.proofs.Common.{◌≡◌, ℕ, ◌+◌, ◌-◌, ◌<◌, true, List}
 use Rattle.std.specs.Prelude.{◌&&◌}
-use Rattle.std.specs.Option.{unwrap_or}
-use Rattle.std.proofs.lemmas.Option.{none-some, same_Some}
-use Rattle.oc_linking.proofs.Upto.{first_upto_from}
 use Rattle.objconv.specs.declared.headers.Headers.{Headers}
-use Rattle.objconv.specs.Plain.{has_symbols, are_plain_symbols, are_distinct, is_null_symbol, is_text_symbol, is_plain_symbol, is_plain_place, symbol_in, symbol_count, exponent_of}
+use Rattle.objconv.specs.Plain.{has_symbols, are_plain_symbols, are_distinct, is_null_symbol, is_text_symbol, is_plain_symbol, is_plain_place, symbol_in, symbol_count}
 use Rattle.objconv.proofs.PlainLemmas.{both}
 use Rattle.objconv.proofs.BelowLemmas.{all_below_at}
 
@@ -21,19 +18,3 @@ module _ (b : List ℕ) (h : Headers) where
   pub symbol_placed : (j : ℕ) → has_symbols b h ≡ true → j < symbol_count h - 2 → is_plain_place h (symbol_in b h (j + 2)) ≡ true
   unfolding is_plain_symbol
   symbol_placed j all low = (both _ _ (both _ _ (symbol_plain j all low)).0).1
-
--- an alignment is at most 2^13
-pub exponent_small : (align : ℕ) → unwrap_or (exponent_of align) 0 ≤ 13
-unfolding exponent_of
-exponent_small align = by (exponent_of align) refl
-  where
-    by : (o : Option ℕ) → exponent_of align ≡ o → unwrap_or o 0 ≤ 13
-    by None e = omega arith
-    by (Some k) e =
-        let found = first_upto_from (λ j. cond (eqb align (2 ^ j)) (Some j) None) 14 k e in
-        let same : found.0 ≡ k = kept (eqb align (2 ^ found.0)) found.0 found.2 in
-        omega (arith, same, found.1)
-      where
-        kept : (t : Bool) (j : ℕ) → cond t (Some j) None ≡ Some k → j ≡ k
-        kept true j e = same_Some j k e
-        kept false j e = absurd (none-some k e)

@@ -1,7 +1,7 @@
 -- Objects of one section of code as the first path writes them: in COFF for i386 (PE/COFF; our profile).
 use Rattle.std.specs.Prelude.{◌≡◌, ℕ, ◌+◌, ◌%◌, ◌^◌, Bool, true, false, ◌&&◌, nat_eq, nat_le, if◌then◌else◌, bytes_eq, not, List, [], ◌∷◌, length, map, codes, Option, Some, None}
 use Rattle.std.specs.List.{list_all}
-use Rattle.std.specs.Option.{option_map, unwrap_or}
+use Rattle.std.specs.Option.{option_map, unwrap_or, is_none}
 use Rattle.oc_base.specs.declared.code.Code.TheVariants.{NotBuilt}
 use Rattle.oc_base.specs.declared.fault.Phase.TheVariants.{TargetSection}
 use Rattle.oc_base.specs.declared.fault.Fault.{Fault}
@@ -17,9 +17,9 @@ use Rattle.oc_linking.specs.declared.terms.Value.TheVariants as value
 use Rattle.oc_linking.specs.declared.terms.Binding.{Binding}
 use Rattle.oc_linking.specs.declared.terms.Binding.TheVariants.{Local, Global, Undefined, Common, Weak}
 use Rattle.oc_linking.specs.Images.{overlay}
-use Rattle.oc_algebra.specs.declared.form.Base.TheVariants.{Address}
-use Rattle.oc_algebra.specs.declared.form.Less.{Less}
-use Rattle.oc_algebra.specs.declared.form.Less.TheVariants as less
+use Rattle.oc_linking.specs.declared.terms.Base.TheVariants.{Address}
+use Rattle.oc_linking.specs.declared.terms.Less.{Less}
+use Rattle.oc_linking.specs.declared.terms.Less.TheVariants as less
 use Rattle.oc_algebra.specs.declared.form.Form.{Form}
 use Rattle.oc_algebra.specs.Residues.{residue_of}
 use Rattle.oc_chains.specs.declared.field.Field.{Field}
@@ -74,9 +74,9 @@ is_plain_mark Function = true
 abbrev pub is_plain_symbol : Symbol → Bool
 is_plain_symbol s = is_plain_binding s.binding && is_plain_mark s.mark && nat_le (length s.name) 8 && not (has_nul s.name)
 
--- code in `.text`, of an alignment up to 8,192, with this tag
+-- code in `.text`, of an alignment up to 8,192, with this tag and in no group
 abbrev pub is_plain_section : ℕ → Section → Bool
-is_plain_section tag s = same_kind s.kind Code && bytes_eq s.name (codes ".text") && nat_le s.align 8192 && nat_eq s.tag tag
+is_plain_section tag s = same_kind s.kind Code && bytes_eq s.name (codes ".text") && nat_le s.align 8192 && nat_eq s.tag tag && is_none s.group
 
 -- one such section
 abbrev pub has_one_section : ℕ → List Section → Bool

@@ -1,15 +1,13 @@
 pub mod Coded
 pub mod Contents
-pub mod Converted
 pub mod Dialects
 pub mod Emission
+pub mod Fields
 pub mod Jobs
 pub mod Keys
 pub mod Layouts
-pub mod Links
 pub mod Neutral
 pub mod Plain
-pub mod Raising
 pub mod Recoded
 pub mod Refusals
 pub mod Runs

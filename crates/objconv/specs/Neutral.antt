@@ -1,5 +1,5 @@
 -- The neutral object of a plain object (our profile).
-use Rattle.std.specs.Prelude.{ℕ, ◌+◌, ◌-◌, eqb, false, if◌then◌else◌, pos, List, [], ◌∷◌, codes, map}
+use Rattle.std.specs.Prelude.{ℕ, ◌+◌, ◌-◌, eqb, false, if◌then◌else◌, pos, List, [], ◌∷◌, codes, map, None}
 use Rattle.std.specs.List.{range_with_len}
 use Rattle.oc_base.specs.declared.format.Format.TheVariants.{Elf32}
 use Rattle.oc_base.specs.declared.format.Word.TheVariants.{W32}
@@ -11,9 +11,9 @@ use Rattle.oc_linking.specs.declared.terms.Kind.TheVariants.{Code}
 use Rattle.oc_linking.specs.declared.terms.Value.TheVariants as value
 use Rattle.oc_linking.specs.declared.terms.Binding.{Binding}
 use Rattle.oc_linking.specs.declared.terms.Binding.TheVariants.{Global, Undefined}
-use Rattle.oc_algebra.specs.declared.form.Base.TheVariants.{Address}
-use Rattle.oc_algebra.specs.declared.form.Less.{Less}
-use Rattle.oc_algebra.specs.declared.form.Less.TheVariants.{Zero, Place}
+use Rattle.oc_linking.specs.declared.terms.Base.TheVariants.{Address}
+use Rattle.oc_linking.specs.declared.terms.Less.{Less}
+use Rattle.oc_linking.specs.declared.terms.Less.TheVariants.{Zero, Place}
 use Rattle.oc_algebra.specs.Fields.{from_field_of}
 use Rattle.oc_chains.specs.declared.field.Field.{Field}
 use Rattle.oc_neutral.specs.declared.section.Section.{Section}
@@ -29,7 +29,7 @@ use Rattle.oc_elf_read.specs.Rel.{rel_sym, rel_type}
 use Rattle.oc_elf_read.specs.Sections.{tag_of}
 use Rattle.oc_elf_read.specs.Symbols.{mark_of, visibility_of}
 use Rattle.objconv.specs.declared.headers.Headers.{Headers}
-use Rattle.objconv.specs.Links.{text_in}
+use Rattle.objconv.specs.Fields.{text_in}
 use Rattle.objconv.specs.Plain.{headers_in, name_of, symbol_count, symbol_in}
 
 -- without a section a symbol is Undefined, and else a Global at a place in `.text`
@@ -82,12 +82,14 @@ neutral_section b h entries = record {
   bytes = blanked entries (text_in b h);
   tag = tag_of h.text;
   number = 1;
+  group = None;
 }
 
 -- the neutral object of the plain object b, whose relocations are these entries, in order of offset
 abbrev pub neutral_of : List ℕ → List (ℕ × Rel) → Object
 neutral_of b entries = record {
   format = Elf32;
+  groups = [];
   sections = neutral_section b (headers_in b) entries ∷ [];
   symbols = neutral_symbols b (headers_in b);
   relocs = map (neutral_field (text_in b (headers_in b))) entries ∷ [];
@@ -98,6 +100,7 @@ abbrev pub neutral_draft : List ℕ → Headers → List Symbol → List (ℕ ×
 neutral_draft b h symbols entries = record {
   object = record {
     format = Elf32;
+    groups = [];
     sections = neutral_section b h entries ∷ [];
     symbols = symbols;
     relocs = map (neutral_field (text_in b h)) entries ∷ [];

@@ -15,12 +15,14 @@ recoded_section s = record {
   bytes = s.bytes;
   tag = code_tag;
   number = s.number;
+  group = s.group;
 }
 
 -- an object with its sections recoded
 abbrev pub recoded : Object → Object
 recoded n = record {
   format = Coff32;
+  groups = n.groups;
   sections = map recoded_section n.sections;
   symbols = n.symbols;
   relocs = n.relocs;

@@ -64,7 +64,7 @@ pub fn contents_of(neutral: Neutral) -> Bytes
     requires writable { coded.IsWritable neutral }
     ensures { result ≡ (coded.coded neutral).contents }
 {
-    let (mut sections, _symbols, relocs) = neutral.into_parts();
+    let (_groups, mut sections, _symbols, relocs) = neutral.into_parts();
     let Section { mut bytes, .. } = sections.swap_remove(0);
     put_numbers(&mut bytes, &relocs);
     bytes

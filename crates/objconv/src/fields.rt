@@ -2,7 +2,7 @@
 ghost use Rattle.std.specs.Prelude.{◌≡◌, ℕ, ◌+◌, ◌-◌, ◌*◌, ◌≤◌, ◌<◌, ◌^◌, true, false, None, Some, IsSome, IfSome, IfNone, length, IfOk};
 ghost use Rattle.std.specs.Ordering.{nat_cmp};
 ghost use Rattle.std.specs.BTreeMap.{get};
-ghost use Rattle.objconv.specs.Links.{AreFields};
+ghost use Rattle.objconv.specs.Fields.{AreFields};
 ghost use Rattle.objconv.specs.Plain as plain;
 
 use crate::headers::Headers;

@@ -10,7 +10,6 @@ mod fields;
 mod fitter;
 mod headers;
 mod job;
-mod laws;
 mod layout;
 mod plain;
 mod planned;
@@ -25,5 +24,4 @@ mod writer;
 mod writing;
 
 pub use command::run;
-pub use laws::plain_objects_have_files;
 pub use words::Words;

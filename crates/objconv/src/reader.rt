@@ -9,7 +9,7 @@ ghost use Rattle.oc_neutral.specs.Building.{empty_draft};
 ghost use Rattle.oc_neutral.specs.Readable.{IsReadable};
 ghost use Rattle.oc_neutral.specs.Shows.{Shows};
 ghost use Rattle.objconv.specs.Dialects.{plain_dialect};
-ghost use Rattle.objconv.specs.Links.{AreFields, text_in};
+ghost use Rattle.objconv.specs.Fields.{AreFields, text_in};
 ghost use Rattle.objconv.specs.Neutral as neutral;
 ghost use Rattle.objconv.specs.Plain as plain;
 ghost use Rattle.objconv.specs.Refusals.{not_built};
@@ -64,6 +64,7 @@ fn section_of(alloc: Global, file: &[u8], headers: &Headers) -> Result<Section, 
         bytes: Bytes::from_slice(alloc, text_of(file, headers))?,
         tag: tag_of(text),
         number: 1,
+        group: None,
     })
 }
 

@@ -1,11 +1,11 @@
-//! Whole runs over files and a console in memory. The input and the output of the first case, and
-//! all texts, are those that the commands' description states, byte for byte.
+//! Whole runs over files and a console in memory. The object and its conversion, and all texts, are
+//! those that the commands' description states, byte for byte.
 ghost use Rattle.std.specs.Prelude.{◌-◌, ◌^◌, None};
 
 use super::*;
 use crate::reader::PlainReader;
 use oc_base::NoMemory;
-use oc_neutral::{Binding, Keep, Mark, Reads, Target};
+use oc_neutral::{Keep, Reads, Target};
 use oc_outside::{Failed, Files, MemConsole, MemFiles};
 use std::alloc::Global;
 use std::test::Fail;
@@ -85,92 +85,150 @@ const CALL_COFF: [u8; 152] = [
     0x04, 0x00, 0x00, 0x00,
 ];
 
-/// A console with room for each text.
-fn console(alloc: Global) -> Result<MemConsole, NoMemory> {
-    let mut console = MemConsole::new(alloc);
-    console.room(100, 100)?;
-    Ok(console)
+/// A run over a file `a` and room for a file `b`, and what it leaves.
+#[derive(Clone, Copy)]
+struct Case {
+    words: &'static [&'static str],
+    /// The bytes of `a`; nothing where it is not there.
+    a: Option<&'static [u8]>,
+    /// The call on files that fails, counted from 1; 0: none.
+    failing: u64,
+    /// How many bytes standard error takes.
+    room: u64,
+    status: u8,
+    told: &'static str,
+    /// The bytes of `b` after the run; nothing where it is not there.
+    b: Option<&'static [u8]>,
 }
 
-/// Files that hold `bytes` as `a`, with room for a large `b`.
-fn files(alloc: Global, bytes: &[u8]) -> Result<MemFiles, NoMemory> {
-    let mut files = MemFiles::new(alloc);
-    files.set("a", bytes)?;
-    files.room("b", 1000)?;
-    Ok(files)
-}
+/// The words of a conversion.
+const JOB: &[&str] = &["-fcoff32", "a", "b"];
 
-/// The words `-fcoff32 a b`.
-fn job(alloc: Global) -> Result<Words, NoMemory> {
+/// The conversion of `call foo`.
+const DONE: Case = Case {
+    words: JOB,
+    a: Some(&CALL),
+    failing: 0,
+    room: 100,
+    status: 0,
+    told: "",
+    b: Some(&CALL_COFF),
+};
+
+/// Words that are no job.
+const NO_JOB: Case = Case {
+    words: &[],
+    status: 3,
+    told: "objconv: word 0: NotBuilt\n",
+    b: None,
+    ..DONE
+};
+
+/// An input that was not read: call 1 is the first read.
+const UNREAD: Case = Case {
+    failing: 1,
+    status: 4,
+    told: "objconv: input fault\n",
+    b: None,
+    ..DONE
+};
+
+/// An input that is refused.
+const REFUSED: Case = Case {
+    a: Some(&[0]),
+    status: 2,
+    told: "objconv: refused: header 0: NotBuilt at 0\n",
+    b: None,
+    ..DONE
+};
+
+/// An output that was not written: call 2 reads the end, call 3 creates, call 4 appends.
+const UNWRITTEN: Case = Case {
+    failing: 3,
+    status: 5,
+    told: "objconv: output fault\n",
+    b: None,
+    ..DONE
+};
+
+const CASES: [Case; 13] = [
+    DONE,
+    NO_JOB,
+    Case {
+        words: &["-fcoff32", "a", "a"],
+        ..NO_JOB
+    },
+    Case {
+        words: &["-fcoff32", "-zz", "b"],
+        ..NO_JOB
+    },
+    Case {
+        words: &["-fcoff32", "a", "-b"],
+        ..NO_JOB
+    },
+    Case {
+        words: &["-fcoff64", "a", "b"],
+        ..NO_JOB
+    },
+    Case {
+        words: &["-fcoff32", "a", "b", "c"],
+        ..NO_JOB
+    },
+    UNREAD,
+    Case {
+        a: None,
+        failing: 0,
+        ..UNREAD
+    },
+    REFUSED,
+    // the text finds no room, and the status stays
+    Case {
+        room: 0,
+        told: "",
+        ..REFUSED
+    },
+    UNWRITTEN,
+    Case {
+        failing: 4,
+        b: Some(&[]),
+        ..UNWRITTEN
+    },
+];
+
+/// These words, of which there are few.
+fn words_of(alloc: Global, list: &[&str]) -> Result<Words, NoMemory> {
     let mut words = Words::new(alloc);
-    for word in ["-fcoff32", "a", "b"] {
-        if words.count() < 3 {
+    for word in list {
+        if words.count() < 4 {
             words.push(word)?;
         }
     }
     Ok(words)
 }
 
-#[test]
-fn elf32_call_to_coff32(rt: HostRuntime) -> Result<(), Fail> {
-    let words = job(rt.alloc())?;
-    let mut files = files(rt.alloc(), &CALL)?;
-    let mut console = console(rt.alloc())?;
-    let status = run(rt.alloc(), &words, &mut files, &mut console);
-    assert_eq!(rt; status, 0);
-    assert_eq!(rt; files.file("b").ok_or("b is made")?, CALL_COFF.as_slice());
-    assert_eq!(rt; files.file("a").ok_or("a stays")?, CALL.as_slice());
-    assert!(rt; console.told().is_empty());
-    assert!(rt; console.shown().is_empty());
-    Ok(())
-}
-
-#[test]
-fn first_read_fails(rt: HostRuntime) -> Result<(), Fail> {
-    let words = job(rt.alloc())?;
-    let mut files = files(rt.alloc(), &CALL)?;
-    files.fail_at(1)?;
-    let mut console = console(rt.alloc())?;
-    assert_eq!(rt; run(rt.alloc(), &words, &mut files, &mut console), 4);
-    assert_eq!(rt; console.told(), b"objconv: input fault\n".as_slice());
-    assert!(rt; files.file("b").is_none());
-    Ok(())
-}
-
-#[test]
-fn absent_input(rt: HostRuntime) -> Result<(), Fail> {
-    let words = job(rt.alloc())?;
-    let mut files = MemFiles::new(rt.alloc());
+/// Whether the run of a case ends with its status and leaves what it says.
+fn is_met(alloc: Global, case: &Case) -> Result<bool, NoMemory> {
+    let words = words_of(alloc, case.words)?;
+    let mut files = MemFiles::new(alloc);
+    if let Some(a) = case.a {
+        files.set("a", a)?;
+    }
     files.room("b", 1000)?;
-    let mut console = console(rt.alloc())?;
-    assert_eq!(rt; run(rt.alloc(), &words, &mut files, &mut console), 4);
-    assert_eq!(rt; console.told(), b"objconv: input fault\n".as_slice());
-    assert!(rt; files.file("b").is_none());
-    Ok(())
+    if case.failing > 0 {
+        files.fail_at(case.failing)?;
+    }
+    let mut console = MemConsole::new(alloc);
+    console.room(100, case.room)?;
+    let status = run(alloc, &words, &mut files, &mut console);
+    let told = status == case.status && console.told() == case.told.as_bytes();
+    Ok(told && console.shown().is_empty() && files.file("a") == case.a && files.file("b") == case.b)
 }
 
 #[test]
-fn one_zero_byte(rt: HostRuntime) -> Result<(), Fail> {
-    let words = job(rt.alloc())?;
-    let mut files = files(rt.alloc(), &[0])?;
-    let mut console = console(rt.alloc())?;
-    assert_eq!(rt; run(rt.alloc(), &words, &mut files, &mut console), 2);
-    assert_eq!(rt;
-        console.told(),
-        b"objconv: refused: header 0: NotBuilt at 0\n".as_slice()
-    );
-    assert!(rt; files.file("b").is_none());
-    Ok(())
-}
-
-/// The text finds no room, and the status stays.
-#[test]
-fn message_that_is_not_told(rt: HostRuntime) -> Result<(), Fail> {
-    let words = job(rt.alloc())?;
-    let mut files = files(rt.alloc(), &[0])?;
-    let mut console = MemConsole::new(rt.alloc());
-    assert_eq!(rt; run(rt.alloc(), &words, &mut files, &mut console), 2);
-    assert!(rt; console.told().is_empty());
+fn runs(rt: HostRuntime) -> Result<(), Fail> {
+    for (number, case) in CASES.iter().enumerate() {
+        assert!(rt; is_met(rt.alloc(), case)?, "case {number}");
+    }
     Ok(())
 }
 
@@ -214,59 +272,19 @@ impl Files for Zeros {
 /// 1,025 reads of 65,536 bytes give all of the 67,108,865: a further one would fail.
 #[test]
 fn input_limit(rt: HostRuntime) -> Result<(), Fail> {
-    let words = job(rt.alloc())?;
-    let mut console = console(rt.alloc())?;
+    let words = words_of(rt.alloc(), JOB)?;
+    let mut console = MemConsole::new(rt.alloc());
+    console.room(100, 100)?;
     let mut files = Zeros {
         reads: 1025,
         faults: 0,
     };
-    assert_eq!(rt; run(rt.alloc(), &words, &mut files, &mut console), 8);
+    let status = run(rt.alloc(), &words, &mut files, &mut console);
+    assert_eq!(rt; (status, files.reads), (8, 0));
     assert_eq!(rt;
         console.told(),
         b"objconv: limit: header 0: LimitInput at 67108865\n".as_slice()
     );
-    assert_eq!(rt; files.reads, 0);
-    Ok(())
-}
-
-/// Call 2 reads the end, call 3 creates, call 4 appends.
-#[test]
-fn create_or_append_fails(rt: HostRuntime) -> Result<(), Fail> {
-    let words = job(rt.alloc())?;
-    for call in [3, 4] {
-        let mut files = files(rt.alloc(), &CALL)?;
-        files.fail_at(call)?;
-        let mut console = console(rt.alloc())?;
-        assert_eq!(rt; run(rt.alloc(), &words, &mut files, &mut console), 5);
-        assert_eq!(rt; console.told(), b"objconv: output fault\n".as_slice());
-        assert_eq!(rt; files.file("b").is_some(), call == 4, "call {call}");
-    }
-    Ok(())
-}
-
-/// Whether these words are answered by status 3 and its text, and leave no `b`.
-fn are_no_job(alloc: Global, list: &[&str]) -> Result<bool, NoMemory> {
-    let mut words = Words::new(alloc);
-    for word in list {
-        if words.count() < 4 {
-            words.push(word)?;
-        }
-    }
-    let mut files = files(alloc, &CALL)?;
-    let mut console = console(alloc)?;
-    let status = run(alloc, &words, &mut files, &mut console);
-    let told = console.told() == b"objconv: word 0: NotBuilt\n".as_slice();
-    Ok(status == 3 && told && files.file("b").is_none())
-}
-
-#[test]
-fn words_at_fault(rt: HostRuntime) -> Result<(), Fail> {
-    assert!(rt; are_no_job(rt.alloc(), &[])?);
-    assert!(rt; are_no_job(rt.alloc(), &["-fcoff32", "a", "a"])?);
-    assert!(rt; are_no_job(rt.alloc(), &["-fcoff32", "-zz", "b"])?);
-    assert!(rt; are_no_job(rt.alloc(), &["-fcoff32", "a", "-b"])?);
-    assert!(rt; are_no_job(rt.alloc(), &["-fcoff64", "a", "b"])?);
-    assert!(rt; are_no_job(rt.alloc(), &["-fcoff32", "a", "b", "c"])?);
     Ok(())
 }
 
@@ -280,17 +298,10 @@ fn elf32_call_is_read(rt: HostRuntime) -> Result<(), Fail> {
     };
     let object = PlainReader.read(rt.alloc(), &CALL, &keep)?;
     assert_eq!(rt; object.section_count(), 1);
-    let text = object.section(0);
-    assert_eq!(rt; text.name.as_slice(), b".text".as_slice());
-    assert_eq!(rt; text.bytes.as_slice(), [0xE8, 0, 0, 0, 0, 0xC3].as_slice());
-    assert_eq!(rt; (text.align, text.size, text.tag), (16, 6, 14));
-    assert_eq!(rt; object.symbol_count(), 2);
-    let main = object.symbol(0);
-    assert_eq!(rt; main.name.as_slice(), b"main".as_slice());
-    assert_eq!(rt; (main.mark, main.number), (Mark::Function, 2));
-    let foo = object.symbol(1);
-    assert_eq!(rt; foo.name.as_slice(), b"foo".as_slice());
-    assert_eq!(rt; (foo.binding, foo.number), (Binding::Undefined, 3));
+    assert_eq!(rt;
+        object.section(0).bytes.as_slice(),
+        [0xE8, 0, 0, 0, 0, 0xC3].as_slice()
+    );
     let call = object.relocs(0).next().ok_or("one relocation")?;
     assert_eq!(rt;
         (call.at, call.item.target, call.item.addend),

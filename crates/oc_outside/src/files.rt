@@ -9,9 +9,9 @@ use crate::failed::Failed;
 /// Files by name, of which a program reads parts, which it creates and to which it appends.
 ///
 /// What the files hold may be told, as of files in memory, or not, as of those of an operating
-/// system. Failed calls are counted, reading and writing apart. No count falls, and a call leaves
-/// the count that is not its own. A count that stands at its last value, 2^64 - 1, is said to rise
-/// as well.
+/// system. Failed calls are counted, reading and writing apart. No count falls, a call leaves the
+/// count that is not its own, and one that succeeds leaves both. A count that stands at its last
+/// value, 2^64 - 1, is said to rise as well.
 pub trait Files {
     /// What each file holds, by its name, where that is told.
     ghost held: { Self → Option Held };
@@ -35,6 +35,7 @@ pub trait Files {
         ensures same { held self.new ≡ held self.old }
         ensures counts { Counts (read_faults self.old) (read_faults self.new)
             (write_faults self.old) (write_faults self.new) }
+        ensures steady { OnOk result (read_faults self.new ≡ read_faults self.old) }
         ensures cause { OnErr result
             (Rose (read_faults self.old) (read_faults self.new) ⊎ IsAbsent name.now (held self.old)) };
 
@@ -47,6 +48,7 @@ pub trait Files {
             ((held self.new ≡ held self.old) ⊎ (held self.new ≡ option_map (emptied name.now) (held self.old))) }
         ensures counts { Counts (write_faults self.old) (write_faults self.new)
             (read_faults self.old) (read_faults self.new) }
+        ensures steady { OnOk result (write_faults self.new ≡ write_faults self.old) }
         ensures cause { OnErr result (Rose (write_faults self.old) (write_faults self.new)) };
 
     /// Appends the front of `piece` to the file `name`, and gives the number of bytes taken, which
@@ -61,5 +63,6 @@ pub trait Files {
         ensures err { OnErr result (held self.new ≡ held self.old) }
         ensures counts { Counts (write_faults self.old) (write_faults self.new)
             (read_faults self.old) (read_faults self.new) }
+        ensures steady { OnOk result (write_faults self.new ≡ write_faults self.old) }
         ensures cause { OnErr result (Rose (write_faults self.old) (write_faults self.new)) };
 }

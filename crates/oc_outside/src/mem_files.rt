@@ -148,6 +148,7 @@ impl Files for MemFiles {
             ≡ count_after (fails_next self.old) (next_call self.old.calls) self.old.read_faults }
         ensures counts { Counts self.old.read_faults self.new.read_faults
             self.old.write_faults self.new.write_faults }
+        ensures steady { OnOk result (self.new.read_faults ≡ self.old.read_faults) }
     {
         if self.begin() {
             self.read_faults = risen(self.calls, self.read_faults);
@@ -174,6 +175,7 @@ impl Files for MemFiles {
             (next_call self.old.calls) self.old.write_faults }
         ensures counts { Counts self.old.write_faults self.new.write_faults
             self.old.read_faults self.new.read_faults }
+        ensures steady { OnOk result (self.new.write_faults ≡ self.old.write_faults) }
     {
         if self.begin() || create_in(self.slots.as_mut_slice(), name).is_err() {
             self.write_faults = risen(self.calls, self.write_faults);
@@ -200,6 +202,7 @@ impl Files for MemFiles {
             (next_call self.old.calls) self.old.write_faults }
         ensures counts { Counts self.old.write_faults self.new.write_faults
             self.old.read_faults self.new.read_faults }
+        ensures steady { OnOk result (self.new.write_faults ≡ self.old.write_faults) }
     {
         if self.begin() || append_in(self.slots.as_mut_slice(), name, piece).is_err() {
             self.write_faults = risen(self.calls, self.write_faults);

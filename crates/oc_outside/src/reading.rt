@@ -56,8 +56,9 @@ fn zeros(alloc: Global, len: usize) -> Result<Vec<u8>, AllocError>
 /// The bytes of the file `name`: all of them or, where there are more than `limit`, a front of them
 /// that is longer than `limit`.
 ///
-/// It reads `BUFFER` bytes at a time, and nothing once more than `limit` are there. `Input` comes
-/// only where the count of reads rose, or where the files are told and `name` is not among them.
+/// It reads `BUFFER` bytes at a time, and nothing once more than `limit` are there or a read failed.
+/// `Input` comes only where the count of reads rose, or where the files are told and `name` is not
+/// among them; where that count grew, it comes.
 /// `NoMemory` may come at any time. The memory grows by doubling, so a byte is copied a few times.
 pub fn read_file<F: Files>(
     alloc: Global,
@@ -71,6 +72,7 @@ pub fn read_file<F: Files>(
     ensures same { F.held files.new ≡ F.held files.old }
     ensures counts { Counts (F.read_faults files.old) (F.read_faults files.new)
         (F.write_faults files.old) (F.write_faults files.new) }
+    ensures ended { F.read_faults files.old < F.read_faults files.new → result ≡ Err ReadFault.Input }
     ensures cause { result ≡ Err ReadFault.Input
         → Rose (F.read_faults files.old) (F.read_faults files.new) ⊎ IsAbsent name.now (F.held files.old) }
 {

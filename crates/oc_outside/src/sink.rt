@@ -1,4 +1,4 @@
-ghost use Rattle.std.specs.Prelude.{◌≡◌, ℕ, ◌+◌, ◌-◌, ◌^◌, ◌<◌, ◌≤◌, List, Option, length, take, IfOk, OnErr};
+ghost use Rattle.std.specs.Prelude.{◌≡◌, ℕ, ◌+◌, ◌-◌, ◌^◌, ◌<◌, ◌≤◌, List, Option, length, take, IfOk, OnOk, OnErr};
 ghost use Rattle.std.specs.Borrow.{GName};
 ghost use Rattle.oc_outside.specs.Causes.{Rose};
 ghost use Rattle.oc_outside.specs.Held.{Beside};
@@ -8,8 +8,8 @@ use crate::failed::Failed;
 
 /// Something that takes bytes in order: a file that grows.
 ///
-/// What it took may be told or not. Failed calls are counted, and the count never falls. A count
-/// that stands at its last value, 2^64 - 1, is said to rise as well.
+/// What it took may be told or not. Failed calls are counted: the count never falls, and a call that
+/// succeeds leaves it. A count that stands at its last value, 2^64 - 1, is said to rise as well.
 pub trait Sink {
     /// The bytes that it took so far, where they are told.
     ghost taken: { Self → Option (List ℕ) };
@@ -32,6 +32,7 @@ pub trait Sink {
         ensures ok { IfOk result (λ n. taken self.new ≡ grown (take n piece.now) (taken self.old)) }
         ensures err { OnErr result (taken self.new ≡ taken self.old) }
         ensures counts { faults self.old ≤ faults self.new }
+        ensures steady { OnOk result (faults self.new ≡ faults self.old) }
         ensures cause { OnErr result (Rose (faults self.old) (faults self.new)) }
         ensures beside { beside self.new ≡ beside self.old }
         ensures borrow { borrow self.new ≡ borrow self.old };

@@ -1,7 +1,8 @@
 -- What the conditions of an object that is written say.
-use Rattle.std.proofs.Common.{◌≡◌, ℕ, ◌≤◌, ◌⊎◌, inl, inr, Bool, true, false, true≢false, List, [], ◌∷◌, length, Some, refl, sym, ◌∙◌, ap, subst}
+use Rattle.std.proofs.Common.{◌≡◌, ℕ, ◌≤◌, ◌⊎◌, inl, inr, Bool, true, false, true≢false, List, [], ◌∷◌, length, Option, None, Some, refl, sym, ◌∙◌, ap, subst}
 use Rattle.std.specs.Prelude.{◌&&◌, bytes_eq, codes, slice_get}
 use Rattle.std.specs.List.{AllByRecursion, list_all}
+use Rattle.std.specs.Option.{is_none}
 use Rattle.std.proofs.lemmas.Bool.{eqb-true, leb-true, not-true}
 use Rattle.std.proofs.lemmas.Option.{same_Some}
 use Rattle.std.proofs.lemmas.Slice.Eq.{bytes_eq-Decides}
@@ -11,10 +12,10 @@ use Rattle.oc_linking.specs.declared.terms.Check.{Check}
 use Rattle.oc_linking.specs.declared.terms.Check.TheVariants as check
 use Rattle.oc_linking.specs.declared.terms.Kind.{Kind}
 use Rattle.oc_linking.specs.declared.terms.Kind.TheVariants.{Code, ReadOnly, Data, Zero, Init, Fini, Debug, Exception, Note}
-use Rattle.oc_algebra.specs.declared.form.Base.{Base}
-use Rattle.oc_algebra.specs.declared.form.Base.TheVariants as base
-use Rattle.oc_algebra.specs.declared.form.Less.{Less}
-use Rattle.oc_algebra.specs.declared.form.Less.TheVariants as less
+use Rattle.oc_linking.specs.declared.terms.Base.{Base}
+use Rattle.oc_linking.specs.declared.terms.Base.TheVariants as base
+use Rattle.oc_linking.specs.declared.terms.Less.{Less}
+use Rattle.oc_linking.specs.declared.terms.Less.TheVariants as less
 use Rattle.oc_algebra.specs.declared.form.Form.{Form}
 use Rattle.oc_chains.specs.declared.field.Field.{Field}
 use Rattle.oc_chains.specs.Lists.{list_of}
@@ -117,6 +118,7 @@ pub record IsCoded (m : Object) (s : Section) : Type 0 where
   pub name : s.name ≡ codes ".text"
   pub align : s.align ≤ 8192
   pub tag : s.tag ≡ code_tag
+  pub group : s.group ≡ None
   pub symbols : AllByRecursion IsPlainSymbol m.symbols
   pub few : length (list_of m.relocs 0) ≤ 65535
   pub forms : AllByRecursion (λ (x : Field Reloc). IsPlainForm x.item.form) (list_of m.relocs 0)
@@ -133,7 +135,8 @@ coded_is m e =
     let few = both _ _ formed.0 in
     let named = both _ _ few.0 in
     let one = one_section code_tag m.sections named.0 in
-    let tagged = both _ _ one.2 in
+    let grouped = both _ _ one.2 in
+    let tagged = both _ _ grouped.0 in
     let aligned = both _ _ tagged.0 in
     let titled = both _ _ aligned.0 in (
       one.0,
@@ -143,12 +146,17 @@ coded_is m e =
         name = named_text one.0.name titled.1;
         align = leb-true _ _ aligned.1;
         tag = eqb-true _ _ tagged.1;
+        group = none_is one.0.group grouped.1;
         symbols = each_passes is_plain_symbol IsPlainSymbol plain_symbol m.symbols named.1;
         few = leb-true _ _ few.1;
         forms = each_passes (λ (x : Field Reloc). is_plain_form x.item.form) (λ x. IsPlainForm x.item.form) (λ x t. plain_form x.item.form t) (list_of m.relocs 0) formed.1;
       },
     )
   where
+    none_is : (o : Option ℕ) → is_none o ≡ true → o ≡ None
+    none_is None e = refl
+    none_is (Some g) e = never e
+
     named_text : (name : List ℕ) → bytes_eq name (codes ".text") ≡ true → name ≡ codes ".text"
     named_text name e = (bytes_eq-Decides name (codes ".text")).0 e
 

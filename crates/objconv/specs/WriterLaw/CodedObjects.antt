@@ -16,7 +16,7 @@ use Rattle.oc_linking.specs.declared.terms.Binding.TheVariants.{Local, Global, U
 use Rattle.oc_linking.proofs.FirstFaultLaws.{first_upto_none}
 use Rattle.oc_linking.proofs.Overlay.{length-overlay}
 use Rattle.oc_linking.proofs.Upto.{first_upto_from}
-use Rattle.oc_algebra.specs.declared.form.Less.{Less}
+use Rattle.oc_linking.specs.declared.terms.Less.{Less}
 use Rattle.oc_chains.specs.declared.field.Field.{Field}
 use Rattle.oc_chains.specs.Lists.{list_of}
 use Rattle.oc_neutral.specs.declared.section.Section.{Section}
@@ -57,7 +57,7 @@ power_found align exponent k low here =
     ] refl here
 
 -- the exponent of an alignment
-exponent_is : (align : ℕ) → is_some (exponent_of align) ≡ true → IsPower align (unwrap_or (exponent_of align) 0)
+pub exponent_is : (align : ℕ) → is_some (exponent_of align) ≡ true → IsPower align (unwrap_or (exponent_of align) 0)
 unfolding exponent_of
 exponent_is align some = elim (exponent_of align) as (λ o. exponent_of align ≡ o → is_some o ≡ true → IsPower align (unwrap_or o 0)) [
   | None ↦ λ e s. absurd (true≢false (sym s))

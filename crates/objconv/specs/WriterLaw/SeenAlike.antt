@@ -1,7 +1,7 @@
 -- The object that is seen looks like the one that was written.
 use Rattle.std.proofs.Common.{◌≡◌, ℕ, zero, suc, ◌+◌, ◌<◌, inl, inr, cond, List, [], ◌∷◌, length, map, replicate, Option, Some, None, refl, sym, ◌∙◌, ap, subst, arith}
 use Rattle.std.specs.Prelude.{bytes_eq, slice_get}
-use Rattle.std.specs.Option.{option_map, option_map_or, unwrap_or}
+use Rattle.std.specs.Option.{option_map, option_and_then, option_map_or, unwrap_or}
 use Rattle.std.proofs.lemmas.List.{get_or_past}
 use Rattle.std.proofs.lemmas.Option.{slice_get-map}
 use Rattle.oc_base.specs.declared.format.Format.TheVariants.{Coff32}
@@ -30,7 +30,7 @@ use Rattle.oc_neutral.specs.declared.reloc.Reloc.{Reloc}
 use Rattle.oc_neutral.specs.Objects.{Object, reloc_among, reloc_at}
 use Rattle.oc_neutral.specs.Building.{is_zero}
 use Rattle.oc_neutral.specs.Invariants.{IsThere, IsOriginal, NamesOriginal}
-use Rattle.oc_neutral.specs.Faces.{shown_binding, shown_symbol, shown_symbols, shown_section, contents_of, field_of, linked_object}
+use Rattle.oc_neutral.specs.Faces.{shown_binding, shown_symbol, shown_symbols, shown_section, key_of, contents_of, field_of, linked_object}
 use Rattle.oc_neutral.specs.Worth.{worth_at, target_worth, base_of, less_of, residue_at}
 use Rattle.oc_neutral.specs.Fitted.{IsFitted}
 use Rattle.oc_neutral.specs.Written.{LooksAlike}
@@ -161,10 +161,11 @@ module _ (m : Object) (s : Section) (fits : IsFitted Coff32 m) (is : IsCoded m s
   pub alike_seen : LooksAlike seen m
   alike_seen = record {
     word = word_same;
-    shapes = ap (λ (xs : List Section). map (shape_of (λ align. align)) (map shown_section xs)) (sym is.sections);
+    shapes = ap (λ (g : Option ℕ). (s.size, s.align, option_map (λ (key : List ℕ). key) (option_and_then (key_of m.groups) g)) ∷ []) (sym is.group)
+        ∙ ap (λ (xs : List Section). map (shape_of (λ align. align) (λ key. key)) (map (shown_section m.groups) xs)) (sym is.sections);
     contents = contents_same;
     names = λ name. by_name-renumbered (λ t. sort_of (λ size align. align) t.binding) (λ t. sort_of (λ size align. align) t.binding) seen.symbols m.symbols 2 m.symbols (λ k j x here.
         sort_same s.size seen.symbols m.symbols x (symbol_placed m s fits is k x here) j) name;
-    patches = patches_same;
-    exports = exports_same;
+    patches = λ p e whole. patches_same p e;
+    exports = λ p e whole. exports_same p e;
   }

@@ -20,10 +20,10 @@ use Rattle.oc_linking.specs.Rules.{Named, Symbolic, Sectional, Field}
 use Rattle.oc_linking.specs.Targets.{Target as Aim}
 use Rattle.oc_linking.specs.Keeping.{all}
 use Rattle.oc_linking.proofs.Storing.{field_holds}
-use Rattle.oc_algebra.specs.declared.form.Base.{Base}
-use Rattle.oc_algebra.specs.declared.form.Base.TheVariants as base
-use Rattle.oc_algebra.specs.declared.form.Less.{Less}
-use Rattle.oc_algebra.specs.declared.form.Less.TheVariants as less
+use Rattle.oc_linking.specs.declared.terms.Base.{Base}
+use Rattle.oc_linking.specs.declared.terms.Base.TheVariants as base
+use Rattle.oc_linking.specs.declared.terms.Less.{Less}
+use Rattle.oc_linking.specs.declared.terms.Less.TheVariants as less
 use Rattle.oc_algebra.specs.Residues.{residue_of}
 use Rattle.oc_chains.specs.Lists.{list_of}
 use Rattle.oc_neutral.specs.declared.section.Section.{Section}
@@ -76,8 +76,8 @@ relative_same : (A S N F P : ℕ) → reduced W32 A ≡ reduced W32 S → F ≡ 
 relative_same A S N F P address number = omega (arith, address, number)
 
 -- a field of four bytes
-abbrev made : Width → Check → (Placement → Valuation → ℕ) → Named → Field
-made width check residue named = record { width = width; check = check; residue = residue; target = named; hint = Plain }
+abbrev made : Width → Check → Base → Less → (Placement → Valuation → ℕ) → Named → Field
+made width check base less residue named = record { width = width; check = check; base = base; less = less; residue = residue; target = named; hint = Plain }
 
 module _ (m : Object) (s : Section) (fits : IsFitted Coff32 m) (is : IsCoded m s) where
   abbrev o : CodeObject
@@ -96,10 +96,10 @@ module _ (m : Object) (s : Section) (fits : IsFitted Coff32 m) (is : IsCoded m s
   -- what a target stands for in the file
   pub record IsAim (t : Target) : Type 0 where
     pub named : Named
-    pub address : Placement → Valuation → ℕ
-    pub there : seen_target o (entry_of t) ≡ Some (record { named = named; address = address })
+    pub worth : Placement → Valuation → Valued
+    pub there : seen_target o (entry_of t) ≡ Some (record { named = named; worth = worth })
     pub name : named ≡ named_of seen.symbols t
-    pub same : (p : Placement) (v : Valuation) → reduced W32 (address p v) ≡ reduced W32 (target_worth seen.symbols p v t).site.address
+    pub same : (p : Placement) (v : Valuation) → reduced W32 (worth p v).site.address ≡ reduced W32 (target_worth seen.symbols p v t).site.address
 
   aim_of : (t : Target) → IsThere m t → IsAim t
   aim_of (target.Section k) there =
@@ -107,7 +107,7 @@ module _ (m : Object) (s : Section) (fits : IsFitted Coff32 m) (is : IsCoded m s
       let first : k ≡ 0 = omega (arith, one, there) in
       subst (λ j. IsAim (target.Section j)) (sym first) (record {
         named = Sectional 0;
-        address = λ p v. (own_site W32 p (Place 0 0)).address;
+        worth = λ p v. record { site = own_site W32 p (Place 0 0); slot = 0 };
         there = seen_target-section o;
         name = refl;
         same = λ p v. omega arith;
@@ -119,7 +119,7 @@ module _ (m : Object) (s : Section) (fits : IsFitted Coff32 m) (is : IsCoded m s
       let numbered : 2 + k ≡ k + 2 = omega arith in
       record {
         named = Symbolic (k + 2);
-        address = λ p v. (v (k + 2)).site.address;
+        worth = λ p v. v (k + 2);
         there = seen_target-external o k (k + 2) inside number;
         name = ap Symbolic (number ∙ sym (number_of-renumbered 2 m.symbols k there));
         same = λ p v. ap (λ (y : Valued). reduced W32 y.site.address) (
@@ -139,32 +139,34 @@ module _ (m : Object) (s : Section) (fits : IsFitted Coff32 m) (is : IsCoded m s
       ∙ ap (λ k. minus W32 (base_of p t r.form.base + residue_of W32 r.addend) (less_of p 0 at t k)) (sym taken)
 
   -- the field at a relocation, where its value is this
-  field_is : (at : ℕ) (r : Reloc) (form : IsPlainForm r.form) (aim : IsAim r.target) (residue : Placement → Valuation → ℕ)
-      → ((p : Placement) (v : Valuation) → residue p v ≡ residue_at W32 seen.symbols p v 0 at (seen_reloc r)) → made Four Wrap residue aim.named ≡ field_of seen 0 at (seen_reloc r)
-  field_is at r form aim residue same =
-      ap (λ width. made width Wrap residue aim.named) (sym form.width)
-      ∙ ap (λ check. made r.form.width check residue aim.named) (sym form.check)
-      ∙ ap (λ (f : Placement → Valuation → ℕ). made r.form.width r.form.check f aim.named) (fun_ext (λ p. fun_ext (λ v. same p v)))
-      ∙ ap (λ named. made r.form.width r.form.check (λ p v. residue_at W32 seen.symbols p v 0 at (seen_reloc r)) named) aim.name
+  field_is : (at : ℕ) (r : Reloc) (form : IsPlainForm r.form) (l : Less) → r.form.less ≡ l → (aim : IsAim r.target) (residue : Placement → Valuation → ℕ)
+      → ((p : Placement) (v : Valuation) → residue p v ≡ residue_at W32 seen.symbols p v 0 at (seen_reloc r)) → made Four Wrap base.Address l residue aim.named ≡ field_of seen 0 at (seen_reloc r)
+  field_is at r form l taken aim residue same =
+      ap (λ width. made width Wrap base.Address l residue aim.named) (sym form.width)
+      ∙ ap (λ check. made r.form.width check base.Address l residue aim.named) (sym form.check)
+      ∙ ap (λ b. made r.form.width r.form.check b l residue aim.named) (sym form.base)
+      ∙ ap (λ k. made r.form.width r.form.check r.form.base k residue aim.named) (sym taken)
+      ∙ ap (λ (f : Placement → Valuation → ℕ). made r.form.width r.form.check r.form.base r.form.less f aim.named) (fun_ext (λ p. fun_ext (λ v. same p v)))
+      ∙ ap (λ named. made r.form.width r.form.check r.form.base r.form.less (λ p v. residue_at W32 seen.symbols p v 0 at (seen_reloc r)) named) aim.name
 
   field_found : (at : ℕ) (r : Reloc) → reloc_at m 0 at ≡ Some r → field_by (seen_target o) 0 o.contents (entry_at at r) ≡ Some (field_of seen 0 at (seen_reloc r))
   field_found at r here =
       let put : IsPut m s at r = found_put m s fits is at r here in
       let aim : IsAim r.target = aim_of r.target put.target in
-      let t : Aim = record { named = aim.named; address = aim.address } in
+      let t : Aim = record { named = aim.named; worth = aim.worth } in
       let worth : Placement → Valuation → ℕ = λ p v. (target_worth seen.symbols p v r.target).site.address in
       elim put.form.less [
         | inl nothing ↦
             let number : number_at o.contents at 4 ≡ residue_of W32 r.addend = number_in at r here ∙ ap (λ l. number_by l r.addend) nothing in
             field_by-dir32 (seen_target o) 0 o.contents (entry_at at r) t aim.there (ap type_of nothing)
-            ∙ ap Some (field_is at r put.form aim (λ p v. reduced W32 (aim.address p v + number_at o.contents at 4)) (λ p v.
-            absolute_same (aim.address p v) (worth p v) (residue_of W32 r.addend) (number_at o.contents at 4) (aim.same p v) number
+            ∙ ap Some (field_is at r put.form less.Zero nothing aim (λ p v. reduced W32 ((aim.worth p v).site.address + number_at o.contents at 4)) (λ p v.
+            absolute_same (aim.worth p v).site.address (worth p v) (residue_of W32 r.addend) (number_at o.contents at 4) (aim.same p v) number
             ∙ value_is less.Zero at r p v put.form.base nothing))
         | inr place ↦
             let number : number_at o.contents at 4 ≡ (residue_of W32 r.addend + 4) % 2 ^ 32 = number_in at r here ∙ ap (λ l. number_by l r.addend) place in
             field_by-rel32 (seen_target o) 0 o.contents (entry_at at r) t aim.there (ap type_of place)
-            ∙ ap Some (field_is at r put.form aim (λ p v. minus W32 (aim.address p v + number_at o.contents at 4) ((p.site 0).address + at + 4)) (λ p v.
-            relative_same (aim.address p v) (worth p v) (residue_of W32 r.addend) (number_at o.contents at 4) ((p.site 0).address + at) (aim.same p v) number
+            ∙ ap Some (field_is at r put.form less.Place place aim (λ p v. minus W32 ((aim.worth p v).site.address + number_at o.contents at 4) ((p.site 0).address + at + 4)) (λ p v.
+            relative_same (aim.worth p v).site.address (worth p v) (residue_of W32 r.addend) (number_at o.contents at 4) ((p.site 0).address + at) (aim.same p v) number
             ∙ value_is less.Place at r p v put.form.base place))
       ]
 

@@ -1,5 +1,5 @@
 -- The object that the file of an object shows: its symbols are numbered from 2 on, and nothing is said that COFF does not say.
-use Rattle.std.proofs.Common.{◌≡◌, ℕ, zero, suc, ◌+◌, ◌<◌, ◌≤◌, inl, inr, true, false, cond, eqb, List, [], ◌∷◌, length, get_or, map, Some, refl, sym, ◌∙◌, ap, subst, arith}
+use Rattle.std.proofs.Common.{◌≡◌, ℕ, zero, suc, ◌+◌, ◌<◌, ◌≤◌, inl, inr, true, false, cond, eqb, List, [], ◌∷◌, length, get_or, map, None, Some, refl, sym, ◌∙◌, ap, subst, arith}
 use Rattle.std.specs.Prelude.{◌&&◌, not, codes, find, slice_get}
 use Rattle.std.specs.List.{AllByRecursion}
 use Rattle.std.specs.Option.{option_map}
@@ -12,7 +12,7 @@ use Rattle.oc_linking.specs.declared.terms.Visibility.TheVariants.{Default}
 use Rattle.oc_linking.specs.declared.terms.Patch.{Patch}
 use Rattle.oc_linking.specs.Fits.{bytes_of}
 use Rattle.oc_linking.specs.Shows.{Apart}
-use Rattle.oc_algebra.specs.declared.form.Less.{Less}
+use Rattle.oc_linking.specs.declared.terms.Less.{Less}
 use Rattle.oc_chains.specs.declared.field.Field.{Field}
 use Rattle.oc_chains.specs.Lists.{list_of}
 use Rattle.oc_neutral.specs.declared.section.Section.{Section}
@@ -49,11 +49,11 @@ renumbered_from k (s ∷ symbols) = renumbered k s ∷ renumbered_from (k + 1) s
 
 -- `.text`
 abbrev pub seen_code : Section → Section
-seen_code s = record { name = codes ".text"; kind = Code; align = s.align; size = s.size; bytes = s.bytes; tag = code_tag; number = 1 }
+seen_code s = record { name = codes ".text"; kind = Code; align = s.align; size = s.size; bytes = s.bytes; tag = code_tag; number = 1; group = None }
 
 -- the object m with the section s
 abbrev pub seen_object : Object → Section → Object
-seen_object m s = record { format = Coff32; sections = seen_code s ∷ []; symbols = renumbered_from 2 m.symbols; relocs = map seen_field (list_of m.relocs 0) ∷ [] }
+seen_object m s = record { format = Coff32; groups = []; sections = seen_code s ∷ []; symbols = renumbered_from 2 m.symbols; relocs = map seen_field (list_of m.relocs 0) ∷ [] }
 
 -- ... symbols by their positions
 

@@ -3,7 +3,7 @@ use Rattle.std.proofs.Common.{◌≡◌, ℕ, zero, suc, ◌+◌, ◌/◌, ◌%�
 use mathlib.Core.Path.{fun_ext}
 use Rattle.std.specs.Prelude.{codes, find, slice_get}
 use Rattle.std.specs.List.{AllByRecursion}
-use Rattle.std.specs.Option.{option_map, option_and_then, unwrap_or}
+use Rattle.std.specs.Option.{option_map, option_map_or, unwrap_or}
 use Rattle.std.proofs.Math.Nat.{zero-div}
 use Rattle.std.proofs.lemmas.Option.{none-some, slice_get-map}
 use Rattle.oc_base.specs.declared.format.Format.TheVariants.{Coff32}
@@ -21,10 +21,10 @@ use Rattle.oc_linking.specs.Parts as parts
 use Rattle.oc_linking.specs.Placing.{Placement}
 use Rattle.oc_linking.specs.Shows.{Apart, blank, under_of, live_of, unders}
 use Rattle.oc_linking.specs.Values.{Valuation}
-use Rattle.oc_algebra.specs.declared.form.Base.{Base}
-use Rattle.oc_algebra.specs.declared.form.Base.TheVariants as base
-use Rattle.oc_algebra.specs.declared.form.Less.{Less}
-use Rattle.oc_algebra.specs.declared.form.Less.TheVariants as less
+use Rattle.oc_linking.specs.declared.terms.Base.{Base}
+use Rattle.oc_linking.specs.declared.terms.Base.TheVariants as base
+use Rattle.oc_linking.specs.declared.terms.Less.{Less}
+use Rattle.oc_linking.specs.declared.terms.Less.TheVariants as less
 use Rattle.oc_chains.specs.Lists.{list_of}
 use Rattle.oc_neutral.specs.declared.section.Section.{Section}
 use Rattle.oc_neutral.specs.declared.symbol.Symbol.{Symbol}
@@ -35,7 +35,7 @@ use Rattle.oc_neutral.specs.Objects.{Object, reloc_at}
 use Rattle.oc_neutral.specs.Faces.{shown_binding, shown_symbol, shown_symbols, shown_sections, field_of, fields_of, named_of, contents_of}
 use Rattle.oc_neutral.specs.Fitted.{IsFitted}
 use Rattle.oc_neutral.specs.Normal.{cancels}
-use Rattle.oc_neutral.specs.Dialects.{Shape, is_kept, kept_fields, is_difference, is_folded, target_by, less_in, look_by, looks_in, patches_in}
+use Rattle.oc_neutral.specs.Dialects.{is_kept, kept_fields, is_difference, is_folded, target_by, less_in, look_of, looks_in, patches_in}
 use Rattle.oc_neutral.specs.Shows.{frame_of, reloc_look, looks_of, patches_of, AreNumbered, ShowsAt, Shows}
 use Rattle.oc_neutral.proofs.FitLinks.{from_mapped}
 use Rattle.oc_coff_read.specs.declared.relocation.Relocation.{Relocation}
@@ -47,7 +47,7 @@ use Rattle.oc_coff_read.specs.Seen.{seen_binding, seen_symbol, externals_from, R
 use Rattle.oc_coff_read.proofs.PlaceLaws.{header_of-code, relocations_of-code}
 use Rattle.oc_coff_read.proofs.SeenLaws.{reads_back}
 use Rattle.objconv.specs.Coded.{is_plain_mark, field_patch, filled, type_of, is_function, external_of, coded_with}
-use Rattle.objconv.specs.Dialects.{coff_shape, coff_shapes, coff_dialect}
+use Rattle.objconv.specs.Dialects.{coff_dialect}
 use Rattle.objconv.specs.WriterLaw.CodedLemmas.{IsPlainLess, IsPlainForm, IsPlainSymbol, IsCoded}
 use Rattle.objconv.specs.WriterLaw.CodedObjects.{IsPlaced, symbol_placed, section_size, section_power, length-filled, code_object}
 use Rattle.objconv.specs.WriterLaw.SeenObjects.{seen_reloc, renumbered, renumbered_from, seen_object, from_renumbered, entry_at, find-relocations, found_put, apart_of}
@@ -105,18 +105,6 @@ less_stays i l is = elim is [
   | inr place ↦ subst (λ k. less_in i k ≡ k) (sym place) refl
 ]
 
--- the shape of a relocation
-abbrev pub shape_of : Reloc → Shape
-shape_of r = record { base = r.form.base; less = r.form.less }
-
-shape_coded : (r : Reloc) → IsPlainForm r.form → coff_shape (type_of r.form.less) ≡ Some (shape_of r)
-shape_coded r form =
-    (elim form.less [
-      | inl nothing ↦ subst (λ k. coff_shape (type_of k) ≡ Some (record { base = base.Address; less = k })) (sym nothing) refl
-      | inr place ↦ subst (λ k. coff_shape (type_of k) ≡ Some (record { base = base.Address; less = k })) (sym place) refl
-    ])
-    ∙ ap (λ (b : Base). Some (record { base = b; less = r.form.less })) (sym form.base)
-
 module _ (m : Object) (s : Section) (fits : IsFitted Coff32 m) (is : IsCoded m s) where
   abbrev o : CodeObject
   o = coded_with m s
@@ -133,7 +121,7 @@ module _ (m : Object) (s : Section) (fits : IsFitted Coff32 m) (is : IsCoded m s
   -- the section without its contents
   frames : map frame_of (shown_sections seen) ≡ map frame_of (sections_of file)
   frames =
-      let made : ℕ → ℕ → parts.Section = λ align size. record { name = codes ".text"; kind = Code; align = align; size = size; contents = []; tag = 0x60000020; number = 1 } in
+      let made : ℕ → ℕ → parts.Section = λ align size. record { name = codes ".text"; kind = Code; align = align; size = size; contents = []; tag = 0x60000020; number = 1; group = None } in
       ap (λ align. made align s.size ∷ []) (section_power m s fits is).power
       ∙ ap (λ size. made (2 ^ o.exponent) size ∷ []) (sym (section_size m s fits is) ∙ sym (length-filled m s fits is))
       ∙ ap (map frame_of) (sym back.sections)
@@ -167,22 +155,6 @@ module _ (m : Object) (s : Section) (fits : IsFitted Coff32 m) (is : IsCoded m s
   kept-seen : (i at : ℕ) → kept_fields coff_dialect file all i at ≡ fields_of seen i at
   kept-seen i at = ap (λ t. cond t (coff_dialect.rules.fields file all i at) None) (kept i) ∙ fields_seen m s fits is i at
 
-  shapes_seen : (i at : ℕ) → coff_shapes file all i at ≡ option_map shape_of (reloc_at seen i at)
-  unfolding coff_shapes
-  shapes_seen zero at =
-      let shaped : List Relocation → Option Shape = λ xs. option_and_then (λ (r : Relocation). coff_shape r.Type) (find (relocates at) xs) in
-      ap (λ (xs : List parts.Section). option_and_then (λ (x : parts.Section). shaped (relocations_of file (header_of file x.number))) (slice_get xs 0)) back.sections
-      ∙ ap (λ (h : SectionHeader). shaped (relocations_of file h)) (header_of-code o (code_object m s fits is))
-      ∙ ap shaped (relocations_of-code o (code_object m s fits is))
-      ∙ ap (option_and_then (λ (r : Relocation). coff_shape r.Type)) (find-relocations (list_of m.relocs 0) at is.forms)
-      ∙ (elim (reloc_at m 0 at) as (λ q. reloc_at m 0 at ≡ q → option_and_then (λ (r : Relocation). coff_shape r.Type) (option_map (entry_at at) q) ≡ option_map shape_of (option_map seen_reloc q)) [
-        | None ↦ λ e. refl
-        | Some r ↦ λ e. shape_coded r (found_put m s fits is at r e).form
-      ] refl)
-      ∙ ap (option_map shape_of) (sym (reloc_seen m s fits is at))
-  shapes_seen (suc i) at =
-      ap (λ (xs : List parts.Section). option_and_then (λ (x : parts.Section). option_and_then (λ (r : Relocation). coff_shape r.Type) (find (relocates at) (relocations_of file (header_of file x.number)))) (slice_get xs (suc i))) back.sections
-
   -- the forms that are seen
   form_seen : (i at : ℕ) (r : Reloc) → reloc_at seen i at ≡ Some r → IsPlainForm r.form
   form_seen zero at r here =
@@ -193,9 +165,8 @@ module _ (m : Object) (s : Section) (fits : IsFitted Coff32 m) (is : IsCoded m s
   folded_not : (i at : ℕ) → is_folded coff_dialect file all i at ≡ false
   unfolding is_folded
   folded_not i at =
-      ap (λ f. is_difference f (coff_shapes file all i at)) (kept-seen i at)
-      ∙ ap (is_difference (fields_of seen i at)) (shapes_seen i at)
-      ∙ (elim (reloc_at seen i at) as (λ q. reloc_at seen i at ≡ q → is_difference (option_map (field_of seen i at) q) (option_map shape_of q) ≡ false) [
+      ap (λ f. option_map_or is_difference f false) (kept-seen i at)
+      ∙ (elim (reloc_at seen i at) as (λ q. reloc_at seen i at ≡ q → option_map_or is_difference (option_map (field_of seen i at) q) false ≡ false) [
         | None ↦ λ e. refl
         | Some r ↦ λ e. cancels_not r.form.base (target_by (named_of seen.symbols r.target)) r.form.less (form_seen i at r e).base (form_seen i at r e).less
       ] refl)
@@ -203,10 +174,9 @@ module _ (m : Object) (s : Section) (fits : IsFitted Coff32 m) (is : IsCoded m s
   looks_seen : (i at : ℕ) → looks_of seen i at ≡ looks_in coff_dialect file all i at
   unfolding looks_in
   looks_seen i at = sym (
-      ap (λ t. cond t None (look_by i (kept_fields coff_dialect file all i at) (coff_shapes file all i at))) (folded_not i at)
-      ∙ ap (λ f. look_by i f (coff_shapes file all i at)) (kept-seen i at)
-      ∙ ap (look_by i (fields_of seen i at)) (shapes_seen i at)
-      ∙ (elim (reloc_at seen i at) as (λ q. reloc_at seen i at ≡ q → look_by i (option_map (field_of seen i at) q) (option_map shape_of q) ≡ option_map (reloc_look seen) q) [
+      ap (λ t. cond t None (option_map (look_of i) (kept_fields coff_dialect file all i at))) (folded_not i at)
+      ∙ ap (option_map (look_of i)) (kept-seen i at)
+      ∙ (elim (reloc_at seen i at) as (λ q. reloc_at seen i at ≡ q → option_map (look_of i) (option_map (field_of seen i at) q) ≡ option_map (reloc_look seen) q) [
         | None ↦ λ e. refl
         | Some r ↦ λ e. ap (λ (l : Less). Some (record (reloc_look seen r) { less = l })) (less_stays i r.form.less (form_seen i at r e).less)
       ] refl))

@@ -1,12 +1,23 @@
 -- What was read decides the first refusal of the file.
-use Rattle.std.proofs.Common.{◌≡◌, ℕ, ◌<◌, ◌≤◌, true, List, length, Some, sym, ◌∙◌, subst, arith}
+use Rattle.std.proofs.Common.{◌≡◌, ℕ, ◌<◌, ◌≤◌, List, length, None, Some, sym, ◌∙◌, subst, arith}
+use Rattle.oc_linking.specs.Keeping.{all}
+use Rattle.oc_linking.specs.Parts.{with_keys}
+use Rattle.oc_linking.specs.Faithful.{Faithful}
+use Rattle.oc_convert.specs.Converted.{IsPlanned}
 use Rattle.objconv.specs.declared.command.RunFault.{RunFault}
-use Rattle.objconv.specs.Plain.{is_plain}
-use Rattle.objconv.specs.Links.{IsConverted, LinksAlike}
+use Rattle.objconv.specs.Coded.{coff_file}
+use Rattle.objconv.specs.Dialects.{plain_dialect, coff_dialect}
 use Rattle.objconv.specs.Refusals.{plain_refusal}
 use Rattle.objconv.specs.Runs.{Explains}
-use Rattle.objconv.proofs.RefusalLemmas.{some_and, longer_refused, whole_judged, plain_accepted}
+use Rattle.objconv.proofs.RefusalLemmas.{some_and, longer_refused, whole_judged}
 use Rattle.objconv.proofs.command.plan.Goals as goal
+
+-- what is said of the planned file and the bytes of the input
+abbrev Planned : List ℕ → List ℕ → Type 0
+Planned c b = IsPlanned plain_dialect coff_dialect coff_file b c
+
+abbrev IsFaithful : List ℕ → List ℕ → Type 0
+IsFaithful c b = Faithful plain_dialect.rules b all (with_keys (plain_dialect.rules.symbols b all)) coff_dialect.rules c
 
 pub returns-then-len-gt-LIMIT-clause-fault : goal.returns-then-len-gt-LIMIT-clause-fault
 returns-then-len-gt-LIMIT-clause-fault g c =
@@ -21,13 +32,13 @@ pub returns-in-Ok-convert_plain-clause-planned : goal.returns-in-Ok-convert_plai
 returns-in-Ok-convert_plain-clause-planned g c =
     let bytes : List ℕ = c.in-Ok.bytes.items in
     let short : length bytes ≤ 67108864 = omega (arith, c.in-Ok.bytes.ok.0) in
-    let plain : is_plain bytes ≡ true = subst (λ (b : List ℕ). is_plain b ≡ true) c.as_slice.ensures.value c.in-Ok-convert_plain.ensures.plain in
-    let converted : IsConverted bytes c.in-Ok-convert_plain.plan = subst (λ (b : List ℕ). IsConverted b c.in-Ok-convert_plain.plan) c.as_slice.ensures.value c.in-Ok-convert_plain.ensures.converted in
-    let links : LinksAlike bytes c.in-Ok-convert_plain.plan = subst (λ (b : List ℕ). LinksAlike b c.in-Ok-convert_plain.plan) c.as_slice.ensures.value c.in-Ok-convert_plain.ensures.links in
+    let accepted : plain_refusal bytes ≡ None = subst (λ (b : List ℕ). plain_refusal b ≡ None) c.as_slice.ensures.value c.in-Ok-convert_plain.ensures.accepted in
+    let planned : Planned c.in-Ok-convert_plain.plan bytes = subst (Planned c.in-Ok-convert_plain.plan) c.as_slice.ensures.value c.in-Ok-convert_plain.ensures.planned in
+    let faithful : IsFaithful c.in-Ok-convert_plain.plan bytes = subst (IsFaithful c.in-Ok-convert_plain.plan) c.as_slice.ensures.value c.in-Ok-convert_plain.ensures.faithful in
     record {
-      accepted = record { held = λ m told. some_and _ (λ (file : List ℕ) read. whole_judged bytes file read short ∙ plain_accepted bytes plain) (c.in-Ok.ensures.bytes m told) };
-      links = λ m told. some_and _ (λ (file : List ℕ) read. subst (λ (b : List ℕ). LinksAlike b c.in-Ok-convert_plain.plan) (read.whole short) links) (c.in-Ok.ensures.bytes m told);
-      converted = λ m told. some_and _ (λ (file : List ℕ) read. subst (λ (b : List ℕ). IsConverted b c.in-Ok-convert_plain.plan) (read.whole short) converted) (c.in-Ok.ensures.bytes m told);
+      accepted = record { held = λ m told. some_and _ (λ (file : List ℕ) read. whole_judged bytes file read short ∙ accepted) (c.in-Ok.ensures.bytes m told) };
+      planned = λ m told. some_and _ (λ (file : List ℕ) read. subst (Planned c.in-Ok-convert_plain.plan) (read.whole short) planned) (c.in-Ok.ensures.bytes m told);
+      faithful = λ m told. some_and _ (λ (file : List ℕ) read. subst (IsFaithful c.in-Ok-convert_plain.plan) (read.whole short) faithful) (c.in-Ok.ensures.bytes m told);
     }
 
 pub returns-in-Err-Refused-clause-fault : goal.returns-in-Err-Refused-clause-fault

@@ -4,7 +4,7 @@ use Rattle.oc_neutral.specs.Objects.{Object}
 use Rattle.oc_neutral.specs.Readable.{IsReadable}
 use Rattle.oc_neutral.specs.Shows.{Shows}
 use Rattle.objconv.specs.Dialects.{plain_dialect}
-use Rattle.objconv.specs.Links.{AreFields}
+use Rattle.objconv.specs.Fields.{AreFields}
 use Rattle.objconv.specs.Plain.{headers_in, is_plain}
 use Rattle.objconv.proofs.HeaderLemmas.{plain_is}
 use Rattle.objconv.proofs.NeutralObject.{readable}

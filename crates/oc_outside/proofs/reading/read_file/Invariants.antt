@@ -14,7 +14,7 @@ invariant-reads g l = record {
       ForSome (g.F.Files.held l.initial.files) (λ m. 0 < length l.bytes.items →
       IsSomeAnd (file_of l.name m) (λ file. l.bytes.items ≡ take (length l.bytes.items) file));
   same : g.F.Files.held l.files ≡ g.F.Files.held l.initial.files;
-  reads : g.F.Files.read_faults l.initial.files ≤ g.F.Files.read_faults l.files;
+  reads : g.F.Files.read_faults l.files ≡ g.F.Files.read_faults l.initial.files;
   writes : g.F.Files.write_faults l.files ≡ g.F.Files.write_faults l.initial.files;
 }
 
