@@ -1,19 +1,16 @@
 -- The contents of an object that holds what is given are the file's, with constants in folded fields and zeros under the others.
-use Rattle.std.proofs.Common.{◌≡◌, ℕ, zero, suc, ◌+◌, ◌-◌, ◌/◌, ◌%◌, ◌^◌, ◌<◌, ◌≤◌, ◌⊎◌, inl, inr, Bool, true, false, cond, List, [], ◌∷◌, length, map, get_or, replicate, Option, Some, None, refl, sym, ◌∙◌, ap, subst, arith}
+use Rattle.std.proofs.Common.{◌≡◌, ℕ, zero, suc, ◌+◌, ◌-◌, ◌/◌, ◌%◌, ◌^◌, ◌<◌, ◌⊎◌, Bool, true, false, cond, List, [], ◌∷◌, length, map, get_or, replicate, Option, Some, None, refl, sym, ◌∙◌, ap, arith}
 use Rattle.std.specs.Prelude.{slice_get}
 use Rattle.std.specs.Option.{option_map, option_map_or, unwrap_or}
 use Rattle.std.proofs.lemmas.Bool.{lt-ltb}
 use Rattle.std.proofs.lemmas.Grind.{same_number_lists}
 use Rattle.std.proofs.lemmas.List.{length-map, length-replicate}
-use Rattle.std.proofs.lemmas.Option.{none-some, same_Some, slice_get-map}
+use Rattle.std.proofs.lemmas.Option.{none-some, same_Some}
 use Rattle.oc_linking.specs.declared.terms.Check.TheVariants.{Wrap}
 use Rattle.oc_linking.specs.declared.terms.Keep.{Keep}
-use Rattle.oc_linking.specs.declared.terms.Kind.{Kind}
-use Rattle.oc_linking.specs.declared.terms.Patch.{Patch}
 use Rattle.oc_linking.specs.declared.terms.Width.{Width}
 use Rattle.oc_linking.specs.Fits.{bytes_of}
 use Rattle.oc_linking.specs.Images.{Patches, byte_by, byte_upto, overlay, overlays}
-use Rattle.oc_linking.specs.Linking.{patch_of}
 use Rattle.oc_linking.specs.Parts as parts
 use Rattle.oc_linking.specs.Placing.{Placement}
 use Rattle.oc_linking.specs.Values.{Valuation}
@@ -27,16 +24,17 @@ use Rattle.oc_algebra.specs.Folds.{low_of}
 use Rattle.oc_algebra.proofs.FoldLaws.{stored_law}
 use Rattle.oc_neutral.specs.declared.section.Section.{Section}
 use Rattle.oc_neutral.specs.declared.reloc.Reloc.{Reloc}
-use Rattle.oc_neutral.specs.Building.{Draft, is_zero, stored_size}
+use Rattle.oc_neutral.specs.Objects.{Object}
+use Rattle.oc_neutral.specs.Building.{is_zero, stored_size}
 use Rattle.oc_neutral.specs.Invariants.{HasItsBytes}
-use Rattle.oc_neutral.specs.Faces.{contents_of, shown_section, shown_sections}
+use Rattle.oc_neutral.specs.Faces.{contents_of, shown_section}
 use Rattle.oc_neutral.specs.Dialects.{Dialect, is_difference, is_folded, patches_in}
 use Rattle.oc_neutral.specs.Shows.{frame_of, IsTrueToFixed}
-use Rattle.oc_neutral.specs.Built.{Given, IsStarted, IsFree, IsGiven}
+use Rattle.oc_neutral.specs.Built.{Given, IsFree, IsGiven}
 use Rattle.oc_neutral.proofs.Adding.{wide_enough}
 use Rattle.oc_neutral.proofs.BuiltSeen.{under-from, under-given}
-use Rattle.oc_neutral.proofs.Holding.{IsHolding, IsCovered, left_in, stored_at}
-use Rattle.oc_neutral.proofs.Positions.{each_at, images_same, lengths_same, lists_same, there_at}
+use Rattle.oc_neutral.proofs.Showing.{IsBase, IsCovered, IsShowing, left_in, stored_at}
+use Rattle.oc_neutral.proofs.Positions.{each_at, images_same, lengths_same, lists_same}
 use Rattle.oc_neutral.proofs.WrittenBytes.{byte_at}
 
 -- a byte of the low part of a number is one of the number
@@ -83,27 +81,27 @@ content-zero x i e = ap (λ z. get_or {A = ℕ} (cond z (replicate x.size 0) x.b
 content-stored : (x : Section) (i : ℕ) → is_zero x.kind ≡ false → get_or (contents_of x) i 0 ≡ get_or x.bytes i 0
 content-stored x i e = ap (λ z. get_or {A = ℕ} (cond z (replicate x.size 0) x.bytes) i 0) e
 
-module _ (f : Dialect) (b : List ℕ) (keep : Keep) (base d : Draft) (given : Given) (start : IsStarted f b keep base) (has : IsHolding base d given)
-    (all : (s at : ℕ) → IsFree f b keep given s at ⊎ IsGiven f b keep base.object given s at)
+module _ (f : Dialect) (b : List ℕ) (keep : Keep) (base n : Object) (given : Given) (start : IsBase f b keep base) (has : IsShowing base n given)
+    (all : (s at : ℕ) → IsFree f b keep given s at ⊎ IsGiven f b keep base given s at)
     (p : Placement) (v : Valuation) (fixed : IsTrueToFixed f.rules.word (f.rules.symbols b keep) p v) where
   abbrev under : Patches
   under = unders (is_folded f b keep) (patches_in f b keep p v)
 
   -- a section of the draft, and what it was
-  module _ (s : ℕ) (x z : Section) (here : slice_get d.object.sections s ≡ Some x) (was : slice_get base.object.sections s ≡ Some z) where
-    frames : frame_of (shown_section base.object.groups x) ≡ frame_of (shown_section base.object.groups z)
-    frames = images_same (λ (y : Section). frame_of (shown_section base.object.groups y)) (λ (y : Section). frame_of (shown_section base.object.groups y)) d.object.sections base.object.sections has.frames s x z here was
+  module _ (s : ℕ) (x z : Section) (here : slice_get n.sections s ≡ Some x) (was : slice_get base.sections s ≡ Some z) where
+    frames : frame_of (shown_section base.groups x) ≡ frame_of (shown_section base.groups z)
+    frames = images_same (λ (y : Section). frame_of (shown_section base.groups y)) (λ (y : Section). frame_of (shown_section base.groups y)) n.sections base.sections has.frames s x z here was
 
     kinds : is_zero x.kind ≡ is_zero z.kind
     kinds = ap (λ (y : parts.Section). is_zero y.kind) frames
 
     lengths : length (contents_of x) ≡ length (contents_of z)
     lengths =
-        long x (each_at HasItsBytes d.object.sections s x has.draft.built.bytes here)
+        long x (each_at HasItsBytes n.sections s x has.whole here)
         ∙ ap (λ (y : parts.Section). y.size) frames
-        ∙ sym (long z (each_at HasItsBytes base.object.sections s z start.draft.built.bytes was))
+        ∙ sym (long z (each_at HasItsBytes base.sections s z start.whole was))
 
-    stored : stored_at base.object.sections s ≡ stored_size z
+    stored : stored_at base.sections s ≡ stored_size z
     stored = ap (λ (o : Option Section). option_map_or stored_size o 0) was
 
     -- where something is given the section has bytes
@@ -118,10 +116,10 @@ module _ (f : Dialect) (b : List ℕ) (keep : Keep) (base d : Draft) (given : Gi
             let wide = wide_enough r.form.width in
             absurd (omega (arith, inside, stored, none, wide))
 
-    own : (i : ℕ) → byte_at d.object.sections s i ≡ get_or {A = ℕ} x.bytes i 0
+    own : (i : ℕ) → byte_at n.sections s i ≡ get_or {A = ℕ} x.bytes i 0
     own i = ap (λ (o : Option Section). option_map_or (λ (y : Section). get_or y.bytes i 0) o 0) here
 
-    before : (i : ℕ) → byte_at base.object.sections s i ≡ get_or {A = ℕ} z.bytes i 0
+    before : (i : ℕ) → byte_at base.sections s i ≡ get_or {A = ℕ} z.bytes i 0
     before i = ap (λ (o : Option Section). option_map_or (λ (y : Section). get_or y.bytes i 0) o 0) was
 
     -- a byte that is filled
@@ -130,14 +128,14 @@ module _ (f : Dialect) (b : List ℕ) (keep : Keep) (base d : Draft) (given : Gi
         let first = first_upto_from (byte_by (under s) i) 8 m e in
         let back : ℕ = first.0 in
         let from = byte_from (under s) i first.0 m first.2 in
-        let of = under-from f b keep base d given start has all p v fixed s (i - first.0) from.1 from.2 in
+        let of = under-from f b keep base n given start has all p v fixed s (i - first.0) from.1 from.2 in
         let at : i - first.0 + first.0 ≡ i = omega (arith, from.0) in
         let byte : byte_by (under s) i first.0 ≡ Some (from.1.residue / 256 ^ first.0 % 256)
         = ap (λ (k : ℕ). byte_by (under s) k first.0) (sym at) ∙ byte_of_field (under s) (i - first.0) first.0 from.1 from.2 from.3 in
         let inside : first.0 < bytes_of of.from.reloc.form.width = let width : bytes_of from.1.width ≡ bytes_of of.from.reloc.form.width = ap bytes_of of.width in omega (arith, from.3, width) in
         content-stored x i (kinds ∙ has_bytes (i - first.0) of.from.reloc of.from.there)
         ∙ sym (own i)
-        ∙ ap (λ (k : ℕ). byte_at d.object.sections s k) (sym at)
+        ∙ ap (λ (k : ℕ). byte_at n.sections s k) (sym at)
         ∙ has.under s (i - first.0) first.0 of.from.reloc of.from.there inside
         ∙ ap (λ (n : ℕ). n / 256 ^ first.0 % 256) of.number
         ∙ low (is_difference of.from.field) from.1.width from.1.residue first.0 from.3
@@ -150,7 +148,7 @@ module _ (f : Dialect) (b : List ℕ) (keep : Keep) (base d : Draft) (given : Gi
     -- and one that is not
     uncovered : (i : ℕ) → byte_upto (under s) i 8 ≡ None → IsCovered given s i → ⊥
     uncovered i e cover =
-        let q = under-given f b keep base d given start has all p v fixed s cover.at cover.reloc cover.here in
+        let q = under-given f b keep base n given start has all p v fixed s cover.at cover.reloc cover.here in
         let low = cover.low in
         let high = cover.high in
         let wide : bytes_of q.0.width ≡ bytes_of cover.reloc.form.width = ap bytes_of q.2 in
@@ -177,30 +175,30 @@ module _ (f : Dialect) (b : List ℕ) (keep : Keep) (base d : Draft) (given : Gi
         ∙ sym (byte_of_image (under s) i (contents_of z) inside))
 
   -- what the sections of the base show are the file's
-  contents_before : map (λ (y : parts.Section). y.contents) (f.rules.sections b) ≡ map contents_of base.object.sections
-  contents_before = ap (λ (ys : List parts.Section). map (λ (y : parts.Section). y.contents) ys) (sym start.sections) ∙ of base.object.sections
+  contents_before : map (λ (y : parts.Section). y.contents) (f.rules.sections b) ≡ map contents_of base.sections
+  contents_before = ap (λ (ys : List parts.Section). map (λ (y : parts.Section). y.contents) ys) (sym start.sections) ∙ of base.sections
     where
-      of : (zs : List Section) → map (λ (y : parts.Section). y.contents) (map (shown_section base.object.groups) zs) ≡ map contents_of zs
+      of : (zs : List Section) → map (λ (y : parts.Section). y.contents) (map (shown_section base.groups) zs) ≡ map contents_of zs
       of [] = refl
       of (z ∷ zs) = ap (λ (cs : List (List ℕ)). contents_of z ∷ cs) (of zs)
 
-  filled_before : map contents_of d.object.sections ≡ overlays under 0 (map contents_of base.object.sections)
-  filled_before = lists_same (map contents_of d.object.sections) (overlays under 0 (map contents_of base.object.sections))
-      (length-map d.object.sections contents_of
-      ∙ lengths_same (λ (y : Section). frame_of (shown_section base.object.groups y)) (λ (y : Section). frame_of (shown_section base.object.groups y)) d.object.sections base.object.sections has.frames
-      ∙ sym (length-overlays under 0 (map contents_of base.object.sections) ∙ length-map base.object.sections contents_of))
+  filled_before : map contents_of n.sections ≡ overlays under 0 (map contents_of base.sections)
+  filled_before = lists_same (map contents_of n.sections) (overlays under 0 (map contents_of base.sections))
+      (length-map n.sections contents_of
+      ∙ lengths_same (λ (y : Section). frame_of (shown_section base.groups y)) (λ (y : Section). frame_of (shown_section base.groups y)) n.sections base.sections has.frames
+      ∙ sym (length-overlays under 0 (map contents_of base.sections) ∙ length-map base.sections contents_of))
       (λ k xs ys here there.
-      let first = mapped_at contents_of d.object.sections k xs here in
-      let second = overlaid k ys (slice_get (map contents_of base.object.sections) k) refl (sym (overlays_at under 0 (map contents_of base.object.sections) k) ∙ there) in
+      let first = mapped_at contents_of n.sections k xs here in
+      let second = overlaid k ys (slice_get (map contents_of base.sections) k) refl (sym (overlays_at under 0 (map contents_of base.sections) k) ∙ there) in
       let zero_k : 0 + k ≡ k = omega arith in
       first.2 ∙ section_shown k first.0 second.0 first.1 second.1 ∙ ap (λ (j : ℕ). overlay (under j) 0 (contents_of second.0)) (sym zero_k) ∙ second.2)
     where
-      overlaid : (k : ℕ) (ys : List ℕ) (o : Option (List ℕ)) → slice_get (map contents_of base.object.sections) k ≡ o → option_map (overlay (under (0 + k)) 0) o ≡ Some ys
-          → (z : Section) × (slice_get base.object.sections k ≡ Some z) × (overlay (under (0 + k)) 0 (contents_of z) ≡ ys)
+      overlaid : (k : ℕ) (ys : List ℕ) (o : Option (List ℕ)) → slice_get (map contents_of base.sections) k ≡ o → option_map (overlay (under (0 + k)) 0) o ≡ Some ys
+          → (z : Section) × (slice_get base.sections k ≡ Some z) × (overlay (under (0 + k)) 0 (contents_of z) ≡ ys)
       overlaid k ys None h e = absurd (none-some ys e)
       overlaid k ys (Some zs) h e =
-          let m = mapped_at contents_of base.object.sections k zs h in
+          let m = mapped_at contents_of base.sections k zs h in
           (m.0, m.1, ap (overlay (under (0 + k)) 0) (sym m.2) ∙ same_Some (overlay (under (0 + k)) 0 zs) ys e)
 
-  pub contents-shown : map contents_of d.object.sections ≡ overlays under 0 (map (λ (y : parts.Section). y.contents) (f.rules.sections b))
+  pub contents-shown : map contents_of n.sections ≡ overlays under 0 (map (λ (y : parts.Section). y.contents) (f.rules.sections b))
   contents-shown = filled_before ∙ ap (overlays under 0) (sym contents_before)

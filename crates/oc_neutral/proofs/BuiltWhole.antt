@@ -1,10 +1,10 @@
 -- An object to which a file's relocations were added is whole and readable, where it was before.
-use Rattle.std.proofs.Common.{◌≡◌, ℕ, zero, suc, ◌<◌, ◌≤◌, ◌⊎◌, inl, inr, Bool, true, false, cond, List, [], ◌∷◌, length, map, get_or, Option, Some, None, Ok, refl, sym, ◌∙◌, ap, subst, arith}
+use Rattle.std.proofs.Common.{◌≡◌, ℕ, suc, ◌<◌, ◌≤◌, true, List, [], ◌∷◌, length, get_or, Option, Some, None, Ok, refl, sym, ◌∙◌, ap, subst, arith}
 use Rattle.std.specs.Prelude.{slice_get}
 use Rattle.std.specs.List.{AllByRecursion}
-use Rattle.std.specs.Option.{option_map, option_map_or}
+use Rattle.std.specs.Option.{option_map_or}
 use Rattle.std.proofs.lemmas.Grind.{same_number_lists}
-use Rattle.std.proofs.lemmas.Option.{none-some, same_Some, slice_get-map, slice_get_within}
+use Rattle.std.proofs.lemmas.Option.{none-some, slice_get_within}
 use Rattle.oc_base.specs.declared.format.Format.{Format}
 use Rattle.oc_base.specs.Formats.{word_for}
 use Rattle.oc_linking.specs.declared.terms.Value.{Value}
@@ -13,7 +13,6 @@ use Rattle.oc_linking.specs.declared.terms.Fallback.{Fallback}
 use Rattle.oc_linking.specs.declared.terms.Fallback.TheVariants as fallback
 use Rattle.oc_linking.specs.declared.terms.Binding.{Binding}
 use Rattle.oc_linking.specs.declared.terms.Binding.TheVariants.{Local, Global, Undefined, Common, Weak}
-use Rattle.oc_linking.specs.Numbers.{modulus}
 use Rattle.oc_linking.specs.Parts as parts
 use Rattle.oc_linking.specs.Fits.{bytes_of}
 use Rattle.oc_chains.specs.declared.field.Field.{Field}
@@ -23,27 +22,25 @@ use Rattle.oc_neutral.specs.declared.group.Group.{Group}
 use Rattle.oc_neutral.specs.declared.section.Section.{Section}
 use Rattle.oc_neutral.specs.declared.symbol.Symbol.{Symbol}
 use Rattle.oc_neutral.specs.declared.reloc.Target.{Target}
-use Rattle.oc_neutral.specs.declared.reloc.Target.TheVariants as target
 use Rattle.oc_neutral.specs.declared.reloc.Reloc.{Reloc}
 use Rattle.oc_neutral.specs.declared.normal.Normal.TheVariants as normal
 use Rattle.oc_neutral.specs.Objects.{Object}
-use Rattle.oc_neutral.specs.Normal.{Place, place_among, normal_of}
+use Rattle.oc_neutral.specs.Normal.{Place, place_among}
 use Rattle.oc_neutral.specs.Building.{Draft, reloc_added, stored_size}
 use Rattle.oc_neutral.specs.Faces.{shown_section}
 use Rattle.oc_neutral.specs.GivenTags.{can_have, is_blank_type}
-use Rattle.oc_neutral.specs.Invariants.{CanAdd, HasItsBytes, HasOffset, IsAlign, IsBinding, IsBuilt, IsComplete, IsDraft, IsFallback, IsHinted, IsSymbol, IsValue, HaveKeys, AreBegun, NamesOriginal, groups_of}
-use Rattle.oc_neutral.specs.Readable.{AreZeros, IsReadable}
+use Rattle.oc_neutral.specs.Invariants.{CanAdd, HasItsBytes, HasOffset, IsAlign, IsBinding, IsDraft, IsFallback, IsHinted, IsSymbol, IsValue, HaveKeys, AreBegun, NamesOriginal, groups_of}
+use Rattle.oc_neutral.specs.Readable.{AreZeros}
 use Rattle.oc_neutral.specs.Shows.{frame_of}
-use Rattle.oc_neutral.specs.Built.{Entry, Given, given_by, HasAdded, IsStarted, Makes}
-use Rattle.oc_neutral.specs.Finished.{AreFinal, LeavesBlanks, BuiltIsComplete, BuiltIsReadable}
-use Rattle.oc_neutral.proofs.Added.{IsAdded, added}
-use Rattle.oc_neutral.proofs.Addable.{sections-added}
+use Rattle.oc_neutral.specs.Built.{Entry, Given, given_by, Makes}
+use Rattle.oc_neutral.specs.Finished.{BuiltIsComplete, BuiltIsReadable}
+use Rattle.oc_neutral.proofs.Added.{added}
 use Rattle.oc_neutral.proofs.DraftAdded.{IsOne, kept, constant, one}
-use Rattle.oc_neutral.proofs.Holding.{IsCovered, IsHolding, found-more, still-more, normal-base, holds_all, holds_by, normal_in}
+use Rattle.oc_neutral.proofs.Holding.{IsHolding, found-more, still-more, normal-base, holds_all, holds_by}
+use Rattle.oc_neutral.proofs.Showing.{IsCovered, normal_in}
 use Rattle.oc_neutral.proofs.MoreRelocs.{all_placed, by_list}
 use Rattle.oc_neutral.proofs.NormalLemmas.{kept_hinted, kept_left, section_for}
 use Rattle.oc_neutral.proofs.Positions.{each_at, images_same, lengths_same, there_at}
-use Rattle.oc_neutral.proofs.WrittenBytes.{byte_at}
 
 -- what holds of each element holds of all
 all_from : {X : Type 0} (P : X → Type 0) (xs : List X) → ((k : ℕ) (x : X) → slice_get xs k ≡ Some x → P x) → AllByRecursion P xs
@@ -52,7 +49,7 @@ all_from P (x ∷ xs) each = (each 0 x refl, all_from P xs (λ k. each (suc k)))
 
 -- what holds of the normal form of each entry holds of each relocation
 fields_hold : (P : ℕ → Reloc → Type 0) (base d : Draft) (entries : List Entry) → IsDraft base → ((s : ℕ) → list_of base.object.relocs s ≡ []) → ((s : ℕ) → list_of base.folded s ≡ [])
-    → Makes base entries d → ((t x : ℕ) (r q : Reloc) → given_by entries t x ≡ Some r → normal_in base t x r ≡ normal.Kept q → P t q)
+    → Makes base entries d → ((t x : ℕ) (r q : Reloc) → given_by entries t x ≡ Some r → normal_in base.object t x r ≡ normal.Kept q → P t q)
     → (t : ℕ) → AllByRecursion (λ (x : Field Reloc). P t x.item) (list_of d.object.relocs t)
 fields_hold P base d [] draft relocs folded made each = λ t.
     subst (λ (xs : List (Field Reloc)). AllByRecursion (λ (x : Field Reloc). P t x.item) xs) (sym (ap (λ (z : Draft). list_of z.object.relocs t) made ∙ relocs t)) tt
@@ -77,10 +74,10 @@ module _ (base d : Draft) (given : Given) (has : IsHolding base d given) where
   framed : (k : ℕ) (x z : Section) → slice_get d.object.sections k ≡ Some x → slice_get base.object.sections k ≡ Some z
       → frame_of (shown_section base.object.groups x) ≡ frame_of (shown_section base.object.groups z)
   framed k x z here was =
-      images_same (λ (y : Section). frame_of (shown_section base.object.groups y)) (λ (y : Section). frame_of (shown_section base.object.groups y)) d.object.sections base.object.sections has.frames k x z here was
+      images_same (λ (y : Section). frame_of (shown_section base.object.groups y)) (λ (y : Section). frame_of (shown_section base.object.groups y)) d.object.sections base.object.sections has.showing.frames k x z here was
 
   counts : length d.object.sections ≡ length base.object.sections
-  counts = lengths_same (λ (y : Section). frame_of (shown_section base.object.groups y)) (λ (y : Section). frame_of (shown_section base.object.groups y)) d.object.sections base.object.sections has.frames
+  counts = lengths_same (λ (y : Section). frame_of (shown_section base.object.groups y)) (λ (y : Section). frame_of (shown_section base.object.groups y)) d.object.sections base.object.sections has.showing.frames
 
   before : (k : ℕ) (x : Section) → slice_get d.object.sections k ≡ Some x → (z : Section) × (slice_get base.object.sections k ≡ Some z)
   before k x here = there_at base.object.sections k (let inside : k < length d.object.sections = slice_get_within d.object.sections k x here in omega (arith, inside, counts))
@@ -124,8 +121,8 @@ module _ (base d : Draft) (given : Given) (has : IsHolding base d given) where
 
   symbols-whole : AllByRecursion (IsSymbol base.object) base.object.symbols → AllByRecursion (IsSymbol d.object) d.object.symbols
   symbols-whole all =
-      subst (λ (format : Format). AllByRecursion (IsSymbol (shaped format d.object.symbols)) d.object.symbols) (sym has.format)
-      (subst (λ (symbols : List Symbol). AllByRecursion (IsSymbol (shaped base.object.format symbols)) symbols) (sym has.symbols) (symbols-like base.object.symbols all))
+      subst (λ (format : Format). AllByRecursion (IsSymbol (shaped format d.object.symbols)) d.object.symbols) (sym has.showing.format)
+      (subst (λ (symbols : List Symbol). AllByRecursion (IsSymbol (shaped base.object.format symbols)) symbols) (sym has.showing.symbols) (symbols-like base.object.symbols all))
 
   aligns-whole : AllByRecursion (λ (z : Section). IsAlign z.align) base.object.sections → AllByRecursion (λ (z : Section). IsAlign z.align) d.object.sections
   aligns-whole all = all_from (λ (z : Section). IsAlign z.align) d.object.sections (λ k x here.
@@ -136,7 +133,7 @@ module _ (base d : Draft) (given : Given) (has : IsHolding base d given) where
       → AllByRecursion (λ (z : Section). can_have d.object.format z.kind z.name z.tag ≡ true) d.object.sections
   tags-whole all = all_from (λ (z : Section). can_have d.object.format z.kind z.name z.tag ≡ true) d.object.sections (λ k x here.
       let was = before k x here in
-      ap (λ (format : Format). can_have format x.kind x.name x.tag) has.format
+      ap (λ (format : Format). can_have format x.kind x.name x.tag) has.showing.format
       ∙ ap (λ (y : parts.Section). can_have base.object.format y.kind y.name y.tag) (framed k x was.0 here was.1)
       ∙ each_at (λ (z : Section). can_have base.object.format z.kind z.name z.tag ≡ true) base.object.sections k was.0 all was.1)
 
@@ -144,11 +141,11 @@ module _ (base d : Draft) (given : Given) (has : IsHolding base d given) where
   bytes-stay : IsDraft base → (s : ℕ) (x z : Section) → slice_get d.object.sections s ≡ Some x → slice_get base.object.sections s ≡ Some z → ((at : ℕ) → given s at ≡ None) → x.bytes ≡ z.bytes
   bytes-stay draft s x z here was none = same_number_lists x.bytes z.bytes
       (each_at HasItsBytes d.object.sections s x has.draft.built.bytes here
-      ∙ images_same stored_size stored_size d.object.sections base.object.sections has.sizes s x z here was
+      ∙ images_same stored_size stored_size d.object.sections base.object.sections has.showing.sizes s x z here was
       ∙ sym (each_at HasItsBytes base.object.sections s z draft.built.bytes was))
       (λ i low.
       sym (ap (λ (o : Option Section). option_map_or (λ (y : Section). get_or {A = ℕ} y.bytes i 0) o 0) here)
-      ∙ has.beside s i (λ (c : IsCovered given s i). none-some c.reloc (sym (none c.at) ∙ c.here))
+      ∙ has.showing.beside s i (λ (c : IsCovered given s i). none-some c.reloc (sym (none c.at) ∙ c.here))
       ∙ ap (λ (o : Option Section). option_map_or (λ (y : Section). get_or {A = ℕ} y.bytes i 0) o 0) was)
 
 -- the target of what is kept is no alias, where that of the relocation is none
@@ -160,14 +157,14 @@ pub built_is_complete : BuiltIsComplete
 built_is_complete f b keep base d given start added complete final =
     let has : IsHolding base d given = holds_all base d given start.draft start.relocs start.folded added in
     record {
-      keys = subst HaveKeys (sym has.groups) complete.keys;
-      begun = subst (λ (groups : List Group). AreBegun (length groups) 0 (groups_of d.object.sections)) (sym has.groups)
+      keys = subst HaveKeys (sym has.showing.groups) complete.keys;
+      begun = subst (λ (groups : List Group). AreBegun (length groups) 0 (groups_of d.object.sections)) (sym has.showing.groups)
           (subst (λ (members : List (Option ℕ)). AreBegun (length base.object.groups) 0 members) (sym has.members) complete.begun);
       aligns = aligns-whole base d given has complete.aligns;
       symbols = symbols-whole base d given has complete.symbols;
       hints = fields_hold (λ t q. IsHinted q) base d added.entries start.draft start.relocs start.folded added.made
           (λ t x r q here is. kept_hinted (word_for base.object.format) base.object.symbols t x r q (final.hints t x r (sym (added.each t x) ∙ here)) is);
-      originals = subst (λ (symbols : List Symbol). (s : ℕ) → AllByRecursion (λ (x : Field Reloc). NamesOriginal symbols x.item.target) (list_of d.object.relocs s)) (sym has.symbols)
+      originals = subst (λ (symbols : List Symbol). (s : ℕ) → AllByRecursion (λ (x : Field Reloc). NamesOriginal symbols x.item.target) (list_of d.object.relocs s)) (sym has.showing.symbols)
           (fields_hold (λ t q. NamesOriginal base.object.symbols q.target) base d added.entries start.draft start.relocs start.folded added.made
           (λ t x r q here is. subst (NamesOriginal base.object.symbols) (sym (kept_left (word_for base.object.format) base.object.symbols t x r q is).target)
           (original-kept base.object.symbols r.target (place_among base.object.symbols r.target) (final.originals t x r (sym (added.each t x) ∙ here)))));
@@ -181,7 +178,7 @@ built_is_readable f b keep base d given start added readable blanks =
       blanks = λ s x here typed.
           let was = before base d given has s x here in
           let blank : is_blank_type base.object.format was.0.tag ≡ true
-          = sym (ap (λ (format : Format). is_blank_type format x.tag) has.format ∙ ap (λ (y : parts.Section). is_blank_type base.object.format y.tag) (framed base d given has s x was.0 here was.1)) ∙ typed in
+          = sym (ap (λ (format : Format). is_blank_type format x.tag) has.showing.format ∙ ap (λ (y : parts.Section). is_blank_type base.object.format y.tag) (framed base d given has s x was.0 here was.1)) ∙ typed in
           let none = blanks s was.0 was.1 blank in
           (subst AreZeros (sym (bytes-stay base d given has start.draft s x was.0 here was.1 none)) (readable.blanks s was.0 was.1 blank).0, empty s none has);
     }

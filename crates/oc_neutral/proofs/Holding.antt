@@ -1,7 +1,6 @@
 -- What a draft holds to which entries were added, one by one.
-use Rattle.std.proofs.Common.{◌≡◌, ℕ, zero, suc, ◌+◌, ◌-◌, ◌/◌, ◌%◌, ◌^◌, ◌<◌, ◌≤◌, ◌⊎◌, inl, inr, Bool, true, false, ◌&&◌, ◌||◌, cond, eqb, List, [], ◌∷◌, length, map, Option, Some, None, Ok, Err, refl, sym, ◌∙◌, ap, subst, arith}
-use Rattle.std.specs.Prelude.{nat_eq, nat_le, nat_lt, slice_get, if◌then◌else◌}
-use Rattle.std.specs.List.{list_any}
+use Rattle.std.proofs.Common.{◌≡◌, ℕ, ◌+◌, ◌-◌, ◌/◌, ◌%◌, ◌^◌, ◌<◌, ◌≤◌, ◌⊎◌, inl, inr, Bool, true, false, ◌&&◌, ◌||◌, cond, eqb, List, [], ◌∷◌, map, Option, Some, None, Ok, refl, sym, ◌∙◌, ap, subst, arith}
+use Rattle.std.specs.Prelude.{nat_eq, nat_le, nat_lt, slice_get}
 use Rattle.std.specs.Option.{option_map, option_and_then, option_map_or}
 use Rattle.std.proofs.lemmas.Bool.{eqb-true, eq-eqb, leb-true, ltb-true, true≢false}
 use Rattle.std.proofs.lemmas.Bool.Decides.{nat_tests}
@@ -10,45 +9,24 @@ use Rattle.oc_base.specs.declared.format.Format.{Format}
 use Rattle.oc_base.specs.declared.format.Word.{Word}
 use Rattle.oc_base.specs.Formats.{word_for}
 use Rattle.oc_linking.specs.Fits.{bytes_of}
-use Rattle.oc_linking.specs.Parts as parts
 use Rattle.oc_chains.specs.Lists.{list_of}
-use Rattle.oc_neutral.specs.declared.group.Group.{Group}
 use Rattle.oc_neutral.specs.declared.section.Section.{Section}
 use Rattle.oc_neutral.specs.declared.symbol.Symbol.{Symbol}
 use Rattle.oc_neutral.specs.declared.reloc.Reloc.{Reloc}
 use Rattle.oc_neutral.specs.declared.normal.Normal.{Normal}
-use Rattle.oc_neutral.specs.Objects.{reloc_among, reloc_at}
+use Rattle.oc_neutral.specs.Objects.{Object, reloc_among, reloc_at}
 use Rattle.oc_neutral.specs.Normal.{normal_of}
 use Rattle.oc_neutral.specs.Building.{Draft, is_met, stored_size, reloc_added}
 use Rattle.oc_neutral.specs.Invariants.{CanAdd, IsDraft, groups_of}
 use Rattle.oc_neutral.specs.Faces.{shown_section}
 use Rattle.oc_neutral.specs.Shows.{frame_of}
-use Rattle.oc_neutral.specs.Built.{Entry, Given, and_one, given_by, IsStep, Makes, HasAdded}
+use Rattle.oc_neutral.specs.Built.{Entry, Given, and_one, given_by, Makes, HasAdded}
 use Rattle.oc_neutral.proofs.Added.{kept_of, number_left, IsFitting, IsAdded, added}
 use Rattle.oc_neutral.proofs.Addable.{sections-added}
 use Rattle.oc_neutral.proofs.Adding.{have_common, wide_enough}
+use Rattle.oc_neutral.proofs.Showing.{IsCovered, IsShowing, left_in, normal_in, stored_at}
 use Rattle.oc_neutral.proofs.DraftAdded.{draft_added, groups_added}
 use Rattle.oc_neutral.proofs.WrittenBytes.{byte_at, lies_in}
-
--- the normal form of a relocation among the symbols of a draft
-abbrev pub normal_in : Draft → ℕ → ℕ → Reloc → Normal
-normal_in base s at r = normal_of (word_for base.object.format) base.object.symbols s at r
-
--- the number that it leaves in its bytes
-abbrev pub left_in : Draft → ℕ → ℕ → Reloc → ℕ
-left_in base s at r = number_left (word_for base.object.format) r.form.width (normal_in base s at r)
-
--- how many bytes section s has
-abbrev pub stored_at : List Section → ℕ → ℕ
-stored_at sections s = option_map_or stored_size (slice_get sections s) 0
-
--- byte i of section s is in the field of one that is given
-pub record IsCovered (given : Given) (s i : ℕ) : Type 0 where
-  pub at : ℕ
-  pub reloc : Reloc
-  pub here : given s at ≡ Some reloc
-  pub low : at ≤ i
-  pub high : i < at + bytes_of reloc.form.width
 
 -- k bytes from an offset of section s on meet the field of one that is given
 pub record IsMetBy (given : Given) (s at k : ℕ) : Type 0 where
@@ -60,59 +38,58 @@ pub record IsMetBy (given : Given) (s at k : ℕ) : Type 0 where
 -- d holds base and what is given
 pub record IsHolding (base d : Draft) (given : Given) : Type 0 where
   pub draft : IsDraft d
-  pub format : d.object.format ≡ base.object.format
-  pub groups : d.object.groups ≡ base.object.groups
-  pub symbols : d.object.symbols ≡ base.object.symbols
-  pub frames : map (λ (z : Section). frame_of (shown_section base.object.groups z)) d.object.sections ≡ map (λ (z : Section). frame_of (shown_section base.object.groups z)) base.object.sections
-  pub sizes : map stored_size d.object.sections ≡ map stored_size base.object.sections
+  pub showing : IsShowing base.object d.object given
   pub members : groups_of d.object.sections ≡ groups_of base.object.sections
-  pub relocs : (t x : ℕ) → reloc_at d.object t x ≡ option_and_then (λ r. kept_of (normal_in base t x r)) (given t x)
-  pub fitting : (t x : ℕ) (r : Reloc) → given t x ≡ Some r → IsFitting (word_for base.object.format) r (normal_in base t x r)
-  pub inside : (t x : ℕ) (r : Reloc) → given t x ≡ Some r → x + bytes_of r.form.width ≤ stored_at base.object.sections t
-  pub under : (t x j : ℕ) (r : Reloc) → given t x ≡ Some r → j < bytes_of r.form.width → byte_at d.object.sections t (x + j) ≡ left_in base t x r / 256 ^ j % 256
-  pub beside : (t i : ℕ) → (IsCovered given t i → ⊥) → byte_at d.object.sections t i ≡ byte_at base.object.sections t i
   pub taken : (t x y k : ℕ) (r : Reloc) → given t x ≡ Some r → have_common x (bytes_of r.form.width) y k ≡ true → is_met d t y k ≡ true
   pub met : (t y k : ℕ) → is_met d t y k ≡ true → IsMetBy given t y k
-  pub apart : (t i j : ℕ) (q r : Reloc) → given t i ≡ Some q → given t j ≡ Some r → i < j → i + bytes_of q.form.width ≤ j
 
 -- a draft without fields holds itself, and nothing
 pub holds_none : (base : Draft) → IsDraft base → ((s : ℕ) → list_of base.object.relocs s ≡ []) → ((s : ℕ) → list_of base.folded s ≡ []) → IsHolding base base (given_by [])
 holds_none base draft relocs folded = record {
   draft = draft;
-  format = refl;
-  groups = refl;
-  symbols = refl;
-  frames = refl;
-  sizes = refl;
+  showing = record {
+    whole = draft.built.bytes;
+    format = refl;
+    groups = refl;
+    symbols = refl;
+    frames = refl;
+    sizes = refl;
+    relocs = λ t x. ap (λ fields. reloc_among fields x) (relocs t);
+    fitting = λ t x r here. absurd (none-some r here);
+    inside = λ t x r here. absurd (none-some r here);
+    under = λ t x j r here low. absurd (none-some r here);
+    beside = λ t i free. refl;
+    apart = λ t i j q r here there low. absurd (none-some q here);
+  };
   members = refl;
-  relocs = λ t x. ap (λ fields. reloc_among fields x) (relocs t);
-  fitting = λ t x r here. absurd (none-some r here);
-  inside = λ t x r here. absurd (none-some r here);
-  under = λ t x j r here low. absurd (none-some r here);
-  beside = λ t i free. refl;
   taken = λ t x y k r here common. absurd (none-some r here);
   met = λ t y k met. absurd (true≢false (sym met ∙ rw (relocs t, folded t) refl));
-  apart = λ t i j q r here there low. absurd (none-some q here);
 }
 
 -- what is given may be said in another way
-pub holds_same : (base d : Draft) (given other : Given) → ((s at : ℕ) → given s at ≡ other s at) → IsHolding base d given → IsHolding base d other
-holds_same base d given other same is = record {
-  draft = is.draft;
+shows_same : (base n : Object) (given other : Given) → ((s at : ℕ) → given s at ≡ other s at) → IsShowing base n given → IsShowing base n other
+shows_same base n given other same is = record {
+  whole = is.whole;
   format = is.format;
   groups = is.groups;
   symbols = is.symbols;
   frames = is.frames;
   sizes = is.sizes;
-  members = is.members;
   relocs = λ t x. is.relocs t x ∙ ap (option_and_then (λ r. kept_of (normal_in base t x r))) (same t x);
   fitting = λ t x r here. is.fitting t x r (same t x ∙ here);
   inside = λ t x r here. is.inside t x r (same t x ∙ here);
   under = λ t x j r here low. is.under t x j r (same t x ∙ here) low;
   beside = λ t i free. is.beside t i (λ c. free (record { at = c.at; reloc = c.reloc; here = sym (same t c.at) ∙ c.here; low = c.low; high = c.high }));
+  apart = λ t i j q r here there low. is.apart t i j q r (same t i ∙ here) (same t j ∙ there) low;
+}
+
+pub holds_same : (base d : Draft) (given other : Given) → ((s at : ℕ) → given s at ≡ other s at) → IsHolding base d given → IsHolding base d other
+holds_same base d given other same is = record {
+  draft = is.draft;
+  showing = shows_same base.object d.object given other same is.showing;
+  members = is.members;
   taken = λ t x y k r here common. is.taken t x y k r (same t x ∙ here) common;
   met = λ t y k met. let m : IsMetBy given t y k = is.met t y k met in record { from = m.from; reloc = m.reloc; here = sym (same t m.from) ∙ m.here; common = m.common };
-  apart = λ t i j q r here there low. is.apart t i j q r (same t i ∙ here) (same t j ∙ there) low;
 }
 
 both : (a b : Bool) → (a && b) ≡ true → (a ≡ true) × (b ≡ true)
@@ -129,10 +106,10 @@ either true b e = inl refl
 either false b e = inr e
 
 -- the normal form is the one among the symbols of the base
-pub normal-base : (base d : Draft) (given : Given) → IsHolding base d given → (s at : ℕ) (r : Reloc) → normal_of (word_for d.object.format) d.object.symbols s at r ≡ normal_in base s at r
+pub normal-base : (base d : Draft) (given : Given) → IsHolding base d given → (s at : ℕ) (r : Reloc) → normal_of (word_for d.object.format) d.object.symbols s at r ≡ normal_in base.object s at r
 normal-base base d given has s at r =
-    ap (λ (f : Format). normal_of (word_for f) d.object.symbols s at r) has.format
-    ∙ ap (λ (symbols : List Symbol). normal_of (word_for base.object.format) symbols s at r) has.symbols
+    ap (λ (f : Format). normal_of (word_for f) d.object.symbols s at r) has.showing.format
+    ∙ ap (λ (symbols : List Symbol). normal_of (word_for base.object.format) symbols s at r) has.showing.symbols
 
 -- one more is found at its place
 pub found-more : (given : Given) (s at : ℕ) (r : Reloc) → and_one given s at r s at ≡ Some r
@@ -151,7 +128,7 @@ module _ (base d : Draft) (given : Given) (has : IsHolding base d given) (s at :
 
   -- the draft has the format and the symbols of the base
   in_base : (P : Word → List Symbol → Type 0) → P (word_for d.object.format) d.object.symbols → P (word_for base.object.format) base.object.symbols
-  in_base P holds = subst (λ (f : Format). P (word_for f) base.object.symbols) has.format (subst (λ (symbols : List Symbol). P (word_for d.object.format) symbols) has.symbols holds)
+  in_base P holds = subst (λ (f : Format). P (word_for f) base.object.symbols) has.showing.format (subst (λ (symbols : List Symbol). P (word_for d.object.format) symbols) has.showing.symbols holds)
 
   -- the new field meets none that is given
   unmet : (x : ℕ) (q : Reloc) → given s x ≡ Some q → have_common x (bytes_of q.form.width) at (bytes_of r.form.width) ≡ false
@@ -190,22 +167,22 @@ module _ (base d : Draft) (given : Given) (has : IsHolding base d given) (s at :
       by true false g h here = old t x q here
       by false b g h here = old t x q here
 
-  relocs : (t x : ℕ) → reloc_at e.object t x ≡ option_and_then (λ q. kept_of (normal_in base t x q)) (more t x)
+  relocs : (t x : ℕ) → reloc_at e.object t x ≡ option_and_then (λ q. kept_of (normal_in base.object t x q)) (more t x)
   relocs t x = is.relocs t x ∙ by (eqb t s) (eqb at x) refl refl
     where
       by : (a b : Bool) → eqb t s ≡ a → eqb at x ≡ b
           → cond (a && b) (kept_of (normal_of (word_for d.object.format) d.object.symbols s at r)) (reloc_at d.object t x)
-          ≡ option_and_then (λ q. kept_of (normal_in base t x q)) (cond (a && b) (Some r) (given t x))
+          ≡ option_and_then (λ q. kept_of (normal_in base.object t x q)) (cond (a && b) (Some r) (given t x))
       by true true g h =
           in_base (λ w symbols. kept_of (normal_of (word_for d.object.format) d.object.symbols s at r) ≡ kept_of (normal_of w symbols s at r)) refl
-          ∙ ap (λ (j : ℕ). kept_of (normal_in base j at r)) (sym (eqb-true t s g))
-          ∙ ap (λ (j : ℕ). kept_of (normal_in base t j r)) (eqb-true at x h)
-      by true false g h = has.relocs t x
-      by false b g h = has.relocs t x
+          ∙ ap (λ (j : ℕ). kept_of (normal_in base.object j at r)) (sym (eqb-true t s g))
+          ∙ ap (λ (j : ℕ). kept_of (normal_in base.object t j r)) (eqb-true at x h)
+      by true false g h = has.showing.relocs t x
+      by false b g h = has.showing.relocs t x
 
   stored_same : stored_at d.object.sections s ≡ stored_at base.object.sections s
   stored_same =
-      sym (plain d.object.sections) ∙ ap (λ (xs : List ℕ). option_map_or (λ (n : ℕ). n) (slice_get xs s) 0) has.sizes ∙ plain base.object.sections
+      sym (plain d.object.sections) ∙ ap (λ (xs : List ℕ). option_map_or (λ (n : ℕ). n) (slice_get xs s) 0) has.showing.sizes ∙ plain base.object.sections
     where
       plain : (zs : List Section) → option_map_or (λ (n : ℕ). n) (slice_get (map stored_size zs) s) 0 ≡ stored_at zs s
       plain zs = ap (λ (o : Option ℕ). option_map_or (λ (n : ℕ). n) o 0) (slice_get-map stored_size zs s) ∙ by (slice_get zs s)
@@ -221,7 +198,7 @@ module _ (base d : Draft) (given : Given) (has : IsHolding base d given) (s at :
       omega (arith, here, stored_same)
 
   -- the bytes under the new field, and beside it
-  byte_new : (j : ℕ) → j < bytes_of r.form.width → byte_at e.object.sections s (at + j) ≡ left_in base s at r / 256 ^ j % 256
+  byte_new : (j : ℕ) → j < bytes_of r.form.width → byte_at e.object.sections s (at + j) ≡ left_in base.object s at r / 256 ^ j % 256
   byte_new j low =
       let lies : lies_in at k (at + j) ≡ true = let a : nat_le at (at + j) ≡ true = grind (arith, nat_tests) in let b : nat_lt (at + j) (at + k) ≡ true = grind (arith, nat_tests) in rw (a, b) refl in
       let back : at + j - at ≡ j = omega arith in
@@ -243,9 +220,9 @@ module _ (base d : Draft) (given : Given) (has : IsHolding base d given) (s at :
       by true g = ap (λ c. cond c (number_left (word_for d.object.format) r.form.width (normal_of (word_for d.object.format) d.object.symbols s at r) / 256 ^ (i - at) % 256) (byte_at d.object.sections t i)) (outside (eqb-true t s g))
       by false g = refl
 
-  under : (t x : ℕ) (q : Reloc) → more t x ≡ Some q → (j : ℕ) → j < bytes_of q.form.width → byte_at e.object.sections t (x + j) ≡ left_in base t x q / 256 ^ j % 256
-  under = each (λ t x q. (j : ℕ) → j < bytes_of q.form.width → byte_at e.object.sections t (x + j) ≡ left_in base t x q / 256 ^ j % 256) byte_new
-      (λ t x q here j low. byte_old t (x + j) (λ same. outside x q (ap (λ (i : ℕ). given i x) (sym same) ∙ here) j low) ∙ has.under t x j q here low)
+  under : (t x : ℕ) (q : Reloc) → more t x ≡ Some q → (j : ℕ) → j < bytes_of q.form.width → byte_at e.object.sections t (x + j) ≡ left_in base.object t x q / 256 ^ j % 256
+  under = each (λ t x q. (j : ℕ) → j < bytes_of q.form.width → byte_at e.object.sections t (x + j) ≡ left_in base.object t x q / 256 ^ j % 256) byte_new
+      (λ t x q here j low. byte_old t (x + j) (λ same. outside x q (ap (λ (i : ℕ). given i x) (sym same) ∙ here) j low) ∙ has.showing.under t x j q here low)
     where
       outside : (x : ℕ) (q : Reloc) → given s x ≡ Some q → (j : ℕ) → j < bytes_of q.form.width → lies_in at k (x + j) ≡ false
       outside x q here j low = by (nat_le at (x + j)) (nat_lt (x + j) (at + k)) refl refl
@@ -256,7 +233,7 @@ module _ (base d : Draft) (given : Given) (has : IsHolding base d given) (s at :
           by false b g h = refl
 
   beside : (t i : ℕ) → (IsCovered more t i → ⊥) → byte_at e.object.sections t i ≡ byte_at base.object.sections t i
-  beside t i free = byte_old t i outside ∙ has.beside t i (λ c. free (record { at = c.at; reloc = c.reloc; here = still-more t c.at c.reloc c.here; low = c.low; high = c.high }))
+  beside t i free = byte_old t i outside ∙ has.showing.beside t i (λ c. free (record { at = c.at; reloc = c.reloc; here = still-more t c.at c.reloc c.here; low = c.low; high = c.high }))
     where
       outside : t ≡ s → lies_in at k i ≡ false
       outside same = by (nat_le at i) (nat_lt i (at + k)) refl refl
@@ -286,7 +263,7 @@ module _ (base d : Draft) (given : Given) (has : IsHolding base d given) (s at :
       (λ j z there low. first j z there low)
       (λ t i q here j z there. each (λ u x y. u ≡ t → i < x → i + bytes_of q.form.width ≤ x)
       (λ same low. second i q (ap (λ (u : ℕ). given u i) same ∙ here) low)
-      (λ u x y found same low. has.apart t i x q y here (ap (λ (v : ℕ). given v x) (sym same) ∙ found) low) t j z there refl)
+      (λ u x y found same low. has.showing.apart t i x q y here (ap (λ (v : ℕ). given v x) (sym same) ∙ found) low) t j z there refl)
     where
       first : (j : ℕ) (z : Reloc) → more s j ≡ Some z → at < j → at + bytes_of r.form.width ≤ j
       first j z there = each (λ u x y. u ≡ s → at < x → at + bytes_of r.form.width ≤ x)
@@ -298,25 +275,28 @@ module _ (base d : Draft) (given : Given) (has : IsHolding base d given) (s at :
 
   pub holds_more : IsHolding base e (and_one given s at r)
   holds_more = record {
-    draft = draft_added d s at r has.draft can e ok;
-    format = is.format ∙ has.format;
-    groups = groups;
-    symbols = is.symbols ∙ has.symbols;
-    frames = sections-added (λ (z : Section). frame_of (shown_section base.object.groups z)) (λ n number x z. refl) d s at r _ e is ∙ has.frames;
-    sizes = sections-added stored_size (λ n number x z. refl) d s at r _ e is ∙ has.sizes;
+    draft = after;
+    showing = record {
+      whole = after.built.bytes;
+      format = is.format ∙ has.showing.format;
+      groups = groups_added d s at r e ok ∙ has.showing.groups;
+      symbols = is.symbols ∙ has.showing.symbols;
+      frames = sections-added (λ (z : Section). frame_of (shown_section base.object.groups z)) (λ n number x z. refl) d s at r _ e is ∙ has.showing.frames;
+      sizes = sections-added stored_size (λ n number x z. refl) d s at r _ e is ∙ has.showing.sizes;
+      relocs = relocs;
+      fitting = each (λ t x q. IsFitting (word_for base.object.format) q (normal_in base.object t x q)) (in_base (λ w symbols. IsFitting w r (normal_of w symbols s at r)) is.fitting) has.showing.fitting;
+      inside = each (λ t x q. x + bytes_of q.form.width ≤ stored_at base.object.sections t) inside has.showing.inside;
+      under = λ t x j q here low. under t x q here j low;
+      beside = beside;
+      apart = λ t i j q z here there low. apart t i q here j z there low;
+    };
     members = sections-added (λ (z : Section). z.group) (λ n number x z. refl) d s at r _ e is ∙ has.members;
-    relocs = relocs;
-    fitting = each (λ t x q. IsFitting (word_for base.object.format) q (normal_in base t x q)) (in_base (λ w symbols. IsFitting w r (normal_of w symbols s at r)) is.fitting) has.fitting;
-    inside = each (λ t x q. x + bytes_of q.form.width ≤ stored_at base.object.sections t) inside has.inside;
-    under = λ t x j q here low. under t x q here j low;
-    beside = beside;
     taken = λ t x y n q here common. taken t x q here y n common;
     met = met;
-    apart = λ t i j q z here there low. apart t i q here j z there low;
   }
     where
-      groups : e.object.groups ≡ base.object.groups
-      groups = groups_added d s at r e ok ∙ has.groups
+      after : IsDraft e
+      after = draft_added d s at r has.draft can e ok
 
 -- what a draft holds to which entries were added
 pub holds_by : (base d : Draft) (entries : List Entry) → IsDraft base → ((s : ℕ) → list_of base.object.relocs s ≡ []) → ((s : ℕ) → list_of base.folded s ≡ []) → Makes base entries d

@@ -1,5 +1,5 @@
 -- The relocation that a row makes of an entry is the entry's field.
-use Rattle.std.proofs.Common.{◌≡◌, ℕ, ◌+◌, ◌%◌, List, map, Option, Some, None, refl, sym, ◌∙◌, ap, subst, arith}
+use Rattle.std.proofs.Common.{◌≡◌, ℕ, ◌+◌, ◌%◌, List, Option, Some, None, refl, sym, ◌∙◌, ap, subst, arith}
 use Rattle.std.specs.Prelude.{ℤ, slice_get}
 use Rattle.std.specs.Option.{option_map, option_map_or, option_and_then, unwrap_or}
 use Rattle.std.proofs.lemmas.Option.{none-some, same_Some, slice_get-map}
@@ -16,24 +16,24 @@ use Rattle.oc_linking.specs.declared.terms.Keep.{Keep}
 use Rattle.oc_linking.specs.Numbers.{minus, modulus, reduced}
 use Rattle.oc_linking.specs.Parts as parts
 use Rattle.oc_linking.specs.Placing.{Placement}
-use Rattle.oc_linking.specs.Values.{Valued, Valuation, place_site, worthless}
+use Rattle.oc_linking.specs.Values.{Valued, numbered, place_site, worthless}
 use Rattle.oc_linking.specs.Rules.{Named, Symbolic, Sectional}
 use Rattle.oc_linking.specs.Targets as file
-use Rattle.oc_linking.specs.Targets.{named_by, symbol_target}
+use Rattle.oc_linking.specs.Targets.{named_by, symbol_target, target_among}
 use Rattle.oc_algebra.specs.Residues.{residue_of}
 use Rattle.oc_algebra.proofs.Laws.{residue_reduced, residue_moved, minus-place}
 use Rattle.oc_neutral.specs.declared.symbol.Symbol.{Symbol}
 use Rattle.oc_neutral.specs.declared.reloc.Target.TheVariants as target
 use Rattle.oc_neutral.specs.Objects.{Object}
 use Rattle.oc_neutral.specs.Normal.{local_place, place_among, moved_addend}
-use Rattle.oc_neutral.specs.Faces.{number_of, named_of, shown_binding, shown_symbol, shown_symbols}
+use Rattle.oc_neutral.specs.Faces.{named_of, shown_binding, shown_symbol, shown_symbols}
 use Rattle.oc_neutral.specs.Rows as rows
 use Rattle.oc_neutral.specs.Rows.{Row}
-use Rattle.oc_neutral.specs.RowValues.{row_value, row_reloc}
-use Rattle.oc_neutral.specs.Worth.{base_of, less_of, target_worth, residue_at}
+use Rattle.oc_neutral.specs.RowValues.{row_value}
+use Rattle.oc_neutral.specs.Worth.{base_of, less_of}
 use Rattle.oc_neutral.specs.Dialects.{Dialect}
 use Rattle.oc_neutral.specs.Built.{named_in}
-use Rattle.oc_neutral.specs.RowFields.{IsTarget, RowsAreFields, SectionRowsAreFields}
+use Rattle.oc_neutral.specs.RowFields.{IsTarget, place_target, RowsAreFields, SectionRowsAreFields}
 use Rattle.oc_neutral.proofs.RowValueLaws.{rows_have_values}
 
 pub rows_are_fields : RowsAreFields
@@ -143,3 +143,14 @@ module _ (f : Dialect) (b : List ℕ) (keep : Keep) (n : Object) (j : ℕ) (y : 
         named = names named h;
         worth = λ p v fixed. ap (λ (o : Option Symbol). unwrap_or (option_map (λ (z : Symbol). v z.number) o) worthless) own.1 ∙ ap (λ (i : ℕ). v i) number_is;
       })
+
+-- the file's target for a section's own symbol, and for a carried one
+pub own_target : (w : Word) (own carried : List parts.Symbol) (j s offset : ℕ) (y : parts.Symbol) → numbered own j ≡ Some y → y.binding ≡ Local (value.Place s offset)
+    → target_among w own carried j ≡ Some (place_target w s offset)
+unfolding target_among
+own_target w own carried j s offset y here is = rw (here, is) refl
+
+pub carried_target : (w : Word) (own carried : List parts.Symbol) (j : ℕ) (y : parts.Symbol) (u : file.Target) → numbered own j ≡ None → numbered carried j ≡ Some y → symbol_target y ≡ Some u
+    → target_among w own carried j ≡ Some u
+unfolding target_among
+carried_target w own carried j y u none here is = rw (none, here) is

@@ -1,0 +1,72 @@
+-- What an object holds to which relocations were given, and the object before: what is compared with a file.
+use Rattle.std.proofs.Common.{◌≡◌, ℕ, ◌+◌, ◌-◌, ◌/◌, ◌%◌, ◌^◌, ◌<◌, ◌≤◌, ◌⊎◌, inl, inr, Bool, true, false, ◌&&◌, ◌||◌, cond, eqb, List, [], ◌∷◌, map, Option, Some, None, Ok, refl, sym, ◌∙◌, ap, subst, arith}
+use Rattle.std.specs.Prelude.{nat_eq, nat_le, nat_lt, slice_get}
+use Rattle.std.specs.Option.{option_map, option_and_then, option_map_or}
+use Rattle.std.proofs.lemmas.Bool.{eqb-true, eq-eqb, leb-true, ltb-true, true≢false}
+use Rattle.std.proofs.lemmas.Bool.Decides.{nat_tests}
+use Rattle.std.proofs.lemmas.Option.{none-some, same_Some, slice_get-map}
+use Rattle.oc_base.specs.declared.format.Format.{Format}
+use Rattle.oc_base.specs.declared.format.Word.{Word}
+use Rattle.oc_base.specs.Formats.{word_for}
+use Rattle.oc_linking.specs.Fits.{bytes_of}
+use Rattle.oc_chains.specs.Lists.{list_of}
+use Rattle.oc_neutral.specs.declared.section.Section.{Section}
+use Rattle.oc_neutral.specs.declared.symbol.Symbol.{Symbol}
+use Rattle.oc_neutral.specs.declared.reloc.Reloc.{Reloc}
+use Rattle.oc_neutral.specs.declared.normal.Normal.{Normal}
+use Rattle.oc_neutral.specs.Normal.{normal_of}
+use Rattle.oc_neutral.specs.Building.{Draft, is_met, stored_size, reloc_added}
+use Rattle.oc_neutral.proofs.WrittenBytes.{byte_at, lies_in}
+use Rattle.std.specs.List.{AllByRecursion}
+use Rattle.oc_linking.specs.declared.terms.Keep.{Keep}
+use Rattle.oc_neutral.specs.Objects.{Object, reloc_at}
+use Rattle.oc_neutral.specs.Dialects.{Dialect}
+use Rattle.oc_neutral.specs.Faces.{shown_section, shown_sections, shown_symbols}
+use Rattle.oc_neutral.specs.Invariants.{HasItsBytes}
+use Rattle.oc_neutral.specs.Shows.{AreNumbered, frame_of}
+use Rattle.oc_neutral.specs.Built.{Given}
+use Rattle.oc_neutral.proofs.Added.{kept_of, number_left, IsFitting}
+
+-- the normal form of a relocation among the symbols of an object
+abbrev pub normal_in : Object → ℕ → ℕ → Reloc → Normal
+normal_in base s at r = normal_of (word_for base.format) base.symbols s at r
+
+-- the number that it leaves in its bytes
+abbrev pub left_in : Object → ℕ → ℕ → Reloc → ℕ
+left_in base s at r = number_left (word_for base.format) r.form.width (normal_in base s at r)
+
+-- how many bytes section s has
+abbrev pub stored_at : List Section → ℕ → ℕ
+stored_at sections s = option_map_or stored_size (slice_get sections s) 0
+
+-- byte i of section s is in the field of one that is given
+pub record IsCovered (given : Given) (s i : ℕ) : Type 0 where
+  pub at : ℕ
+  pub reloc : Reloc
+  pub here : given s at ≡ Some reloc
+  pub low : at ≤ i
+  pub high : i < at + bytes_of reloc.form.width
+
+-- an object that has a file's sections and symbols, with their contents, and no relocations
+pub record IsBase (f : Dialect) (b : List ℕ) (keep : Keep) (base : Object) : Type 0 where
+  pub whole : AllByRecursion HasItsBytes base.sections
+  pub format : base.format ≡ f.format
+  pub word : f.rules.word ≡ word_for f.format
+  pub sections : shown_sections base ≡ f.rules.sections b
+  pub symbols : shown_symbols base ≡ f.rules.symbols b keep
+  pub numbered : AreNumbered (f.rules.symbols b keep)
+
+-- n is that object with what is given: a relocation in normal form, or its constant, at each place
+pub record IsShowing (base n : Object) (given : Given) : Type 0 where
+  pub whole : AllByRecursion HasItsBytes n.sections
+  pub format : n.format ≡ base.format
+  pub groups : n.groups ≡ base.groups
+  pub symbols : n.symbols ≡ base.symbols
+  pub frames : map (λ (z : Section). frame_of (shown_section base.groups z)) n.sections ≡ map (λ (z : Section). frame_of (shown_section base.groups z)) base.sections
+  pub sizes : map stored_size n.sections ≡ map stored_size base.sections
+  pub relocs : (t x : ℕ) → reloc_at n t x ≡ option_and_then (λ r. kept_of (normal_in base t x r)) (given t x)
+  pub fitting : (t x : ℕ) (r : Reloc) → given t x ≡ Some r → IsFitting (word_for base.format) r (normal_in base t x r)
+  pub inside : (t x : ℕ) (r : Reloc) → given t x ≡ Some r → x + bytes_of r.form.width ≤ stored_at base.sections t
+  pub under : (t x j : ℕ) (r : Reloc) → given t x ≡ Some r → j < bytes_of r.form.width → byte_at n.sections t (x + j) ≡ left_in base t x r / 256 ^ j % 256
+  pub beside : (t i : ℕ) → (IsCovered given t i → ⊥) → byte_at n.sections t i ≡ byte_at base.sections t i
+  pub apart : (t i j : ℕ) (q r : Reloc) → given t i ≡ Some q → given t j ≡ Some r → i < j → i + bytes_of q.form.width ≤ j
