@@ -1,31 +1,26 @@
 -- What an object holds to which relocations were given, and the object before: what is compared with a file.
-use Rattle.std.proofs.Common.{◌≡◌, ℕ, ◌+◌, ◌-◌, ◌/◌, ◌%◌, ◌^◌, ◌<◌, ◌≤◌, ◌⊎◌, inl, inr, Bool, true, false, ◌&&◌, ◌||◌, cond, eqb, List, [], ◌∷◌, map, Option, Some, None, Ok, refl, sym, ◌∙◌, ap, subst, arith}
-use Rattle.std.specs.Prelude.{nat_eq, nat_le, nat_lt, slice_get}
-use Rattle.std.specs.Option.{option_map, option_and_then, option_map_or}
-use Rattle.std.proofs.lemmas.Bool.{eqb-true, eq-eqb, leb-true, ltb-true, true≢false}
-use Rattle.std.proofs.lemmas.Bool.Decides.{nat_tests}
-use Rattle.std.proofs.lemmas.Option.{none-some, same_Some, slice_get-map}
-use Rattle.oc_base.specs.declared.format.Format.{Format}
-use Rattle.oc_base.specs.declared.format.Word.{Word}
+use Rattle.std.proofs.Common.{◌≡◌, ℕ, ◌+◌, ◌/◌, ◌%◌, ◌^◌, ◌<◌, ◌≤◌, false, List, map, Option, Some, None, refl, sym, ap, subst}
+use Rattle.std.specs.Prelude.{slice_get}
+use Rattle.std.specs.List.{AllByRecursion}
+use Rattle.std.specs.Option.{option_and_then, option_map_or}
 use Rattle.oc_base.specs.Formats.{word_for}
+use Rattle.oc_linking.specs.declared.terms.Keep.{Keep}
 use Rattle.oc_linking.specs.Fits.{bytes_of}
-use Rattle.oc_chains.specs.Lists.{list_of}
+use Rattle.oc_algebra.specs.Residues.{reduced_number}
 use Rattle.oc_neutral.specs.declared.section.Section.{Section}
-use Rattle.oc_neutral.specs.declared.symbol.Symbol.{Symbol}
 use Rattle.oc_neutral.specs.declared.reloc.Reloc.{Reloc}
 use Rattle.oc_neutral.specs.declared.normal.Normal.{Normal}
-use Rattle.oc_neutral.specs.Normal.{normal_of}
-use Rattle.oc_neutral.specs.Building.{Draft, is_met, stored_size, reloc_added}
-use Rattle.oc_neutral.proofs.WrittenBytes.{byte_at, lies_in}
-use Rattle.std.specs.List.{AllByRecursion}
-use Rattle.oc_linking.specs.declared.terms.Keep.{Keep}
+use Rattle.oc_neutral.specs.declared.normal.Normal.TheVariants as normal
 use Rattle.oc_neutral.specs.Objects.{Object, reloc_at}
+use Rattle.oc_neutral.specs.Normal.{by_section, cancels, folded, normal_of, place_among, takes_section}
+use Rattle.oc_neutral.specs.Building.{stored_size}
 use Rattle.oc_neutral.specs.Dialects.{Dialect}
 use Rattle.oc_neutral.specs.Faces.{shown_section, shown_sections, shown_symbols}
 use Rattle.oc_neutral.specs.Invariants.{HasItsBytes}
 use Rattle.oc_neutral.specs.Shows.{AreNumbered, frame_of}
 use Rattle.oc_neutral.specs.Built.{Given}
 use Rattle.oc_neutral.proofs.Added.{kept_of, number_left, IsFitting}
+use Rattle.oc_neutral.proofs.WrittenBytes.{byte_at}
 
 -- the normal form of a relocation among the symbols of an object
 abbrev pub normal_in : Object → ℕ → ℕ → Reloc → Normal
@@ -70,3 +65,20 @@ pub record IsShowing (base n : Object) (given : Given) : Type 0 where
   pub under : (t x j : ℕ) (r : Reloc) → given t x ≡ Some r → j < bytes_of r.form.width → byte_at n.sections t (x + j) ≡ left_in base t x r / 256 ^ j % 256
   pub beside : (t i : ℕ) → (IsCovered given t i → ⊥) → byte_at n.sections t i ≡ byte_at base.sections t i
   pub apart : (t i j : ℕ) (q r : Reloc) → given t i ≡ Some q → given t j ≡ Some r → i < j → i + bytes_of q.form.width ≤ j
+
+-- what is left of a relocation that is in normal form: itself, and zeros
+pub record StaysAt (n : Object) (s at : ℕ) (r : Reloc) : Type 0 where
+  pub kept : kept_of (normal_in n s at r) ≡ Some r
+  pub left : left_in n s at r ≡ 0
+  pub fitting : IsFitting (word_for n.format) r (normal_in n s at r)
+
+pub stays : (n : Object) (s at : ℕ) (r : Reloc) → place_among n.symbols r.target ≡ None → reduced_number (word_for n.format) r.addend ≡ r.addend
+    → cancels r.form.base r.target r.form.less ≡ false → takes_section s r.form.less ≡ false → StaysAt n s at r
+unfolding folded by_section
+stays n s at r against reduced varies placed =
+    let is : normal_in n s at r ≡ normal.Kept r = rw (against, reduced, varies, placed) refl in
+    record {
+      kept = ap kept_of is;
+      left = ap (λ (m : Normal). number_left (word_for n.format) r.form.width m) is;
+      fitting = subst (λ (m : Normal). IsFitting (word_for n.format) r m) (sym is) tt;
+    }
