@@ -33,7 +33,7 @@ use Rattle.oc_neutral.specs.Shows.{frame_of, IsTrueToFixed}
 use Rattle.oc_neutral.specs.Built.{Given, IsFree, IsGiven}
 use Rattle.oc_neutral.proofs.Adding.{wide_enough}
 use Rattle.oc_neutral.proofs.BuiltSeen.{under-from, under-given}
-use Rattle.oc_neutral.proofs.Showing.{IsBase, IsCovered, IsShowing, left_in, stored_at}
+use Rattle.oc_neutral.proofs.Showing.{IsBase, IsCovered, IsShowing, stored_at}
 use Rattle.oc_neutral.proofs.Positions.{each_at, images_same, lengths_same, lists_same}
 use Rattle.oc_neutral.proofs.WrittenBytes.{byte_at}
 
