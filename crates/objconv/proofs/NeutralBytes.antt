@@ -51,7 +51,7 @@ blanked-zero [] xs i e = e
 blanked-zero (x ∷ entries) xs i e = blanked-zero entries (written 4 0 x.0 xs) i (zero_stays 4 x.0 xs i e)
 
 -- a byte of a field is zero
-blanked-inside : (entries : List (ℕ × Rel)) (xs : List ℕ) (j i : ℕ) (e : ℕ × Rel) → slice_get entries j ≡ Some e → e.0 + 4 ≤ length xs → e.0 ≤ i → i < e.0 + 4
+pub blanked-inside : (entries : List (ℕ × Rel)) (xs : List ℕ) (j i : ℕ) (e : ℕ × Rel) → slice_get entries j ≡ Some e → e.0 + 4 ≤ length xs → e.0 ≤ i → i < e.0 + 4
     → get_or (blanked entries xs) i 0 ≡ 0
 blanked-inside [] xs j i e here room low high = absurd (none-some e here)
 blanked-inside (x ∷ entries) xs zero i e here room low high =
@@ -61,7 +61,7 @@ blanked-inside (x ∷ entries) xs (suc j) i e here room low high =
     blanked-inside entries (written 4 0 x.0 xs) j i e here (omega (arith, length-written 4 0 x.0 xs, room)) low high
 
 -- and any other is as it was
-blanked-outside : (entries : List (ℕ × Rel)) (xs : List ℕ) (i : ℕ) → ((j : ℕ) (e : ℕ × Rel) → slice_get entries j ≡ Some e → e.0 ≤ i → i < e.0 + 4 → ⊥)
+pub blanked-outside : (entries : List (ℕ × Rel)) (xs : List ℕ) (i : ℕ) → ((j : ℕ) (e : ℕ × Rel) → slice_get entries j ≡ Some e → e.0 ≤ i → i < e.0 + 4 → ⊥)
     → get_or (blanked entries xs) i 0 ≡ get_or xs i 0
 blanked-outside [] xs i free = refl
 blanked-outside (x ∷ entries) xs i free =
@@ -73,50 +73,3 @@ blanked-outside (x ∷ entries) xs i free =
         | inr behind ↦ written-behind 4 0 x.0 xs i (omega (arith, behind))
       ]
     ])
-
--- fields of zeros in four bytes, at the offsets of entries
-pub record AreZeros (o : ℕ → Option Patch) (entries : List (ℕ × Rel)) (xs : List ℕ) : Type 0 where
-  pub place : (at : ℕ) (q : Patch) → o at ≡ Some q → (j : ℕ) × (e : ℕ × Rel) × (slice_get entries j ≡ Some e) × (e.0 ≡ at)
-  pub width : (at : ℕ) (q : Patch) → o at ≡ Some q → q.width ≡ Four
-  pub residue : (at : ℕ) (q : Patch) → o at ≡ Some q → q.residue ≡ 0
-  pub there : (j : ℕ) (e : ℕ × Rel) → slice_get entries j ≡ Some e → (q : Patch) × (o e.0 ≡ Some q)
-  pub room : (j : ℕ) (e : ℕ × Rel) → slice_get entries j ≡ Some e → e.0 + 4 ≤ length xs
-
--- each byte of 0 is 0
-zero_byte : (r n : ℕ) → r ≡ 0 → r / n % 256 ≡ 0
-zero_byte r n e = ap (λ x. x / n % 256) e ∙ ap (λ x. x % 256) (zero-div n)
-
-module _ (o : ℕ → Option Patch) (entries : List (ℕ × Rel)) (xs : List ℕ) (are : AreZeros o entries xs) where
-  -- a byte that a field stores
-  filled : (i y : ℕ) → byte_upto o i 8 ≡ Some y → y ≡ get_or (blanked entries xs) i 0
-  filled i y e =
-      let m = first_upto_from (byte_by o i) 8 y e in
-      let n = byte_from o i m.0 y m.2 in
-      let place = are.place (i - m.0) n.1 n.2 in
-      let width : bytes_of n.1.width ≡ 4 = ap bytes_of (are.width (i - m.0) n.1 n.2) in
-      let at : i - m.0 + m.0 ≡ i = omega (arith, n.0) in
-      let byte : byte_by o i m.0 ≡ Some (n.1.residue / 256 ^ m.0 % 256)
-      = ap (λ (k : ℕ). byte_by o k m.0) (sym at) ∙ byte_of_field o (i - m.0) m.0 n.1 n.2 n.3 in
-      let none : n.1.residue / 256 ^ m.0 % 256 ≡ 0 = zero_byte n.1.residue (256 ^ m.0) (are.residue (i - m.0) n.1 n.2) in
-      same_Some y (n.1.residue / 256 ^ m.0 % 256) (sym m.2 ∙ byte) ∙ none
-      ∙ sym (blanked-inside entries xs place.0 i place.1 place.2 (are.room place.0 place.1 place.2) (omega (arith, place.3)) (omega (arith, place.3, n.0, n.3, width)))
-
-  -- a byte that none stores
-  left : (i : ℕ) → byte_upto o i 8 ≡ None → get_or (blanked entries xs) i 0 ≡ get_or xs i 0
-  left i e = blanked-outside entries xs i (λ j x here low high.
-      let there = are.there j x here in
-      let width : bytes_of there.0.width ≡ 4 = ap bytes_of (are.width x.0 there.0 there.1) in
-      let at : x.0 + (i - x.0) ≡ i = omega (arith, low) in
-      let byte : byte_by o i (i - x.0) ≡ Some (there.0.residue / 256 ^ (i - x.0) % 256)
-      = ap (λ (k : ℕ). byte_by o k (i - x.0)) (sym at) ∙ byte_of_field o x.0 (i - x.0) there.0 there.1 (omega (arith, width, low, high)) in
-      none-some (there.0.residue / 256 ^ (i - x.0) % 256) (sym (none_before (byte_by o i) 8 (i - x.0) e (omega (arith, low, high))) ∙ byte))
-
-  -- the bytes with zeros in the fields
-  pub overlay-blanked : overlay o 0 xs ≡ blanked entries xs
-  overlay-blanked = same_number_lists (overlay o 0 xs) (blanked entries xs) (length-overlay o 0 xs ∙ sym (length-blanked entries xs)) (λ i low.
-      let inside : i < length xs = omega (arith, low, length-overlay o 0 xs) in
-      byte_of_image o i xs inside
-      ∙ (elim (byte_upto o i 8) as (λ q. byte_upto o i 8 ≡ q → unwrap_or q (get_or xs i 0) ≡ get_or (blanked entries xs) i 0) [
-        | Some y ↦ λ e. filled i y e
-        | None ↦ λ e. sym (left i e)
-      ] refl))

@@ -6,6 +6,7 @@ use Rattle.std.specs.Ordering.{nat_cmp}
 use Rattle.std.specs.Map.{lookup}
 use Rattle.std.specs.BTreeMap.{is_at}
 use Rattle.std.proofs.lemmas.Bool.{eqb-true, ne_eqb, cases_eq}
+use Rattle.std.proofs.lemmas.Option.{none-some, same_Some}
 use Rattle.std.proofs.lemmas.Bool.Decides.{nat_tests}
 use borrow.Author.Differences.{ints}
 use Rattle.oc_base.specs.declared.format.Word.TheVariants.{W32}
@@ -34,6 +35,8 @@ use Rattle.oc_elf_read.specs.Fields as elf
 use Rattle.oc_neutral.specs.declared.symbol.Symbol.{Symbol}
 use Rattle.oc_neutral.specs.declared.reloc.Target.{Target as NeutralTarget}
 use Rattle.oc_neutral.specs.declared.reloc.Target.TheVariants as target
+use Rattle.oc_neutral.specs.declared.reloc.Reloc.{Reloc}
+use Rattle.oc_neutral.specs.Built.{Given, IsField, IsFree, IsGiven}
 use Rattle.oc_neutral.specs.Objects.{reloc_among, reloc_at}
 use Rattle.oc_neutral.specs.Normal.{cancels, takes_section}
 use Rattle.oc_neutral.specs.Worth.{target_worth, less_of, residue_at}
@@ -49,7 +52,7 @@ use Rattle.objconv.proofs.HeaderLemmas.{IsPlain}
 use Rattle.objconv.proofs.SectionLemmas.{sections_of-plain}
 use Rattle.objconv.proofs.FoundLemmas.{IsRel, IsFound, is_found, find-plain, fields_of-plain, swapped}
 use Rattle.objconv.proofs.TargetLemmas.{symbolic, sectional, target_of-own, target_of-symbol}
-use Rattle.objconv.proofs.NeutralSymbols.{symbols, symbol_at, number-symbol, number_of-symbol}
+use Rattle.objconv.proofs.NeutralSymbols.{symbols, symbol_at, number-symbol, number_of-symbol, place_none}
 
 -- ... where they stand
 
@@ -157,14 +160,10 @@ module _ (b : List ℕ) (keep : Keep) (is : IsPlain b) where
   ]
 
 -- a field of the file at an offset of `.text`, as the object has it
-pub record IsSeen (b : List ℕ) (keep : Keep) (entries : List (ℕ × Rel)) (at : ℕ) (r : Rel) : Type 0 where
+pub record IsSeen (b : List ℕ) (keep : Keep) (at : ℕ) (r : Rel) : Type 0 where
   pub field : Field
-  pub width : field.width ≡ Four
   pub here : kept_fields plain_dialect b keep 0 at ≡ Some field
-  pub varies : is_difference field ≡ false
-  pub look : look_of 0 field ≡ reloc_look (neutral_of b entries) (neutral_reloc (text_in b (headers_in b)) (at, r))
-  pub patch : (p : Placement) (v : Valuation)
-      → patch_of p v field ≡ patch_of p v (field_of (neutral_of b entries) 0 at (neutral_reloc (text_in b (headers_in b)) (at, r)))
+  pub is : IsField plain_dialect b keep (neutral_of b []) 0 at (neutral_reloc (text_in b (headers_in b)) (at, r)) field
 
 module _ (targets : ℕ → Option Target) (contents : List ℕ) (r : Rel) (t : Target) (there : targets (rel_sym r) ≡ Some t) where
   abbrev field_with : (Placement → Valuation → ℕ) → Field
@@ -187,7 +186,7 @@ residue-plain : (xs : List Symbol) (p : Placement) (v : Valuation) (text : List 
 unfolding residue_at neutral_reloc
 residue-plain xs p v text at r = refl
 
-module _ (b : List ℕ) (keep : Keep) (is : IsPlain b) (entries : List (ℕ × Rel)) (r : Rel) (rel : IsRel (headers_in b) r) (at : field_at b (headers_in b) r.r_offset ≡ Some r) where
+module _ (b : List ℕ) (keep : Keep) (is : IsPlain b) (r : Rel) (rel : IsRel (headers_in b) r) (at : field_at b (headers_in b) r.r_offset ≡ Some r) where
   abbrev text : List ℕ
   text = text_in b (headers_in b)
 
@@ -204,75 +203,81 @@ module _ (b : List ℕ) (keep : Keep) (is : IsPlain b) (entries : List (ℕ × R
   here_is : (field : Field) → elf.field_by (elf.target_of b keep) 0 text r ≡ Some field → kept_fields plain_dialect b keep 0 r.r_offset ≡ Some field
   here_is field e = kept_fields-text b keep is r.r_offset ∙ ap (option_and_then (elf.field_by (elf.target_of b keep) 0 text)) at ∙ e
 
-  look_is : (residue : Placement → Valuation → ℕ)
-      → look_of 0 (field_with (elf.target_of b keep) text r aim.target aim.there residue)
-      ≡ reloc_look (neutral_of b entries) (neutral_reloc text (r.r_offset, r))
+  -- and says what the relocation says
+  field_is : (residue : Placement → Valuation → ℕ)
+      → ((p : Placement) (v : Valuation) → residue p v ≡ minus W32 (worth p v + residue_of W32 (from_field_of W32 Four (pos 0) number)) (less_of p 0 r.r_offset (target_worth (symbols b is) p v (neutral_target (rel_sym r))) (neutral_less (rel_type r))))
+      → IsField plain_dialect b keep (neutral_of b []) 0 r.r_offset (neutral_reloc text (r.r_offset, r)) (field_with (elf.target_of b keep) text r aim.target aim.there residue)
   unfolding neutral_reloc
-  look_is residue = rw (takes-plain 0 (rel_type r), aim.named) refl
+  field_is residue same = record {
+    width = refl;
+    check = refl;
+    base = refl;
+    less = refl;
+    hint = refl;
+    target = rw (place_none b is (rel_sym r) rel.some rel.there) (sym aim.named);
+    residue = λ p v fixed. residue-plain (symbols b is) p v text r.r_offset r ∙ sym (same p v);
+  }
 
-  patch_is : (p : Placement) (v : Valuation) (residue : Placement → Valuation → ℕ)
-      → residue p v ≡ minus W32 (worth p v + residue_of W32 (from_field_of W32 Four (pos 0) number)) (less_of p 0 r.r_offset (target_worth (symbols b is) p v (neutral_target (rel_sym r))) (neutral_less (rel_type r)))
-      → patch_of p v (field_with (elf.target_of b keep) text r aim.target aim.there residue) ≡ patch_of p v (field_of (neutral_of b entries) 0 r.r_offset (neutral_reloc text (r.r_offset, r)))
-  unfolding neutral_reloc
-  patch_is p v residue e = ap (λ n. record { width = Four; check = Wrap; residue = n }) (e ∙ sym (residue-plain (symbols b is) p v text r.r_offset r))
-
-  seen-own : IsSeen b keep entries r.r_offset r
+  pub seen-own : IsSeen b keep r.r_offset r
   seen-own = elim rel.type [
     | inl one ↦
         let residue : Placement → Valuation → ℕ = λ p v. reduced W32 ((aim.target.worth p v).site.address + number) in
         record {
           field = field_with (elf.target_of b keep) text r aim.target aim.there residue;
-          width = refl;
           here = here_is _ (field-absolute (elf.target_of b keep) text r aim.target aim.there one);
-          varies = cancels-plain (target_by aim.target.named) (rel_type r);
-          look = look_is residue;
-          patch = λ p v. patch_is p v residue
-              (absolute (worth p v) (aim.target.worth p v).site.address number (residue_of W32 (from_field_of W32 Four (pos 0) number)) (aim.address p v) (addend_is number)
+          is = field_is residue (λ p v.
+              absolute (worth p v) (aim.target.worth p v).site.address number (residue_of W32 (from_field_of W32 Four (pos 0) number)) (aim.address p v) (addend_is number)
               ∙ ap (λ n. minus W32 (worth p v + residue_of W32 (from_field_of W32 Four (pos 0) number)) n) (sym (ap (λ k. less_of p 0 r.r_offset (target_worth (symbols b is) p v (neutral_target (rel_sym r))) (neutral_less k)) one)));
         }
     | inr two ↦
         let residue : Placement → Valuation → ℕ = λ p v. minus W32 ((aim.target.worth p v).site.address + number) ((p.site 0).address + r.r_offset) in
         record {
           field = field_with (elf.target_of b keep) text r aim.target aim.there residue;
-          width = refl;
           here = here_is _ (field-relative (elf.target_of b keep) text r aim.target aim.there two);
-          varies = cancels-plain (target_by aim.target.named) (rel_type r);
-          look = look_is residue;
-          patch = λ p v. patch_is p v residue
-              (relative (worth p v) (aim.target.worth p v).site.address number (residue_of W32 (from_field_of W32 Four (pos 0) number)) ((p.site 0).address + r.r_offset) (aim.address p v) (addend_is number)
+          is = field_is residue (λ p v.
+              relative (worth p v) (aim.target.worth p v).site.address number (residue_of W32 (from_field_of W32 Four (pos 0) number)) ((p.site 0).address + r.r_offset) (aim.address p v) (addend_is number)
               ∙ ap (λ n. minus W32 (worth p v + residue_of W32 (from_field_of W32 Four (pos 0) number)) n)
               (sym (ap (λ k. less_of p 0 r.r_offset (target_worth (symbols b is) p v (neutral_target (rel_sym r))) (neutral_less k)) two)));
         }
   ]
 
--- what stands at an offset of `.text`
-pub record IsFree (b : List ℕ) (keep : Keep) (entries : List (ℕ × Rel)) (at : ℕ) : Type 0 where
-  pub none : field_at b (headers_in b) at ≡ None
-  pub field : kept_fields plain_dialect b keep 0 at ≡ None
-  pub reloc : reloc_at (neutral_of b entries) 0 at ≡ None
+-- the relocations of the object
+abbrev pub given_in : List ℕ → List (ℕ × Rel) → Given
+given_in b entries s at = reloc_at (neutral_of b entries) s at
 
-pub record IsTaken (b : List ℕ) (keep : Keep) (entries : List (ℕ × Rel)) (at : ℕ) : Type 0 where
-  pub rel : Rel
-  pub found : field_at b (headers_in b) at ≡ Some rel
-  pub seen : IsSeen b keep entries at rel
-  pub reloc : reloc_at (neutral_of b entries) 0 at ≡ Some (neutral_reloc (text_in b (headers_in b)) (at, rel))
+-- that of an entry is given
+pub given_at : (b : List ℕ) (entries : List (ℕ × Rel)) → AreFields b (headers_in b) entries → (at : ℕ) (r : Rel) → field_at b (headers_in b) at ≡ Some r
+    → given_in b entries 0 at ≡ Some (neutral_reloc (text_in b (headers_in b)) (at, r))
+given_at b entries fields at r found = reloc_at-text b entries fields at ∙ ap (option_map (λ (r : Rel). neutral_reloc (text_in b (headers_in b)) (at, r))) found
 
--- no field, or one that the object has as the file
-pub text_cases : (b : List ℕ) (keep : Keep) (is : IsPlain b) (entries : List (ℕ × Rel)) → AreFields b (headers_in b) entries → (at : ℕ) → IsFree b keep entries at ⊎ IsTaken b keep entries at
+-- one that is given is that of an entry
+pub given_from : (b : List ℕ) (entries : List (ℕ × Rel)) → AreFields b (headers_in b) entries → (at : ℕ) (q : Reloc) → given_in b entries 0 at ≡ Some q
+    → (r : Rel) × (field_at b (headers_in b) at ≡ Some r) × (neutral_reloc (text_in b (headers_in b)) (at, r) ≡ q)
+given_from b entries fields at q there = by (field_at b (headers_in b) at) refl (sym (reloc_at-text b entries fields at) ∙ there)
+  where
+    by : (o : Option Rel) → field_at b (headers_in b) at ≡ o → option_map (λ (r : Rel). neutral_reloc (text_in b (headers_in b)) (at, r)) o ≡ Some q
+        → (r : Rel) × (field_at b (headers_in b) at ≡ Some r) × (neutral_reloc (text_in b (headers_in b)) (at, r) ≡ q)
+    by None found e = absurd (none-some q e)
+    by (Some r) found e = (r, found, same_Some (neutral_reloc (text_in b (headers_in b)) (at, r)) q e)
+
+-- no field, or one that is given
+pub text_cases : (b : List ℕ) (keep : Keep) (is : IsPlain b) (entries : List (ℕ × Rel)) → AreFields b (headers_in b) entries → (at : ℕ)
+    → IsFree plain_dialect b keep (given_in b entries) 0 at ⊎ IsGiven plain_dialect b keep (neutral_of b []) (given_in b entries) 0 at
 text_cases b keep is entries fields at = by (field_at b (headers_in b) at) refl
   where
-    by : (o : Option Rel) → field_at b (headers_in b) at ≡ o → IsFree b keep entries at ⊎ IsTaken b keep entries at
+    by : (o : Option Rel) → field_at b (headers_in b) at ≡ o → IsFree plain_dialect b keep (given_in b entries) 0 at ⊎ IsGiven plain_dialect b keep (neutral_of b []) (given_in b entries) 0 at
     by None e = inl (record {
-      none = e;
       field = kept_fields-text b keep is at ∙ ap (option_and_then (elf.field_by (elf.target_of b keep) 0 (text_in b (headers_in b)))) e;
-      reloc = reloc_at-text b entries fields at ∙ ap (option_map (λ (r : Rel). neutral_reloc (text_in b (headers_in b)) (at, r))) e;
+      none = reloc_at-text b entries fields at ∙ ap (option_map (λ (r : Rel). neutral_reloc (text_in b (headers_in b)) (at, r))) e;
     })
     by (Some r) e =
         let found : IsFound b (headers_in b) at r = is_found b (headers_in b) at r is.rels e in
         let own : field_at b (headers_in b) r.r_offset ≡ Some r = ap (field_at b (headers_in b)) found.offset ∙ e in
+        let seen : IsSeen b keep at r = subst (λ (k : ℕ). IsSeen b keep k r) found.offset (seen-own b keep is r found.plain own) in
         inr (record {
-          rel = r;
-          found = e;
-          seen = subst (λ (k : ℕ). IsSeen b keep entries k r) found.offset (seen-own b keep is entries r found.plain own);
-          reloc = reloc_at-text b entries fields at ∙ ap (option_map (λ (r : Rel). neutral_reloc (text_in b (headers_in b)) (at, r))) e;
+          field = seen.field;
+          reloc = neutral_reloc (text_in b (headers_in b)) (at, r);
+          here = seen.here;
+          there = given_at b entries fields at r e;
+          is = seen.is;
         })

@@ -29,7 +29,7 @@ use Rattle.objconv.proofs.HeaderLemmas.{IsPlain, plain_is}
 use Rattle.objconv.proofs.ObjectLemmas.{length-text}
 use Rattle.objconv.proofs.NeutralBuilding.{reloc_more}
 use Rattle.objconv.proofs.NeutralEntries.{entry_at, entry_found, found_apart}
-use Rattle.objconv.proofs.NeutralSymbols.{symbols, length-symbols, symbol_at}
+use Rattle.objconv.proofs.NeutralSymbols.{symbols, length-symbols, place_none}
 
 -- ... lists
 
@@ -58,25 +58,6 @@ rises (y ∷ done) e rest sorted zero x here = subst (λ (z : ℕ × Rel). z.0 <
 rises (y ∷ done) e rest sorted (suc i) x here = rises done e rest sorted.1 i x here
 
 -- ... what a relocation names
-
--- no symbol is a Local
-unplaced : (s : Sym) → local_place (binding_of s) ≡ None
-unplaced s = elim (eqb s.st_shndx 0) as (λ t. local_place (cond t Undefined (Global (Place 0 s.st_value))) ≡ None) [ true ↦ refl | false ↦ refl ]
-
-unplaced_symbol : (b : List ℕ) (h : Headers) (k : ℕ) → local_place (neutral_symbol b h k).binding ≡ None
-unfolding neutral_symbol
-unplaced_symbol b h k = unplaced (symbol_in b h k)
-
-module _ (b : List ℕ) (is : IsPlain b) where
-  place_none : (k : ℕ) → 1 ≤ k → k < symbol_count (headers_in b) → place_among (symbols b is) (neutral_target k) ≡ None
-  unfolding place_among
-  place_none k some low = elim (cases_eq k 1) [
-    | inl one ↦ ap (λ t. place_among (symbols b is) (cond t (target.Section 0) (target.Symbol (k - 2)))) (eq-eqb k 1 one)
-    | inr more ↦
-        ap (λ t. place_among (symbols b is) (cond t (target.Section 0) (target.Symbol (k - 2)))) (ne_eqb k 1 more)
-        ∙ ap (option_and_then (λ (s : Symbol). local_place s.binding)) (symbol_at b is (k - 2) (omega (arith, some, low, more)))
-        ∙ unplaced_symbol b (headers_in b) (k - 2 + 2)
-  ]
 
 -- what is known of the next entry, when some are done
 pub record IsNext (b : List ℕ) (h : Headers) (done : List (ℕ × Rel)) (e : ℕ × Rel) : Type 0 where

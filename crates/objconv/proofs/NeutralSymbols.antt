@@ -1,8 +1,9 @@
 -- The symbols of a plain object's neutral object are those that it carries by the rules of ELF.
-use Rattle.std.proofs.Common.{◌≡◌, ℕ, zero, suc, ◌+◌, ◌-◌, ◌<◌, true, false, cond, eqb, List, [], ◌∷◌, length, map, Option, Some, None, refl, sym, ◌∙◌, ap, subst, arith}
+use Rattle.std.proofs.Common.{◌≡◌, ℕ, zero, suc, ◌+◌, ◌-◌, ◌<◌, ◌≤◌, inl, inr, true, false, cond, eqb, List, [], ◌∷◌, length, map, Option, Some, None, refl, sym, ◌∙◌, ap, subst, arith}
 use Rattle.std.specs.Prelude.{slice_get}
 use Rattle.std.specs.List.{range_with_len}
-use Rattle.std.specs.Option.{option_map, option_map_or}
+use Rattle.std.specs.Option.{option_map, option_map_or, option_and_then}
+use Rattle.std.proofs.lemmas.Bool.{cases_eq, eq-eqb, ne_eqb}
 use Rattle.std.proofs.lemmas.List.FromFn.{length-map-range_with_len}
 use Rattle.std.proofs.lemmas.Option.{none-some, same_Some, slice_get-map}
 use Rattle.oc_linking.specs.declared.terms.Keep.{Keep}
@@ -12,11 +13,13 @@ use Rattle.oc_linking.specs.Parts as parts
 use Rattle.oc_elf_read.specs.declared.sym.Sym.{Sym}
 use Rattle.oc_elf_read.specs.Symbols.{symbol_with, symbols_of}
 use Rattle.oc_neutral.specs.declared.symbol.Symbol.{Symbol}
+use Rattle.oc_neutral.specs.declared.reloc.Target.TheVariants as target
+use Rattle.oc_neutral.specs.Normal.{local_place, place_among}
 use Rattle.oc_neutral.specs.Faces.{number_of, shown_binding, shown_symbol, shown_symbols}
 use Rattle.oc_neutral.specs.Shows.{AreNumbered}
 use Rattle.objconv.specs.declared.headers.Headers.{Headers}
 use Rattle.objconv.specs.Plain.{headers_in, symbol_count, symbol_in}
-use Rattle.objconv.specs.Neutral.{binding_of, neutral_symbol, neutral_symbols, neutral_of}
+use Rattle.objconv.specs.Neutral.{binding_of, neutral_symbol, neutral_symbols, neutral_target, neutral_of}
 use Rattle.objconv.proofs.HeaderLemmas.{IsPlain}
 use Rattle.objconv.proofs.SymbolLemmas.{IsSymbol, plain_symbol}
 use Rattle.objconv.proofs.ListedLemmas.{entry_of-symbol, symbol_name-plain, binding_for, carried, symbols_of-plain}
@@ -102,3 +105,22 @@ module _ (b : List ℕ) (is : IsPlain b) where
   numbered-plain keep = subst AreNumbered (shown_symbols-plain [] keep) (λ i j s t low here there same.
       let first = numbered_at [] i s here in
       let second = numbered_at [] j t there in omega (arith, first, second, same, low))
+
+-- no symbol is a Local
+unplaced : (s : Sym) → local_place (binding_of s) ≡ None
+unplaced s = elim (eqb s.st_shndx 0) as (λ t. local_place (cond t Undefined (Global (Place 0 s.st_value))) ≡ None) [ true ↦ refl | false ↦ refl ]
+
+unplaced_symbol : (b : List ℕ) (h : Headers) (k : ℕ) → local_place (neutral_symbol b h k).binding ≡ None
+unfolding neutral_symbol
+unplaced_symbol b h k = unplaced (symbol_in b h k)
+
+module _ (b : List ℕ) (is : IsPlain b) where
+  pub place_none : (k : ℕ) → 1 ≤ k → k < symbol_count (headers_in b) → place_among (symbols b is) (neutral_target k) ≡ None
+  unfolding place_among
+  place_none k some low = elim (cases_eq k 1) [
+    | inl one ↦ ap (λ t. place_among (symbols b is) (cond t (target.Section 0) (target.Symbol (k - 2)))) (eq-eqb k 1 one)
+    | inr more ↦
+        ap (λ t. place_among (symbols b is) (cond t (target.Section 0) (target.Symbol (k - 2)))) (ne_eqb k 1 more)
+        ∙ ap (option_and_then (λ (s : Symbol). local_place s.binding)) (symbol_at b is (k - 2) (omega (arith, some, low, more)))
+        ∙ unplaced_symbol b (headers_in b) (k - 2 + 2)
+  ]
