@@ -18,7 +18,6 @@ use Rattle.oc_linking.specs.Rules.{Field}
 use Rattle.oc_linking.specs.Shows.{Apart, blank, under_of, live_of, unders, lives}
 use Rattle.oc_linking.specs.Values.{Valuation}
 use Rattle.oc_elf_read.specs.declared.rel.Rel.{Rel}
-use Rattle.oc_elf_read.specs.Rel.{rel_type}
 use Rattle.oc_elf_read.specs.Sections.{sections_of, section_name, tag_of}
 use Rattle.oc_neutral.specs.Faces.{field_of, shown_sections}
 use Rattle.oc_neutral.specs.Dialects.{is_difference, is_folded, kept_fields, look_of, looks_in, patches_in}
