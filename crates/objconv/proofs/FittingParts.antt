@@ -1,8 +1,7 @@
 -- What the conditions of a plain object say of its parts.
-use Rattle.std.proofs.Common.{◌≡◌, ℕ, ◌≤◌, Bool, true, List, [], ◌∷◌, length, Option, None, Some, refl, sym, ◌∙◌, ap, subst, arith}
+use Rattle.std.proofs.Common.{◌≡◌, ℕ, ◌≤◌, Bool, true, List, [], ◌∷◌, length, Option, None, refl, sym, ◌∙◌, ap, subst, arith}
 use Rattle.std.specs.Prelude.{nat_eq, nat_le, codes}
 use Rattle.std.specs.List.{AllByRecursion, list_all}
-use Rattle.std.specs.Option.{is_none}
 use Rattle.std.proofs.lemmas.Bool.{true≢false, leb-true, le-leb, eqb-true, eq-eqb, and_parts, and_from}
 use Rattle.std.proofs.lemmas.Slice.Eq.{bytes_eq-Decides}
 use Rattle.oc_base.specs.declared.format.Format.{Format}
@@ -17,6 +16,7 @@ use Rattle.oc_neutral.specs.declared.reloc.Reloc.{Reloc}
 use Rattle.oc_neutral.specs.KindRules.{same_kind}
 use Rattle.oc_neutral.specs.Objects.{Object}
 use Rattle.oc_neutral.specs.Invariants.{AreBegun, IsObject, groups_of}
+use Rattle.objconv.specs.WriterLaw.CodedLemmas.{none_is}
 use Rattle.objconv.specs.Coded.{is_plain_form, is_plain_symbol, is_plain_section, has_one_section, is_plain_object}
 
 -- a test that all pass holds of each
@@ -39,11 +39,6 @@ kind_of Note e = absurd (true≢false (sym e))
 -- `.text` with that tag, in no group
 abbrev pub text_with : ℕ → Section → Section
 text_with tag s = record { name = codes ".text"; kind = Code; align = s.align; size = s.size; bytes = s.bytes; tag = tag; number = s.number; group = None }
-
--- no group
-none_is : (o : Option ℕ) → is_none o ≡ true → o ≡ None
-none_is None e = refl
-none_is (Some g) e = absurd (true≢false (sym e))
 
 -- a section that is plain is `.text`
 section_is : (tag : ℕ) (s : Section) → is_plain_section tag s ≡ true → (s ≡ text_with tag s) × (s.align ≤ 8192)

@@ -1,6 +1,6 @@
 -- The fields of a plain object, and the relocations of its neutral object.
 use Rattle.std.proofs.Common.{◌≡◌, ℕ, suc, ◌+◌, ◌-◌, ◌%◌, ◌^◌, ◌<◌, ◌≤◌, ◌⊎◌, inl, inr, Bool, true, false, cond, eqb, List, [], ◌∷◌, map, Option, Some, None, refl, sym, ◌∙◌, ap, subst, arith, pos}
-use Rattle.std.specs.Prelude.{find, slice_get}
+use Rattle.std.specs.Prelude.{slice_get}
 use Rattle.std.specs.Option.{option_map, option_and_then, unwrap_or}
 use Rattle.std.specs.Ordering.{nat_cmp}
 use Rattle.std.specs.Map.{lookup}
@@ -50,7 +50,7 @@ use Rattle.objconv.specs.Dialects.{plain_dialect}
 use Rattle.objconv.specs.Neutral.{neutral_target, neutral_less, neutral_reloc, neutral_field, neutral_of}
 use Rattle.objconv.proofs.HeaderLemmas.{IsPlain}
 use Rattle.objconv.proofs.SectionLemmas.{sections_of-plain}
-use Rattle.objconv.proofs.FoundLemmas.{IsRel, IsFound, is_found, find-plain, fields_of-plain, swapped}
+use Rattle.objconv.proofs.FoundLemmas.{IsRel, IsFound, is_found, fields_of-plain, swapped}
 use Rattle.objconv.proofs.TargetLemmas.{symbolic, sectional, target_of-own, target_of-symbol}
 use Rattle.objconv.proofs.NeutralSymbols.{symbols, symbol_at, number-symbol, number_of-symbol, place_none}
 

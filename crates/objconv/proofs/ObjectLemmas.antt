@@ -1,5 +1,5 @@
 -- The alignment and the contents of `.text`.
-use Rattle.std.proofs.Common.{◌≡◌, ℕ, ◌+◌, ◌^◌, ◌<◌, ◌≤◌, inl, inr, true, List, length, get_or, drop, sym, ◌∙◌, ap, subst, arith, length-take, length-drop}
+use Rattle.std.proofs.Common.{◌≡◌, ℕ, ◌+◌, ◌^◌, ◌<◌, ◌≤◌, inl, inr, true, List, length, get_or, drop, sym, ◌∙◌, subst, arith, length-take, length-drop}
 use Rattle.std.specs.Option.{is_some, unwrap_or}
 use Rattle.std.proofs.Math.Nat.{pow-le-pow_right}
 use Rattle.std.proofs.lemmas.Bool.{cases_lt}

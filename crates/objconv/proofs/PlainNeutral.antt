@@ -1,8 +1,7 @@
 -- The neutral object of a plain object is refused for nothing.
-use Rattle.std.proofs.Common.{◌≡◌, ◌≢◌, ℕ, zero, suc, ◌+◌, ◌-◌, ◌^◌, ◌<◌, ◌≤◌, Bool, true, false, cond, List, [], ◌∷◌, length, map, get_or, refl, sym, ◌∙◌, ap, subst, arith}
+use Rattle.std.proofs.Common.{◌≡◌, ◌≢◌, ℕ, zero, suc, ◌+◌, ◌-◌, ◌<◌, ◌≤◌, Bool, true, false, cond, List, [], ◌∷◌, length, map, get_or, refl, sym, ◌∙◌, ap, subst, arith}
 use Rattle.std.specs.Prelude.{◌&&◌, eqb, nat_eq, nat_le, All}
 use Rattle.std.specs.List.{list_all, range_with_len}
-use Rattle.std.specs.Option.{unwrap_or}
 use Rattle.std.proofs.lemmas.Bool.{le-leb}
 use Rattle.std.proofs.lemmas.Bool.Decides.{nat_tests}
 use Rattle.std.proofs.lemmas.List.{length-map}
@@ -20,7 +19,7 @@ use Rattle.oc_elf_read.specs.Rel.{rel_type}
 use Rattle.oc_elf_read.specs.Symbols.{mark_of}
 use Rattle.oc_elf_read.specs.Sections.{tag_of}
 use Rattle.objconv.specs.declared.headers.Headers.{Headers}
-use Rattle.objconv.specs.Plain.{exponent_of, headers_in, name_of, rel_count, symbol_count, symbol_in}
+use Rattle.objconv.specs.Plain.{headers_in, name_of, rel_count, symbol_count, symbol_in}
 use Rattle.oc_chains.specs.declared.field.Field.{Field}
 use Rattle.oc_neutral.specs.KindRules.{has_nul}
 use Rattle.oc_neutral.specs.declared.reloc.Reloc.{Reloc}

@@ -1,5 +1,5 @@
 -- The status of what is reported.
-use Rattle.std.proofs.Common.{◌≡◌, ℕ, ◌⊎◌, inl, inr, List, Option, Err, Result, IfErr}
+use Rattle.std.proofs.Common.{◌≡◌, ℕ, inl, inr, List, Option, Err, Result, IfErr}
 use Rattle.std.proofs.lemmas.Result.{IfErr-at_err}
 use Rattle.oc_base.specs.declared.fault.Class.{Class}
 use Rattle.oc_base.specs.declared.fault.Class.TheVariants.{Malformed, Refused, Limit}

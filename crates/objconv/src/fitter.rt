@@ -40,7 +40,7 @@ fn is_elf(format: Format) -> bool
     }
 }
 
-// whether the section is code in `.text`, of an alignment and with a tag that are plain, and in no group
+// whether the section is code in `.text`, of a plain alignment and tag, in no group
 fn is_plain_section(section: &Section) -> bool
     ensures { result ≡ coded.is_plain_section coded.plain_tag section.now }
 {
@@ -212,9 +212,10 @@ fn recode(alloc: Global, neutral: &mut Neutral) -> Result<(), NoMemory>
 
 /// Fits plain objects of ELF for i386 to COFF for i386. All others are refused, with `NotBuilt`.
 ///
-/// A plain object has one section: code in `.text`, aligned to at most 8,192 and in no group, with at most 65,535
-/// relocations, each of four bytes of an address or of its distance from the field. Its symbols are
-/// undefined, or global at a place, and have names of at most eight bytes and no NUL.
+/// A plain object has one section: code in `.text`, in no group and aligned to at most 8,192, with
+/// at most 65,535 relocations, each of four bytes of an address or of its distance from the field.
+/// Its symbols are undefined, or global at a place, and have names of at most eight bytes and no
+/// NUL.
 #[derive(Clone, Copy, Debug)]
 pub struct CoffFitter;
 

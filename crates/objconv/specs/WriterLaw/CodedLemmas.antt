@@ -36,6 +36,11 @@ both false y e = absurd (true≢false (sym e))
 never : {X : Type 0} → false ≡ true → X
 never e = absurd (true≢false (sym e))
 
+-- no group
+pub none_is : (o : Option ℕ) → is_none o ≡ true → o ≡ None
+none_is None e = refl
+none_is (Some g) e = never e
+
 -- nothing is taken, or the place of the field
 abbrev pub IsPlainLess : Less → Type 0
 IsPlainLess l = (l ≡ less.Zero) ⊎ (l ≡ less.Place)
@@ -152,10 +157,6 @@ coded_is m e =
       },
     )
   where
-    none_is : (o : Option ℕ) → is_none o ≡ true → o ≡ None
-    none_is None e = refl
-    none_is (Some g) e = never e
-
     named_text : (name : List ℕ) → bytes_eq name (codes ".text") ≡ true → name ≡ codes ".text"
     named_text name e = (bytes_eq-Decides name (codes ".text")).0 e
 

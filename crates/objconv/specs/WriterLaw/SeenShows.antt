@@ -1,7 +1,7 @@
 -- The file of an object shows the object that is seen.
 use Rattle.std.proofs.Common.{◌≡◌, ℕ, zero, suc, ◌+◌, ◌/◌, ◌%◌, ◌^◌, inl, inr, true, false, true≢false, cond, List, [], ◌∷◌, map, Option, Some, None, refl, sym, ◌∙◌, ap, subst, arith}
 use mathlib.Core.Path.{fun_ext}
-use Rattle.std.specs.Prelude.{codes, find, slice_get}
+use Rattle.std.specs.Prelude.{codes, slice_get}
 use Rattle.std.specs.List.{AllByRecursion}
 use Rattle.std.specs.Option.{option_map, option_map_or, unwrap_or}
 use Rattle.std.proofs.Math.Nat.{zero-div}
@@ -25,7 +25,6 @@ use Rattle.oc_linking.specs.declared.terms.Base.{Base}
 use Rattle.oc_linking.specs.declared.terms.Base.TheVariants as base
 use Rattle.oc_linking.specs.declared.terms.Less.{Less}
 use Rattle.oc_linking.specs.declared.terms.Less.TheVariants as less
-use Rattle.oc_chains.specs.Lists.{list_of}
 use Rattle.oc_neutral.specs.declared.section.Section.{Section}
 use Rattle.oc_neutral.specs.declared.symbol.Symbol.{Symbol}
 use Rattle.oc_neutral.specs.declared.reloc.Target.{Target}
@@ -38,19 +37,15 @@ use Rattle.oc_neutral.specs.Normal.{cancels}
 use Rattle.oc_neutral.specs.Dialects.{is_kept, kept_fields, is_difference, is_folded, target_by, less_in, look_of, looks_in, patches_in}
 use Rattle.oc_neutral.specs.Shows.{frame_of, reloc_look, looks_of, patches_of, AreNumbered, ShowsAt, Shows}
 use Rattle.oc_neutral.proofs.FitLinks.{from_mapped}
-use Rattle.oc_coff_read.specs.declared.relocation.Relocation.{Relocation}
-use Rattle.oc_coff_read.specs.declared.section_header.SectionHeader.{SectionHeader}
 use Rattle.oc_coff_read.specs.Canonical.{CodeObject, code_file}
-use Rattle.oc_coff_read.specs.Fields.{relocates}
-use Rattle.oc_coff_read.specs.Sections.{header_of, relocations_of, sections_of}
+use Rattle.oc_coff_read.specs.Sections.{sections_of}
 use Rattle.oc_coff_read.specs.Seen.{seen_binding, seen_symbol, externals_from, ReadsBack}
-use Rattle.oc_coff_read.proofs.PlaceLaws.{header_of-code, relocations_of-code}
 use Rattle.oc_coff_read.proofs.SeenLaws.{reads_back}
-use Rattle.objconv.specs.Coded.{is_plain_mark, field_patch, filled, type_of, is_function, external_of, coded_with}
+use Rattle.objconv.specs.Coded.{is_plain_mark, field_patch, filled, is_function, external_of, coded_with}
 use Rattle.objconv.specs.Dialects.{coff_dialect}
 use Rattle.objconv.specs.WriterLaw.CodedLemmas.{IsPlainLess, IsPlainForm, IsPlainSymbol, IsCoded}
 use Rattle.objconv.specs.WriterLaw.CodedObjects.{IsPlaced, symbol_placed, section_size, section_power, length-filled, code_object}
-use Rattle.objconv.specs.WriterLaw.SeenObjects.{seen_reloc, renumbered, renumbered_from, seen_object, from_renumbered, entry_at, find-relocations, found_put, apart_of}
+use Rattle.objconv.specs.WriterLaw.SeenObjects.{seen_reloc, renumbered, renumbered_from, seen_object, from_renumbered, found_put, apart_of}
 use Rattle.objconv.specs.WriterLaw.SeenFields.{reloc_seen, fields_seen}
 use Rattle.objconv.specs.WriterLaw.StandingLemmas.{overlay-stands, overlay-over}
 
