@@ -11,16 +11,14 @@ use Rattle.oc_linking.specs.declared.terms.Hint.TheVariants.{Plain}
 use Rattle.oc_linking.specs.declared.terms.Value.TheVariants.{Absolute}
 use Rattle.oc_linking.specs.declared.terms.Binding.TheVariants.{Global, Common}
 use Rattle.oc_linking.specs.Numbers.{modulus}
-use Rattle.oc_linking.specs.Parts.{is_local}
 use Rattle.oc_neutral.specs.Tests.{is_cut, is_unnatural}
-use Rattle.oc_neutral.specs.KindRules.{has_nul}
 use Rattle.oc_neutral.specs.Family.{IsCoff, Family}
 use Rattle.oc_neutral.specs.Powers.{natural_align}
 use Rattle.oc_neutral.specs.declared.section.Section.{Section}
 use Rattle.oc_neutral.specs.declared.symbol.Symbol.{Symbol}
 use Rattle.oc_neutral.specs.declared.reloc.Reloc.{Reloc}
 use Rattle.oc_neutral.specs.Alignments.{common_align}
-use Rattle.oc_neutral.specs.CoffMeets.{offset_of, strings_of, CoffSection, IsNaturalCommon, CoffSymbol, CoffReloc, FittedMeetsCoff}
+use Rattle.oc_neutral.specs.CoffMeets.{offset_of, CoffSection, IsNaturalCommon, CoffSymbol, CoffReloc, FittedMeetsCoff}
 use Rattle.oc_neutral.specs.Coff.Strings.{is_tabled, string_offset}
 use Rattle.oc_neutral.specs.Families.{family_of, container_of}
 use Rattle.oc_neutral.specs.Relocated.{is_relocated}

@@ -1,5 +1,5 @@
 -- What is seen of a fitted object that was written is an object, and looks like the one that was written.
-use Rattle.std.proofs.Common.{◌≡◌, ℕ, zero, suc, ◌+◌, ◌^◌, ◌<◌, ◌≤◌, cond, List, [], ◌∷◌, length, Option, Some, None, refl, sym, ◌∙◌, ap, subst, arith}
+use Rattle.std.proofs.Common.{◌≡◌, ℕ, zero, suc, ◌+◌, ◌≤◌, cond, List, [], ◌∷◌, length, Some, None, refl, sym, ap, subst, arith}
 use Rattle.std.specs.Prelude.{slice_get}
 use Rattle.std.specs.Option.{option_map_or}
 use Rattle.std.proofs.lemmas.Option.{none-some, same_Some}
@@ -16,7 +16,7 @@ use Rattle.oc_neutral.specs.Written.{LooksAlike}
 use Rattle.oc_neutral.specs.Laws.{SeenIsObject, SeenLooksAlike}
 use Rattle.oc_neutral.specs.SymbolLines.{Line}
 use Rattle.oc_neutral.specs.Manners.{Manner, manner_of, own_manner}
-use Rattle.oc_neutral.specs.Seen.{shown_from, seen_with, seen}
+use Rattle.oc_neutral.specs.Seen.{shown_from, seen_with}
 use Rattle.oc_neutral.proofs.MeetsElf.{meets_elf}
 use Rattle.oc_neutral.proofs.MeetsCoff.{meets_coff}
 use Rattle.oc_neutral.proofs.MeetsMach.{meets_mach}

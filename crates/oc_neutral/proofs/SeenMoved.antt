@@ -1,6 +1,6 @@
 -- What is seen of an object that was written looks like the object: each relocation has its value, against a symbol at its new position, or against
 -- the section of a Global.
-use Rattle.std.proofs.Common.{◌≡◌, ℕ, ◌+◌, Bool, true, false, cond, List, map, Option, Some, None, refl, sym, ◌∙◌, ap}
+use Rattle.std.proofs.Common.{◌≡◌, ℕ, ◌+◌, Bool, true, false, cond, List, Option, Some, None, refl, sym, ◌∙◌, ap}
 use Rattle.std.specs.Prelude.{slice_get, ℤ}
 use Rattle.std.specs.Option.{option_map, option_and_then, unwrap_or}
 use Rattle.std.proofs.lemmas.Option.{none-some, same_Some}
@@ -31,7 +31,7 @@ use Rattle.oc_neutral.specs.Objects.{Object, reloc_at}
 use Rattle.oc_neutral.specs.Building.{is_zero}
 use Rattle.oc_neutral.specs.Normal.{Place, at_section, moved_addend, takes_section}
 use Rattle.oc_neutral.specs.Invariants.{AreDistinct, IsOriginal}
-use Rattle.oc_neutral.specs.Faces.{key_of, shown_section, shown_sections, shown_binding, shown_symbol, shown_symbols}
+use Rattle.oc_neutral.specs.Faces.{key_of, shown_section, shown_binding, shown_symbol, shown_symbols}
 use Rattle.oc_neutral.specs.Worth.{target_worth, base_of, less_of, residue_at}
 use Rattle.oc_neutral.specs.Written.{LooksAlike}
 use Rattle.oc_neutral.specs.KeySymbols.{global_place}

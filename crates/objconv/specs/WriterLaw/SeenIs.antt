@@ -141,13 +141,13 @@ same_position ys k low =
     let long = length-pairs 0 2 ys in
     position_or_len_is (λ (x : ℕ × ℕ). nat_eq x.0 k) (pairs 0 2 ys) k (0, 0) (omega (arith, long, low))
     (λ q before.
-        let at = get_or-pairs 0 2 ys q (0, 0) (omega (arith, before, low)) in
-        let zero_plus : 0 + q ≡ q = omega arith in
-        ap (λ x. nat_eq x k) (at ∙ zero_plus) ∙ ne_eqb q k (λ e. omega (arith, e, before)))
+    let at = get_or-pairs 0 2 ys q (0, 0) (omega (arith, before, low)) in
+    let zero_plus : 0 + q ≡ q = omega arith in
+    ap (λ x. nat_eq x k) (at ∙ zero_plus) ∙ ne_eqb q k (λ e. omega (arith, e, before)))
     (λ within.
-        let at = get_or-pairs 0 2 ys k (0, 0) low in
-        let zero_plus : 0 + k ≡ k = omega arith in
-        ap (λ x. nat_eq x k) (at ∙ zero_plus) ∙ eq-eqb k k refl)
+    let at = get_or-pairs 0 2 ys k (0, 0) low in
+    let zero_plus : 0 + k ≡ k = omega arith in
+    ap (λ x. nat_eq x k) (at ∙ zero_plus) ∙ eq-eqb k k refl)
 
 same_target : (ys : List Symbol) (n : Object) → n.symbols ≡ ys → (t : Target) → IsThere n t → seen_target (pairs 0 2 ys) t ≡ t
 same_target ys n is (target.Section k) there = refl

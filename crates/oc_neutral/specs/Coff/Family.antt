@@ -1,5 +1,5 @@
 -- COFF as a target, and what its readers give (PE/COFF, "Section Table", "Section Flags", "Special Sections" and "COFF Symbol Table"; our profile).
-use Rattle.std.specs.Prelude.{ℕ, ◌+◌, ◌^◌, Bool, true, false, not, ◌&&◌, ◌||◌, nat_eq, nat_lt, codes, List, length, Option, Some, None}
+use Rattle.std.specs.Prelude.{ℕ, ◌+◌, ◌^◌, Bool, true, false, not, ◌&&◌, ◌||◌, nat_eq, nat_lt, codes, List, length, Option, None}
 use Rattle.std.specs.Option.{option_map_or}
 use Rattle.oc_base.specs.declared.format.Word.{Word}
 use Rattle.oc_base.specs.declared.format.Word.TheVariants.{W32, W64}
@@ -15,7 +15,7 @@ use Rattle.oc_neutral.specs.Rows.{Row}
 use Rattle.oc_neutral.specs.KindRules.{same_kind, has_nul}
 use Rattle.oc_neutral.specs.KeySymbols.{has_key_symbol}
 use Rattle.oc_neutral.specs.Tests.{is_cut, is_unnatural}
-use Rattle.oc_neutral.specs.Family.{Container, IsElf, IsCoff, same_container, Home, named, unnamed, Count, Family}
+use Rattle.oc_neutral.specs.Family.{IsElf, IsCoff, same_container, Home, named, unnamed, Count, Family}
 use Rattle.oc_neutral.specs.Coff.Kinds.{coff_kind, coff_tag}
 use Rattle.oc_neutral.specs.Coff.Relocs.{coff32_rows, coff64_rows}
 use Rattle.oc_neutral.specs.Coff.Strings.{is_tabled, string_offset}

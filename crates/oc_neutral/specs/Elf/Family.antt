@@ -13,7 +13,7 @@ use Rattle.oc_neutral.specs.Powers.{power_upto}
 use Rattle.oc_neutral.specs.Rows.{Row}
 use Rattle.oc_neutral.specs.KindRules.{has, same_kind, has_nul}
 use Rattle.oc_neutral.specs.Tests.{is_cut, is_unsteady_name}
-use Rattle.oc_neutral.specs.Family.{Container, IsElf, IsCoff, same_container, Home, named, unnamed, Count, Family}
+use Rattle.oc_neutral.specs.Family.{IsElf, IsCoff, same_container, Home, named, unnamed, Count, Family}
 use Rattle.oc_neutral.specs.Elf.Kinds.{elf_tag, elf_kind, elf_tag_type, elf_tag_flags, is_carried_type, is_nobits_tag}
 use Rattle.oc_neutral.specs.Elf.Relocs.{elf32_rows, elf64_rows}
 
