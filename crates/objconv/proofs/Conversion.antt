@@ -1,13 +1,12 @@
 -- What the generic conversion promises of the first path, in its own terms.
-use Rattle.std.proofs.Common.{◌≡◌, ℕ, zero, suc, ◌<◌, ◌≤◌, List, [], ◌∷◌, length, get_or, Option, None, Some, Result, IfErr, OnOk, sym, ◌∙◌, ap, subst}
+use Rattle.std.proofs.Common.{◌≡◌, ℕ, zero, suc, ◌<◌, ◌≤◌, List, [], ◌∷◌, length, get_or, None, Some, Result, IfErr, OnOk, sym, ◌∙◌, ap, subst}
 use Rattle.std.specs.Prelude.{slice_get}
 use Rattle.std.proofs.lemmas.Option.{none-some, same_Some}
-use Rattle.std.proofs.lemmas.Result.{IfErr-weaker, on_ok_weaker}
+use Rattle.std.proofs.lemmas.Result.{on_ok_weaker}
 use Rattle.oc_base.specs.declared.format.Format.TheVariants.{Coff32}
 use Rattle.oc_linking.specs.declared.terms.Kind.TheVariants.{Code, Note}
 use Rattle.oc_linking.specs.Parts as parts
 use Rattle.oc_convert.specs.declared.fault.ConvertFault.{ConvertFault}
-use Rattle.oc_convert.specs.declared.fault.ConvertFault.TheVariants as fault
 use Rattle.oc_convert.specs.Refusals.{IsFaultOf, first_refusal, KeepsNotes}
 use Rattle.objconv.specs.Plain.{headers_in, rel_count}
 use Rattle.objconv.specs.Refusals.{plain_refusal}

@@ -1,25 +1,13 @@
 -- The bytes of a plain object's neutral object: those of `.text`, with zeros in the fields.
-use Rattle.std.proofs.Common.{◌≡◌, ℕ, zero, suc, ◌+◌, ◌-◌, ◌/◌, ◌%◌, ◌^◌, ◌<◌, ◌≤◌, inl, inr, List, [], ◌∷◌, length, get_or, set, Option, Some, None, refl, sym, ◌∙◌, ap, subst, arith}
+use Rattle.std.proofs.Common.{◌≡◌, ℕ, zero, suc, ◌+◌, ◌<◌, ◌≤◌, inl, inr, List, [], ◌∷◌, length, get_or, set, Some, refl, sym, ◌∙◌, subst, arith}
 use Rattle.std.specs.Prelude.{slice_get}
-use Rattle.std.specs.Option.{unwrap_or}
-use Rattle.std.proofs.Math.Nat.{zero-div}
 use Rattle.std.proofs.lemmas.Bool.{cases_lt}
-use Rattle.std.proofs.lemmas.Grind.{same_number_lists}
 use Rattle.std.proofs.lemmas.List.{get_or-set_same, length-set}
 use Rattle.std.proofs.lemmas.Option.{none-some, same_Some}
-use Rattle.oc_linking.specs.declared.terms.Width.TheVariants.{Four}
-use Rattle.oc_linking.specs.declared.terms.Patch.{Patch}
-use Rattle.oc_linking.specs.Fits.{bytes_of}
-use Rattle.oc_linking.specs.Images.{byte_by, byte_upto, overlay}
-use Rattle.oc_linking.proofs.Apart.{byte_from}
-use Rattle.oc_linking.proofs.Overlay.{length-overlay}
-use Rattle.oc_linking.proofs.Storing.{byte_of_image, byte_of_field}
-use Rattle.oc_linking.proofs.Upto.{first_upto_from}
 use Rattle.oc_elf_read.specs.declared.rel.Rel.{Rel}
 use Rattle.oc_neutral.specs.Building.{written}
 use Rattle.oc_neutral.proofs.WrittenBytes.{length-written, written-before, written-behind}
 use Rattle.objconv.specs.Neutral.{blanked}
-use Rattle.objconv.proofs.FieldLemmas.{none_before}
 
 -- a zero stays where zeros are written
 zero_set : (xs : List ℕ) (at i : ℕ) → get_or xs i 0 ≡ 0 → get_or (set xs at 0) i 0 ≡ 0

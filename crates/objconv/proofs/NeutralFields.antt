@@ -22,7 +22,6 @@ use Rattle.oc_linking.specs.Placing.{Placement}
 use Rattle.oc_linking.specs.Values.{Valuation, worthless}
 use Rattle.oc_linking.specs.Rules.{Field, Symbolic}
 use Rattle.oc_linking.specs.Targets.{Target}
-use Rattle.oc_linking.specs.Linking.{patch_of}
 use Rattle.oc_linking.specs.declared.terms.Base.TheVariants.{Address}
 use Rattle.oc_linking.specs.declared.terms.Less.TheVariants as less
 use Rattle.oc_algebra.specs.Residues.{residue_of}
@@ -40,9 +39,8 @@ use Rattle.oc_neutral.specs.Built.{Given, IsField, IsFree, IsGiven}
 use Rattle.oc_neutral.specs.Objects.{reloc_among, reloc_at}
 use Rattle.oc_neutral.specs.Normal.{cancels, takes_section}
 use Rattle.oc_neutral.specs.Worth.{target_worth, less_of, residue_at}
-use Rattle.oc_neutral.specs.Faces.{named_of, field_of}
-use Rattle.oc_neutral.specs.Dialects.{is_difference, kept_fields, look_of, target_by}
-use Rattle.oc_neutral.specs.Shows.{reloc_look}
+use Rattle.oc_neutral.specs.Faces.{named_of}
+use Rattle.oc_neutral.specs.Dialects.{kept_fields}
 use Rattle.objconv.specs.declared.headers.Headers.{Headers}
 use Rattle.objconv.specs.Plain.{headers_in, symbol_count, field_at}
 use Rattle.objconv.specs.Fields.{text_in, AreFields}

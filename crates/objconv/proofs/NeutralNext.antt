@@ -4,26 +4,21 @@ use Rattle.std.specs.Prelude.{slice_get}
 use Rattle.std.specs.List.{AllByRecursion}
 use Rattle.std.specs.List.Sorted.{IsStrictlySortedBy}
 use Rattle.std.specs.Map.{keys_of}
-use Rattle.std.specs.Option.{option_and_then}
 use Rattle.std.specs.Ordering.{nat_cmp}
 use Rattle.std.proofs.lemmas.Bool.{cases_eq, eq-eqb, ne_eqb}
 use Rattle.std.proofs.lemmas.Bool.Decides.{nat_tests}
 use Rattle.std.proofs.lemmas.Option.{none-some, same_Some}
-use Rattle.oc_linking.specs.declared.terms.Value.TheVariants.{Place}
-use Rattle.oc_linking.specs.declared.terms.Binding.TheVariants.{Global, Undefined}
 use Rattle.oc_linking.specs.declared.terms.Less.TheVariants as less
-use Rattle.oc_elf_read.specs.declared.sym.Sym.{Sym}
 use Rattle.oc_elf_read.specs.declared.rel.Rel.{Rel}
 use Rattle.oc_elf_read.specs.Rel.{rel_sym, rel_type}
-use Rattle.oc_neutral.specs.declared.symbol.Symbol.{Symbol}
 use Rattle.oc_neutral.specs.declared.reloc.Target.TheVariants as target
 use Rattle.oc_neutral.specs.Building.{Draft, reloc_added}
 use Rattle.oc_neutral.specs.Invariants.{IsThere, IsLessThere, CanAdd}
-use Rattle.oc_neutral.specs.Normal.{local_place, place_among}
+use Rattle.oc_neutral.specs.Normal.{place_among}
 use Rattle.objconv.specs.declared.headers.Headers.{Headers}
-use Rattle.objconv.specs.Plain.{headers_in, is_plain, symbol_count, symbol_in}
+use Rattle.objconv.specs.Plain.{headers_in, is_plain}
 use Rattle.objconv.specs.Fields.{text_in, AreFields}
-use Rattle.objconv.specs.Neutral.{binding_of, neutral_symbol, neutral_symbols, neutral_target, neutral_less, neutral_reloc, neutral_section, neutral_draft}
+use Rattle.objconv.specs.Neutral.{neutral_symbols, neutral_target, neutral_less, neutral_reloc, neutral_section, neutral_draft}
 use Rattle.objconv.proofs.FoundLemmas.{IsFound}
 use Rattle.objconv.proofs.HeaderLemmas.{IsPlain, plain_is}
 use Rattle.objconv.proofs.ObjectLemmas.{length-text}
