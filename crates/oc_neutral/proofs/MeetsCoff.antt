@@ -1,10 +1,10 @@
 -- Every object that is ready for COFF meets what its writer uses.
 use Rattle.std.proofs.Common.{◌≡◌, ℕ, ◌+◌, ◌^◌, ◌<◌, ◌≤◌, true, false, cond, ◌&&◌, ◌||◌, List, length, Some, None, refl, sym, ◌∙◌, ap, subst, arith}
-use Rattle.std.specs.Prelude.{slice_get, nat_eq, nat_lt, not}
+use Rattle.std.specs.Prelude.{map, slice_get, nat_eq, nat_lt, not}
 use Rattle.std.specs.Option.{option_map, option_map_or}
 use Rattle.std.proofs.lemmas.Bool.{and_parts, ltb-true}
 use Rattle.oc_base.specs.declared.format.Format.{Format}
-use Rattle.oc_base.specs.declared.format.Format.TheVariants.{Elf32, Elf64, Coff32, Coff64, Mac32, Mac64, Omf}
+use Rattle.oc_base.specs.declared.format.Format.TheVariants.{Coff32, Coff64, Mac64}
 use Rattle.oc_base.specs.Formats.{word_for}
 use Rattle.oc_linking.specs.declared.terms.Kind.{Kind}
 use Rattle.oc_linking.specs.declared.terms.Hint.TheVariants.{Plain}
@@ -35,6 +35,7 @@ use Rattle.oc_neutral.specs.Shifts.{field_shift, written_shift}
 use Rattle.oc_neutral.specs.Spelling.{written_row}
 use Rattle.oc_neutral.specs.TargetSections.{section_conditions}
 use Rattle.oc_neutral.specs.TargetSymbols.{is_absolute_form, is_common_form, symbol_conditions}
+use Rattle.oc_neutral.proofs.Formats.{of_coff}
 use Rattle.oc_neutral.proofs.MeetsConditions.{neither, not_below, section_count_met, section_met, symbol_met}
 use Rattle.oc_neutral.proofs.MeetsCounts.{bounded_object}
 use Rattle.oc_neutral.proofs.MeetsGroups.{group_member}
@@ -48,24 +49,13 @@ use Rattle.oc_neutral.proofs.Positions.{each_at}
 
 -- the family of such a format
 coff_whole : (format : Format) → container_of format ≡ IsCoff → family_of format ≡ coff_family (family_of format).word
-coff_whole Elf32 e = absurd (cc)
-coff_whole Elf64 e = absurd (cc)
-coff_whole Coff32 e = refl
-coff_whole Coff64 e = refl
-coff_whole Mac32 e = absurd (cc)
-coff_whole Mac64 e = absurd (cc)
-coff_whole Omf e = absurd (cc)
+coff_whole = of_coff (λ format. family_of format ≡ coff_family (family_of format).word) refl refl
 
 -- the homes of kinds are the same in both formats
 same_home : (format : Format) → container_of format ≡ IsCoff → (k : ℕ) (kind : Kind) (name : List ℕ) (tag : ℕ) → is_home format k kind name tag ≡ is_home Coff32 k kind name tag
 unfolding is_home
-same_home Coff32 e k kind name tag = refl
-same_home Coff64 e k kind name tag = refl
-same_home Elf32 e k kind name tag = absurd (cc)
-same_home Elf64 e k kind name tag = absurd (cc)
-same_home Mac32 e k kind name tag = absurd (cc)
-same_home Mac64 e k kind name tag = absurd (cc)
-same_home Omf e k kind name tag = absurd (cc)
+same_home = of_coff (λ format. (k : ℕ) (kind : Kind) (name : List ℕ) (tag : ℕ) → is_home format k kind name tag ≡ is_home Coff32 k kind name tag)
+    (λ k kind name tag. refl) (λ k kind name tag. refl)
 
 -- what is known of a row of a COFF table
 record IsCoffRow (format : Format) (row : Row) : Type 0 where
@@ -74,56 +64,38 @@ record IsCoffRow (format : Format) (row : Row) : Type 0 where
   single : row.second ≡ None
   no_section : same_taken row.taken TakesSection ≡ false
 
--- of each row: the two lists of answers are computed
+-- of each row, where two lists of answers are the same
+coff_row_of : (format : Format) (k : ℕ) (row : Row) → slice_get (rows_of format) k ≡ Some row
+    → map (λ r. row_of format r.number) (rows_of format) ≡ map Some (rows_of format)
+    → map (λ r. nat_lt 0 r.number && nat_lt r.number (2 ^ 16)) (rows_of format) ≡ map (λ r. true) (rows_of format)
+    → map (λ r. r.second) (rows_of format) ≡ map (λ r. None) (rows_of format)
+    → map (λ r. same_taken r.taken TakesSection) (rows_of format) ≡ map (λ r. false) (rows_of format)
+    → IsCoffRow format row
+coff_row_of format k row here found number single no_section = record {
+  found = of_table (λ r. row_of format r.number) Some (rows_of format) k row found here;
+  number = of_table (λ r. nat_lt 0 r.number && nat_lt r.number (2 ^ 16)) (λ r. true) (rows_of format) k row number here;
+  single = of_table (λ r. r.second) (λ r. None) (rows_of format) k row single here;
+  no_section = of_table (λ r. same_taken r.taken TakesSection) (λ r. false) (rows_of format) k row no_section here;
+}
+
 coff_row : (format : Format) → container_of format ≡ IsCoff → (k : ℕ) (row : Row) → slice_get (rows_of format) k ≡ Some row → IsCoffRow format row
-coff_row Coff32 e k row here = record {
-  found = of_table (λ r. row_of Coff32 r.number) Some (rows_of Coff32) k row refl here;
-  number = of_table (λ r. nat_lt 0 r.number && nat_lt r.number (2 ^ 16)) (λ r. true) (rows_of Coff32) k row refl here;
-  single = of_table (λ r. r.second) (λ r. None) (rows_of Coff32) k row refl here;
-  no_section = of_table (λ r. same_taken r.taken TakesSection) (λ r. false) (rows_of Coff32) k row refl here;
-}
-coff_row Coff64 e k row here = record {
-  found = of_table (λ r. row_of Coff64 r.number) Some (rows_of Coff64) k row refl here;
-  number = of_table (λ r. nat_lt 0 r.number && nat_lt r.number (2 ^ 16)) (λ r. true) (rows_of Coff64) k row refl here;
-  single = of_table (λ r. r.second) (λ r. None) (rows_of Coff64) k row refl here;
-  no_section = of_table (λ r. same_taken r.taken TakesSection) (λ r. false) (rows_of Coff64) k row refl here;
-}
-coff_row Elf32 e k row here = absurd (cc)
-coff_row Elf64 e k row here = absurd (cc)
-coff_row Mac32 e k row here = absurd (cc)
-coff_row Mac64 e k row here = absurd (cc)
-coff_row Omf e k row here = absurd (cc)
+coff_row = of_coff (λ format. (k : ℕ) (row : Row) → slice_get (rows_of format) k ≡ Some row → IsCoffRow format row)
+    (λ k row here. coff_row_of Coff32 k row here refl refl refl refl) (λ k row here. coff_row_of Coff64 k row here refl refl refl refl)
 
 -- neither format has types for calls
 no_calls : (format : Format) → container_of format ≡ IsCoff → has_calls format ≡ false
-no_calls Coff32 e = refl
-no_calls Coff64 e = refl
-no_calls Elf32 e = absurd (cc)
-no_calls Elf64 e = absurd (cc)
-no_calls Mac32 e = absurd (cc)
-no_calls Mac64 e = absurd (cc)
-no_calls Omf e = absurd (cc)
+no_calls = of_coff (λ format. has_calls format ≡ false) refl refl
 
 -- the shift is that of the row
 coff_shift : (format : Format) → container_of format ≡ IsCoff → (at : ℕ) (r : Reloc) → field_shift format at r ≡ option_map (written_shift at r.form.less) (written_row format r.form r.hint)
 unfolding field_shift
-coff_shift Coff32 e at r = refl
-coff_shift Coff64 e at r = refl
-coff_shift Elf32 e at r = absurd (cc)
-coff_shift Elf64 e at r = absurd (cc)
-coff_shift Mac32 e at r = absurd (cc)
-coff_shift Mac64 e at r = absurd (cc)
-coff_shift Omf e at r = absurd (cc)
+coff_shift = of_coff (λ format. (at : ℕ) (r : Reloc) → field_shift format at r ≡ option_map (written_shift at r.form.less) (written_row format r.form r.hint))
+    (λ at r. refl) (λ at r. refl)
 
 -- an absolute value that COFF can write
 short_absolute : (format : Format) → container_of format ≡ IsCoff → (x : ℕ) → x < modulus (word_for format) → is_absolute_form format (Global (Absolute x)) ≡ false → x < 2 ^ 32
-short_absolute Coff32 e x low form = low
-short_absolute Coff64 e x low form = ltb-true x (2 ^ 32) (not_false (nat_lt x (2 ^ 32)) form)
-short_absolute Elf32 e x low form = absurd (cc)
-short_absolute Elf64 e x low form = absurd (cc)
-short_absolute Mac32 e x low form = absurd (cc)
-short_absolute Mac64 e x low form = absurd (cc)
-short_absolute Omf e x low form = absurd (cc)
+short_absolute = of_coff (λ format. (x : ℕ) → x < modulus (word_for format) → is_absolute_form format (Global (Absolute x)) ≡ false → x < 2 ^ 32)
+    (λ x low form. low) (λ x low form. ltb-true x (2 ^ 32) (not_false (nat_lt x (2 ^ 32)) form))
 
 -- commons that are equal have equal alignments
 pub align_same : (size a b : ℕ) → Common size a ≡ Common size b → a ≡ b

@@ -1,13 +1,14 @@
 -- An object that is ready to be written breaks no condition of its target: each section, symbol and relocation meets each.
-use Rattle.std.proofs.Common.{◌≡◌, ℕ, zero, suc, ◌+◌, ◌<◌, ◌≤◌, Bool, true, false, cond, ◌||◌, eqb, List, [], ◌∷◌, ◌++◌, length, map, get_or, Some, None, refl, sym, ◌∙◌, ap, subst, arith}
+use Rattle.std.proofs.Common.{◌≡◌, ℕ, zero, suc, ◌+◌, ◌<◌, ◌≤◌, Bool, true, false, cond, ◌&&◌, ◌||◌, eqb, List, [], ◌∷◌, ◌++◌, length, map, get_or, Some, None, refl, sym, ◌∙◌, ap, subst, arith}
 use Rattle.std.specs.Prelude.{slice_get, nat_lt}
 use Rattle.std.specs.List.{AllByRecursion}
 use Rattle.std.specs.Option.{option_map, option_map_or}
-use Rattle.std.proofs.lemmas.Bool.{true≢false, eqb-true}
+use Rattle.std.proofs.lemmas.Bool.{true≢false, eqb-true, eq-eqb}
 use Rattle.std.proofs.lemmas.Bool.Decides.{nat_tests}
 use Rattle.std.proofs.lemmas.Option.{none-some, same_Some, slice_get-map}
 use Rattle.oc_base.specs.declared.format.Format.{Format}
-use Rattle.oc_base.specs.declared.format.Format.TheVariants.{Elf32, Elf64, Coff32, Coff64, Mac32, Mac64, Omf}
+use Rattle.oc_base.specs.declared.format.Word.{Word}
+use Rattle.oc_base.specs.declared.format.Word.TheVariants.{W32, W64}
 use Rattle.oc_base.specs.declared.fault.Fault.{Fault}
 use Rattle.oc_linking.specs.FirstFault.{Condition, Stage, first_fault}
 use Rattle.oc_linking.proofs.FirstFaultLaws.{no_fault_none_broken}
@@ -16,7 +17,8 @@ use Rattle.oc_chains.specs.Lists.{Lists, list_of}
 use Rattle.oc_neutral.specs.declared.section.Section.{Section}
 use Rattle.oc_neutral.specs.declared.symbol.Symbol.{Symbol}
 use Rattle.oc_neutral.specs.declared.reloc.Reloc.{Reloc}
-use Rattle.oc_neutral.specs.Families.{same_format}
+use Rattle.oc_neutral.specs.Family.{container_number}
+use Rattle.oc_neutral.specs.Families.{family_of, container_of, same_word, same_format}
 use Rattle.oc_neutral.specs.Fitted.{first_unfit, IsFitted}
 use Rattle.oc_neutral.specs.HomeNames.{output_names, names_across}
 use Rattle.oc_neutral.specs.Objects.{Object, reloc_among, reloc_at}
@@ -111,15 +113,15 @@ field_found (x ∷ xs) at r here = by (eqb x.at at) refl (λ h. field_found xs a
     by true e rest h = (0, x, refl, same_Some x.item r h, eqb-true x.at at e)
     by false e rest h = let m = rest h in (suc m.0, m.1, m.2, m.3, m.4)
 
+-- a word is the same as itself
+same_word-self : (w : Word) → same_word w w ≡ true
+same_word-self W32 = refl
+same_word-self W64 = refl
+
 -- a format is the same as itself
 pub same_format-self : (f : Format) → same_format f f ≡ true
-same_format-self Elf32 = refl
-same_format-self Elf64 = refl
-same_format-self Coff32 = refl
-same_format-self Coff64 = refl
-same_format-self Mac32 = refl
-same_format-self Mac64 = refl
-same_format-self Omf = refl
+same_format-self f =
+    ap (λ b. b && same_word (family_of f).word (family_of f).word) (eq-eqb (container_number (container_of f)) (container_number (container_of f)) refl) ∙ same_word-self (family_of f).word
 
 -- the names of the output are those of the sections
 pub own_names : (target : Format) (n : Object) → n.format ≡ target → output_names target n ≡ map (λ (s : Section). s.name) n.sections

@@ -1,11 +1,11 @@
 -- Every object that is ready for ELF meets what its writer uses.
 use Rattle.std.proofs.Common.{◌≡◌, ℕ, ◌+◌, ◌^◌, ◌<◌, ◌≤◌, Bool, true, false, cond, ◌&&◌, ◌||◌, List, [], Some, None, refl, sym, ◌∙◌, ap, subst, arith}
-use Rattle.std.specs.Prelude.{slice_get, nat_lt}
+use Rattle.std.specs.Prelude.{map, slice_get, nat_lt}
 use Rattle.std.specs.Option.{option_map, option_map_or}
 use Rattle.std.proofs.lemmas.Bool.{true≢false, and_parts, ltb-true}
 use Rattle.std.proofs.lemmas.Option.{none-some}
 use Rattle.oc_base.specs.declared.format.Format.{Format}
-use Rattle.oc_base.specs.declared.format.Format.TheVariants.{Elf32, Elf64, Coff32, Coff64, Mac32, Mac64, Omf}
+use Rattle.oc_base.specs.declared.format.Format.TheVariants.{Elf32, Elf64, Mac64}
 use Rattle.oc_linking.specs.declared.terms.Kind.{Kind}
 use Rattle.oc_linking.specs.declared.terms.Kind.TheVariants.{Zero, Exception}
 use Rattle.oc_linking.specs.declared.terms.Base.TheVariants.{HomeNumber}
@@ -33,6 +33,7 @@ use Rattle.oc_neutral.specs.Shifts.{field_shift, written_shift}
 use Rattle.oc_neutral.specs.Spelling.{written_row}
 use Rattle.oc_neutral.specs.TargetSections.{section_conditions}
 use Rattle.oc_neutral.specs.TargetSymbols.{bounded, is_weak_form, symbol_conditions}
+use Rattle.oc_neutral.proofs.Formats.{of_elf}
 use Rattle.oc_neutral.proofs.MeetsConditions.{AreMet, not_below, section_count_met, section_met, symbol_met}
 use Rattle.oc_neutral.proofs.MeetsCounts.{symbols_bounded, bounded_object}
 use Rattle.oc_neutral.proofs.MeetsGroups.{keys_uncut}
@@ -44,24 +45,13 @@ use Rattle.oc_neutral.proofs.Positions.{each_at}
 
 -- the family of such a format
 elf_whole : (format : Format) → container_of format ≡ IsElf → family_of format ≡ elf_family (family_of format).word
-elf_whole Elf32 e = refl
-elf_whole Elf64 e = refl
-elf_whole Coff32 e = absurd (cc)
-elf_whole Coff64 e = absurd (cc)
-elf_whole Mac32 e = absurd (cc)
-elf_whole Mac64 e = absurd (cc)
-elf_whole Omf e = absurd (cc)
+elf_whole = of_elf (λ format. family_of format ≡ elf_family (family_of format).word) refl refl
 
 -- the homes of kinds are the same in both formats
 same_home : (format : Format) → container_of format ≡ IsElf → (k : ℕ) (kind : Kind) (name : List ℕ) (tag : ℕ) → is_home format k kind name tag ≡ is_home Elf32 k kind name tag
 unfolding is_home
-same_home Elf32 e k kind name tag = refl
-same_home Elf64 e k kind name tag = refl
-same_home Coff32 e k kind name tag = absurd (cc)
-same_home Coff64 e k kind name tag = absurd (cc)
-same_home Mac32 e k kind name tag = absurd (cc)
-same_home Mac64 e k kind name tag = absurd (cc)
-same_home Omf e k kind name tag = absurd (cc)
+same_home = of_elf (λ format. (k : ℕ) (kind : Kind) (name : List ℕ) (tag : ℕ) → is_home format k kind name tag ≡ is_home Elf32 k kind name tag)
+    (λ k kind name tag. refl) (λ k kind name tag. refl)
 
 -- what is known of a row of an ELF table
 record IsElfRow (format : Format) (row : Row) : Type 0 where
@@ -72,39 +62,31 @@ record IsElfRow (format : Format) (row : Row) : Type 0 where
   no_section : same_taken row.taken TakesSection ≡ false
   no_home : same_base row.base HomeNumber ≡ false
 
--- of each row: the two lists of answers are computed
+-- of each row, where two lists of answers are the same
+elf_row_of : (format : Format) (k : ℕ) (row : Row) → slice_get (rows_of format) k ≡ Some row
+    → map (λ r. row_of format r.number) (rows_of format) ≡ map Some (rows_of format)
+    → map (λ r. nat_lt 0 r.number && nat_lt r.number (2 ^ 8)) (rows_of format) ≡ map (λ r. true) (rows_of format)
+    → map (λ r. r.second) (rows_of format) ≡ map (λ r. None) (rows_of format)
+    → map (λ r. r.behind) (rows_of format) ≡ map (λ r. 0) (rows_of format)
+    → map (λ r. same_taken r.taken TakesSection) (rows_of format) ≡ map (λ r. false) (rows_of format)
+    → map (λ r. same_base r.base HomeNumber) (rows_of format) ≡ map (λ r. false) (rows_of format)
+    → IsElfRow format row
+elf_row_of format k row here found number single behind no_section no_home = record {
+  found = of_table (λ r. row_of format r.number) Some (rows_of format) k row found here;
+  number = of_table (λ r. nat_lt 0 r.number && nat_lt r.number (2 ^ 8)) (λ r. true) (rows_of format) k row number here;
+  single = of_table (λ r. r.second) (λ r. None) (rows_of format) k row single here;
+  behind = of_table (λ r. r.behind) (λ r. 0) (rows_of format) k row behind here;
+  no_section = of_table (λ r. same_taken r.taken TakesSection) (λ r. false) (rows_of format) k row no_section here;
+  no_home = of_table (λ r. same_base r.base HomeNumber) (λ r. false) (rows_of format) k row no_home here;
+}
+
 elf_row : (format : Format) → container_of format ≡ IsElf → (k : ℕ) (row : Row) → slice_get (rows_of format) k ≡ Some row → IsElfRow format row
-elf_row Elf32 e k row here = record {
-  found = of_table (λ r. row_of Elf32 r.number) Some (rows_of Elf32) k row refl here;
-  number = of_table (λ r. nat_lt 0 r.number && nat_lt r.number (2 ^ 8)) (λ r. true) (rows_of Elf32) k row refl here;
-  single = of_table (λ r. r.second) (λ r. None) (rows_of Elf32) k row refl here;
-  behind = of_table (λ r. r.behind) (λ r. 0) (rows_of Elf32) k row refl here;
-  no_section = of_table (λ r. same_taken r.taken TakesSection) (λ r. false) (rows_of Elf32) k row refl here;
-  no_home = of_table (λ r. same_base r.base HomeNumber) (λ r. false) (rows_of Elf32) k row refl here;
-}
-elf_row Elf64 e k row here = record {
-  found = of_table (λ r. row_of Elf64 r.number) Some (rows_of Elf64) k row refl here;
-  number = of_table (λ r. nat_lt 0 r.number && nat_lt r.number (2 ^ 8)) (λ r. true) (rows_of Elf64) k row refl here;
-  single = of_table (λ r. r.second) (λ r. None) (rows_of Elf64) k row refl here;
-  behind = of_table (λ r. r.behind) (λ r. 0) (rows_of Elf64) k row refl here;
-  no_section = of_table (λ r. same_taken r.taken TakesSection) (λ r. false) (rows_of Elf64) k row refl here;
-  no_home = of_table (λ r. same_base r.base HomeNumber) (λ r. false) (rows_of Elf64) k row refl here;
-}
-elf_row Coff32 e k row here = absurd (cc)
-elf_row Coff64 e k row here = absurd (cc)
-elf_row Mac32 e k row here = absurd (cc)
-elf_row Mac64 e k row here = absurd (cc)
-elf_row Omf e k row here = absurd (cc)
+elf_row = of_elf (λ format. (k : ℕ) (row : Row) → slice_get (rows_of format) k ≡ Some row → IsElfRow format row)
+    (λ k row here. elf_row_of Elf32 k row here refl refl refl refl refl refl) (λ k row here. elf_row_of Elf64 k row here refl refl refl refl refl refl)
 
 -- both formats have types for calls
 calls : (format : Format) → container_of format ≡ IsElf → has_calls format ≡ true
-calls Elf32 e = refl
-calls Elf64 e = refl
-calls Coff32 e = absurd (cc)
-calls Coff64 e = absurd (cc)
-calls Mac32 e = absurd (cc)
-calls Mac64 e = absurd (cc)
-calls Omf e = absurd (cc)
+calls = of_elf (λ format. has_calls format ≡ true) refl refl
 
 module _ (format : Format) (n : Object) (family : container_of format ≡ IsElf) (fits : IsFitted format n) where
   whole : family_of format ≡ elf_family (family_of format).word

@@ -7,7 +7,7 @@ use Rattle.std.proofs.lemmas.Bool.Decides.{nat_tests}
 use Rattle.std.proofs.lemmas.Option.{none-some, same_Some}
 use Rattle.oc_base.specs.Formats.{word_for}
 use Rattle.oc_base.specs.declared.format.Format.{Format}
-use Rattle.oc_base.specs.declared.format.Format.TheVariants.{Elf32, Elf64, Coff32, Coff64, Mac32, Mac64, Omf}
+use Rattle.oc_base.specs.declared.format.Format.TheVariants.{Mac32, Mac64}
 use Rattle.oc_base.specs.declared.format.Word.TheVariants.{W32, W64}
 use Rattle.oc_linking.specs.declared.terms.Width.TheVariants.{Four}
 use Rattle.oc_linking.specs.declared.terms.Kind.{Kind}
@@ -41,6 +41,7 @@ use Rattle.oc_neutral.specs.Stored.{is_stored}
 use Rattle.oc_neutral.specs.TargetRelocations.{taken_end, fixed_end, is_empty, has_empty_end, spot_of, reloc_conditions}
 use Rattle.oc_neutral.specs.TargetSections.{section_conditions}
 use Rattle.oc_neutral.specs.TargetSymbols.{bounded, is_common_form, is_weak_form, symbol_conditions}
+use Rattle.oc_neutral.proofs.Formats.{of_mach}
 use Rattle.oc_neutral.proofs.MeetsConditions.{AreMet, neither, not_below, below_length, section_count_met, section_met, symbol_met, reloc_met}
 use Rattle.oc_neutral.proofs.MeetsCounts.{symbols_bounded, bounded_object}
 use Rattle.oc_neutral.proofs.MeetsGroups.{no_groups}
@@ -54,24 +55,13 @@ use Rattle.oc_neutral.proofs.ShiftLemmas.{four_bytes_hold}
 
 -- the family of such a format
 mach_whole : (format : Format) → container_of format ≡ IsMach → family_of format ≡ mach_family (family_of format).word
-mach_whole Elf32 e = absurd (cc)
-mach_whole Elf64 e = absurd (cc)
-mach_whole Coff32 e = absurd (cc)
-mach_whole Coff64 e = absurd (cc)
-mach_whole Mac32 e = refl
-mach_whole Mac64 e = refl
-mach_whole Omf e = absurd (cc)
+mach_whole = of_mach (λ format. family_of format ≡ mach_family (family_of format).word) refl refl
 
 -- the homes of kinds are the same in both formats
 same_home : (format : Format) → container_of format ≡ IsMach → (k : ℕ) (kind : Kind) (name : List ℕ) (tag : ℕ) → is_home format k kind name tag ≡ is_home Mac32 k kind name tag
 unfolding is_home
-same_home Mac32 e k kind name tag = refl
-same_home Mac64 e k kind name tag = refl
-same_home Elf32 e k kind name tag = absurd (cc)
-same_home Elf64 e k kind name tag = absurd (cc)
-same_home Coff32 e k kind name tag = absurd (cc)
-same_home Coff64 e k kind name tag = absurd (cc)
-same_home Omf e k kind name tag = absurd (cc)
+same_home = of_mach (λ format. (k : ℕ) (kind : Kind) (name : List ℕ) (tag : ℕ) → is_home format k kind name tag ≡ is_home Mac32 k kind name tag)
+    (λ k kind name tag. refl) (λ k kind name tag. refl)
 
 -- what a list was made of
 made_of : {X Y : Type 0} (f : X → Y) (xs : List X) (k : ℕ) (y : Y) → slice_get (map f xs) k ≡ Some y → (x : X) × (slice_get xs k ≡ Some x) × (f x ≡ y)
@@ -91,29 +81,25 @@ found_entry : (format : Format) (m : MachRow) (row : Row) → m.row ≡ row → 
     → entry_among (mach_entries (word_for format)) row.number m.pcrel (length_of row.width) ≡ Some m
 found_entry format m row own found = ap (λ (r : Row). entry_among (mach_entries (word_for format)) r.number m.pcrel (length_of r.width)) (sym own) ∙ found
 
--- of each row: the two lists of answers are computed
+-- of each row, where two lists of answers are the same
+entry_row_of : (format : Format) (k : ℕ) (row : Row) → slice_get (rows_of format) k ≡ Some row
+    → rows_of format ≡ map (λ (x : MachRow). x.row) (mach_entries (word_for format))
+    → map (λ (x : MachRow). entry_among (mach_entries (word_for format)) x.row.number x.pcrel (length_of x.row.width)) (mach_entries (word_for format)) ≡ map Some (mach_entries (word_for format))
+    → map (λ r. nat_lt r.number (2 ^ 4)) (rows_of format) ≡ map (λ r. true) (rows_of format)
+    → IsEntryRow format row
+entry_row_of format k row here are found number =
+    let entries = mach_entries (word_for format) in
+    let m = made_of (λ (x : MachRow). x.row) entries k row (ap (λ rows. slice_get rows k) (sym are) ∙ here) in
+    record {
+      entry = m.0;
+      own = m.2;
+      found = found_entry format m.0 row m.2 (images_same (λ (x : MachRow). entry_among entries x.row.number x.pcrel (length_of x.row.width)) Some entries entries found k m.0 m.0 m.1 m.1);
+      number = of_table (λ r. nat_lt r.number (2 ^ 4)) (λ r. true) (rows_of format) k row number here;
+    }
+
 entry_row : (format : Format) → container_of format ≡ IsMach → (k : ℕ) (row : Row) → slice_get (rows_of format) k ≡ Some row → IsEntryRow format row
-entry_row Mac32 e k row here =
-    let m = made_of (λ (x : MachRow). x.row) (mach_entries W32) k row here in
-    record {
-      entry = m.0;
-      own = m.2;
-      found = found_entry Mac32 m.0 row m.2 (images_same (λ (x : MachRow). entry_among (mach_entries W32) x.row.number x.pcrel (length_of x.row.width)) Some (mach_entries W32) (mach_entries W32) refl k m.0 m.0 m.1 m.1);
-      number = of_table (λ r. nat_lt r.number (2 ^ 4)) (λ r. true) (rows_of Mac32) k row refl here;
-    }
-entry_row Mac64 e k row here =
-    let m = made_of (λ (x : MachRow). x.row) (mach_entries W64) k row here in
-    record {
-      entry = m.0;
-      own = m.2;
-      found = found_entry Mac64 m.0 row m.2 (images_same (λ (x : MachRow). entry_among (mach_entries W64) x.row.number x.pcrel (length_of x.row.width)) Some (mach_entries W64) (mach_entries W64) refl k m.0 m.0 m.1 m.1);
-      number = of_table (λ r. nat_lt r.number (2 ^ 4)) (λ r. true) (rows_of Mac64) k row refl here;
-    }
-entry_row Elf32 e k row here = absurd (cc)
-entry_row Elf64 e k row here = absurd (cc)
-entry_row Coff32 e k row here = absurd (cc)
-entry_row Coff64 e k row here = absurd (cc)
-entry_row Omf e k row here = absurd (cc)
+entry_row = of_mach (λ format. (k : ℕ) (row : Row) → slice_get (rows_of format) k ≡ Some row → IsEntryRow format row)
+    (λ k row here. entry_row_of Mac32 k row here refl refl refl) (λ k row here. entry_row_of Mac64 k row here refl refl refl)
 
 -- what is not at or above
 below : (a b : ℕ) → nat_le a b ≡ false → b < a
