@@ -15,7 +15,6 @@ pub mod FoundLemmas
 pub mod Gathered
 pub mod HeaderLemmas
 pub mod Judged
-pub mod KeyLemmas
 pub mod ListedLemmas
 pub mod NeutralBuilding
 pub mod NeutralBytes
@@ -32,7 +31,6 @@ pub mod PlainLemmas
 pub mod PlainNeutral
 pub mod RefusalLemmas
 pub mod RelsLemmas
-pub mod RisingLemmas
 pub mod RunLemmas
 pub mod SectionLemmas
 pub mod SymbolLemmas

@@ -28,7 +28,7 @@ use Rattle.objconv.specs.Fields.{AreFields, text_in}
 use Rattle.objconv.specs.Neutral.{blanked, neutral_draft, neutral_field, neutral_of, neutral_reloc, neutral_section, neutral_symbol, neutral_symbols, neutral_target}
 use Rattle.objconv.proofs.HeaderLemmas.{IsPlain}
 use Rattle.objconv.proofs.ObjectLemmas.{length-text, text-bytes}
-use Rattle.objconv.proofs.NeutralBuilding.{and-false, blanked-more, first_symbols, limits, meets_none, nameless, placed-more}
+use Rattle.objconv.proofs.NeutralBuilding.{blanked-more, first_symbols, limits, meets_none, placed-more, symbol_new}
 use Rattle.std.proofs.Common.{length-append}
 use Rattle.oc_chains.specs.Lists.{is_taken}
 use Rattle.oc_neutral.specs.Keeping.{is_again}
@@ -81,7 +81,7 @@ module _ (b : List ℕ) (is : IsPlain b) (small : length b ≤ 67108864) (bytes 
   draft_symbols zero l = draft_text
   draft_symbols (suc j) l =
       let before : IsDraft (neutral_draft b h (first_symbols b h j) []) = draft_symbols j (omega (arith, l)) in
-      let single : is_again (first_symbols b h j) (neutral_symbol b h (j + 2)) ≡ false = and-false _ _ (nameless b h j is.symbols (omega (arith, l))) in
+      let single : is_again (first_symbols b h j) (neutral_symbol b h (j + 2)) ≡ false = symbol_new b h j is.symbols (omega (arith, l)) in
       let n = length-map-range_with_len (λ j. neutral_symbol b h (j + 2)) 0 j in
       let laid = is.laid.symbols in
       let table = is.laid.symbol_table in
