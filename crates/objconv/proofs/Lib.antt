@@ -17,13 +17,11 @@ pub mod HeaderLemmas
 pub mod Judged
 pub mod ListedLemmas
 pub mod NeutralBuilding
-pub mod NeutralBytes
 pub mod NeutralEntries
 pub mod NeutralFields
 pub mod NeutralIs
 pub mod NeutralNext
 pub mod NeutralObject
-pub mod NeutralShows
 pub mod NeutralSymbols
 pub mod ObjectLemmas
 pub mod PaddingLemmas
@@ -34,6 +32,5 @@ pub mod RelsLemmas
 pub mod RunLemmas
 pub mod SectionLemmas
 pub mod SymbolLemmas
-pub mod SymbolsLemmas
 pub mod TargetLemmas
 pub mod WindowLemmas

@@ -1,5 +1,5 @@
 -- What a Builder holds while the neutral object of a plain object is built: nothing but want of memory stands against it.
-use Rattle.std.proofs.Common.{◌≡◌, ℕ, zero, suc, ◌+◌, ◌-◌, ◌<◌, ◌≤◌, ◌⊎◌, inl, inr, true, false, cond, eqb, ◌||◌, List, [], ◌∷◌, ◌++◌, map, Result, Ok, Err, Some, None, refl, sym, ◌∙◌, ap, arith, pos}
+use Rattle.std.proofs.Common.{◌≡◌, ℕ, suc, ◌+◌, ◌-◌, ◌<◌, ◌≤◌, ◌⊎◌, inl, inr, true, false, cond, eqb, ◌||◌, List, [], ◌∷◌, ◌++◌, map, Result, Ok, Err, Some, None, refl, sym, ◌∙◌, ap, arith, pos}
 use Rattle.std.specs.Prelude.{nat_lt, slice_get}
 use Rattle.std.specs.List.{list_any, range_with_len}
 use Rattle.std.proofs.lemmas.Bool.Decides.{nat_tests}
@@ -67,8 +67,9 @@ unfolding has_symbols are_distinct
 symbol_new b h j all low =
     let each : ℕ → Symbol = λ j. neutral_symbol b h (j + 2) in
     let here : 0 + j ≡ j = omega arith in
-    let none : first_repeat (later_names b h (symbol_count h - 2)) ≡ None = is_nothing _ (both _ _ all).1 in
-    ap (λ ss. is_again ss (each j)) (sym (take-map-range_with_len each 0 (symbol_count h - 2) j (omega (arith, low))))
+    let inside : j ≤ symbol_count h - 2 = omega (arith, low) in
+    let none : first_repeat (later_names b h (symbol_count h - 2)) ≡ None = is_nothing (first_repeat (later_names b h (symbol_count h - 2))) (both _ _ all).1 in
+    ap (λ ss. is_again ss (each j)) (sym (take-map-range_with_len each 0 (symbol_count h - 2) j inside))
     ∙ each_new (neutral_symbols b h) (ap first_repeat (names-neutral b h) ∙ none) j (each j) (range_at each (symbol_count h - 2) 0 j low ∙ ap (λ k. Some (each k)) here)
 
 pub symbol_more : (b : List ℕ) (h : Headers) (j : ℕ) → has_symbols b h ≡ true → j < symbol_count h - 2
@@ -78,12 +79,12 @@ symbol_more b h j all low = rw (symbol_new b h j all low, ← map-range_with_len
 
 -- ... the relocations
 
-pub blanked-more : (done : List (ℕ × Rel)) (e : ℕ × Rel) (xs : List ℕ) → blanked (done ++ e ∷ []) xs ≡ written 4 0 e.0 (blanked done xs)
+blanked-more : (done : List (ℕ × Rel)) (e : ℕ × Rel) (xs : List ℕ) → blanked (done ++ e ∷ []) xs ≡ written 4 0 e.0 (blanked done xs)
 blanked-more [] e xs = refl
 blanked-more (x ∷ done) e xs = blanked-more done e (written 4 0 x.0 xs)
 
 -- a field behind all others is placed last, and meets none
-pub placed-more : (text : List ℕ) (done : List (ℕ × Rel)) (e : ℕ × Rel) → ((i : ℕ) (x : ℕ × Rel) → slice_get done i ≡ Some x → x.0 + 4 ≤ e.0)
+placed-more : (text : List ℕ) (done : List (ℕ × Rel)) (e : ℕ × Rel) → ((i : ℕ) (x : ℕ × Rel) → slice_get done i ≡ Some x → x.0 + 4 ≤ e.0)
     → placed (neutral_field text e) (map (neutral_field text) done) ≡ map (neutral_field text) (done ++ e ∷ [])
 placed-more text [] e behind = refl
 placed-more text (x ∷ done) e behind =
@@ -91,7 +92,7 @@ placed-more text (x ∷ done) e behind =
     let later : nat_lt e.0 x.0 ≡ false = grind (arith, nat_tests) in
     rw later (ap (λ xs. neutral_field text x ∷ xs) (placed-more text done e (λ i. behind (suc i))))
 
-pub meets_none : (text : List ℕ) (done : List (ℕ × Rel)) (at : ℕ) → ((i : ℕ) (x : ℕ × Rel) → slice_get done i ≡ Some x → x.0 + 4 ≤ at) → list_any (meets at 4) (map (neutral_field text) done) ≡ false
+meets_none : (text : List ℕ) (done : List (ℕ × Rel)) (at : ℕ) → ((i : ℕ) (x : ℕ × Rel) → slice_get done i ≡ Some x → x.0 + 4 ≤ at) → list_any (meets at 4) (map (neutral_field text) done) ≡ false
 meets_none text [] at behind = refl
 meets_none text (x ∷ done) at behind =
     let far : x.0 + 4 ≤ at = behind 0 x refl in

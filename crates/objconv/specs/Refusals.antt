@@ -1,5 +1,5 @@
 -- The first refusal of a conversion, and the statuses (our profile).
-use Rattle.std.specs.Prelude.{◌≡◌, ℕ, nat_lt, if◌then◌else◌, List, length, Option, Some, None}
+use Rattle.std.specs.Prelude.{ℕ, nat_lt, if◌then◌else◌, List, length, Option, Some, None}
 use Rattle.oc_base.specs.declared.code.Code.TheVariants.{LimitInput, NotBuilt}
 use Rattle.oc_base.specs.declared.fault.Phase.TheVariants.{Header}
 use Rattle.oc_base.specs.declared.fault.Class.{Class}
