@@ -16,7 +16,7 @@ use Rattle.oc_neutral.specs.declared.reloc.Reloc.{Reloc}
 use Rattle.oc_neutral.specs.Building.{Draft, empty_draft}
 use Rattle.oc_neutral.specs.Built.{HasAdded, IsFree, IsGiven, IsStarted, and_one, given_by}
 use Rattle.oc_neutral.specs.Faces.{shown_sections}
-use Rattle.oc_neutral.specs.Invariants.{AreBytes, IsDraft, IsObject}
+use Rattle.oc_neutral.specs.Invariants.{IsDraft, IsObject}
 use Rattle.oc_neutral.specs.Keeping.{is_again}
 use Rattle.oc_neutral.specs.Objects.{reloc_among}
 use Rattle.oc_neutral.specs.Shows.{Shows}
@@ -24,6 +24,7 @@ use Rattle.oc_neutral.proofs.BuiltLaws.{built_shows}
 use Rattle.oc_neutral.proofs.Holding.{holds_all}
 use Rattle.oc_neutral.proofs.MoreSections.{section_draft}
 use Rattle.oc_neutral.proofs.MoreSymbols.{symbol_draft}
+use Rattle.oc_neutral.proofs.WrittenLemmas.{all_from_places}
 use Rattle.oc_neutral.proofs.StartedLaws.{fieldless_at}
 use Rattle.objconv.specs.declared.headers.Headers.{Headers}
 use Rattle.objconv.specs.Dialects.{plain_dialect}
@@ -32,7 +33,7 @@ use Rattle.objconv.specs.Fields.{AreFields, text_in}
 use Rattle.objconv.specs.Neutral.{neutral_draft, neutral_field, neutral_of, neutral_reloc, neutral_section, neutral_symbol, neutral_symbols}
 use Rattle.objconv.specs.WriterLaw.CodedObjects.{exponent_is}
 use Rattle.objconv.proofs.HeaderLemmas.{IsPlain}
-use Rattle.objconv.proofs.ObjectLemmas.{length-text, text-bytes}
+use Rattle.objconv.proofs.ObjectLemmas.{length-text, part-bytes}
 use Rattle.objconv.proofs.NeutralBuilding.{first_symbols, limits, symbol_new}
 use Rattle.objconv.proofs.NeutralFields.{given_in, kept_fields-none, text_cases}
 use Rattle.objconv.proofs.NeutralNext.{behind, is_next}
@@ -55,11 +56,6 @@ draft_empty = record {
   };
   folded = record { counted = refl; inside = λ s x here. absurd (none-some x here); apart = λ s. omega arith; beside = λ s. tt };
 }
-
--- bytes are bytes
-are_bytes : (xs : List ℕ) → ((k : ℕ) → get_or xs k 0 < 256) → AreBytes xs
-are_bytes [] each = tt
-are_bytes (x ∷ xs) each = (each 0, are_bytes xs (λ k. each (suc k)))
 
 -- the relocation at an offset, with one entry more
 among-more : (text : List ℕ) (done : List (ℕ × Rel)) (e : ℕ × Rel) → ((i : ℕ) (x : ℕ × Rel) → slice_get done i ≡ Some x → x.0 + 4 ≤ e.0) → (at : ℕ)
@@ -102,7 +98,7 @@ module _ (b : List ℕ) (is : IsPlain b) (small : length b ≤ 67108864) (bytes 
   draft_text = section_draft (empty_draft Elf32) (neutral_section b h []) draft_empty (length-text b h is.laid)
       (record {
         name = (omega arith, (omega arith, (omega arith, (omega arith, (omega arith, tt)))));
-        bytes = are_bytes (text_in b h) (text-bytes b h bytes);
+        bytes = all_from_places (λ x. x < 256) 0 (text_in b h) (λ k low. part-bytes b bytes h.text.sh_offset h.text.sh_size k);
         tag = let type = is.types.text in let flags = is.types.text_flags in omega (arith, type, flags);
         number = omega arith;
       }) tt (limits b h size_small) (omega arith)
@@ -178,7 +174,7 @@ module _ (b : List ℕ) (is : IsPlain b) (small : length b ≤ 67108864) (bytes 
   pub neutral_is_object : (entries : List (ℕ × Rel)) → AreFields b h entries → IsObject (neutral_of b entries)
   neutral_is_object entries fields = record {
     built = (holds_all base (neutral_draft b h (neutral_symbols b h) entries) (given_in b entries) draft (fieldless_at base.object.sections) (fieldless_at base.object.sections) (has entries fields)).draft.built;
-    complete = complete b is small (are_bytes b bytes) entries fields;
+    complete = complete b is small bytes entries fields;
   }
 
   -- and shows the file
