@@ -1,8 +1,9 @@
 -- Tests of all numbers below one, or of some.
-use Rattle.std.proofs.Common.{◌≡◌, ℕ, zero, suc, ◌+◌, ◌<◌, inl, inr, Bool, true, false, refl, sym, ◌∙◌, ap, subst, arith, add-one}
+use Rattle.std.proofs.Common.{◌≡◌, ℕ, zero, suc, ◌+◌, ◌<◌, inl, inr, Bool, true, false, sym, ◌∙◌, ap, subst, arith, add-one}
 use Rattle.std.specs.Prelude.{◌&&◌}
 use Rattle.std.proofs.lemmas.Bool.{cases_eq, and_left, and_right}
 use Rattle.objconv.specs.Plain.{all_below}
+use Rattle.objconv.proofs.PlainLemmas.{both}
 
 -- one more number passes
 pub all_below_more : (test : ℕ → Bool) (i : ℕ) → all_below i test ≡ true → test i ≡ true → all_below (i + 1) test ≡ true
@@ -19,15 +20,9 @@ all_below_stop test i (suc n) fails low = elim (cases_eq i n) [
 -- what passes below n passes at each number there
 pub all_below_at : (test : ℕ → Bool) (n i : ℕ) → all_below n test ≡ true → i < n → test i ≡ true
 all_below_at test zero i all low = absurd (omega arith)
-all_below_at test (suc n) i all low = elim (cases_eq i n) [
-  | inl same ↦ subst (λ (k : ℕ). test k ≡ true) (sym same) (last (all_below n test) (test n) all)
-  | inr other ↦ all_below_at test n i (first (all_below n test) (test n) all) (omega arith)
-]
-  where
-    first : (x y : Bool) → (x && y) ≡ true → x ≡ true
-    first true y e = refl
-    first false y e = e
-
-    last : (x y : Bool) → (x && y) ≡ true → y ≡ true
-    last true y e = e
-    last false y e = absurd (cc)
+all_below_at test (suc n) i all low =
+    let tests = both (all_below n test) (test n) all in
+    elim (cases_eq i n) [
+      | inl same ↦ subst (λ (k : ℕ). test k ≡ true) (sym same) tests.1
+      | inr other ↦ all_below_at test n i tests.0 (omega arith)
+    ]

@@ -8,15 +8,13 @@ use Rattle.oc_linking.specs.declared.terms.Kind.TheVariants.{Code, Note}
 use Rattle.oc_linking.specs.Parts as parts
 use Rattle.oc_convert.specs.declared.fault.ConvertFault.{ConvertFault}
 use Rattle.oc_convert.specs.Refusals.{IsFaultOf, first_refusal, KeepsNotes}
-use Rattle.objconv.specs.Plain.{headers_in, rel_count}
+use Rattle.objconv.specs.Plain.{headers_in}
 use Rattle.objconv.specs.Refusals.{plain_refusal}
 use Rattle.objconv.specs.Dialects.{plain_dialect}
 use Rattle.objconv.specs.Coded.{unfit_for_coff}
 use Rattle.objconv.proofs.HeaderLemmas.{plain_is}
 use Rattle.objconv.proofs.SectionLemmas.{text_section, sections_of-plain}
-use Rattle.objconv.proofs.Gathered.{gathered, gathered_fields}
-use Rattle.objconv.proofs.NeutralIs.{neutral_is_object}
-use Rattle.objconv.proofs.Judged.{ObjectsFine, plain_from, refusal_is_plain}
+use Rattle.objconv.proofs.Judged.{plain_from, refusal_is_plain}
 
 -- a plain object has no notes
 pub plain_notes : (b : List ℕ) → plain_refusal b ≡ None → KeepsNotes plain_dialect Coff32 b
@@ -30,13 +28,9 @@ plain_notes b none k s here note = absurd (code_note (sym (kind_there k s (subst
     kind_there (suc k) s e = absurd (none-some s e)
 
 module _ (b : List ℕ) (small : length b ≤ 67108864) (bytes : (k : ℕ) → get_or b k 0 < 256) where
-  -- its neutral object is one
-  fine : ObjectsFine b
-  fine is small = neutral_is_object b is small bytes (gathered b (headers_in b) (rel_count (headers_in b))) (gathered_fields b (headers_in b) is.rels)
-
   -- the first refusal, in the terms of the first path
   first : first_refusal plain_dialect unfit_for_coff b ≡ plain_refusal b
-  first = refusal_is_plain b small fine
+  first = refusal_is_plain b small bytes
 
   -- what is accepted is not refused
   pub accepted_plain : {X : Type 0} (r : Result X ConvertFault) → OnOk r (first_refusal plain_dialect unfit_for_coff b ≡ None) → OnOk r (plain_refusal b ≡ None)

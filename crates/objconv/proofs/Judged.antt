@@ -1,5 +1,5 @@
 -- What the first path refuses is what is no plain object.
-use Rattle.std.proofs.Common.{◌≡◌, ℕ, ◌+◌, ◌-◌, ◌≤◌, true, false, cond, List, length, Option, None, Some, refl, sym, ◌∙◌, ap, arith}
+use Rattle.std.proofs.Common.{◌≡◌, ℕ, ◌+◌, ◌-◌, ◌<◌, ◌≤◌, true, false, cond, List, length, get_or, Option, None, Some, refl, sym, ◌∙◌, ap, arith}
 use Rattle.std.specs.Prelude.{nat_lt}
 use Rattle.std.proofs.lemmas.Bool.Decides.{nat_tests}
 use Rattle.std.proofs.lemmas.List.FromFn.{length-map-range_with_len}
@@ -7,7 +7,6 @@ use Rattle.std.proofs.lemmas.Option.{none-some}
 use Rattle.oc_base.specs.declared.fault.Fault.{Fault}
 use Rattle.oc_linking.specs.Keeping.{all}
 use Rattle.oc_neutral.specs.Objects.{Object}
-use Rattle.oc_neutral.specs.Invariants.{IsObject}
 use Rattle.oc_linking.specs.Numbers.{or_else}
 use Rattle.oc_neutral.specs.Computed.{object_in}
 use Rattle.oc_neutral.proofs.ShownComputed.{shown_is_computed}
@@ -20,7 +19,7 @@ use Rattle.objconv.specs.Coded.{is_fit_for_coff, unfit_for_coff}
 use Rattle.objconv.proofs.HeaderLemmas.{IsPlain, plain_is}
 use Rattle.objconv.proofs.Gathered.{gathered, gathered_fields}
 use Rattle.objconv.specs.Fields.{AreFields}
-use Rattle.objconv.proofs.NeutralShows.{shows}
+use Rattle.objconv.proofs.NeutralIs.{neutral_is_object, neutral_shows}
 use Rattle.objconv.proofs.PlainNeutral.{object-fits}
 
 -- what is refused for nothing is plain
@@ -52,19 +51,16 @@ module _ (b : List ℕ) (is : IsPlain b) (small : length b ≤ 67108864) where
       let fits = object-fits b is (gathered b (headers_in b) (rel_count (headers_in b))) (gathered_fields b (headers_in b) is.rels).count in
       rw (few, fits) refl
 
--- the neutral object of each plain object is one (proved where the reader is)
-abbrev pub ObjectsFine : List ℕ → Type 0
-ObjectsFine b = (is : IsPlain b) (small : length b ≤ 67108864) → IsObject (object b is small)
-
 -- the first refusal of the first path is that of what is no plain object
-pub refusal_is_plain : (b : List ℕ) → length b ≤ 67108864 → ObjectsFine b → first_refusal plain_dialect unfit_for_coff b ≡ plain_refusal b
-refusal_is_plain b small fine = by (plain_refusal b) refl
+pub refusal_is_plain : (b : List ℕ) → length b ≤ 67108864 → ((k : ℕ) → get_or b k 0 < 256) → first_refusal plain_dialect unfit_for_coff b ≡ plain_refusal b
+refusal_is_plain b small bytes = by (plain_refusal b) refl
   where
     by : (o : Option Fault) → plain_refusal b ≡ o → or_else o (object_refusal unfit_for_coff (object_in plain_dialect b all)) ≡ o
     by (Some f) e = refl
     by None e =
         let is : IsPlain b = plain_is b (plain_from b e) in
         let fields : AreFields b (headers_in b) (gathered b (headers_in b) (rel_count (headers_in b))) = gathered_fields b (headers_in b) is.rels in
+        let entries = gathered b (headers_in b) (rel_count (headers_in b)) in
         let same : object b is small ≡ object_in plain_dialect b all
-        = shown_is_computed plain_dialect b all (object b is small) (fine is small) (shows b is (gathered b (headers_in b) (rel_count (headers_in b))) fields all) in
+        = shown_is_computed plain_dialect b all (object b is small) (neutral_is_object b is small bytes entries fields) (neutral_shows b is small bytes entries fields all) in
         ap (object_refusal unfit_for_coff) (sym same) ∙ object_accepted b is small

@@ -15,16 +15,13 @@ pub mod FoundLemmas
 pub mod Gathered
 pub mod HeaderLemmas
 pub mod Judged
-pub mod KeyLemmas
 pub mod ListedLemmas
 pub mod NeutralBuilding
-pub mod NeutralBytes
 pub mod NeutralEntries
 pub mod NeutralFields
 pub mod NeutralIs
 pub mod NeutralNext
 pub mod NeutralObject
-pub mod NeutralShows
 pub mod NeutralSymbols
 pub mod ObjectLemmas
 pub mod PaddingLemmas
@@ -32,10 +29,8 @@ pub mod PlainLemmas
 pub mod PlainNeutral
 pub mod RefusalLemmas
 pub mod RelsLemmas
-pub mod RisingLemmas
 pub mod RunLemmas
 pub mod SectionLemmas
 pub mod SymbolLemmas
-pub mod SymbolsLemmas
 pub mod TargetLemmas
 pub mod WindowLemmas

@@ -1,30 +1,35 @@
 -- What a Builder holds while the neutral object of a plain object is built: nothing but want of memory stands against it.
-use Rattle.std.proofs.Common.{◌≡◌, ℕ, zero, suc, ◌+◌, ◌-◌, ◌<◌, ◌≤◌, ◌⊎◌, inl, inr, Bool, true, false, ◌&&◌, ◌||◌, List, [], ◌∷◌, ◌++◌, map, Result, Ok, Err, Some, None, refl, sym, ◌∙◌, ap, arith, pos}
-use Rattle.std.specs.Prelude.{not, nat_lt, bytes_eq, slice_get}
+use Rattle.std.proofs.Common.{◌≡◌, ℕ, suc, ◌+◌, ◌-◌, ◌<◌, ◌≤◌, ◌⊎◌, inl, inr, true, false, cond, eqb, ◌||◌, List, [], ◌∷◌, ◌++◌, map, Result, Ok, Err, Some, None, refl, sym, ◌∙◌, ap, arith, pos}
+use Rattle.std.specs.Prelude.{nat_lt, slice_get}
 use Rattle.std.specs.List.{list_any, range_with_len}
 use Rattle.std.proofs.lemmas.Bool.Decides.{nat_tests}
-use Rattle.std.proofs.lemmas.Bool.{true≢false}
-use Rattle.std.proofs.lemmas.List.FromFn.{map-range_with_len_more}
+use Rattle.std.proofs.lemmas.List.FromFn.{map-range_with_len_more, take-map-range_with_len}
 use Rattle.oc_base.specs.declared.format.Word.TheVariants.{W32}
 use Rattle.oc_base.specs.Numbers.{number_at}
+use Rattle.oc_linking.specs.declared.terms.Binding.TheVariants.{Global, Undefined}
+use Rattle.oc_linking.specs.declared.terms.Value.TheVariants.{Place}
 use Rattle.oc_linking.specs.declared.terms.Width.TheVariants.{Four}
 use Rattle.oc_algebra.proofs.FieldLaws.{reduced-from_field}
 use Rattle.oc_chains.specs.Fields.{meets, placed}
 use Rattle.oc_elf_read.specs.declared.rel.Rel.{Rel}
+use Rattle.oc_elf_read.specs.declared.sym.Sym.{Sym}
 use Rattle.oc_elf_read.specs.Rel.{rel_sym, rel_type}
 use Rattle.oc_neutral.specs.declared.symbol.Symbol.{Symbol}
 use Rattle.oc_neutral.specs.declared.fault.BuildFault.{BuildFault}
 use Rattle.oc_neutral.specs.declared.fault.BuildFault.TheVariants as fault
-use Rattle.oc_neutral.specs.Building.{Draft, empty_draft, has_name, limit_by, section_by, section_added, symbol_added, is_met, reloc_added, written}
+use Rattle.oc_neutral.specs.Building.{Draft, empty_draft, limit_by, section_by, section_added, symbol_added, is_met, reloc_added, written}
+use Rattle.oc_neutral.specs.Keeping.{is_again}
 use Rattle.oc_neutral.specs.Normal.{place_among, by_section, folded}
+use Rattle.oc_neutral.specs.Repeats.{first_repeat, nonlocal_name}
+use Rattle.oc_neutral.proofs.MeetsParts.{is_nothing}
+use Rattle.oc_neutral.proofs.RepeatLaws.{each_new}
 use Rattle.objconv.specs.declared.headers.Headers.{Headers}
-use Rattle.objconv.specs.Plain.{symbol_count, symbol_name, has_symbols, are_distinct, is_used}
+use Rattle.objconv.specs.Plain.{symbol_count, symbol_in, symbol_name, name_of, later_names, has_symbols, are_distinct}
 use Rattle.objconv.specs.Fields.{text_in}
-use Rattle.objconv.specs.Neutral.{blanked, neutral_symbol, neutral_target, neutral_reloc, neutral_field, neutral_section, neutral_draft}
+use Rattle.objconv.specs.Neutral.{binding_of, blanked, neutral_symbol, neutral_symbols, neutral_target, neutral_reloc, neutral_field, neutral_section, neutral_draft}
 use Rattle.objconv.proofs.PlainLemmas.{both}
-use Rattle.objconv.proofs.BelowLemmas.{all_below_at}
-use Rattle.objconv.proofs.FieldLemmas.{any_below_hit}
 use Rattle.objconv.proofs.NeutralFields.{cancels-plain, takes-plain}
+use Rattle.objconv.proofs.NeutralSymbols.{made, range_at}
 use Rattle.oc_base.specs.declared.format.Format.TheVariants.{Elf32}
 
 -- ... the section
@@ -47,56 +52,39 @@ text_added b h small = ap (section_by (empty_draft Elf32) (neutral_section b h [
 abbrev pub first_symbols : List ℕ → Headers → ℕ → List Symbol
 first_symbols b h n = map (λ j. neutral_symbol b h (j + 2)) (range_with_len 0 n)
 
--- none of listed items passes
-none_listed : {X : Type 0} (test : X → Bool) (g : ℕ → X) (n j : ℕ) → ((i : ℕ) → i < n → test (g (j + i)) ≡ false) → list_any test (map g (range_with_len j n)) ≡ false
-none_listed test g zero j each = refl
-none_listed test g (suc n) j each =
-    let first : j + 0 ≡ j = omega arith in
-    ap (λ t. t || list_any test (map g (range_with_len (j + 1) n))) (ap (λ k. test (g k)) (sym first) ∙ each 0 (omega arith))
-    ∙ none_listed test g n (j + 1) (λ i low. let next : j + 1 + i ≡ j + suc i = omega arith in ap (λ k. test (g k)) next ∙ each (suc i) (omega arith))
-
--- no earlier symbol has the name
-unused : (b : List ℕ) (h : Headers) (j : ℕ) → has_symbols b h ≡ true → j < symbol_count h - 2 → (i : ℕ) → i < j → bytes_eq (symbol_name b h (i + 2)) (symbol_name b h (j + 2)) ≡ false
-unfolding has_symbols are_distinct
-unused b h j all low i before = by (bytes_eq (symbol_name b h (i + 2)) (symbol_name b h (j + 2))) refl
-  where
-    by : (t : Bool) → bytes_eq (symbol_name b h (i + 2)) (symbol_name b h (j + 2)) ≡ t → t ≡ false
-    by false e = refl
-    by true e =
-        let never : not (is_used b h j (symbol_name b h (j + 2))) ≡ true = all_below_at (λ j. not (is_used b h j (symbol_name b h (j + 2)))) (symbol_count h - 2) j (both _ _ all).1 low in
-        let used : is_used b h j (symbol_name b h (j + 2)) ≡ true = any_below_hit (λ k. bytes_eq (symbol_name b h (k + 2)) (symbol_name b h (j + 2))) i j e before in
-        absurd (true≢false (sym never ∙ ap not used))
-
-pub and-false : (x y : Bool) → y ≡ false → (x && y) ≡ false
-and-false true y e = e
-and-false false y e = refl
-
-name-neutral : (b : List ℕ) (h : Headers) (k : ℕ) → (neutral_symbol b h k).name ≡ symbol_name b h k
+-- the names of the object's symbols, none of which is local
+names-neutral : (b : List ℕ) (h : Headers) → map (λ (s : Symbol). nonlocal_name s.binding s.name) (neutral_symbols b h) ≡ later_names b h (symbol_count h - 2)
 unfolding neutral_symbol
-name-neutral b h k = refl
+names-neutral b h = made (λ j. neutral_symbol b h (j + 2)) (λ (s : Symbol). nonlocal_name s.binding s.name) (λ j. Some (symbol_name b h (j + 2))) (symbol_count h - 2) 0 (λ j low. named (symbol_in b h (0 + j + 2)))
+  where
+    named : (s : Sym) → nonlocal_name (binding_of s) (name_of b h s) ≡ Some (name_of b h s)
+    named s =
+        elim (eqb s.st_shndx 0) as (λ t. nonlocal_name (cond t Undefined (Global (Place 0 s.st_value))) (name_of b h s) ≡ Some (name_of b h s)) [ true ↦ refl | false ↦ refl ]
 
-pub nameless : (b : List ℕ) (h : Headers) (j : ℕ) → has_symbols b h ≡ true → j < symbol_count h - 2 → has_name (first_symbols b h j) (neutral_symbol b h (j + 2)).name ≡ false
-nameless b h j all low = none_listed _ (λ i. neutral_symbol b h (i + 2)) j 0 (λ i before.
-    let same : 0 + i ≡ i = omega arith in
-    and-false _ _
-    (ap (λ k. bytes_eq (neutral_symbol b h (k + 2)).name (neutral_symbol b h (j + 2)).name) same
-    ∙ ap (λ n. bytes_eq n (neutral_symbol b h (j + 2)).name) (name-neutral b h (i + 2))
-    ∙ ap (bytes_eq (symbol_name b h (i + 2))) (name-neutral b h (j + 2))
-    ∙ unused b h j all low i before))
+-- no earlier symbol has the name of one
+pub symbol_new : (b : List ℕ) (h : Headers) (j : ℕ) → has_symbols b h ≡ true → j < symbol_count h - 2 → is_again (first_symbols b h j) (neutral_symbol b h (j + 2)) ≡ false
+unfolding has_symbols are_distinct
+symbol_new b h j all low =
+    let each : ℕ → Symbol = λ j. neutral_symbol b h (j + 2) in
+    let here : 0 + j ≡ j = omega arith in
+    let inside : j ≤ symbol_count h - 2 = omega (arith, low) in
+    let none : first_repeat (later_names b h (symbol_count h - 2)) ≡ None = is_nothing (first_repeat (later_names b h (symbol_count h - 2))) (both _ _ all).1 in
+    ap (λ ss. is_again ss (each j)) (sym (take-map-range_with_len each 0 (symbol_count h - 2) j inside))
+    ∙ each_new (neutral_symbols b h) (ap first_repeat (names-neutral b h) ∙ none) j (each j) (range_at each (symbol_count h - 2) 0 j low ∙ ap (λ k. Some (each k)) here)
 
 pub symbol_more : (b : List ℕ) (h : Headers) (j : ℕ) → has_symbols b h ≡ true → j < symbol_count h - 2
     → symbol_added (neutral_draft b h (first_symbols b h j) []) (neutral_symbol b h (j + 2)) ≡ Ok (neutral_draft b h (first_symbols b h (j + 1)) [])
 unfolding symbol_added
-symbol_more b h j all low = rw (and-false _ _ (nameless b h j all low), ← map-range_with_len_more (λ j. neutral_symbol b h (j + 2)) 0 j j (omega arith)) refl
+symbol_more b h j all low = rw (symbol_new b h j all low, ← map-range_with_len_more (λ j. neutral_symbol b h (j + 2)) 0 j j (omega arith)) refl
 
 -- ... the relocations
 
-pub blanked-more : (done : List (ℕ × Rel)) (e : ℕ × Rel) (xs : List ℕ) → blanked (done ++ e ∷ []) xs ≡ written 4 0 e.0 (blanked done xs)
+blanked-more : (done : List (ℕ × Rel)) (e : ℕ × Rel) (xs : List ℕ) → blanked (done ++ e ∷ []) xs ≡ written 4 0 e.0 (blanked done xs)
 blanked-more [] e xs = refl
 blanked-more (x ∷ done) e xs = blanked-more done e (written 4 0 x.0 xs)
 
 -- a field behind all others is placed last, and meets none
-pub placed-more : (text : List ℕ) (done : List (ℕ × Rel)) (e : ℕ × Rel) → ((i : ℕ) (x : ℕ × Rel) → slice_get done i ≡ Some x → x.0 + 4 ≤ e.0)
+placed-more : (text : List ℕ) (done : List (ℕ × Rel)) (e : ℕ × Rel) → ((i : ℕ) (x : ℕ × Rel) → slice_get done i ≡ Some x → x.0 + 4 ≤ e.0)
     → placed (neutral_field text e) (map (neutral_field text) done) ≡ map (neutral_field text) (done ++ e ∷ [])
 placed-more text [] e behind = refl
 placed-more text (x ∷ done) e behind =
@@ -104,7 +92,7 @@ placed-more text (x ∷ done) e behind =
     let later : nat_lt e.0 x.0 ≡ false = grind (arith, nat_tests) in
     rw later (ap (λ xs. neutral_field text x ∷ xs) (placed-more text done e (λ i. behind (suc i))))
 
-pub meets_none : (text : List ℕ) (done : List (ℕ × Rel)) (at : ℕ) → ((i : ℕ) (x : ℕ × Rel) → slice_get done i ≡ Some x → x.0 + 4 ≤ at) → list_any (meets at 4) (map (neutral_field text) done) ≡ false
+meets_none : (text : List ℕ) (done : List (ℕ × Rel)) (at : ℕ) → ((i : ℕ) (x : ℕ × Rel) → slice_get done i ≡ Some x → x.0 + 4 ≤ at) → list_any (meets at 4) (map (neutral_field text) done) ≡ false
 meets_none text [] at behind = refl
 meets_none text (x ∷ done) at behind =
     let far : x.0 + 4 ≤ at = behind 0 x refl in

@@ -2,15 +2,14 @@
 use Rattle.std.proofs.Common.{◌≡◌, ℕ, ◌+◌, ◌<◌, ◌≤◌, inl, inr, List, map, Some, sym, ◌∙◌, ap, arith}
 use Rattle.std.specs.Prelude.{slice_get}
 use Rattle.std.specs.Ordering.{nat_cmp}
-use Rattle.std.specs.BTreeMap.{is_at}
-use Rattle.std.proofs.lemmas.Bool.{cases_lt, eqb-true}
+use Rattle.std.proofs.lemmas.Bool.{cases_lt}
 use Rattle.std.proofs.lemmas.Cmp.{nat_cmp_total, eq_by_cmp_equiv}
 use Rattle.std.proofs.lemmas.Map.Keys.{IsDistinct-from_sorted}
-use Rattle.std.proofs.lemmas.Map.Entries.{lookup_from_place, place_from_lookup}
+use Rattle.std.proofs.lemmas.Map.Entries.{lookup_from_place}
 use Rattle.oc_elf_read.specs.declared.rel.Rel.{Rel}
 use Rattle.objconv.specs.Plain.{headers_in, entry_in, field_at}
 use Rattle.objconv.specs.Fields.{AreFields}
-use Rattle.objconv.proofs.FoundLemmas.{IsFound, is_found, swapped}
+use Rattle.objconv.proofs.FoundLemmas.{IsFound, is_found}
 use Rattle.objconv.proofs.HeaderLemmas.{IsPlain}
 use Rattle.objconv.proofs.RelsLemmas.{rels_apart, rels_apart_before}
 
@@ -23,12 +22,6 @@ module _ (b : List ℕ) (is : IsPlain b) (entries : List (ℕ × Rel)) (fields :
 
   pub entry_found : (j : ℕ) (e : ℕ × Rel) → slice_get entries j ≡ Some e → IsFound b (headers_in b) e.0 e.1
   entry_found j e here = is_found b (headers_in b) e.0 e.1 is.rels (entry_at j e here)
-
-  -- and the relocation at an offset is an entry
-  pub at_entry : (at : ℕ) (r : Rel) → field_at b (headers_in b) at ≡ Some r → (j : ℕ) × (e : ℕ × Rel) × (slice_get entries j ≡ Some e) × (e.0 ≡ at)
-  at_entry at r e =
-      let m = place_from_lookup (is_at (nat_cmp at)) entries r (fields.at at ∙ e) in
-      (m.0, (m.1, r), m.2, eqb-true m.1 at (sym (swapped at m.1) ∙ m.3))
 
 -- no field begins within one before it
 pub found_apart : (b : List ℕ) (is : IsPlain b) (i j : ℕ) (x y : Rel) → field_at b (headers_in b) i ≡ Some x → field_at b (headers_in b) j ≡ Some y → i < j → i + 4 ≤ j

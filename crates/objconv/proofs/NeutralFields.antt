@@ -248,16 +248,6 @@ pub given_at : (b : List ℕ) (entries : List (ℕ × Rel)) → AreFields b (hea
     → given_in b entries 0 at ≡ Some (neutral_reloc (text_in b (headers_in b)) (at, r))
 given_at b entries fields at r found = reloc_at-text b entries fields at ∙ ap (option_map (λ (r : Rel). neutral_reloc (text_in b (headers_in b)) (at, r))) found
 
--- one that is given is that of an entry
-pub given_from : (b : List ℕ) (entries : List (ℕ × Rel)) → AreFields b (headers_in b) entries → (at : ℕ) (q : Reloc) → given_in b entries 0 at ≡ Some q
-    → (r : Rel) × (field_at b (headers_in b) at ≡ Some r) × (neutral_reloc (text_in b (headers_in b)) (at, r) ≡ q)
-given_from b entries fields at q there = by (field_at b (headers_in b) at) refl (sym (reloc_at-text b entries fields at) ∙ there)
-  where
-    by : (o : Option Rel) → field_at b (headers_in b) at ≡ o → option_map (λ (r : Rel). neutral_reloc (text_in b (headers_in b)) (at, r)) o ≡ Some q
-        → (r : Rel) × (field_at b (headers_in b) at ≡ Some r) × (neutral_reloc (text_in b (headers_in b)) (at, r) ≡ q)
-    by None found e = absurd (none-some q e)
-    by (Some r) found e = (r, found, same_Some (neutral_reloc (text_in b (headers_in b)) (at, r)) q e)
-
 -- no field, or one that is given
 pub text_cases : (b : List ℕ) (keep : Keep) (is : IsPlain b) (entries : List (ℕ × Rel)) → AreFields b (headers_in b) entries → (at : ℕ)
     → IsFree plain_dialect b keep (given_in b entries) 0 at ⊎ IsGiven plain_dialect b keep (neutral_of b []) (given_in b entries) 0 at

@@ -1,5 +1,5 @@
 -- One relocation more of a plain object, while its neutral object is built.
-use Rattle.std.proofs.Common.{◌≡◌, ℕ, zero, suc, ◌+◌, ◌-◌, ◌<◌, ◌≤◌, inl, inr, true, false, cond, eqb, List, [], ◌∷◌, ◌++◌, length, Ok, Some, None, refl, sym, ◌∙◌, ap, subst, arith, length-append, Less}
+use Rattle.std.proofs.Common.{◌≡◌, ℕ, zero, suc, ◌+◌, ◌-◌, ◌<◌, ◌≤◌, inl, inr, true, false, cond, eqb, List, [], ◌∷◌, ◌++◌, length, Ok, Some, None, refl, sym, ◌∙◌, ap, subst, arith, Less}
 use Rattle.std.specs.Prelude.{slice_get}
 use Rattle.std.specs.List.{AllByRecursion}
 use Rattle.std.specs.List.Sorted.{IsStrictlySortedBy}
@@ -58,7 +58,6 @@ rises (y ∷ done) e rest sorted (suc i) x here = rises done e rest sorted.1 i x
 pub record IsNext (b : List ℕ) (h : Headers) (done : List (ℕ × Rel)) (e : ℕ × Rel) : Type 0 where
   pub inside : e.0 + 4 ≤ length (text_in b h)
   pub named : 1 ≤ rel_sym e.1
-  pub few : length done < 65536
   pub can : CanAdd (neutral_draft b h (neutral_symbols b h) done).object 0 e.0 (neutral_reloc (text_in b h) e)
   pub added : reloc_added (neutral_draft b h (neutral_symbols b h) done) 0 e.0 (neutral_reloc (text_in b h) e) ≡ Ok (neutral_draft b h (neutral_symbols b h) (done ++ e ∷ []))
 
@@ -74,13 +73,13 @@ module _ (b : List ℕ) (is : IsPlain b) (done : List (ℕ × Rel)) (e : ℕ × 
       found_apart b is x.0 e.0 x.1 e.1 (entry_at b is entries fields i x (done_at done (e ∷ rest) i x here)) (entry_at b is entries fields (length done) e (next_at done e rest))
       (rises done e rest fields.ordered i x here)
 
-  pub inside : e.0 + 4 ≤ (headers_in b).text.sh_size
+  inside : e.0 + 4 ≤ (headers_in b).text.sh_size
   inside = let lies = found.plain.lies in let offset = found.offset in omega (arith, lies, offset)
 
-  pub unplaced_target : place_among (symbols b is) (neutral_target (rel_sym e.1)) ≡ None
+  unplaced_target : place_among (symbols b is) (neutral_target (rel_sym e.1)) ≡ None
   unplaced_target = place_none b is (rel_sym e.1) found.plain.some found.plain.there
 
-  pub target_there : IsThere (neutral_draft b (headers_in b) (symbols b is) done).object (neutral_target (rel_sym e.1))
+  target_there : IsThere (neutral_draft b (headers_in b) (symbols b is) done).object (neutral_target (rel_sym e.1))
   target_there = elim (cases_eq (rel_sym e.1) 1) [
     | inl one ↦ subst (IsThere (neutral_draft b (headers_in b) (symbols b is) done).object) (sym (ap (λ t. cond t (target.Section 0) (target.Symbol (rel_sym e.1 - 2))) (eq-eqb (rel_sym e.1) 1 one))) (omega arith)
     | inr more ↦
@@ -90,7 +89,7 @@ module _ (b : List ℕ) (is : IsPlain b) (done : List (ℕ × Rel)) (e : ℕ × 
         subst (IsThere (neutral_draft b (headers_in b) (symbols b is) done).object) (sym (ap (λ t. cond t (target.Section 0) (target.Symbol (rel_sym e.1 - 2))) (ne_eqb (rel_sym e.1) 1 more))) inside
   ]
 
-  pub less_there : IsLessThere (neutral_draft b (headers_in b) (symbols b is) done).object (neutral_less (rel_type e.1))
+  less_there : IsLessThere (neutral_draft b (headers_in b) (symbols b is) done).object (neutral_less (rel_type e.1))
   less_there = elim (eqb (rel_type e.1) 2) as (λ t. IsLessThere (neutral_draft b (headers_in b) (symbols b is) done).object (cond t less.Place less.Zero)) [ true ↦ tt | false ↦ tt ]
 
   can_add : CanAdd (neutral_draft b (headers_in b) (symbols b is) done).object 0 e.0 (neutral_reloc (text_in b (headers_in b)) e)
@@ -103,15 +102,12 @@ module _ (b : List ℕ) (is : IsPlain b) (done : List (ℕ × Rel)) (e : ℕ × 
     less = less_there;
   }
 
-  is_next : IsNext b (headers_in b) done e
+  pub is_next : IsNext b (headers_in b) done e
   is_next =
       let some = found.plain.some in
-      let count = fields.count in
-      let few = is.laid.few_rels in
       record {
         inside = omega (arith, inside, length-text b (headers_in b) is.laid);
         named = some;
-        few = omega (arith, count, few, length-append done (e ∷ rest));
         can = can_add;
         added = reloc_more b (headers_in b) (symbols b is) done e unplaced_target behind;
       }

@@ -4,6 +4,7 @@ use Rattle.std.specs.Prelude.{slice_get}
 use Rattle.std.specs.List.{AllByRecursion, range_with_len}
 use Rattle.std.specs.Option.{option_map, unwrap_or}
 use Rattle.std.proofs.lemmas.Bool.{cases_eq, eq-eqb, ne_eqb, true≢false}
+use Rattle.std.proofs.lemmas.List.{get_or-drop}
 use Rattle.std.proofs.lemmas.Option.{none-some, same_Some}
 use Rattle.oc_base.specs.declared.format.Format.TheVariants.{Elf32}
 use Rattle.oc_base.specs.Numbers.{number_at}
@@ -27,6 +28,7 @@ use Rattle.oc_neutral.specs.Elf.Kinds.{elf_kind}
 use Rattle.oc_neutral.specs.GivenTags.{can_have, is_blank_type}
 use Rattle.oc_neutral.specs.Invariants.{AreBytes, IsBinding, IsSymbol as IsNeutralSymbol, IsHinted, NamesOriginal, IsComplete}
 use Rattle.oc_neutral.specs.Readable.{IsBlankWhereTyped, IsReadable}
+use Rattle.oc_neutral.proofs.WrittenLemmas.{all_from_places}
 use Rattle.objconv.specs.declared.headers.Headers.{Headers}
 use Rattle.objconv.specs.Plain.{headers_in, is_plain, symbol_count, symbol_in, name_of, exponent_of}
 use Rattle.objconv.specs.Fields.{text_in, AreFields}
@@ -35,24 +37,10 @@ use Rattle.objconv.proofs.HeaderLemmas.{IsPlain, plain_is}
 use Rattle.objconv.specs.WriterLaw.CodedObjects.{exponent_is}
 use Rattle.objconv.proofs.SymbolLemmas.{IsSymbol, plain_symbol, name_of-plain}
 use Rattle.objconv.proofs.NeutralEntries.{entry_found}
+use Rattle.objconv.proofs.ObjectLemmas.{part-bytes}
 use Rattle.objconv.proofs.NeutralSymbols.{symbols, number_of-symbol}
 
 -- ... bytes
-
-byte_small : (xs : List ℕ) → AreBytes xs → (k : ℕ) → get_or xs k 0 < 2 ^ 8
-byte_small [] are k = omega arith
-byte_small (x ∷ xs) are zero = are.0
-byte_small (x ∷ xs) are (suc k) = byte_small xs are.1 k
-
-bytes_take : (n : ℕ) (xs : List ℕ) → AreBytes xs → AreBytes (take n xs)
-bytes_take zero xs are = tt
-bytes_take (suc n) [] are = tt
-bytes_take (suc n) (x ∷ xs) are = (are.0, bytes_take n xs are.1)
-
-bytes_drop : (n : ℕ) (xs : List ℕ) → AreBytes xs → AreBytes (drop n xs)
-bytes_drop zero xs are = are
-bytes_drop (suc n) [] are = tt
-bytes_drop (suc n) (x ∷ xs) are = bytes_drop n xs are.1
 
 bytes_within : (xs name : List ℕ) → AreBytes xs → text_within xs ≡ Some name → AreBytes name
 bytes_within [] name are e = absurd (none-some name e)
@@ -63,14 +51,16 @@ bytes_within (x ∷ xs) name are e = by (eqb x 0) (text_within xs) (λ rest. byt
     by false None within e = absurd (none-some name e)
     by false (Some rest) within e = subst AreBytes (same_Some (x ∷ rest) name e) (are.0, within rest refl)
 
-bytes_name : (b : List ℕ) (s : Shdr) (at : ℕ) (name : List ℕ) → AreBytes b → name_in b s at ≡ Some name → AreBytes name
+bytes_name : (b : List ℕ) → ((k : ℕ) → get_or b k 0 < 256) → (s : Shdr) (at : ℕ) (name : List ℕ) → name_in b s at ≡ Some name → AreBytes name
 unfolding name_in table_bytes
-bytes_name b s at name are e =
-    bytes_within (drop at (take s.sh_size (drop s.sh_offset b))) name (bytes_drop at (take s.sh_size (drop s.sh_offset b)) (bytes_take s.sh_size (drop s.sh_offset b) (bytes_drop s.sh_offset b are))) e
+bytes_name b bytes s at name e =
+    let table : List ℕ = take s.sh_size (drop s.sh_offset b) in
+    bytes_within (drop at table) name
+    (all_from_places (λ x. x < 256) 0 (drop at table) (λ k low. subst (λ x. x < 256) (sym (get_or-drop at table k 0)) (part-bytes b bytes s.sh_offset s.sh_size (at + k)))) e
 
-number_small : (b : List ℕ) → AreBytes b → (at : ℕ) → number_at b at 4 < 2 ^ 32
+number_small : (b : List ℕ) → ((k : ℕ) → get_or b k 0 < 256) → (at : ℕ) → number_at b at 4 < 2 ^ 32
 unfolding number_at
-number_small b are at = omega (arith, byte_small b are at, byte_small b are (suc at), byte_small b are (suc (suc at)), byte_small b are (suc (suc (suc at))))
+number_small b bytes at = omega (arith, bytes at, bytes (suc at), bytes (suc (suc at)), bytes (suc (suc (suc at))))
 
 -- ... lists
 
@@ -93,7 +83,7 @@ hint_plain : (text : List ℕ) (e : ℕ × Rel) → IsHinted (neutral_reloc text
 unfolding neutral_reloc
 hint_plain text e call = absurd (cc)
 
-module _ (b : List ℕ) (is : IsPlain b) (small : length b ≤ 67108864) (are : AreBytes b) (entries : List (ℕ × Rel)) (fields : AreFields b (headers_in b) entries) where
+module _ (b : List ℕ) (is : IsPlain b) (small : length b ≤ 67108864) (bytes : (k : ℕ) → get_or b k 0 < 256) (entries : List (ℕ × Rel)) (fields : AreFields b (headers_in b) entries) where
   -- the place of a symbol is there
   binding_there : (s : Sym) → IsSymbol b (headers_in b) s → IsBinding (neutral_of b entries) (binding_of s)
   binding_there s symbol = elim symbol.place [
@@ -103,7 +93,7 @@ module _ (b : List ℕ) (is : IsPlain b) (small : length b ≤ 67108864) (are : 
 
   size_small : (k : ℕ) → (symbol_in b (headers_in b) k).st_size < 2 ^ 32
   unfolding symbol_in sym_in
-  size_small k = number_small b are ((headers_in b).symbols.sh_offset + 16 * k + 8)
+  size_small k = number_small b bytes ((headers_in b).symbols.sh_offset + 16 * k + 8)
 
   -- each symbol is one
   symbol_there : (k : ℕ) → k < symbol_count (headers_in b) → IsSymbol b (headers_in b) (symbol_in b (headers_in b) k) → IsNeutralSymbol (neutral_of b entries) (neutral_symbol b (headers_in b) k)
@@ -113,7 +103,7 @@ module _ (b : List ℕ) (is : IsPlain b) (small : length b ≤ 67108864) (are : 
       let name : name_of b h (symbol_in b h k) ≡ symbol.name = name_of-plain b h (symbol_in b h k) symbol in
       record {
         named = λ none. let long = symbol.named.long in let length : length symbol.name ≡ 0 = ap (λ (n : List ℕ). length n) (sym name ∙ none) in absurd (omega (arith, long, length));
-        name = subst AreBytes (sym name) (bytes_name b h.names (symbol_in b h k).st_name symbol.name are symbol.named.there);
+        name = subst AreBytes (sym name) (bytes_name b bytes h.names (symbol_in b h k).st_name symbol.name symbol.named.there);
         binding = binding_there (symbol_in b h k) symbol;
         size = size_small k;
         number = let table = is.laid.symbols in let whole = is.laid.symbol_table in omega (arith, table, whole, small, low);
@@ -175,8 +165,8 @@ readable b is entries = record {
     blanks (suc s) x here typed = absurd (none-some x here)
 
 -- what was built is complete, where the headers are those of the file
-pub complete_built : (b : List ℕ) (h : Headers) (entries : List (ℕ × Rel)) → is_plain b ≡ true → h ≡ headers_in b → AreFields b h entries → length b ≤ 67108864 → AreBytes b
+pub complete_built : (b : List ℕ) (h : Headers) (entries : List (ℕ × Rel)) → is_plain b ≡ true → h ≡ headers_in b → AreFields b h entries → length b ≤ 67108864 → ((k : ℕ) → get_or b k 0 < 256)
     → IsComplete (neutral_draft b h (neutral_symbols b h) entries).object
-complete_built b h entries plain same fields small are =
+complete_built b h entries plain same fields small bytes =
     subst (λ (g : Headers). IsComplete (neutral_draft b g (neutral_symbols b g) entries).object) (sym same)
-    (complete b (plain_is b plain) small are entries (subst (λ (g : Headers). AreFields b g entries) same fields))
+    (complete b (plain_is b plain) small bytes entries (subst (λ (g : Headers). AreFields b g entries) same fields))

@@ -26,7 +26,7 @@ use Rattle.objconv.proofs.ListedLemmas.{entry_of-symbol, symbol_name-plain, bind
 use Rattle.oc_elf_read.specs.declared.rel.Rel.{Rel}
 
 -- what is made of made items, one by one
-made : {X Y : Type 0} (g : ℕ → X) (to : X → Y) (f : ℕ → Y) (n j : ℕ) → ((i : ℕ) → i < n → to (g (j + i)) ≡ f (j + i)) → map to (map g (range_with_len j n)) ≡ map f (range_with_len j n)
+pub made : {X Y : Type 0} (g : ℕ → X) (to : X → Y) (f : ℕ → Y) (n j : ℕ) → ((i : ℕ) → i < n → to (g (j + i)) ≡ f (j + i)) → map to (map g (range_with_len j n)) ≡ map f (range_with_len j n)
 made g to f zero j each = refl
 made {Y = Y} g to f (suc n) j each =
     let onto : j ≡ j + 0 = omega arith in

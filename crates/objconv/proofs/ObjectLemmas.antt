@@ -1,5 +1,5 @@
 -- The alignment and the contents of `.text`.
-use Rattle.std.proofs.Common.{◌≡◌, ℕ, ◌+◌, ◌^◌, ◌<◌, ◌≤◌, inl, inr, true, List, length, get_or, drop, sym, ◌∙◌, subst, arith, length-take, length-drop}
+use Rattle.std.proofs.Common.{◌≡◌, ℕ, ◌+◌, ◌^◌, ◌<◌, ◌≤◌, inl, inr, true, List, length, get_or, take, drop, sym, ◌∙◌, subst, arith, length-take, length-drop}
 use Rattle.std.specs.Option.{is_some, unwrap_or}
 use Rattle.std.proofs.Math.Nat.{pow-le-pow_right}
 use Rattle.std.proofs.lemmas.Bool.{cases_lt}
@@ -20,9 +20,9 @@ align_small align some = let power = exponent_is align some in subst (λ a. a �
 pub length-text : (b : List ℕ) (h : Headers) → AreLaid b h → length (text_in b h) ≡ h.text.sh_size
 length-text b h laid = let fits = laid.text in omega (arith, length-take h.text.sh_size (drop h.text.sh_offset b), length-drop h.text.sh_offset b, fits)
 
--- the bytes of `.text` are bytes
-pub text-bytes : (b : List ℕ) (h : Headers) → ((k : ℕ) → get_or b k 0 < 256) → (k : ℕ) → get_or (text_in b h) k 0 < 256
-text-bytes b h bytes k = elim (cases_lt k h.text.sh_size) [
-  | inl inside ↦ subst (λ x. x < 256) (sym (get_or-take h.text.sh_size (drop h.text.sh_offset b) k 0 inside ∙ get_or-drop h.text.sh_offset b k 0)) (bytes (h.text.sh_offset + k))
-  | inr past ↦ subst (λ x. x < 256) (sym (get_or_past (text_in b h) k 0 (let l = length-take h.text.sh_size (drop h.text.sh_offset b) in omega (arith, past, l)))) (omega arith)
+-- the bytes of a part of the file are bytes
+pub part-bytes : (b : List ℕ) → ((k : ℕ) → get_or b k 0 < 256) → (start size k : ℕ) → get_or (take size (drop start b)) k 0 < 256
+part-bytes b bytes start size k = elim (cases_lt k size) [
+  | inl inside ↦ subst (λ x. x < 256) (sym (get_or-take size (drop start b) k 0 inside ∙ get_or-drop start b k 0)) (bytes (start + k))
+  | inr past ↦ subst (λ x. x < 256) (sym (get_or_past (take size (drop start b)) k 0 (let l = length-take size (drop start b) in omega (arith, past, l)))) (omega arith)
 ]

@@ -1,10 +1,11 @@
 -- What the conditions of a plain object say.
-use Rattle.std.proofs.Common.{◌≡◌, ℕ, ◌*◌, ◌/◌, ◌%◌, Bool, true, false, List, refl, arith}
+use Rattle.std.proofs.Common.{◌≡◌, ℕ, ◌*◌, ◌/◌, ◌%◌, Bool, true, false, List, codes, refl, arith}
 use Rattle.std.specs.Prelude.{◌&&◌}
 use Rattle.std.proofs.Math.Nat.{div-add-mod}
 use Rattle.std.proofs.lemmas.Bool.{leb-true, eqb-true}
+use Rattle.oc_elf_read.specs.Names.{name_in}
 use Rattle.objconv.specs.declared.headers.Headers.{Headers}
-use Rattle.objconv.specs.Plain.{are_plain, AreLaid}
+use Rattle.objconv.specs.Plain.{are_plain, is_named, AreLaid}
 
 -- two tests that hold together hold each
 pub both : (x y : Bool) → (x && y) ≡ true → (x ≡ true) × (y ≡ true)
@@ -17,16 +18,35 @@ both false false e = absurd (cc)
 whole : (n w : ℕ) → n % w ≡ 0 → n ≡ w * (n / w)
 whole n w e = omega (arith, e, div-add-mod n w)
 
-pub are_laid : (b : List ℕ) (h : Headers) → are_plain b h ≡ true → AreLaid b h
+-- the types of the section headers, and what else is known of them
+pub record HaveTypes (h : Headers) : Type 0 where
+  pub text : h.text.sh_type ≡ 1
+  pub text_flags : h.text.sh_flags ≡ 6
+  pub rels : h.rels.sh_type ≡ 9
+  pub rels_info : h.rels.sh_info ≡ 1
+  pub symbols : h.symbols.sh_type ≡ 2
+  pub symbols_link : h.symbols.sh_link ≡ 4
+  pub names : h.names.sh_type ≡ 3
+  pub section_names : h.section_names.sh_type ≡ 3
+
+-- what the section headers of a plain object say
+pub record ArePlain (b : List ℕ) (h : Headers) : Type 0 where
+  pub laid : AreLaid b h
+  pub types : HaveTypes h
+  pub named : is_named (name_in b h.section_names h.text.sh_name) (codes ".text") ≡ true
+
+pub are_parts : (b : List ℕ) (h : Headers) → are_plain b h ≡ true → ArePlain b h
 unfolding are_plain
-are_laid b h e =
+are_parts b h e =
     let names2 = both _ _ e in
+    let names = both _ _ names2.1 in
     let symbols = both _ _ names2.0 in
     let rels = both _ _ symbols.0 in
     let text = both _ _ rels.0 in
     let text_align = both _ _ text.1 in
     let text_name = both _ _ text_align.0 in
     let text_lies = both _ _ text_name.0 in
+    let text_flags = both _ _ text_lies.0 in
     let rels_few = both _ _ rels.1 in
     let rels_whole = both _ _ rels_few.0 in
     let rels_size = both _ _ rels_whole.0 in
@@ -41,13 +61,29 @@ are_laid b h e =
     let symbols_link = both _ _ symbols_info.0 in
     let symbols_lies = both _ _ symbols_link.0 in
     record {
-      text = leb-true _ _ text_lies.1;
-      rels = leb-true _ _ rels_lies.1;
-      symbols = leb-true _ _ symbols_lies.1;
-      names = leb-true _ _ (both _ _ names2.1).1;
-      rel_table = whole h.rels.sh_size 8 (eqb-true _ _ rels_whole.1);
-      symbol_table = whole h.symbols.sh_size 16 (eqb-true _ _ symbols_whole.1);
-      two_symbols = leb-true _ _ symbols_two.1;
-      few_rels = leb-true _ _ rels_few.1;
-      aligned = text_align.1;
+      laid = record {
+        text = leb-true _ _ text_lies.1;
+        rels = leb-true _ _ rels_lies.1;
+        symbols = leb-true _ _ symbols_lies.1;
+        names = leb-true _ _ names.1;
+        rel_table = whole h.rels.sh_size 8 (eqb-true _ _ rels_whole.1);
+        symbol_table = whole h.symbols.sh_size 16 (eqb-true _ _ symbols_whole.1);
+        two_symbols = leb-true _ _ symbols_two.1;
+        few_rels = leb-true _ _ rels_few.1;
+        aligned = text_align.1;
+      };
+      types = record {
+        text = eqb-true _ _ text_flags.0;
+        text_flags = eqb-true _ _ text_flags.1;
+        rels = eqb-true _ _ rels_lies.0;
+        rels_info = eqb-true _ _ rels_info.1;
+        symbols = eqb-true _ _ symbols_lies.0;
+        symbols_link = eqb-true _ _ symbols_link.1;
+        names = eqb-true _ _ names.0;
+        section_names = eqb-true _ _ (both _ _ text.0).0;
+      };
+      named = text_name.1;
     }
+
+pub are_laid : (b : List ℕ) (h : Headers) → are_plain b h ≡ true → AreLaid b h
+are_laid b h e = (are_parts b h e).laid

@@ -9,7 +9,7 @@ use Rattle.oc_elf_read.specs.declared.sym.Sym.{Sym}
 use Rattle.oc_elf_read.specs.Sym.{bind_of, type_of}
 use Rattle.oc_elf_read.specs.Names.{text_within, table_bytes, name_in}
 use Rattle.objconv.specs.declared.headers.Headers.{Headers}
-use Rattle.objconv.specs.Plain.{symbol_count, symbol_in, name_of, is_short_name, is_plain_symbol, are_plain_symbols, has_symbols}
+use Rattle.objconv.specs.Plain.{symbol_count, symbol_in, name_of, is_short_name, is_plain_place, is_plain_symbol, are_plain_symbols, has_symbols}
 use Rattle.objconv.proofs.PlainLemmas.{both}
 use Rattle.objconv.proofs.BelowLemmas.{all_below_at}
 
@@ -86,12 +86,17 @@ module _ (b : List ℕ) (h : Headers) (all : has_symbols b h ≡ true) where
       record { local = eqb-true _ _ type.0; type = eqb-true _ _ type.1; value = eqb-true _ _ value.1; section = eqb-true _ _ section.1 }
 
   -- each further symbol is plain
-  pub plain_symbol : (j : ℕ) → j < symbol_count h - 2 → IsSymbol b h (symbol_in b h (j + 2))
+  each_plain : (j : ℕ) → j < symbol_count h - 2 → is_plain_symbol b h (symbol_in b h (j + 2)) ≡ true
   unfolding has_symbols are_plain_symbols
-  plain_symbol j low =
-      let distinct = both _ _ all in
-      let plain = both _ _ distinct.0 in
-      symbol_is b h (symbol_in b h (j + 2)) (all_below_at (λ j. is_plain_symbol b h (symbol_in b h (j + 2))) (symbol_count h - 2) j plain.1 low)
+  each_plain j low = all_below_at (λ j. is_plain_symbol b h (symbol_in b h (j + 2))) (symbol_count h - 2) j (both _ _ (both _ _ all).0).1 low
+
+  pub plain_symbol : (j : ℕ) → j < symbol_count h - 2 → IsSymbol b h (symbol_in b h (j + 2))
+  plain_symbol j low = symbol_is b h (symbol_in b h (j + 2)) (each_plain j low)
+
+  -- and has a plain place
+  pub plain_place : (j : ℕ) → j < symbol_count h - 2 → is_plain_place h (symbol_in b h (j + 2)) ≡ true
+  unfolding is_plain_symbol
+  plain_place j low = (both _ _ (both _ _ (each_plain j low)).0).1
 
 -- the name of a plain symbol
 pub name_of-plain : (b : List ℕ) (h : Headers) (s : Sym) (is : IsSymbol b h s) → name_of b h s ≡ is.name

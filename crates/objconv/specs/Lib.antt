@@ -4,7 +4,6 @@ pub mod Dialects
 pub mod Emission
 pub mod Fields
 pub mod Jobs
-pub mod Keys
 pub mod Layouts
 pub mod Neutral
 pub mod Plain

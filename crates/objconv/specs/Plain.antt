@@ -1,6 +1,7 @@
 -- Plain objects: the ELF32 objects that are converted today. Which they are is our profile; the structures are those of the gABI and the i386 psABI.
-use Rattle.std.specs.Prelude.{ℕ, zero, suc, ◌+◌, ◌-◌, ◌*◌, ◌/◌, ◌%◌, ◌^◌, Bool, true, false, not, ◌&&◌, ◌||◌, eqb, nat_lt, nat_le, if◌then◌else◌, ◌≡◌, ◌≤◌, List, [], length, codes, bytes_eq, Option, Some, None}
-use Rattle.std.specs.Option.{unwrap_or, is_some}
+use Rattle.std.specs.Prelude.{ℕ, zero, suc, ◌+◌, ◌-◌, ◌*◌, ◌/◌, ◌%◌, ◌^◌, Bool, true, false, not, ◌&&◌, ◌||◌, eqb, nat_lt, nat_le, if◌then◌else◌, ◌≡◌, ◌≤◌, List, [], length, map, codes, bytes_eq, Option, Some, None}
+use Rattle.std.specs.List.{range_with_len}
+use Rattle.std.specs.Option.{unwrap_or, is_none, is_some}
 use Rattle.oc_linking.specs.Numbers.{first_upto}
 use Rattle.oc_elf_read.specs.declared.ehdr.Ehdr.{Ehdr}
 use Rattle.oc_elf_read.specs.declared.shdr.Shdr.{Shdr}
@@ -11,6 +12,7 @@ use Rattle.oc_elf_read.specs.Shdr.{shdr_in}
 use Rattle.oc_elf_read.specs.Sym.{sym_in, bind_of, type_of}
 use Rattle.oc_elf_read.specs.Rel.{rel_in, rel_sym, rel_type}
 use Rattle.oc_elf_read.specs.Names.{name_in, short}
+use Rattle.oc_neutral.specs.Repeats.{NameList, first_repeat}
 use Rattle.objconv.specs.declared.headers.Headers.{Headers}
 
 -- the test holds of each number below n
@@ -149,17 +151,17 @@ unfoldable pub is_plain_symbol : List ℕ → Headers → Sym → Bool
 is_plain_symbol b h s =
     eqb (bind_of s) 1 && (eqb (type_of s) 0 || eqb (type_of s) 2) && is_plain_place h s && is_short_name (name_in b h.names s.st_name)
 
--- one of the first n symbols behind symbol 1 has the name
-abbrev pub is_used : List ℕ → Headers → ℕ → List ℕ → Bool
-is_used b h n name = any_below n (λ j. bytes_eq (symbol_name b h (j + 2)) name)
-
 -- all symbols behind symbol 1 are plain
 unfoldable pub are_plain_symbols : List ℕ → Headers → Bool
 are_plain_symbols b h = all_below (symbol_count h - 2) (λ j. is_plain_symbol b h (symbol_in b h (j + 2)))
 
+-- the names of the first n symbols behind symbol 1
+abbrev pub later_names : List ℕ → Headers → ℕ → NameList
+later_names b h n = map (λ j. Some (symbol_name b h (j + 2))) (range_with_len 0 n)
+
 -- no symbol behind symbol 1 has the name of an earlier one
 unfoldable pub are_distinct : List ℕ → Headers → Bool
-are_distinct b h = all_below (symbol_count h - 2) (λ j. not (is_used b h j (symbol_name b h (j + 2))))
+are_distinct b h = is_none (first_repeat (later_names b h (symbol_count h - 2)))
 
 -- symbol 0 is the null symbol, symbol 1 that of `.text`, and all further symbols are plain and of different names
 unfoldable pub has_symbols : List ℕ → Headers → Bool

@@ -4,7 +4,6 @@
 mod command;
 mod contents;
 mod convert;
-mod distinct;
 mod emission;
 mod fields;
 mod fitter;

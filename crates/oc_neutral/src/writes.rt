@@ -22,11 +22,12 @@ pub trait Emits {
 
     /// Puts the file to a sink, in pieces of 4,096 bytes, the last one shorter.
     ///
-    /// After Failed the sink took some front of the file, and its count rose.
+    /// After Failed the sink took some front of the file, and its count rose; else that count stays.
     fn emit<S: Sink>(&self, sink: &mut S) -> Result<(), Failed>
         ensures ok { OnOk result (S.taken sink.new ≡ grown (file self.now) (S.taken sink.old)) }
         ensures err { OnErr result (TakesPrefix (file self.now) (S.taken sink.old) (S.taken sink.new)) }
         ensures counts { S.faults sink.old ≤ S.faults sink.new }
+        ensures steady { OnOk result (S.faults sink.new ≡ S.faults sink.old) }
         ensures cause { OnErr result (Rose (S.faults sink.old) (S.faults sink.new)) }
         ensures beside { S.beside sink.new ≡ S.beside sink.old }
         ensures borrow { S.borrow sink.new ≡ S.borrow sink.old };

@@ -5,13 +5,13 @@ use Rattle.oc_neutral.specs.Building.{Draft, symbol_added}
 use Rattle.objconv.specs.Plain.{symbol_count}
 use Rattle.objconv.specs.Neutral.{neutral_symbol, neutral_draft}
 use Rattle.objconv.proofs.NeutralBuilding.{first_symbols, symbol_more, added_is}
-use Rattle.objconv.proofs.SymbolsLemmas.{symbol_placed}
+use Rattle.objconv.proofs.SymbolLemmas.{plain_place}
 use Rattle.objconv.proofs.reader.add_symbols.Goals as goal
 
 pub symbol_of-requires-clause-place : goal.symbol_of-requires-clause-place
 symbol_of-requires-clause-place c =
     let low : c.loop-j.j < symbol_count c.args.headers.now - 2 = omega arith in
-    symbol_placed c.args.file.now c.args.headers.now c.loop-j.j c.requires.symbols low
+    plain_place c.args.file.now c.args.headers.now c.requires.symbols c.loop-j.j low
 
 pub add_new_symbol-requires : goal.add_new_symbol-requires
 add_new_symbol-requires c =
