@@ -2,7 +2,7 @@
 use Rattle.std.proofs.Common.{◌≡◌, ℕ, zero, suc, ◌^◌, ◌≤◌, false, Some, refl, inl, inr, subst, sym, arith}
 use Rattle.std.proofs.lemmas.Bool.{cases_eq}
 use Rattle.oc_linking.specs.declared.terms.Kind.TheVariants.{Code}
-use Rattle.oc_coff_read.specs.declared.constants.TheConstants.{IMAGE_SCN_LNK_NRELOC_OVFL}
+use Rattle.oc_neutral.specs.declared.coff.TheConstants.{IMAGE_SCN_LNK_NRELOC_OVFL}
 use Rattle.oc_coff_read.specs.Alignments.{align_of, output_align}
 use Rattle.oc_coff_read.specs.Flags.{has, kind_of, tag_of}
 use Rattle.oc_coff_read.specs.Canonical.{code_flags}
