@@ -1,47 +1,46 @@
 -- The fields of a plain object, and the relocations of its neutral object.
-use Rattle.std.proofs.Common.{◌≡◌, ℕ, suc, ◌+◌, ◌-◌, ◌%◌, ◌^◌, ◌<◌, ◌≤◌, ◌⊎◌, inl, inr, Bool, true, false, cond, eqb, List, [], ◌∷◌, map, Option, Some, None, refl, sym, ◌∙◌, ap, subst, arith, pos}
-use Rattle.std.specs.Prelude.{slice_get}
+use Rattle.std.proofs.Common.{◌≡◌, ℕ, suc, ◌+◌, ◌-◌, ◌<◌, ◌≤◌, ◌⊎◌, inl, inr, Bool, true, false, cond, eqb, List, [], ◌∷◌, map, Option, Some, None, refl, sym, ◌∙◌, ap, subst, arith}
+use Rattle.std.specs.Prelude.{ℤ, slice_get}
 use Rattle.std.specs.Option.{option_map, option_and_then, unwrap_or}
 use Rattle.std.specs.Ordering.{nat_cmp}
 use Rattle.std.specs.Map.{lookup}
 use Rattle.std.specs.BTreeMap.{is_at}
+use Rattle.std.proofs.Math.IntN.{+ℤ_idr}
 use Rattle.std.proofs.lemmas.Bool.{eqb-true, ne_eqb, cases_eq}
-use Rattle.std.proofs.lemmas.Option.{none-some, same_Some}
-use Rattle.std.proofs.lemmas.Bool.Decides.{nat_tests}
-use borrow.Author.Differences.{ints}
+use Rattle.oc_base.specs.declared.format.Format.TheVariants.{Elf32}
 use Rattle.oc_base.specs.declared.format.Word.TheVariants.{W32}
-use Rattle.oc_base.specs.Numbers.{number_at}
 use Rattle.oc_linking.specs.declared.terms.Keep.{Keep}
 use Rattle.oc_linking.specs.declared.terms.Width.TheVariants.{Four}
 use Rattle.oc_linking.specs.declared.terms.Check.TheVariants.{Wrap}
 use Rattle.oc_linking.specs.declared.terms.Hint.TheVariants.{Plain}
 use Rattle.oc_linking.specs.Keeping.{kept_flags}
-use Rattle.oc_linking.specs.Numbers.{reduced, minus}
 use Rattle.oc_linking.specs.Parts as parts
-use Rattle.oc_linking.specs.Placing.{Placement}
-use Rattle.oc_linking.specs.Values.{Valuation, worthless}
+use Rattle.oc_linking.specs.Values.{worthless}
 use Rattle.oc_linking.specs.Rules.{Field, Symbolic}
 use Rattle.oc_linking.specs.Targets.{Target}
-use Rattle.oc_linking.specs.declared.terms.Base.TheVariants.{Address}
+use Rattle.oc_linking.specs.declared.terms.Base.{Base}
+use Rattle.oc_linking.specs.declared.terms.Base.TheVariants.{Address, Slot, GotBase, HomeNumber}
 use Rattle.oc_linking.specs.declared.terms.Less.TheVariants as less
-use Rattle.oc_algebra.specs.Residues.{residue_of}
-use Rattle.oc_algebra.specs.Fields.{extended, from_field_of}
-use Rattle.oc_algebra.proofs.FieldLaws.{residue-from_field}
+use Rattle.oc_algebra.specs.Fields.{from_field_of}
 use Rattle.oc_elf_read.specs.declared.rel.Rel.{Rel}
 use Rattle.oc_elf_read.specs.Rel.{rel_sym, rel_type}
 use Rattle.oc_elf_read.specs.Sections.{sections_of, relocations_of}
 use Rattle.oc_elf_read.specs.Fields as elf
+use Rattle.oc_neutral.specs.declared.elf.TheConstants.{R_386_32, R_386_PC32}
 use Rattle.oc_neutral.specs.declared.symbol.Symbol.{Symbol}
 use Rattle.oc_neutral.specs.declared.reloc.Target.{Target as NeutralTarget}
 use Rattle.oc_neutral.specs.declared.reloc.Target.TheVariants as target
-use Rattle.oc_neutral.specs.declared.reloc.Reloc.{Reloc}
 use Rattle.oc_neutral.specs.Built.{Given, IsField, IsFree, IsGiven}
 use Rattle.oc_neutral.specs.Objects.{reloc_among, reloc_at}
-use Rattle.oc_neutral.specs.Normal.{cancels, takes_section}
-use Rattle.oc_neutral.specs.Worth.{target_worth, less_of, residue_at}
+use Rattle.oc_neutral.specs.Normal.{cancels, moved_addend, takes_section}
+use Rattle.oc_neutral.specs.Worth.{target_worth}
 use Rattle.oc_neutral.specs.Faces.{named_of}
 use Rattle.oc_neutral.specs.Dialects.{kept_fields}
-use Rattle.objconv.specs.declared.headers.Headers.{Headers}
+use Rattle.oc_neutral.specs.Rows.{Row, row, TakesZero, TakesPlace}
+use Rattle.oc_neutral.specs.RelocTables.{row_of}
+use Rattle.oc_neutral.specs.RowValues.{row_reloc}
+use Rattle.oc_neutral.specs.RowFields.{row_field, number_in, field_in_place}
+use Rattle.oc_neutral.proofs.RowFieldLaws.{rows_are_fields, section_rows_are_fields}
 use Rattle.objconv.specs.Plain.{headers_in, symbol_count, field_at}
 use Rattle.objconv.specs.Fields.{text_in, AreFields}
 use Rattle.objconv.specs.Dialects.{plain_dialect}
@@ -106,55 +105,64 @@ cancels-plain t type = elim (eqb type 2) as (λ c. cancels Address t (cond c les
 pub takes-plain : (s type : ℕ) → takes_section s (neutral_less type) ≡ false
 takes-plain s type = elim (eqb type 2) as (λ c. takes_section s (cond c less.Place less.Zero) ≡ false) [ true ↦ refl | false ↦ refl ]
 
--- the addend is the number in the field
-extended_low : (f : ℕ) → (residue_of W32 (extended Four f) + residue_of W32 (pos 0)) % 2 ^ 32 ≡ f % 2 ^ 32
-unfolding residue_of extended
-extended_low f = grind (arith, ints, nat_tests)
+-- the two types of a plain relocation
+record IsRow (text : List ℕ) (at : ℕ) (r : Rel) : Type 0 where
+  row : Row
+  listed : row_of Elf32 (rel_type r) ≡ Some row
+  made : row_reloc W32 row 0 (number_in row text at) (neutral_target (rel_sym r)) ≡ neutral_reloc text (at, r)
 
-addend_is : (f : ℕ) → residue_of W32 (from_field_of W32 Four (pos 0) f) ≡ f % 2 ^ 32
-addend_is f = residue-from_field W32 Four (pos 0) f ∙ extended_low f
+row_is : (text : List ℕ) (at : ℕ) (r : Rel) → (rel_type r ≡ R_386_32) ⊎ (rel_type r ≡ R_386_PC32) → IsRow text at r
+unfolding neutral_reloc from_field_of
+row_is text at r is = elim is [
+  | inl one ↦ record { row = row R_386_32 Four Wrap Address TakesZero Plain; listed = rw one refl; made = rw one refl }
+  | inr two ↦ record { row = row R_386_PC32 Four Wrap Address TakesPlace Plain; listed = rw two refl; made = rw two refl }
+]
 
--- the two formulas depend on the residues alone
-absolute : (S T F R : ℕ) → S % 2 ^ 32 ≡ T % 2 ^ 32 → R ≡ F % 2 ^ 32 → reduced W32 (T + F) ≡ minus W32 (S + R) 0
-absolute S T F R e f = omega (arith, e, f)
+-- against the first byte of a section, nothing is moved
+unmoved : (base : Base) (a : ℤ) → moved_addend base a 0 ≡ a
+unmoved Address a = +ℤ_idr a
+unmoved Slot a = refl
+unmoved GotBase a = refl
+unmoved HomeNumber a = refl
 
-relative : (S T F R P : ℕ) → S % 2 ^ 32 ≡ T % 2 ^ 32 → R ≡ F % 2 ^ 32 → minus W32 (T + F) P ≡ minus W32 (S + R) P
-relative S T F R P e f = omega (arith, e, f)
-
--- what a symbol's number stands for in the file and in the object
-record IsAimed (b : List ℕ) (keep : Keep) (xs : List Symbol) (k : ℕ) : Type 0 where
+-- what a symbol's number stands for in the file and in the object: against it, each row makes a field of the file
+record IsAimed (b : List ℕ) (keep : Keep) (k : ℕ) : Type 0 where
   target : Target
   there : elf.target_of b keep k ≡ Some target
-  named : target.named ≡ named_of xs (neutral_target k)
-  address : (p : Placement) (v : Valuation) → (target_worth xs p v (neutral_target k)).site.address % 2 ^ 32 ≡ (target.worth p v).site.address % 2 ^ 32
+  is : (row : Row) (a : ℤ) (at : ℕ) → IsField plain_dialect b keep (neutral_of b []) 0 at (row_reloc W32 row 0 a (neutral_target k)) (row_field W32 row 0 a 0 at target)
 
 module _ (b : List ℕ) (keep : Keep) (is : IsPlain b) where
-  aimed-own : IsAimed b keep (symbols b is) 1
-  aimed-own = record { target = sectional; there = target_of-own b keep is; named = refl; address = λ p v. omega arith }
+  aimed-own : IsAimed b keep 1
+  aimed-own = record {
+    target = sectional;
+    there = target_of-own b keep is;
+    is = λ row a at.
+        subst (λ n. IsField plain_dialect b keep (neutral_of b []) 0 at (row_reloc W32 row 0 n (target.Section 0)) (row_field W32 row 0 a 0 at sectional)) (unmoved row.base a)
+        (section_rows_are_fields plain_dialect b keep (neutral_of b []) 0 at row 0 a 0 0);
+  }
 
-  aimed-symbol : (k : ℕ) → k < symbol_count (headers_in b) - 2 → IsAimed b keep (symbols b is) (k + 2)
-  aimed-symbol k low =
-      let h : Headers = headers_in b in
-      let other : eqb (k + 2) 1 ≡ false = ne_eqb (k + 2) 1 (λ same. absurd (omega (arith, same))) in
-      let less : k + 2 - 2 ≡ k = omega arith in
-      let at : neutral_target (k + 2) ≡ target.Symbol k = ap (λ t. cond t (target.Section 0) (target.Symbol (k + 2 - 2))) other ∙ ap (λ j. target.Symbol j) less in
+  aimed-symbol : (k : ℕ) → 2 ≤ k → k < symbol_count (headers_in b) → IsAimed b keep k
+  aimed-symbol k high low =
+      let other : eqb k 1 ≡ false = ne_eqb k 1 (λ same. absurd (omega (arith, same, high))) in
+      let at : neutral_target k ≡ target.Symbol (k - 2) = ap (λ t. cond t (target.Section 0) (target.Symbol (k - 2))) other in
+      let inside : k - 2 < symbol_count (headers_in b) - 2 = omega (arith, high, low) in
+      let same : k - 2 + 2 ≡ k = omega (arith, high) in
       record {
-        target = symbolic (k + 2);
-        there = target_of-symbol b keep is (k + 2) (omega arith) (omega (arith, low));
-        named = ap Symbolic (sym (number_of-symbol b is k low)) ∙ ap (named_of (symbols b is)) (sym at);
-        address = λ p v.
-            ap (λ t. (target_worth (symbols b is) p v t).site.address % 2 ^ 32) at
-            ∙ ap (λ o. (unwrap_or (option_map (λ (s : Symbol). v s.number) o) worthless).site.address % 2 ^ 32) (symbol_at b is k low)
-            ∙ ap (λ n. (v n).site.address % 2 ^ 32) (number-symbol b is (k + 2));
+        target = symbolic k;
+        there = target_of-symbol b keep is k high low;
+        is = λ row a x. rows_are_fields plain_dialect b keep (neutral_of b []) 0 x row 0 a (neutral_target k) (symbolic k) (record {
+          named = rw (place_none b is k (omega (arith, high)) low) (ap (named_of (symbols b is)) at ∙ ap Symbolic (number_of-symbol b is (k - 2) inside ∙ same));
+          worth = λ p v fixed.
+              ap (target_worth (symbols b is) p v) at
+              ∙ ap (λ o. unwrap_or (option_map (λ (s : Symbol). v s.number) o) worthless) (symbol_at b is (k - 2) inside)
+              ∙ ap v (number-symbol b is (k - 2 + 2) ∙ same);
+        });
       }
 
-  aimed : (k : ℕ) → 1 ≤ k → k < symbol_count (headers_in b) → IsAimed b keep (symbols b is) k
+  aimed : (k : ℕ) → 1 ≤ k → k < symbol_count (headers_in b) → IsAimed b keep k
   aimed k some low = elim (cases_eq k 1) [
-    | inl one ↦ subst (IsAimed b keep (symbols b is)) (sym one) aimed-own
-    | inr more ↦
-        let above : k - 2 < symbol_count (headers_in b) - 2 = omega (arith, some, low, more) in
-        let same : k - 2 + 2 ≡ k = omega (arith, some, more) in
-        subst (IsAimed b keep (symbols b is)) same (aimed-symbol (k - 2) above)
+    | inl one ↦ subst (IsAimed b keep) (sym one) aimed-own
+    | inr more ↦ aimed-symbol k (omega (arith, some, more)) low
   ]
 
 -- a field of the file at an offset of `.text`, as the object has it
@@ -163,81 +171,21 @@ pub record IsSeen (b : List ℕ) (keep : Keep) (at : ℕ) (r : Rel) : Type 0 whe
   pub here : kept_fields plain_dialect b keep 0 at ≡ Some field
   pub is : IsField plain_dialect b keep (neutral_of b []) 0 at (neutral_reloc (text_in b (headers_in b)) (at, r)) field
 
-module _ (targets : ℕ → Option Target) (contents : List ℕ) (r : Rel) (t : Target) (there : targets (rel_sym r) ≡ Some t) where
-  abbrev field_with : (Placement → Valuation → ℕ) → Field
-  field_with residue = record { width = Four; check = Wrap; base = Address; less = neutral_less (rel_type r); residue = residue; target = t.named; hint = Plain }
-
-  field-absolute : rel_type r ≡ 1 → elf.field_by targets 0 contents r ≡ Some (field_with (λ p v. reduced W32 ((t.worth p v).site.address + number_at contents r.r_offset 4)))
-  unfolding elf.field_by elf.value_by
-  field-absolute type = rw (there, type) refl
-
-  field-relative : rel_type r ≡ 2
-      → elf.field_by targets 0 contents r ≡ Some (field_with (λ p v. minus W32 ((t.worth p v).site.address + number_at contents r.r_offset 4) ((p.site 0).address + r.r_offset)))
-  unfolding elf.field_by elf.value_by
-  field-relative type = rw (there, type) refl
-
--- the value of a relocation of the object
-residue-plain : (xs : List Symbol) (p : Placement) (v : Valuation) (text : List ℕ) (at : ℕ) (r : Rel)
-    → residue_at W32 xs p v 0 at (neutral_reloc text (at, r))
-    ≡ minus W32 ((target_worth xs p v (neutral_target (rel_sym r))).site.address + residue_of W32 (from_field_of W32 Four (pos 0) (number_at text at 4)))
-    (less_of p 0 at (target_worth xs p v (neutral_target (rel_sym r))) (neutral_less (rel_type r)))
-unfolding residue_at neutral_reloc
-residue-plain xs p v text at r = refl
-
-module _ (b : List ℕ) (keep : Keep) (is : IsPlain b) (r : Rel) (rel : IsRel (headers_in b) r) (at : field_at b (headers_in b) r.r_offset ≡ Some r) where
-  abbrev text : List ℕ
-  text = text_in b (headers_in b)
-
-  aim : IsAimed b keep (symbols b is) (rel_sym r)
-  aim = aimed b keep is (rel_sym r) rel.some rel.there
-
-  abbrev worth : Placement → Valuation → ℕ
-  worth p v = (target_worth (symbols b is) p v (neutral_target (rel_sym r))).site.address
-
-  abbrev number : ℕ
-  number = number_at text r.r_offset 4
-
-  -- the field is there
-  here_is : (field : Field) → elf.field_by (elf.target_of b keep) 0 text r ≡ Some field → kept_fields plain_dialect b keep 0 r.r_offset ≡ Some field
-  here_is field e = kept_fields-text b keep is r.r_offset ∙ ap (option_and_then (elf.field_by (elf.target_of b keep) 0 text)) at ∙ e
-
-  -- and says what the relocation says
-  field_is : (residue : Placement → Valuation → ℕ)
-      → ((p : Placement) (v : Valuation) → residue p v ≡ minus W32 (worth p v + residue_of W32 (from_field_of W32 Four (pos 0) number)) (less_of p 0 r.r_offset (target_worth (symbols b is) p v (neutral_target (rel_sym r))) (neutral_less (rel_type r))))
-      → IsField plain_dialect b keep (neutral_of b []) 0 r.r_offset (neutral_reloc text (r.r_offset, r)) (field_with (elf.target_of b keep) text r aim.target aim.there residue)
-  unfolding neutral_reloc
-  field_is residue same = record {
-    width = refl;
-    check = refl;
-    base = refl;
-    less = refl;
-    hint = refl;
-    target = rw (place_none b is (rel_sym r) rel.some rel.there) (sym aim.named);
-    residue = λ p v fixed. residue-plain (symbols b is) p v text r.r_offset r ∙ sym (same p v);
-  }
-
-  pub seen-own : IsSeen b keep r.r_offset r
-  seen-own = elim rel.type [
-    | inl one ↦
-        let residue : Placement → Valuation → ℕ = λ p v. reduced W32 ((aim.target.worth p v).site.address + number) in
-        record {
-          field = field_with (elf.target_of b keep) text r aim.target aim.there residue;
-          here = here_is _ (field-absolute (elf.target_of b keep) text r aim.target aim.there one);
-          is = field_is residue (λ p v.
-              absolute (worth p v) (aim.target.worth p v).site.address number (residue_of W32 (from_field_of W32 Four (pos 0) number)) (aim.address p v) (addend_is number)
-              ∙ ap (λ n. minus W32 (worth p v + residue_of W32 (from_field_of W32 Four (pos 0) number)) n) (sym (ap (λ k. less_of p 0 r.r_offset (target_worth (symbols b is) p v (neutral_target (rel_sym r))) (neutral_less k)) one)));
-        }
-    | inr two ↦
-        let residue : Placement → Valuation → ℕ = λ p v. minus W32 ((aim.target.worth p v).site.address + number) ((p.site 0).address + r.r_offset) in
-        record {
-          field = field_with (elf.target_of b keep) text r aim.target aim.there residue;
-          here = here_is _ (field-relative (elf.target_of b keep) text r aim.target aim.there two);
-          is = field_is residue (λ p v.
-              relative (worth p v) (aim.target.worth p v).site.address number (residue_of W32 (from_field_of W32 Four (pos 0) number)) ((p.site 0).address + r.r_offset) (aim.address p v) (addend_is number)
-              ∙ ap (λ n. minus W32 (worth p v + residue_of W32 (from_field_of W32 Four (pos 0) number)) n)
-              (sym (ap (λ k. less_of p 0 r.r_offset (target_worth (symbols b is) p v (neutral_target (rel_sym r))) (neutral_less k)) two)));
-        }
-  ]
+pub seen-own : (b : List ℕ) (keep : Keep) (is : IsPlain b) (r : Rel) → IsRel (headers_in b) r → field_at b (headers_in b) r.r_offset ≡ Some r → IsSeen b keep r.r_offset r
+unfolding elf.field_by
+seen-own b keep is r rel at =
+    let text : List ℕ = text_in b (headers_in b) in
+    let x : IsRow text r.r_offset r = row_is text r.r_offset r rel.type in
+    let aim : IsAimed b keep (rel_sym r) = aimed b keep is (rel_sym r) rel.some rel.there in
+    let field : Field = field_in_place W32 x.row text 0 r.r_offset aim.target in
+    record {
+      field = field;
+      here =
+          kept_fields-text b keep is r.r_offset
+          ∙ ap (option_and_then (elf.field_by (elf.target_of b keep) 0 text)) at
+          ∙ rw (x.listed, aim.there) refl;
+      is = subst (λ q. IsField plain_dialect b keep (neutral_of b []) 0 r.r_offset q field) x.made (aim.is x.row (number_in x.row text r.r_offset) r.r_offset);
+    }
 
 -- the relocations of the object
 abbrev pub given_in : List ℕ → List (ℕ × Rel) → Given

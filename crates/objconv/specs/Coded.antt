@@ -35,7 +35,7 @@ use Rattle.oc_neutral.specs.Rows.{same_base, same_width, same_check}
 use Rattle.oc_neutral.specs.KindRules.{same_kind, has_nul}
 use Rattle.oc_neutral.specs.Elf.Kinds.{elf_tag}
 use Rattle.oc_coff_read.specs.declared.relocation.Relocation.{Relocation}
-use Rattle.oc_coff_read.specs.declared.constants.TheConstants.{IMAGE_REL_I386_DIR32, IMAGE_REL_I386_REL32}
+use Rattle.oc_neutral.specs.declared.coff.TheConstants.{IMAGE_REL_I386_DIR32, IMAGE_REL_I386_REL32}
 use Rattle.oc_coff_read.specs.Canonical.{External, CodeObject, code_file}
 use Rattle.objconv.specs.Plain.{exponent_of}
 

@@ -2,7 +2,6 @@
 use Rattle.std.specs.Prelude.{refl}
 use Rattle.oc_base.specs.declared.format.Format.TheVariants.{Elf32, Coff32}
 use Rattle.oc_linking.specs.Rules.{Rules}
-use Rattle.oc_neutral.specs.Alignments.{output_align, common_align}
 use Rattle.oc_neutral.specs.Dialects.{Dialect}
 use Rattle.oc_neutral.specs.Targets.{IsDialect}
 use Rattle.oc_elf_read.specs.Elf32.{elf32_rules}
@@ -27,7 +26,6 @@ plain_dialect = record { format = Elf32; rules = plain_rules }
 
 -- its word and its alignments are those of ELF32
 pub plain_is_dialect : IsDialect plain_dialect
-unfolding output_align common_align
 plain_is_dialect = record { word = refl; output_align = λ align. refl; common_align = λ size align. refl }
 
 -- what the first path writes

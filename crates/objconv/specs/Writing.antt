@@ -1,13 +1,11 @@
 -- What the writer of COFF promises of its files: the lemmas stand in `WriterLaw` (our profile).
 use Rattle.std.proofs.Common.{◌≡◌, refl, sym, ap, subst}
 use Rattle.oc_neutral.specs.declared.section.Section.{Section}
-use Rattle.oc_neutral.specs.Alignments as neutral
 use Rattle.oc_neutral.specs.Objects.{Object}
 use Rattle.oc_neutral.specs.Targets.{IsDialect, WritesCanonical}
 use Rattle.oc_linking.specs.Keeping.{all}
 use Rattle.oc_neutral.specs.Shows.{Shows}
 use Rattle.oc_neutral.specs.Written.{IsWritten}
-use Rattle.oc_coff_read.specs.Alignments as coff
 use Rattle.oc_coff_read.specs.Canonical.{code_file}
 use Rattle.objconv.specs.Coded.{IsWritable, coded_with, coded_by, coded, coff_file}
 use Rattle.objconv.specs.Dialects.{coff_dialect}
@@ -17,7 +15,6 @@ use Rattle.objconv.specs.WriterLaw.SeenShows.{shows_seen}
 
 -- COFF for i386 has the words and the alignments of its format
 pub coff_is_dialect : IsDialect coff_dialect
-unfolding neutral.output_align neutral.common_align coff.output_align coff.common_align
 coff_is_dialect = record { word = refl; output_align = λ align. refl; common_align = λ size align. refl }
 
 -- the file of the object with its section

@@ -2,8 +2,8 @@
 use Rattle.std.proofs.Common.{◌≡◌, ℕ, zero, suc, ◌^◌, ◌≤◌, false, Some, refl, inl, inr, subst, sym, arith}
 use Rattle.std.proofs.lemmas.Bool.{cases_eq}
 use Rattle.oc_linking.specs.declared.terms.Kind.TheVariants.{Code}
-use Rattle.oc_coff_read.specs.declared.constants.TheConstants.{IMAGE_SCN_LNK_NRELOC_OVFL}
-use Rattle.oc_coff_read.specs.Alignments.{align_of, output_align}
+use Rattle.oc_neutral.specs.declared.coff.TheConstants.{IMAGE_SCN_LNK_NRELOC_OVFL}
+use Rattle.oc_coff_read.specs.Alignments.{align_of}
 use Rattle.oc_coff_read.specs.Flags.{has, kind_of, tag_of}
 use Rattle.oc_coff_read.specs.Canonical.{code_flags}
 
@@ -74,8 +74,3 @@ code_flags_say =
       ),
       r 13 refl refl refl refl,
     )
-
--- COFF has each of these alignments
-pub output_align-power : (exponent : ℕ) → exponent ≤ 13 → output_align (2 ^ exponent) ≡ 2 ^ exponent
-unfolding output_align
-output_align-power = let P : ℕ → Type 0 = λ k. output_align (2 ^ k) ≡ 2 ^ k in upto P 13 (((((((((((((refl, refl), refl), refl), refl), refl), refl), refl), refl), refl), refl), refl), refl), refl)

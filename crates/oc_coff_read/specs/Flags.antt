@@ -2,7 +2,8 @@
 use Rattle.std.specs.Prelude.{ℕ, ◌+◌, ◌-◌, bit_and, Bool, not, ◌||◌, nat_eq, if◌then◌else◌, Option, Some, None}
 use Rattle.oc_linking.specs.declared.terms.Kind.{Kind}
 use Rattle.oc_linking.specs.declared.terms.Kind.TheVariants.{Code}
-use Rattle.oc_coff_read.specs.declared.constants.TheConstants.{IMAGE_SCN_CNT_CODE, IMAGE_SCN_LNK_COMDAT, IMAGE_SCN_LNK_NRELOC_OVFL, IMAGE_SCN_MEM_EXECUTE, IMAGE_SCN_ALIGN_MASK}
+use Rattle.oc_neutral.specs.declared.coff.TheConstants.{IMAGE_SCN_CNT_CODE, IMAGE_SCN_LNK_COMDAT, IMAGE_SCN_LNK_NRELOC_OVFL, IMAGE_SCN_MEM_EXECUTE}
+use Rattle.oc_coff_read.specs.declared.constants.TheConstants.{IMAGE_SCN_ALIGN_MASK}
 
 -- one of the flags is set
 abbrev pub has : ℕ → ℕ → Bool

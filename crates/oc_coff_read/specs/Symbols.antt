@@ -11,12 +11,12 @@ use Rattle.oc_linking.specs.declared.terms.Value.TheVariants.{Place, Absolute}
 use Rattle.oc_linking.specs.declared.terms.Binding.{Binding}
 use Rattle.oc_linking.specs.declared.terms.Binding.TheVariants.{Local, Global, Undefined, Common}
 use Rattle.oc_linking.specs.Parts.{Symbol}
+use Rattle.oc_neutral.specs.Powers.{natural_align}
 use Rattle.oc_coff_read.specs.declared.symbol.SymbolEntry.{SymbolEntry}
 use Rattle.oc_coff_read.specs.declared.constants.TheConstants.{IMAGE_SYM_UNDEFINED, IMAGE_SYM_ABSOLUTE, IMAGE_SYM_TYPE_FUNCTION, IMAGE_SYM_CLASS_EXTERNAL, IMAGE_SYM_CLASS_STATIC, IMAGE_SYM_CLASS_LABEL, IMAGE_SYM_SECTION_MAX}
 use Rattle.oc_coff_read.specs.FileHeader.{file_header_in}
 use Rattle.oc_coff_read.specs.SymbolEntry.{symbol_in}
 use Rattle.oc_coff_read.specs.Names.{symbol_name}
-use Rattle.oc_coff_read.specs.Alignments.{common_align}
 use Rattle.oc_coff_read.specs.Sections.{position_of}
 
 -- entry i of the symbol table
@@ -47,7 +47,7 @@ value_of file s =
 abbrev pub external_binding : List ℕ → SymbolEntry → Option Binding
 external_binding file s =
     if nat_eq s.SectionNumber IMAGE_SYM_UNDEFINED
-    then (if nat_eq s.Value 0 then Some Undefined else Some (Common s.Value (common_align s.Value)))
+    then (if nat_eq s.Value 0 then Some Undefined else Some (Common s.Value (natural_align s.Value)))
     else option_map Global (value_of file s)
 
 -- a section's own symbol: STATIC, of value 0, with an auxiliary entry and a section

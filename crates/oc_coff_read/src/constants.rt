@@ -1,20 +1,10 @@
-//! Numbers of PE/COFF, under their names.
+//! Numbers of PE/COFF that only the structures need, under their names.
 
 /// Intel 386 and later (PE/COFF, "Machine Types").
 pub const IMAGE_FILE_MACHINE_I386: u16 = 0x14C;
 
-/// A section of machine instructions (PE/COFF, "Section Flags").
-pub const IMAGE_SCN_CNT_CODE: u32 = 0x20;
-/// A section of which a linker keeps one copy (PE/COFF, "Section Flags").
-pub const IMAGE_SCN_LNK_COMDAT: u32 = 0x1000;
 /// The bits of the alignment (PE/COFF, "Section Flags").
 pub const IMAGE_SCN_ALIGN_MASK: u32 = 0x00F0_0000;
-/// A section with more relocations than its header can count (PE/COFF, "Section Flags").
-pub const IMAGE_SCN_LNK_NRELOC_OVFL: u32 = 0x0100_0000;
-/// A section whose bytes can be executed (PE/COFF, "Section Flags").
-pub const IMAGE_SCN_MEM_EXECUTE: u32 = 0x2000_0000;
-/// A section whose bytes can be read (PE/COFF, "Section Flags").
-pub const IMAGE_SCN_MEM_READ: u32 = 0x4000_0000;
 
 /// The section number of a symbol that is defined elsewhere (PE/COFF, "Section Number Values").
 pub const IMAGE_SYM_UNDEFINED: u16 = 0;
@@ -33,7 +23,3 @@ pub const IMAGE_SYM_CLASS_LABEL: u8 = 6;
 
 /// An entry that says nothing (PE/COFF, "Type Indicators").
 pub const IMAGE_REL_I386_ABSOLUTE: u16 = 0;
-/// The address of the symbol (PE/COFF, "Type Indicators").
-pub const IMAGE_REL_I386_DIR32: u16 = 6;
-/// The distance of the symbol from the end of the field (PE/COFF, "Type Indicators").
-pub const IMAGE_REL_I386_REL32: u16 = 0x14;

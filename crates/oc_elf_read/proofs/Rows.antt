@@ -21,6 +21,8 @@ use Rattle.oc_linking.specs.Rules.{Symbolic}
 use Rattle.oc_linking.specs.Targets.{target_among}
 use Rattle.oc_linking.specs.Linking as linking
 use Rattle.oc_linking.specs.Linking.{Linked, Image, Overflow, Exports, patches_in, link_whole}
+use Rattle.oc_algebra.specs.Fields.{extended}
+use Rattle.oc_algebra.specs.Residues.{residue_of}
 use Rattle.oc_elf_read.specs.Ehdr.{ehdr_in}
 use Rattle.oc_elf_read.specs.Shdr.{shdr_in}
 use Rattle.oc_elf_read.specs.Sym.{sym_in, bind_of, type_of}
@@ -28,7 +30,7 @@ use Rattle.oc_elf_read.specs.Rel.{rel_in, rel_sym, rel_type}
 use Rattle.oc_elf_read.specs.Names.{table_bytes, name_in}
 use Rattle.oc_elf_read.specs.Sections.{header_of, headers_of, section_of, first_sections, sections_of, position_of, entries_of, relocations_of}
 use Rattle.oc_elf_read.specs.Symbols.{symtab_of, entry_of, symbol_name, binding_of, symbol_with, symbol_of, symbols_of, section_symbol_of, section_symbols_of}
-use Rattle.oc_elf_read.specs.Fields.{value_by, field_by, field_among, fields_of}
+use Rattle.oc_elf_read.specs.Fields.{field_by, field_among, fields_of}
 use Rattle.oc_elf_read.specs.Elf32.{elf32_rules}
 
 -- 0: the file header, with section headers at 192, 6 of 40 bytes, and their names in 5
@@ -174,22 +176,22 @@ symbols_of-row = refl
 
 -- its field at 1: PC32 to foo, with F = -4
 fields_of-row : fields_of row all 0 1
-    ≡ Some (record { width = Four; check = Wrap; base = Address; less = less.Place; residue = λ p v. minus W32 ((v 3).site.address + 0xFFFFFFFC) ((p.site 0).address + 1); target = Symbolic 3; hint = Plain })
-unfolding ehdr_in shdr_in sym_in rel_in number_at header_of headers_of section_of first_sections sections_of position_of entries_of relocations_of table_bytes name_in symtab_of entry_of symbol_name binding_of symbol_with symbol_of symbols_of section_symbol_of section_symbols_of value_by field_by field_among fields_of target_among
+    ≡ Some (record { width = Four; check = Wrap; base = Address; less = less.Place; residue = λ p v. minus W32 ((v 3).site.address + 0xFFFFFFFC) ((p.site 0).address + 1 + 0); target = Symbolic 3; hint = Plain })
+unfolding ehdr_in shdr_in sym_in rel_in number_at header_of headers_of section_of first_sections sections_of position_of entries_of relocations_of table_bytes name_in symtab_of entry_of symbol_name binding_of symbol_with symbol_of symbols_of section_symbol_of section_symbols_of extended residue_of field_by field_among fields_of target_among
 fields_of-row = refl
 
 -- it has no field at 2
 fields_of-row_2 : fields_of row all 0 2 ≡ None
-unfolding ehdr_in shdr_in sym_in rel_in number_at header_of headers_of section_of first_sections sections_of position_of entries_of relocations_of table_bytes name_in symtab_of entry_of symbol_name binding_of symbol_with symbol_of symbols_of section_symbol_of section_symbols_of value_by field_by field_among fields_of target_among
+unfolding ehdr_in shdr_in sym_in rel_in number_at header_of headers_of section_of first_sections sections_of position_of entries_of relocations_of table_bytes name_in symtab_of entry_of symbol_name binding_of symbol_with symbol_of symbols_of section_symbol_of section_symbols_of extended residue_of field_by field_among fields_of target_among
 fields_of-row_2 = refl
 
--- .text at an address
+-- .text at an address, and the GOT at 0x2F00
 abbrev placed : ℕ → Placement
-placed text = record { site = λ k. record { address = text; home = text; home_number = 1 }; discarded = λ k. false; image_base = 0; got_base = 0 }
+placed text = record { site = λ k. record { address = text; home = text; home_number = 1 }; discarded = λ k. false; image_base = 0; got_base = 0x2F00 }
 
--- foo at an address; the outside gives main nothing
+-- foo at an address, and its slot at 0x3000; the outside gives main nothing
 abbrev outer : ℕ → Outside
-outer foo = record { site = λ name. elim name [ [] ↦ None | x ∷ xs ↦ elim (eqb x 0x66) [ true ↦ Some (record { address = foo; home = foo; home_number = 2 }) | false ↦ None ] ]; slot = λ name. 0 }
+outer foo = record { site = λ name. elim name [ [] ↦ None | x ∷ xs ↦ elim (eqb x 0x66) [ true ↦ Some (record { address = foo; home = foo; home_number = 2 }) | false ↦ None ] ]; slot = λ name. 0x3000 }
 
 -- what the field at 1 holds with that symbol and type in the relocation, where .text lies at 0x1000, main too, and foo at 0x2000
 abbrev held : ℕ → ℕ → Option ℕ
@@ -211,62 +213,95 @@ exported (Image xs exports) name = exports name
 
 -- R_386_32 (1) to foo: 0x2000 - 4
 held-32 : held 3 1 ≡ Some 0x1FFC
-unfolding ehdr_in shdr_in sym_in rel_in number_at header_of headers_of section_of first_sections sections_of position_of entries_of relocations_of table_bytes name_in symtab_of entry_of symbol_name binding_of symbol_with symbol_of symbols_of section_symbol_of section_symbols_of value_by field_by field_among fields_of target_among
+unfolding ehdr_in shdr_in sym_in rel_in number_at header_of headers_of section_of first_sections sections_of position_of entries_of relocations_of table_bytes name_in symtab_of entry_of symbol_name binding_of symbol_with symbol_of symbols_of section_symbol_of section_symbols_of extended residue_of field_by field_among fields_of target_among
 held-32 = refl
 
 -- R_386_PC32 (2) to main: 0x1000 - 4 - 0x1001 = -5
 held-main : held 2 2 ≡ Some 0xFFFFFFFB
-unfolding ehdr_in shdr_in sym_in rel_in number_at header_of headers_of section_of first_sections sections_of position_of entries_of relocations_of table_bytes name_in symtab_of entry_of symbol_name binding_of symbol_with symbol_of symbols_of section_symbol_of section_symbols_of value_by field_by field_among fields_of target_among
+unfolding ehdr_in shdr_in sym_in rel_in number_at header_of headers_of section_of first_sections sections_of position_of entries_of relocations_of table_bytes name_in symtab_of entry_of symbol_name binding_of symbol_with symbol_of symbols_of section_symbol_of section_symbols_of extended residue_of field_by field_among fields_of target_among
 held-main = refl
 
 -- R_386_32 to the section's own symbol: 0x1000 - 4
 held-own : held 1 1 ≡ Some 0xFFC
-unfolding ehdr_in shdr_in sym_in rel_in number_at header_of headers_of section_of first_sections sections_of position_of entries_of relocations_of table_bytes name_in symtab_of entry_of symbol_name binding_of symbol_with symbol_of symbols_of section_symbol_of section_symbols_of value_by field_by field_among fields_of target_among
+unfolding ehdr_in shdr_in sym_in rel_in number_at header_of headers_of section_of first_sections sections_of position_of entries_of relocations_of table_bytes name_in symtab_of entry_of symbol_name binding_of symbol_with symbol_of symbols_of section_symbol_of section_symbols_of extended residue_of field_by field_among fields_of target_among
 held-own = refl
 
 -- symbol 0 is the null symbol, and there is no symbol 4
 held-null : held 0 1 ≡ None
-unfolding ehdr_in shdr_in sym_in rel_in number_at header_of headers_of section_of first_sections sections_of position_of entries_of relocations_of table_bytes name_in symtab_of entry_of symbol_name binding_of symbol_with symbol_of symbols_of section_symbol_of section_symbols_of value_by field_by field_among fields_of target_among
+unfolding ehdr_in shdr_in sym_in rel_in number_at header_of headers_of section_of first_sections sections_of position_of entries_of relocations_of table_bytes name_in symtab_of entry_of symbol_name binding_of symbol_with symbol_of symbols_of section_symbol_of section_symbols_of extended residue_of field_by field_among fields_of target_among
 held-null = refl
 
 held-absent : held 4 1 ≡ None
-unfolding ehdr_in shdr_in sym_in rel_in number_at header_of headers_of section_of first_sections sections_of position_of entries_of relocations_of table_bytes name_in symtab_of entry_of symbol_name binding_of symbol_with symbol_of symbols_of section_symbol_of section_symbols_of value_by field_by field_among fields_of target_among
+unfolding ehdr_in shdr_in sym_in rel_in number_at header_of headers_of section_of first_sections sections_of position_of entries_of relocations_of table_bytes name_in symtab_of entry_of symbol_name binding_of symbol_with symbol_of symbols_of section_symbol_of section_symbols_of extended residue_of field_by field_among fields_of target_among
 held-absent = refl
 
--- type 0 is NONE, and says nothing; the rows of type 3, GOT32, are left out
+-- type 0 is NONE, and says nothing; type 5, COPY, is none of an object
 held-none : held 3 0 ≡ None
-unfolding ehdr_in shdr_in sym_in rel_in number_at header_of headers_of section_of first_sections sections_of position_of entries_of relocations_of table_bytes name_in symtab_of entry_of symbol_name binding_of symbol_with symbol_of symbols_of section_symbol_of section_symbols_of value_by field_by field_among fields_of target_among
+unfolding ehdr_in shdr_in sym_in rel_in number_at header_of headers_of section_of first_sections sections_of position_of entries_of relocations_of table_bytes name_in symtab_of entry_of symbol_name binding_of symbol_with symbol_of symbols_of section_symbol_of section_symbols_of extended residue_of field_by field_among fields_of target_among
 held-none = refl
 
-held-got32 : held 3 3 ≡ None
-unfolding ehdr_in shdr_in sym_in rel_in number_at header_of headers_of section_of first_sections sections_of position_of entries_of relocations_of table_bytes name_in symtab_of entry_of symbol_name binding_of symbol_with symbol_of symbols_of section_symbol_of section_symbols_of value_by field_by field_among fields_of target_among
+held-copy : held 3 5 ≡ None
+unfolding ehdr_in shdr_in sym_in rel_in number_at header_of headers_of section_of first_sections sections_of position_of entries_of relocations_of table_bytes name_in symtab_of entry_of symbol_name binding_of symbol_with symbol_of symbols_of section_symbol_of section_symbols_of extended residue_of field_by field_among fields_of target_among
+held-copy = refl
+
+-- R_386_GOT32 (3), the slot less the GOT: 0x3000 - 4 - 0x2F00; and R_386_GOT32X (43) the same
+held-got32 : held 3 3 ≡ Some 0xFC
+unfolding ehdr_in shdr_in sym_in rel_in number_at header_of headers_of section_of first_sections sections_of position_of entries_of relocations_of table_bytes name_in symtab_of entry_of symbol_name binding_of symbol_with symbol_of symbols_of section_symbol_of section_symbols_of extended residue_of field_by field_among fields_of target_among
 held-got32 = refl
+
+held-got32x : held 3 43 ≡ Some 0xFC
+unfolding ehdr_in shdr_in sym_in rel_in number_at header_of headers_of section_of first_sections sections_of position_of entries_of relocations_of table_bytes name_in symtab_of entry_of symbol_name binding_of symbol_with symbol_of symbols_of section_symbol_of section_symbols_of extended residue_of field_by field_among fields_of target_among
+held-got32x = refl
+
+-- R_386_GOTOFF (9): 0x2000 - 4 - 0x2F00 = -0xF04
+held-gotoff : held 3 9 ≡ Some 0xFFFFF0FC
+unfolding ehdr_in shdr_in sym_in rel_in number_at header_of headers_of section_of first_sections sections_of position_of entries_of relocations_of table_bytes name_in symtab_of entry_of symbol_name binding_of symbol_with symbol_of symbols_of section_symbol_of section_symbols_of extended residue_of field_by field_among fields_of target_among
+held-gotoff = refl
+
+-- R_386_GOTPC (10): 0x2F00 - 4 - 0x1001
+held-gotpc : held 3 10 ≡ Some 0x1EFB
+unfolding ehdr_in shdr_in sym_in rel_in number_at header_of headers_of section_of first_sections sections_of position_of entries_of relocations_of table_bytes name_in symtab_of entry_of symbol_name binding_of symbol_with symbol_of symbols_of section_symbol_of section_symbols_of extended residue_of field_by field_among fields_of target_among
+held-gotpc = refl
+
+-- R_386_16 (20), whose field is the two bytes of -4, and R_386_8 (22), whose field is the one
+held-16 : held 3 20 ≡ Some 0x1FFC
+unfolding ehdr_in shdr_in sym_in rel_in number_at header_of headers_of section_of first_sections sections_of position_of entries_of relocations_of table_bytes name_in symtab_of entry_of symbol_name binding_of symbol_with symbol_of symbols_of section_symbol_of section_symbols_of extended residue_of field_by field_among fields_of target_among
+held-16 = refl
+
+held-8 : held 3 22 ≡ Some 0x1FFC
+unfolding ehdr_in shdr_in sym_in rel_in number_at header_of headers_of section_of first_sections sections_of position_of entries_of relocations_of table_bytes name_in symtab_of entry_of symbol_name binding_of symbol_with symbol_of symbols_of section_symbol_of section_symbols_of extended residue_of field_by field_among fields_of target_among
+held-8 = refl
+
+-- R_386_PC8 (23): 0x2000 - 4 - 0x1001
+held-pc8 : held 3 23 ≡ Some 0xFFB
+unfolding ehdr_in shdr_in sym_in rel_in number_at header_of headers_of section_of first_sections sections_of position_of entries_of relocations_of table_bytes name_in symtab_of entry_of symbol_name binding_of symbol_with symbol_of symbols_of section_symbol_of section_symbols_of extended residue_of field_by field_among fields_of target_among
+held-pc8 = refl
 
 -- linked: 0x2000 - 4 - 0x1001 = 0xFFB
 linked-near : images (linked 2 0x1000 0x2000) ≡ (0xE8 ∷ 0xFB ∷ 0x0F ∷ 0 ∷ 0 ∷ 0xC3 ∷ []) ∷ []
-unfolding ehdr_in shdr_in sym_in rel_in number_at header_of headers_of section_of first_sections sections_of position_of entries_of relocations_of table_bytes name_in symtab_of entry_of symbol_name binding_of symbol_with symbol_of symbols_of section_symbol_of section_symbols_of value_by field_by field_among fields_of target_among
+unfolding ehdr_in shdr_in sym_in rel_in number_at header_of headers_of section_of first_sections sections_of position_of entries_of relocations_of table_bytes name_in symtab_of entry_of symbol_name binding_of symbol_with symbol_of symbols_of section_symbol_of section_symbols_of extended residue_of field_by field_among fields_of target_among
 linked-near = refl
 
 -- backwards: 0x1000 - 4 - 0x2001 = -0x1005, which is 0xFFFFEFFB
 linked-back : images (linked 2 0x2000 0x1000) ≡ (0xE8 ∷ 0xFB ∷ 0xEF ∷ 0xFF ∷ 0xFF ∷ 0xC3 ∷ []) ∷ []
-unfolding ehdr_in shdr_in sym_in rel_in number_at header_of headers_of section_of first_sections sections_of position_of entries_of relocations_of table_bytes name_in symtab_of entry_of symbol_name binding_of symbol_with symbol_of symbols_of section_symbol_of section_symbols_of value_by field_by field_among fields_of target_among
+unfolding ehdr_in shdr_in sym_in rel_in number_at header_of headers_of section_of first_sections sections_of position_of entries_of relocations_of table_bytes name_in symtab_of entry_of symbol_name binding_of symbol_with symbol_of symbols_of section_symbol_of section_symbols_of extended residue_of field_by field_among fields_of target_among
 linked-back = refl
 
 -- past the end of the addresses: 0x10 - 4 - 0xFFFF0001 = 0x1000B - 2^32
 linked-round : images (linked 2 0xFFFF0000 0x10) ≡ (0xE8 ∷ 0x0B ∷ 0 ∷ 1 ∷ 0 ∷ 0xC3 ∷ []) ∷ []
-unfolding ehdr_in shdr_in sym_in rel_in number_at header_of headers_of section_of first_sections sections_of position_of entries_of relocations_of table_bytes name_in symtab_of entry_of symbol_name binding_of symbol_with symbol_of symbols_of section_symbol_of section_symbols_of value_by field_by field_among fields_of target_among
+unfolding ehdr_in shdr_in sym_in rel_in number_at header_of headers_of section_of first_sections sections_of position_of entries_of relocations_of table_bytes name_in symtab_of entry_of symbol_name binding_of symbol_with symbol_of symbols_of section_symbol_of section_symbols_of extended residue_of field_by field_among fields_of target_among
 linked-round = refl
 
 -- R_386_32: 0x2000 - 4 = 0x1FFC
 linked-32 : images (linked 1 0x1000 0x2000) ≡ (0xE8 ∷ 0xFC ∷ 0x1F ∷ 0 ∷ 0 ∷ 0xC3 ∷ []) ∷ []
-unfolding ehdr_in shdr_in sym_in rel_in number_at header_of headers_of section_of first_sections sections_of position_of entries_of relocations_of table_bytes name_in symtab_of entry_of symbol_name binding_of symbol_with symbol_of symbols_of section_symbol_of section_symbols_of value_by field_by field_among fields_of target_among
+unfolding ehdr_in shdr_in sym_in rel_in number_at header_of headers_of section_of first_sections sections_of position_of entries_of relocations_of table_bytes name_in symtab_of entry_of symbol_name binding_of symbol_with symbol_of symbols_of section_symbol_of section_symbols_of extended residue_of field_by field_among fields_of target_among
 linked-32 = refl
 
 -- main is exported, foo is not
 exported-main : exported (linked 2 0x1000 0x2000) (codes "main") ≡ Some (linking.Address 0x1000)
-unfolding ehdr_in shdr_in sym_in rel_in number_at header_of headers_of section_of first_sections sections_of position_of entries_of relocations_of table_bytes name_in symtab_of entry_of symbol_name binding_of symbol_with symbol_of symbols_of section_symbol_of section_symbols_of value_by field_by field_among fields_of target_among
+unfolding ehdr_in shdr_in sym_in rel_in number_at header_of headers_of section_of first_sections sections_of position_of entries_of relocations_of table_bytes name_in symtab_of entry_of symbol_name binding_of symbol_with symbol_of symbols_of section_symbol_of section_symbols_of extended residue_of field_by field_among fields_of target_among
 exported-main = refl
 
 exported-foo : exported (linked 2 0x1000 0x2000) (codes "foo") ≡ None
-unfolding ehdr_in shdr_in sym_in rel_in number_at header_of headers_of section_of first_sections sections_of position_of entries_of relocations_of table_bytes name_in symtab_of entry_of symbol_name binding_of symbol_with symbol_of symbols_of section_symbol_of section_symbols_of value_by field_by field_among fields_of target_among
+unfolding ehdr_in shdr_in sym_in rel_in number_at header_of headers_of section_of first_sections sections_of position_of entries_of relocations_of table_bytes name_in symtab_of entry_of symbol_name binding_of symbol_with symbol_of symbols_of section_symbol_of section_symbols_of extended residue_of field_by field_among fields_of target_among
 exported-foo = refl

@@ -1,4 +1,4 @@
-//! Numbers of the gABI and the i386 psABI, under their names.
+//! Numbers of the gABI and the i386 psABI that only the structures need, under their names.
 
 /// The first four bytes of an ELF file, 7F 45 4C 46, as a number (gABI, "ELF Identification").
 pub const ELFMAG: u32 = 0x464C_457F;
@@ -13,18 +13,12 @@ pub const ET_REL: u16 = 1;
 /// Intel 80386 (gABI, "ELF Header").
 pub const EM_386: u16 = 3;
 
-/// A section with bytes of the program's own meaning (gABI, "Section Header").
-pub const SHT_PROGBITS: u32 = 1;
 /// A symbol table (gABI, "Section Header").
 pub const SHT_SYMTAB: u32 = 2;
 /// A string table (gABI, "Section Header").
 pub const SHT_STRTAB: u32 = 3;
 /// A relocation table with the addends in place (gABI, "Section Header").
 pub const SHT_REL: u32 = 9;
-/// A section that takes memory when the program runs (gABI, "Section Header").
-pub const SHF_ALLOC: u64 = 2;
-/// A section of machine instructions (gABI, "Section Header").
-pub const SHF_EXECINSTR: u64 = 4;
 
 /// A symbol that is not seen outside its file (gABI, "Symbol Table").
 pub const STB_LOCAL: u8 = 0;
@@ -39,7 +33,3 @@ pub const STT_SECTION: u8 = 3;
 
 /// A relocation that says nothing (i386 psABI, "Relocation Types").
 pub const R_386_NONE: u8 = 0;
-/// S + A in a word (i386 psABI, "Relocation Types").
-pub const R_386_32: u8 = 1;
-/// S + A - P in a word (i386 psABI, "Relocation Types").
-pub const R_386_PC32: u8 = 2;

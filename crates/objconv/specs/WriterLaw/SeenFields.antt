@@ -3,7 +3,9 @@ use Rattle.std.proofs.Common.{◌≡◌, ℕ, zero, suc, ◌+◌, ◌%◌, ◌^�
 use mathlib.Core.Path.{fun_ext}
 use Rattle.std.specs.Prelude.{ℤ}
 use Rattle.std.specs.Option.{option_map, option_and_then, unwrap_or}
+use Rattle.std.proofs.lemmas.Bool.Decides.{nat_tests}
 use Rattle.std.proofs.lemmas.List.{length-map}
+use borrow.Author.Differences.{ints}
 use Rattle.oc_base.specs.declared.format.Format.TheVariants.{Coff32}
 use Rattle.oc_base.specs.declared.format.Word.TheVariants.{W32}
 use Rattle.oc_base.specs.Numbers.{number_at}
@@ -25,13 +27,17 @@ use Rattle.oc_linking.specs.declared.terms.Base.TheVariants as base
 use Rattle.oc_linking.specs.declared.terms.Less.{Less}
 use Rattle.oc_linking.specs.declared.terms.Less.TheVariants as less
 use Rattle.oc_algebra.specs.Residues.{residue_of}
+use Rattle.oc_algebra.specs.Fields.{extended}
 use Rattle.oc_chains.specs.Lists.{list_of}
 use Rattle.oc_neutral.specs.declared.section.Section.{Section}
 use Rattle.oc_neutral.specs.declared.symbol.Symbol.{Symbol}
 use Rattle.oc_neutral.specs.declared.reloc.Target.{Target}
 use Rattle.oc_neutral.specs.declared.reloc.Target.TheVariants as target
 use Rattle.oc_neutral.specs.declared.reloc.Reloc.{Reloc}
+use Rattle.oc_neutral.specs.declared.coff.TheConstants.{IMAGE_REL_I386_DIR32, IMAGE_REL_I386_REL32}
 use Rattle.oc_neutral.specs.Objects.{Object, reloc_at}
+use Rattle.oc_neutral.specs.Rows.{Row, row, from_behind, TakesZero, TakesPlace}
+use Rattle.oc_neutral.specs.RelocTables.{row_of}
 use Rattle.oc_neutral.specs.Invariants.{IsThere}
 use Rattle.oc_neutral.specs.Faces.{named_of, field_of, fields_of}
 use Rattle.oc_neutral.specs.Worth.{target_worth, base_of, less_of, residue_at}
@@ -42,7 +48,7 @@ use Rattle.oc_coff_read.specs.Coff32.{coff32_rules}
 use Rattle.oc_coff_read.specs.Fields.{field_by, field_among}
 use Rattle.oc_coff_read.specs.Seen.{seen_target}
 use Rattle.oc_coff_read.proofs.SeenLaws.{reads_back}
-use Rattle.oc_coff_read.proofs.TargetLaws.{seen_target-section, seen_target-external, field_by-dir32, field_by-rel32}
+use Rattle.oc_coff_read.proofs.TargetLaws.{seen_target-section, seen_target-external, field_by-row}
 use Rattle.objconv.specs.Coded.{field_patch, filled, entry_of, type_of, external_of, coded_with}
 use Rattle.objconv.specs.WriterLaw.CodedLemmas.{IsPlainLess, IsPlainForm, IsCoded}
 use Rattle.objconv.specs.WriterLaw.CodedObjects.{code_object}
@@ -67,13 +73,18 @@ number_small l z is = elim is [
   | inr place ↦ subst (λ k. number_by k z % 2 ^ 32 ≡ number_by k z) (sym place) (omega arith)
 ]
 
+-- what a field of four bytes adds is the number in it
+extended_low : (f : ℕ) → residue_of W32 (extended Four f) ≡ f % 2 ^ 32
+unfolding residue_of extended
+extended_low f = grind (arith, ints, nat_tests)
+
 -- DIR32 is the address with the number in the field, and so with the addend
-absolute_same : (A S N F : ℕ) → reduced W32 A ≡ reduced W32 S → F ≡ N → reduced W32 (A + F) ≡ minus W32 (S + N) 0
-absolute_same A S N F address number = omega (arith, address, number)
+absolute_same : (A S N F E : ℕ) → reduced W32 A ≡ reduced W32 S → F ≡ N → E ≡ F % 2 ^ 32 → minus W32 (A + E) (0 + 0) ≡ minus W32 (S + N) 0
+absolute_same A S N F E address number added = omega (arith, address, number, added)
 
 -- REL32 is that less the place behind the field, and so less the field's place
-relative_same : (A S N F P : ℕ) → reduced W32 A ≡ reduced W32 S → F ≡ (N + 4) % 2 ^ 32 → minus W32 (A + F) (P + 4) ≡ minus W32 (S + N) P
-relative_same A S N F P address number = omega (arith, address, number)
+relative_same : (A S N F E P : ℕ) → reduced W32 A ≡ reduced W32 S → F ≡ (N + 4) % 2 ^ 32 → E ≡ F % 2 ^ 32 → minus W32 (A + E) (P + 4) ≡ minus W32 (S + N) P
+relative_same A S N F E P address number added = omega (arith, address, number, added)
 
 -- a field of four bytes
 abbrev made : Width → Check → Base → Less → (Placement → Valuation → ℕ) → Named → Field
@@ -149,24 +160,30 @@ module _ (m : Object) (s : Section) (fits : IsFitted Coff32 m) (is : IsCoded m s
       ∙ ap (λ (f : Placement → Valuation → ℕ). made r.form.width r.form.check r.form.base r.form.less f aim.named) (fun_ext (λ p. fun_ext (λ v. same p v)))
       ∙ ap (λ named. made r.form.width r.form.check r.form.base r.form.less (λ p v. residue_at W32 seen.symbols p v 0 at (seen_reloc r)) named) aim.name
 
+  -- the field of a row is that of the relocation, where the row says what the relocation says
   field_found : (at : ℕ) (r : Reloc) → reloc_at m 0 at ≡ Some r → field_by (seen_target o) 0 o.contents (entry_at at r) ≡ Some (field_of seen 0 at (seen_reloc r))
   field_found at r here =
       let put : IsPut m s at r = found_put m s fits is at r here in
       let aim : IsAim r.target = aim_of r.target put.target in
       let t : Aim = record { named = aim.named; worth = aim.worth } in
       let worth : Placement → Valuation → ℕ = λ p v. (target_worth seen.symbols p v r.target).site.address in
+      let F : ℕ = number_at o.contents at 4 in
+      let E : ℕ = residue_of W32 (extended Four F) in
+      let N : ℕ = residue_of W32 r.addend in
       elim put.form.less [
         | inl nothing ↦
-            let number : number_at o.contents at 4 ≡ residue_of W32 r.addend = number_in at r here ∙ ap (λ l. number_by l r.addend) nothing in
-            field_by-dir32 (seen_target o) 0 o.contents (entry_at at r) t aim.there (ap type_of nothing)
-            ∙ ap Some (field_is at r put.form less.Zero nothing aim (λ p v. reduced W32 ((aim.worth p v).site.address + number_at o.contents at 4)) (λ p v.
-            absolute_same (aim.worth p v).site.address (worth p v) (residue_of W32 r.addend) (number_at o.contents at 4) (aim.same p v) number
+            let number : F ≡ N = number_in at r here ∙ ap (λ l. number_by l r.addend) nothing in
+            let dir32 : Row = row IMAGE_REL_I386_DIR32 Four Wrap base.Address TakesZero Plain in
+            field_by-row (seen_target o) 0 o.contents (entry_at at r) t dir32 aim.there (ap (λ l. row_of Coff32 (type_of l)) nothing)
+            ∙ ap Some (field_is at r put.form less.Zero nothing aim (λ p v. minus W32 ((aim.worth p v).site.address + E) (0 + 0)) (λ p v.
+            absolute_same (aim.worth p v).site.address (worth p v) N F E (aim.same p v) number (extended_low F)
             ∙ value_is less.Zero at r p v put.form.base nothing))
         | inr place ↦
-            let number : number_at o.contents at 4 ≡ (residue_of W32 r.addend + 4) % 2 ^ 32 = number_in at r here ∙ ap (λ l. number_by l r.addend) place in
-            field_by-rel32 (seen_target o) 0 o.contents (entry_at at r) t aim.there (ap type_of place)
-            ∙ ap Some (field_is at r put.form less.Place place aim (λ p v. minus W32 ((aim.worth p v).site.address + number_at o.contents at 4) ((p.site 0).address + at + 4)) (λ p v.
-            relative_same (aim.worth p v).site.address (worth p v) (residue_of W32 r.addend) (number_at o.contents at 4) ((p.site 0).address + at) (aim.same p v) number
+            let number : F ≡ (N + 4) % 2 ^ 32 = number_in at r here ∙ ap (λ l. number_by l r.addend) place in
+            let rel32 : Row = from_behind 4 (row IMAGE_REL_I386_REL32 Four Wrap base.Address TakesPlace Plain) in
+            field_by-row (seen_target o) 0 o.contents (entry_at at r) t rel32 aim.there (ap (λ l. row_of Coff32 (type_of l)) place)
+            ∙ ap Some (field_is at r put.form less.Place place aim (λ p v. minus W32 ((aim.worth p v).site.address + E) ((p.site 0).address + at + 4)) (λ p v.
+            relative_same (aim.worth p v).site.address (worth p v) N F E ((p.site 0).address + at) (aim.same p v) number (extended_low F)
             ∙ value_is less.Place at r p v put.form.base place))
       ]
 
