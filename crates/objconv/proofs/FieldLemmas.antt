@@ -1,58 +1,18 @@
 -- Relocations by their offsets, and whether their fields meet.
-use Rattle.std.proofs.Common.{◌≡◌, ℕ, zero, suc, ◌+◌, ◌<◌, inl, inr, Bool, true, false, cond, eqb, List, Option, Some, None, refl, sym, ◌∙◌, ap, subst, arith, eq-eqb, add-one}
-use Rattle.std.specs.Prelude.{◌&&◌, ◌||◌, nat_lt, IsSome}
+use Rattle.std.proofs.Common.{◌≡◌, ℕ, ◌+◌, ◌<◌, Bool, true, false, cond, eqb, List, Option, Some, None, refl, sym, ◌∙◌, ap, subst, arith, eq-eqb, add-one}
+use Rattle.std.specs.Prelude.{◌&&◌, not, nat_lt, IsSome}
 use Rattle.std.specs.Option.{is_some}
 use Rattle.std.specs.Ordering.{nat_cmp, is_eq}
 use Rattle.std.proofs.lemmas.Bool.Decides.{nat_tests}
-use Rattle.std.proofs.lemmas.Bool.{cases_eq, eqb-true, lt-ltb, ltb-true}
+use Rattle.std.proofs.lemmas.Bool.{and_parts, eqb-true, lt-ltb, ltb-true}
 use Rattle.std.proofs.lemmas.Option.{none-some, same_Some}
-use Rattle.oc_linking.specs.Numbers.{or_else, first_upto}
+use Rattle.oc_linking.specs.Numbers.{or_else}
+use Rattle.oc_linking.proofs.FirstFaultLaws.{first_upto_none}
 use Rattle.oc_linking.proofs.Upto.{first_upto_from}
 use Rattle.oc_elf_read.specs.declared.rel.Rel.{Rel}
 use Rattle.objconv.specs.declared.headers.Headers.{Headers}
-use Rattle.objconv.specs.Plain.{any_below, meets, meets_earlier, entry_in, field_below}
-use Rattle.objconv.proofs.PlainLemmas.{both}
-
--- one number below n passes
-pub any_below_hit : (test : ℕ → Bool) (i n : ℕ) → test i ≡ true → i < n → any_below n test ≡ true
-any_below_hit test i zero here low = absurd (omega arith)
-any_below_hit test i (suc n) here low = elim (cases_eq i n) [
-  | inl same ↦ right (any_below n test) (test n) (subst (λ (k : ℕ). test k ≡ true) same here)
-  | inr other ↦ left (any_below n test) (test n) (any_below_hit test i n here (omega arith))
-]
-  where
-    left : (x y : Bool) → x ≡ true → (x || y) ≡ true
-    left true y e = refl
-    left false y e = absurd (cc)
-
-    right : (x y : Bool) → y ≡ true → (x || y) ≡ true
-    right true y e = refl
-    right false y e = e
-
--- no number below n passes
-pub any_below_none : (test : ℕ → Bool) (n : ℕ) → ((i : ℕ) → i < n → test i ≡ false) → any_below n test ≡ false
-any_below_none test zero fails = refl
-any_below_none test (suc n) fails = neither (any_below n test) (test n) (any_below_none test n (λ i low. fails i (omega arith))) (fails n (omega arith))
-  where
-    neither : (x y : Bool) → x ≡ false → y ≡ false → (x || y) ≡ false
-    neither true y e f = e
-    neither false y e f = f
-
--- where nothing is found, no item is there
-pub none_before : {X : Type 0} (item : ℕ → Option X) (n k : ℕ) → first_upto item n ≡ None → k < n → item k ≡ None
-none_before {X = X} item zero k e low = absurd (omega arith)
-none_before {X = X} item (suc n) k e low = elim (cases_eq k n) [
-  | inl same ↦ subst (λ (j : ℕ). item j ≡ None) (sym same) (last (first_upto item n) (item n) e)
-  | inr other ↦ none_before item n k (first (first_upto item n) (item n) e) (omega arith)
-]
-  where
-    first : (x y : Option X) → or_else x y ≡ None → x ≡ None
-    first None y e = refl
-    first (Some x) y e = e
-
-    last : (x y : Option X) → or_else x y ≡ None → y ≡ None
-    last None y e = e
-    last (Some x) y e = absurd (none-some x (sym e))
+use Rattle.objconv.specs.Plain.{is_apart, meets, entry_in, field_below}
+use Rattle.objconv.proofs.BelowLemmas.{all_below_from, all_below_stop}
 
 module _ (b : List ℕ) (h : Headers) where
   -- relocation i, if its field begins at k
@@ -67,30 +27,31 @@ module _ (b : List ℕ) (h : Headers) where
         | false ↦ λ t e. absurd (none-some r e)
       ] refl e
 
-  met : (i j : ℕ) → (entry_in b h j).r_offset < (entry_in b h i).r_offset + 4 → (entry_in b h i).r_offset < (entry_in b h j).r_offset + 4 → meets (entry_in b h j) (entry_in b h i) ≡ true
+  -- two fields with a byte in common meet
+  pub met : (i j : ℕ) → (entry_in b h j).r_offset < (entry_in b h i).r_offset + 4 → (entry_in b h i).r_offset < (entry_in b h j).r_offset + 4 → meets (entry_in b h j) (entry_in b h i) ≡ true
   met i j one two = ap (λ x. x && nat_lt (entry_in b h i).r_offset ((entry_in b h j).r_offset + 4)) (lt-ltb _ _ one) ∙ lt-ltb _ _ two
 
   -- where an earlier field begins close by, the fields meet
-  pub meets_found : (i k : ℕ) → IsSome (field_below b h i k) → k < (entry_in b h i).r_offset + 4 → (entry_in b h i).r_offset < k + 4 → meets_earlier b h i ≡ true
-  meets_found i k some low high = elim (field_below b h i k) as (λ o. field_below b h i k ≡ o → is_some o ≡ true → meets_earlier b h i ≡ true) [
+  pub meets_found : (i k : ℕ) → IsSome (field_below b h i k) → k < (entry_in b h i).r_offset + 4 → (entry_in b h i).r_offset < k + 4 → is_apart b h i ≡ false
+  meets_found i k some low high = elim (field_below b h i k) as (λ o. field_below b h i k ≡ o → is_some o ≡ true → is_apart b h i ≡ false) [
     | None ↦ λ e s. absurd (cc)
     | Some r ↦ λ e s.
         let j = first_upto_from (at_offset k) i r e in
         let there : (entry_in b h j.0).r_offset ≡ k = (offset_found k j.0 r j.2).0 in
-        any_below_hit (λ n. meets (entry_in b h n) (entry_in b h i)) j.0 i (met i j.0 (omega (arith, there)) (omega (arith, there))) j.1
+        all_below_stop (λ n. not (meets (entry_in b h n) (entry_in b h i))) j.0 i (ap not (met i j.0 (omega (arith, there)) (omega (arith, there)))) j.1
   ] refl some
 
   -- where no earlier field begins close by, the fields do not meet
-  pub meets_none : (i : ℕ) → ((k : ℕ) → k < (entry_in b h i).r_offset + 4 → (entry_in b h i).r_offset < k + 4 → field_below b h i k ≡ None) → meets_earlier b h i ≡ false
-  meets_none i free = any_below_none (λ j. meets (entry_in b h j) (entry_in b h i)) i (λ j low. apart j low (meets (entry_in b h j) (entry_in b h i)) refl)
+  pub meets_none : (i : ℕ) → ((k : ℕ) → k < (entry_in b h i).r_offset + 4 → (entry_in b h i).r_offset < k + 4 → field_below b h i k ≡ None) → is_apart b h i ≡ true
+  meets_none i free = all_below_from (λ j. not (meets (entry_in b h j) (entry_in b h i))) i (λ j low. ap not (apart j low (meets (entry_in b h j) (entry_in b h i)) refl))
     where
       apart : (j : ℕ) → j < i → (t : Bool) → meets (entry_in b h j) (entry_in b h i) ≡ t → t ≡ false
       apart j low false e = refl
       apart j low true e =
-          let tests = both _ _ e in
+          let tests = and_parts _ _ e in
           let nothing = free (entry_in b h j).r_offset (ltb-true _ _ tests.0) (ltb-true _ _ tests.1) in
           let here : at_offset (entry_in b h j).r_offset j ≡ Some (entry_in b h j) = ap (λ t. cond t (Some (entry_in b h j)) None) (eq-eqb (entry_in b h j).r_offset (entry_in b h j).r_offset refl) in
-          absurd (none-some (entry_in b h j) (sym (none_before (at_offset (entry_in b h j).r_offset) i j nothing low) ∙ here))
+          absurd (none-some (entry_in b h j) (sym (first_upto_none (at_offset (entry_in b h j).r_offset) i nothing j low) ∙ here))
 
   -- one more relocation is found by its offset, and leaves what is found elsewhere
   pub field_more : (i at : ℕ) (r : Rel) (before after : Option Rel) → r ≡ entry_in b h i → field_below b h i r.r_offset ≡ None → before ≡ field_below b h i at

@@ -4,7 +4,7 @@ use Rattle.std.specs.Prelude.{◌&&◌, not, find, slice_get}
 use Rattle.std.specs.List.{range_with_len}
 use Rattle.std.specs.Option.{option_and_then, option_or}
 use Rattle.std.specs.Ordering.{nat_cmp, is_eq}
-use Rattle.std.proofs.lemmas.Bool.{eqb-true, leb-true, ltb-true}
+use Rattle.std.proofs.lemmas.Bool.{and_parts, eqb-true, leb-true, ltb-true}
 use Rattle.std.proofs.lemmas.Bool.Decides.{nat_tests}
 use Rattle.std.proofs.lemmas.List.Folds.{find-append}
 use Rattle.std.proofs.lemmas.List.FromFn.{map-range_with_len_more}
@@ -19,7 +19,6 @@ use Rattle.oc_elf_read.specs.Fields as elf
 use Rattle.objconv.specs.declared.headers.Headers.{Headers}
 use Rattle.objconv.specs.Plain.{headers_in, symbol_count, rel_count, entry_in, is_plain_rel, has_rels, field_at}
 use Rattle.objconv.specs.Fields.{text_in}
-use Rattle.objconv.proofs.PlainLemmas.{both}
 use Rattle.objconv.proofs.FieldLemmas.{at_offset, offset_found}
 use Rattle.objconv.proofs.RelsLemmas.{rel_plain}
 use Rattle.objconv.proofs.HeaderLemmas.{IsPlain}
@@ -35,9 +34,9 @@ pub record IsRel (h : Headers) (r : Rel) : Type 0 where
 
 rel_is : (h : Headers) (r : Rel) → is_plain_rel h r ≡ true → IsRel h r
 rel_is h r e =
-    let lies = both _ _ e in
-    let there = both _ _ lies.0 in
-    let some = both _ _ there.0 in
+    let lies = and_parts _ _ e in
+    let there = and_parts _ _ lies.0 in
+    let some = and_parts _ _ there.0 in
     record {
       type = elim (either _ _ some.0) [ inl absolute ↦ inl (eqb-true _ _ absolute) | inr relative ↦ inr (eqb-true _ _ relative) ];
       some = leb-true _ _ some.1;

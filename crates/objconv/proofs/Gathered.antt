@@ -1,20 +1,19 @@
 -- The relocations of a plain object by their offsets, in order.
 use Rattle.std.proofs.Common.{Less, ◌≡◌, ℕ, zero, suc, ◌+◌, ◌<◌, ◌≤◌, Bool, true, false, cond, Option, List, [], ◌∷◌, length, None, Some, refl, sym, ◌∙◌, ap, arith}
-use Rattle.std.specs.Prelude.{eqb, nat_lt, not}
+use Rattle.std.specs.Prelude.{eqb, nat_lt}
 use Rattle.std.specs.List.{AllByRecursion}
 use Rattle.std.specs.List.Sorted.{IsStrictlySortedBy}
 use Rattle.std.specs.Map.{lookup, keys_of}
 use Rattle.std.specs.BTreeMap.{is_at}
 use Rattle.std.specs.Ordering.{nat_cmp}
 use Rattle.std.specs.Option.{is_some}
-use Rattle.std.proofs.lemmas.Bool.{eq-eqb, eqb-true, true≢false}
-use Rattle.objconv.proofs.PlainLemmas.{both}
+use Rattle.std.proofs.lemmas.Bool.{and_parts, eq-eqb, eqb-true, true≢false}
 use Rattle.std.proofs.lemmas.Bool.Decides.{nat_tests}
 use Rattle.std.proofs.lemmas.Option.{none-some}
 use Rattle.oc_elf_read.specs.declared.rel.Rel.{Rel}
 use Rattle.objconv.specs.declared.headers.Headers.{Headers}
 use Rattle.objconv.specs.Fields.{AreFields}
-use Rattle.objconv.specs.Plain.{are_apart, entry_in, field_at, field_below, has_rels, meets_earlier, rel_count}
+use Rattle.objconv.specs.Plain.{are_apart, entry_in, field_at, field_below, has_rels, is_apart, rel_count}
 use Rattle.objconv.proofs.BelowLemmas.{all_below_at}
 use Rattle.objconv.proofs.FieldLemmas.{field_more, meets_found, same_test}
 
@@ -113,9 +112,8 @@ module _ (b : List ℕ) (h : Headers) (rels : has_rels b h ≡ true) where
   free n l = elim (field_below b h n (entry_in b h n).r_offset) as (λ o. field_below b h n (entry_in b h n).r_offset ≡ o → o ≡ None) [
     | None ↦ λ e. refl
     | Some r ↦ λ e.
-        let meets : meets_earlier b h n ≡ true = meets_found b h n (entry_in b h n).r_offset (ap is_some e) (omega arith) (omega arith) in
-        let apart : not (meets_earlier b h n) ≡ true = all_below_at (λ i. not (meets_earlier b h i)) (rel_count h) n (both _ _ rels).1 l in
-        absurd (true≢false (sym apart ∙ ap not meets))
+        let met : is_apart b h n ≡ false = meets_found b h n (entry_in b h n).r_offset (ap is_some e) (omega arith) (omega arith) in
+        absurd (true≢false (sym (all_below_at (is_apart b h) (rel_count h) n (and_parts _ _ rels).1 l) ∙ met))
   ] refl
 
   -- the first n relocations are gathered

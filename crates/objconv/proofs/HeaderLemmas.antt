@@ -1,11 +1,11 @@
 -- What the section headers of a plain object say.
 use Rattle.std.proofs.Common.{◌≡◌, ℕ, true, List, codes, refl}
-use Rattle.std.proofs.lemmas.Bool.{eqb-true}
+use Rattle.std.proofs.lemmas.Bool.{and_parts, eqb-true}
 use Rattle.oc_elf_read.specs.Ehdr.{ehdr_in}
 use Rattle.oc_elf_read.specs.Names.{name_in}
 use Rattle.oc_elf_read.specs.Sections.{header_of}
 use Rattle.objconv.specs.Plain.{has_header, headers_in, is_named, has_headers, AreLaid, has_symbols, has_rels, is_plain}
-use Rattle.objconv.proofs.PlainLemmas.{both, HaveTypes, are_parts}
+use Rattle.objconv.proofs.PlainLemmas.{HaveTypes, are_parts}
 
 -- what the parts of a plain object are
 pub record IsPlain (b : List ℕ) : Type 0 where
@@ -20,14 +20,14 @@ pub record IsPlain (b : List ℕ) : Type 0 where
 pub plain_is : (b : List ℕ) → is_plain b ≡ true → IsPlain b
 unfolding is_plain has_headers has_header
 plain_is b e =
-    let rels = both _ _ e in
-    let symbols = both _ _ rels.0 in
-    let headers = both _ _ symbols.0 in
-    let laid = both _ _ headers.0 in
-    let plain = both _ _ laid.0 in
+    let rels = and_parts _ _ e in
+    let symbols = and_parts _ _ rels.0 in
+    let headers = and_parts _ _ symbols.0 in
+    let laid = and_parts _ _ headers.0 in
+    let plain = and_parts _ _ laid.0 in
     let parts = are_parts b (headers_in b) headers.1 in
-    let index = both _ _ plain.1 in
-    let count = both _ _ index.0 in
+    let index = and_parts _ _ plain.1 in
+    let count = and_parts _ _ index.0 in
     record {
       count = eqb-true _ _ count.1;
       names = eqb-true _ _ index.1;

@@ -1,5 +1,6 @@
 -- What a Builder holds while the neutral object of a plain object is built: nothing but want of memory stands against it.
 use Rattle.std.proofs.Common.{◌≡◌, ℕ, suc, ◌+◌, ◌-◌, ◌<◌, ◌≤◌, ◌⊎◌, inl, inr, true, false, cond, eqb, ◌||◌, List, [], ◌∷◌, ◌++◌, map, Result, Ok, Err, Some, None, refl, sym, ◌∙◌, ap, arith, pos}
+use Rattle.std.proofs.lemmas.Bool.{and_parts}
 use Rattle.std.specs.Prelude.{nat_lt, slice_get}
 use Rattle.std.specs.List.{list_any, range_with_len}
 use Rattle.std.proofs.lemmas.Bool.Decides.{nat_tests}
@@ -27,7 +28,6 @@ use Rattle.objconv.specs.declared.headers.Headers.{Headers}
 use Rattle.objconv.specs.Plain.{symbol_count, symbol_in, symbol_name, name_of, later_names, has_symbols, are_distinct}
 use Rattle.objconv.specs.Fields.{text_in}
 use Rattle.objconv.specs.Neutral.{binding_of, blanked, neutral_symbol, neutral_symbols, neutral_target, neutral_reloc, neutral_field, neutral_section, neutral_draft}
-use Rattle.objconv.proofs.PlainLemmas.{both}
 use Rattle.objconv.proofs.NeutralFields.{cancels-plain, takes-plain}
 use Rattle.objconv.proofs.NeutralSymbols.{made, range_at}
 use Rattle.oc_base.specs.declared.format.Format.TheVariants.{Elf32}
@@ -68,7 +68,7 @@ symbol_new b h j all low =
     let each : ℕ → Symbol = λ j. neutral_symbol b h (j + 2) in
     let here : 0 + j ≡ j = omega arith in
     let inside : j ≤ symbol_count h - 2 = omega (arith, low) in
-    let none : first_repeat (later_names b h (symbol_count h - 2)) ≡ None = is_nothing (first_repeat (later_names b h (symbol_count h - 2))) (both _ _ all).1 in
+    let none : first_repeat (later_names b h (symbol_count h - 2)) ≡ None = is_nothing (first_repeat (later_names b h (symbol_count h - 2))) (and_parts _ _ all).1 in
     ap (λ ss. is_again ss (each j)) (sym (take-map-range_with_len each 0 (symbol_count h - 2) j inside))
     ∙ each_new (neutral_symbols b h) (ap first_repeat (names-neutral b h) ∙ none) j (each j) (range_at each (symbol_count h - 2) 0 j low ∙ ap (λ k. Some (each k)) here)
 

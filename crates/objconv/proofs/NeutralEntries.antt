@@ -11,7 +11,7 @@ use Rattle.objconv.specs.Plain.{headers_in, entry_in, field_at}
 use Rattle.objconv.specs.Fields.{AreFields}
 use Rattle.objconv.proofs.FoundLemmas.{IsFound, is_found}
 use Rattle.objconv.proofs.HeaderLemmas.{IsPlain}
-use Rattle.objconv.proofs.RelsLemmas.{rels_apart, rels_apart_before}
+use Rattle.objconv.proofs.RelsLemmas.{rels_apart}
 
 module _ (b : List ℕ) (is : IsPlain b) (entries : List (ℕ × Rel)) (fields : AreFields b (headers_in b) entries) where
   -- an entry is the relocation at its offset
@@ -32,14 +32,14 @@ found_apart b is i j x y here there low =
     let first : (entry_in b h m.index).r_offset ≡ i = ap (λ (r : Rel). r.r_offset) m.entry ∙ m.offset in
     let second : (entry_in b h n.index).r_offset ≡ j = ap (λ (r : Rel). r.r_offset) n.entry ∙ n.offset in
     elim (cases_lt m.index n.index) [
-      | inl before ↦ elim (rels_apart_before b h n.index m.index j is.rels n.low before (omega (arith, second)) (omega (arith, second))) [
-        | inl less ↦ absurd (omega (arith, less, first, low))
-        | inr far ↦ omega (arith, far, first)
+      | inl before ↦ elim (rels_apart b h n.index m.index is.rels n.low before) [
+        | inl far ↦ omega (arith, far, first, second)
+        | inr back ↦ absurd (omega (arith, back, first, second, low))
       ]
       | inr from ↦ elim (cases_lt n.index m.index) [
-        | inl behind ↦ elim (rels_apart b h m.index n.index j is.rels m.low behind (omega (arith, second)) (omega (arith, second))) [
-          | inl less ↦ absurd (omega (arith, less, first, low))
-          | inr far ↦ omega (arith, far, first)
+        | inl behind ↦ elim (rels_apart b h m.index n.index is.rels m.low behind) [
+          | inl back ↦ absurd (omega (arith, back, first, second, low))
+          | inr far ↦ omega (arith, far, first, second)
         ]
         | inr to ↦
             let same : m.index ≡ n.index = omega (arith, from, to) in

@@ -1,18 +1,10 @@
 -- What the conditions of a plain object say.
-use Rattle.std.proofs.Common.{◌≡◌, ℕ, ◌*◌, ◌/◌, ◌%◌, Bool, true, false, List, codes, refl, arith}
-use Rattle.std.specs.Prelude.{◌&&◌}
+use Rattle.std.proofs.Common.{◌≡◌, ℕ, ◌*◌, ◌/◌, ◌%◌, true, List, codes, arith}
 use Rattle.std.proofs.Math.Nat.{div-add-mod}
-use Rattle.std.proofs.lemmas.Bool.{leb-true, eqb-true}
+use Rattle.std.proofs.lemmas.Bool.{and_parts, leb-true, eqb-true}
 use Rattle.oc_elf_read.specs.Names.{name_in}
 use Rattle.objconv.specs.declared.headers.Headers.{Headers}
 use Rattle.objconv.specs.Plain.{are_plain, is_named, AreLaid}
-
--- two tests that hold together hold each
-pub both : (x y : Bool) → (x && y) ≡ true → (x ≡ true) × (y ≡ true)
-both true true e = (refl, refl)
-both true false e = absurd (cc)
-both false true e = absurd (cc)
-both false false e = absurd (cc)
 
 -- a remainder of 0 leaves whole entries
 whole : (n w : ℕ) → n % w ≡ 0 → n ≡ w * (n / w)
@@ -38,28 +30,28 @@ pub record ArePlain (b : List ℕ) (h : Headers) : Type 0 where
 pub are_parts : (b : List ℕ) (h : Headers) → are_plain b h ≡ true → ArePlain b h
 unfolding are_plain
 are_parts b h e =
-    let names2 = both _ _ e in
-    let names = both _ _ names2.1 in
-    let symbols = both _ _ names2.0 in
-    let rels = both _ _ symbols.0 in
-    let text = both _ _ rels.0 in
-    let text_align = both _ _ text.1 in
-    let text_name = both _ _ text_align.0 in
-    let text_lies = both _ _ text_name.0 in
-    let text_flags = both _ _ text_lies.0 in
-    let rels_few = both _ _ rels.1 in
-    let rels_whole = both _ _ rels_few.0 in
-    let rels_size = both _ _ rels_whole.0 in
-    let rels_info = both _ _ rels_size.0 in
-    let rels_link = both _ _ rels_info.0 in
-    let rels_name = both _ _ rels_link.0 in
-    let rels_lies = both _ _ rels_name.0 in
-    let symbols_two = both _ _ symbols.1 in
-    let symbols_whole = both _ _ symbols_two.0 in
-    let symbols_size = both _ _ symbols_whole.0 in
-    let symbols_info = both _ _ symbols_size.0 in
-    let symbols_link = both _ _ symbols_info.0 in
-    let symbols_lies = both _ _ symbols_link.0 in
+    let names2 = and_parts _ _ e in
+    let names = and_parts _ _ names2.1 in
+    let symbols = and_parts _ _ names2.0 in
+    let rels = and_parts _ _ symbols.0 in
+    let text = and_parts _ _ rels.0 in
+    let text_align = and_parts _ _ text.1 in
+    let text_name = and_parts _ _ text_align.0 in
+    let text_lies = and_parts _ _ text_name.0 in
+    let text_flags = and_parts _ _ text_lies.0 in
+    let rels_few = and_parts _ _ rels.1 in
+    let rels_whole = and_parts _ _ rels_few.0 in
+    let rels_size = and_parts _ _ rels_whole.0 in
+    let rels_info = and_parts _ _ rels_size.0 in
+    let rels_link = and_parts _ _ rels_info.0 in
+    let rels_name = and_parts _ _ rels_link.0 in
+    let rels_lies = and_parts _ _ rels_name.0 in
+    let symbols_two = and_parts _ _ symbols.1 in
+    let symbols_whole = and_parts _ _ symbols_two.0 in
+    let symbols_size = and_parts _ _ symbols_whole.0 in
+    let symbols_info = and_parts _ _ symbols_size.0 in
+    let symbols_link = and_parts _ _ symbols_info.0 in
+    let symbols_lies = and_parts _ _ symbols_link.0 in
     record {
       laid = record {
         text = leb-true _ _ text_lies.1;
@@ -80,7 +72,7 @@ are_parts b h e =
         symbols = eqb-true _ _ symbols_lies.0;
         symbols_link = eqb-true _ _ symbols_link.1;
         names = eqb-true _ _ names.0;
-        section_names = eqb-true _ _ (both _ _ text.0).0;
+        section_names = eqb-true _ _ (and_parts _ _ text.0).0;
       };
       named = text_name.1;
     }

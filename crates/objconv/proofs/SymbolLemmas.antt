@@ -2,7 +2,7 @@
 use Rattle.std.proofs.Common.{◌≡◌, ℕ, ◌+◌, ◌-◌, ◌<◌, ◌≤◌, ◌≢◌, ◌⊎◌, inl, inr, Bool, true, false, cond, eqb, List, [], ◌∷◌, length, drop, Option, Some, None, refl, subst, arith}
 use Rattle.std.specs.Prelude.{◌||◌, All}
 use Rattle.std.specs.Option.{option_map}
-use Rattle.std.proofs.lemmas.Bool.{eqb-true, eqb-false, leb-true, le-leb}
+use Rattle.std.proofs.lemmas.Bool.{and_parts, eqb-true, eqb-false, leb-true, le-leb}
 use Rattle.std.proofs.lemmas.Option.{none-some, same_Some}
 use Rattle.std.proofs.lemmas.List.Elements.{All-cons}
 use Rattle.oc_elf_read.specs.declared.sym.Sym.{Sym}
@@ -10,7 +10,6 @@ use Rattle.oc_elf_read.specs.Sym.{bind_of, type_of}
 use Rattle.oc_elf_read.specs.Names.{text_within, table_bytes, name_in}
 use Rattle.objconv.specs.declared.headers.Headers.{Headers}
 use Rattle.objconv.specs.Plain.{symbol_count, symbol_in, name_of, is_short_name, is_plain_place, is_plain_symbol, are_plain_symbols, has_symbols}
-use Rattle.objconv.proofs.PlainLemmas.{both}
 use Rattle.objconv.proofs.BelowLemmas.{all_below_at}
 
 -- one of two tests holds
@@ -38,7 +37,7 @@ pub record IsName (o : Option (List ℕ)) (name : List ℕ) : Type 0 where
 
 short_name_is : (o : Option (List ℕ)) → is_short_name o ≡ true → (name : List ℕ) × IsName o name
 short_name_is None e = absurd (cc)
-short_name_is (Some name) e = let t = both _ _ e in (name, record { there = refl; long = leb-true _ _ t.0; short = leb-true _ _ t.1 })
+short_name_is (Some name) e = let t = and_parts _ _ e in (name, record { there = refl; long = leb-true _ _ t.0; short = leb-true _ _ t.1 })
 
 -- what a plain symbol is
 pub record IsSymbol (b : List ℕ) (h : Headers) (s : Sym) : Type 0 where
@@ -50,15 +49,15 @@ pub record IsSymbol (b : List ℕ) (h : Headers) (s : Sym) : Type 0 where
 symbol_is : (b : List ℕ) (h : Headers) (s : Sym) → is_plain_symbol b h s ≡ true → IsSymbol b h s
 unfolding is_plain_symbol
 symbol_is b h s e =
-    let named = both _ _ e in
-    let placed = both _ _ named.0 in
-    let typed = both _ _ placed.0 in
+    let named = and_parts _ _ e in
+    let placed = and_parts _ _ named.0 in
+    let typed = and_parts _ _ placed.0 in
     let name = short_name_is (name_in b h.names s.st_name) named.1 in
     record {
       global = eqb-true _ _ typed.0;
       place = elim (either _ _ placed.1) [
-        | inl undefined ↦ let t = both _ _ undefined in inl (eqb-true _ _ t.0, eqb-true _ _ t.1)
-        | inr defined ↦ let t = both _ _ defined in inr (eqb-true _ _ t.0, leb-true _ _ t.1)
+        | inl undefined ↦ let t = and_parts _ _ undefined in inl (eqb-true _ _ t.0, eqb-true _ _ t.1)
+        | inr defined ↦ let t = and_parts _ _ defined in inr (eqb-true _ _ t.0, leb-true _ _ t.1)
       ];
       name = name.0;
       named = name.1;
@@ -76,19 +75,19 @@ module _ (b : List ℕ) (h : Headers) (all : has_symbols b h ≡ true) where
   pub own_symbol : IsOwn (symbol_in b h 1)
   unfolding has_symbols
   own_symbol =
-      let distinct = both _ _ all in
-      let plain = both _ _ distinct.0 in
-      let own = both _ _ plain.0 in
-      let named = both _ _ own.1 in
-      let section = both _ _ named.0 in
-      let value = both _ _ section.0 in
-      let type = both _ _ value.0 in
+      let distinct = and_parts _ _ all in
+      let plain = and_parts _ _ distinct.0 in
+      let own = and_parts _ _ plain.0 in
+      let named = and_parts _ _ own.1 in
+      let section = and_parts _ _ named.0 in
+      let value = and_parts _ _ section.0 in
+      let type = and_parts _ _ value.0 in
       record { local = eqb-true _ _ type.0; type = eqb-true _ _ type.1; value = eqb-true _ _ value.1; section = eqb-true _ _ section.1 }
 
   -- each further symbol is plain
   each_plain : (j : ℕ) → j < symbol_count h - 2 → is_plain_symbol b h (symbol_in b h (j + 2)) ≡ true
   unfolding has_symbols are_plain_symbols
-  each_plain j low = all_below_at (λ j. is_plain_symbol b h (symbol_in b h (j + 2))) (symbol_count h - 2) j (both _ _ (both _ _ all).0).1 low
+  each_plain j low = all_below_at (λ j. is_plain_symbol b h (symbol_in b h (j + 2))) (symbol_count h - 2) j (and_parts _ _ (and_parts _ _ all).0).1 low
 
   pub plain_symbol : (j : ℕ) → j < symbol_count h - 2 → IsSymbol b h (symbol_in b h (j + 2))
   plain_symbol j low = symbol_is b h (symbol_in b h (j + 2)) (each_plain j low)
@@ -96,7 +95,7 @@ module _ (b : List ℕ) (h : Headers) (all : has_symbols b h ≡ true) where
   -- and has a plain place
   pub plain_place : (j : ℕ) → j < symbol_count h - 2 → is_plain_place h (symbol_in b h (j + 2)) ≡ true
   unfolding is_plain_symbol
-  plain_place j low = (both _ _ (both _ _ (each_plain j low)).0).1
+  plain_place j low = (and_parts _ _ (and_parts _ _ (each_plain j low)).0).1
 
 -- the name of a plain symbol
 pub name_of-plain : (b : List ℕ) (h : Headers) (s : Sym) (is : IsSymbol b h s) → name_of b h s ≡ is.name

@@ -20,11 +20,6 @@ abbrev pub all_below : ℕ → (ℕ → Bool) → Bool
 all_below zero test = true
 all_below (suc n) test = all_below n test && test n
 
--- the test holds of some number below n
-abbrev pub any_below : ℕ → (ℕ → Bool) → Bool
-any_below zero test = false
-any_below (suc n) test = any_below n test || test n
-
 -- a range of the file lies in it
 abbrev pub lies_in : List ℕ → ℕ → ℕ → Bool
 lies_in b at size = nat_le (at + size) (length b)
@@ -180,9 +175,9 @@ is_plain_rel h r =
 abbrev pub meets : Rel → Rel → Bool
 meets x y = nat_lt x.r_offset (y.r_offset + 4) && nat_lt y.r_offset (x.r_offset + 4)
 
--- the field of relocation i meets that of an earlier one
-abbrev pub meets_earlier : List ℕ → Headers → ℕ → Bool
-meets_earlier b h i = any_below i (λ j. meets (entry_in b h j) (entry_in b h i))
+-- the field of relocation i meets none of an earlier one
+abbrev pub is_apart : List ℕ → Headers → ℕ → Bool
+is_apart b h i = all_below i (λ j. not (meets (entry_in b h j) (entry_in b h i)))
 
 -- all relocations are plain
 unfoldable pub are_plain_rels : List ℕ → Headers → Bool
@@ -190,7 +185,7 @@ are_plain_rels b h = all_below (rel_count h) (λ i. is_plain_rel h (entry_in b h
 
 -- no two fields meet
 unfoldable pub are_apart : List ℕ → Headers → Bool
-are_apart b h = all_below (rel_count h) (λ i. not (meets_earlier b h i))
+are_apart b h = all_below (rel_count h) (is_apart b h)
 
 -- all relocations are plain, and no two of their fields meet
 unfoldable pub has_rels : List ℕ → Headers → Bool
