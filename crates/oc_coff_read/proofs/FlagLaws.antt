@@ -6,7 +6,7 @@ use Rattle.oc_neutral.specs.declared.coff.TheConstants.{IMAGE_SCN_LNK_NRELOC_OVF
 use Rattle.oc_neutral.specs.KindRules.{has}
 use Rattle.oc_neutral.specs.Coff.Kinds.{coff_kind, coff_tag}
 use Rattle.oc_coff_read.specs.Alignments.{align_of}
-use Rattle.oc_coff_read.specs.Canonical.{code_flags}
+use Rattle.oc_coff_read.specs.Canonical.{code_tag, code_flags}
 
 -- P holds of 0 to n
 abbrev Upto : (ℕ → Type 0) → ℕ → Type 0
@@ -26,14 +26,14 @@ pub record Says (exponent : ℕ) : Type 0 where
   pub plain : has (code_flags exponent) IMAGE_SCN_LNK_NRELOC_OVFL ≡ false
   pub kind : coff_kind (codes ".text") (code_flags exponent) ≡ Some Code
   pub align : align_of (code_flags exponent) ≡ 2 ^ exponent
-  pub tag : coff_tag (code_flags exponent) ≡ 0x60000020
+  pub tag : coff_tag (code_flags exponent) ≡ code_tag
 
 -- one section of code can be aligned to 1, 2, .., 8192
 pub code_flags_say : (exponent : ℕ) → exponent ≤ 13 → Says exponent
 unfolding coff_kind coff_tag
 code_flags_say =
     let r : (exponent : ℕ) → has (code_flags exponent) IMAGE_SCN_LNK_NRELOC_OVFL ≡ false → coff_kind (codes ".text") (code_flags exponent) ≡ Some Code
-    → align_of (code_flags exponent) ≡ 2 ^ exponent → coff_tag (code_flags exponent) ≡ 0x60000020 → Says exponent
+    → align_of (code_flags exponent) ≡ 2 ^ exponent → coff_tag (code_flags exponent) ≡ code_tag → Says exponent
     = λ exponent plain kind align tag. record { plain = plain; kind = kind; align = align; tag = tag } in
     upto Says 13 (
       (
