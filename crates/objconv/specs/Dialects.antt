@@ -1,28 +1,19 @@
--- The two formats of the first path, each as a dialect of its own (our profile).
+-- The two formats of the first path (our profile).
 use Rattle.std.specs.Prelude.{refl}
-use Rattle.oc_base.specs.declared.format.Format.TheVariants.{Elf32, Coff32}
 use Rattle.oc_linking.specs.Rules.{Rules}
 use Rattle.oc_neutral.specs.Dialects.{Dialect}
 use Rattle.oc_neutral.specs.Targets.{IsDialect}
-use Rattle.oc_elf_read.specs.Elf32.{elf32_rules}
-use Rattle.oc_coff_read.specs.Coff32.{coff32_rules}
+use Rattle.oc_elf_read.specs.Elf32.{elf32_rules, elf32_dialect}
+use Rattle.oc_coff_read.specs.Coff32.{coff32_dialect}
 use Rattle.objconv.specs.Refusals.{plain_refusal}
 
 -- ELF for i386, of which plain objects are read: all else is refused
 abbrev pub plain_rules : Rules
-plain_rules = record {
-  word = elf32_rules.word;
-  fault = λ file keep. plain_refusal file;
-  sections = elf32_rules.sections;
-  symbols = elf32_rules.symbols;
-  fields = elf32_rules.fields;
-  output_align = elf32_rules.output_align;
-  common_align = elf32_rules.common_align;
-}
+plain_rules = record elf32_rules { fault = λ file keep. plain_refusal file }
 
 -- what the first path reads
 abbrev pub plain_dialect : Dialect
-plain_dialect = record { format = Elf32; rules = plain_rules }
+plain_dialect = record elf32_dialect { rules = plain_rules }
 
 -- its word and its alignments are those of ELF32
 pub plain_is_dialect : IsDialect plain_dialect
@@ -30,4 +21,4 @@ plain_is_dialect = record { word = refl; output_align = λ align. refl; common_a
 
 -- what the first path writes
 abbrev pub coff_dialect : Dialect
-coff_dialect = record { format = Coff32; rules = coff32_rules }
+coff_dialect = coff32_dialect

@@ -16,6 +16,7 @@ use Rattle.oc_linking.specs.declared.terms.Less.{Less}
 use Rattle.oc_linking.specs.declared.terms.Less.TheVariants.{Zero, Place}
 use Rattle.oc_algebra.specs.Fields.{from_field_of}
 use Rattle.oc_chains.specs.declared.field.Field.{Field}
+use Rattle.oc_neutral.specs.declared.elf.TheConstants.{R_386_PC32}
 use Rattle.oc_neutral.specs.declared.section.Section.{Section}
 use Rattle.oc_neutral.specs.declared.symbol.Symbol.{Symbol}
 use Rattle.oc_neutral.specs.declared.reloc.Target.{Target}
@@ -52,7 +53,7 @@ neutral_target number = if eqb number 1 then target.Section 0 else target.Symbol
 
 -- R_386_32 takes nothing, and R_386_PC32 the place of the field
 abbrev pub neutral_less : ℕ → Less
-neutral_less type = if eqb type 2 then Place else Zero
+neutral_less type = if eqb type R_386_PC32 then Place else Zero
 
 -- the relocation of an entry, where `text` are the contents of `.text`
 unfoldable pub neutral_reloc : List ℕ → ℕ × Rel → Reloc

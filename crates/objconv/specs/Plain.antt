@@ -3,6 +3,8 @@ use Rattle.std.specs.Prelude.{ℕ, zero, suc, ◌+◌, ◌-◌, ◌*◌, ◌/◌
 use Rattle.std.specs.List.{range_with_len}
 use Rattle.std.specs.Option.{unwrap_or, is_none, is_some}
 use Rattle.oc_linking.specs.Numbers.{first_upto}
+use Rattle.oc_neutral.specs.declared.elf.TheConstants.{R_386_32, R_386_PC32, SHF_ALLOC, SHF_EXECINSTR, SHT_PROGBITS}
+use Rattle.oc_elf_read.specs.declared.constants.TheConstants.{ELFCLASS32, ELFDATA2LSB, ELFMAG, EM_386, ET_REL, EV_CURRENT, SHT_REL, SHT_STRTAB, SHT_SYMTAB, STB_GLOBAL, STB_LOCAL, STT_FUNC, STT_NOTYPE, STT_SECTION}
 use Rattle.oc_elf_read.specs.declared.ehdr.Ehdr.{Ehdr}
 use Rattle.oc_elf_read.specs.declared.shdr.Shdr.{Shdr}
 use Rattle.oc_elf_read.specs.declared.sym.Sym.{Sym}
@@ -37,8 +39,8 @@ is_short_name (Some name) = nat_le 1 (length name) && nat_le (length name) 8
 -- an ELF32 object for i386 with six section headers, the last of which has the section names
 abbrev pub is_plain_header : Ehdr → Bool
 is_plain_header h =
-    eqb h.ei_mag 0x464C457F && eqb h.ei_class 1 && eqb h.ei_data 1 && eqb h.ei_version 1
-    && eqb h.e_type 1 && eqb h.e_machine 3 && eqb h.e_version 1 && eqb h.e_ehsize 52
+    eqb h.ei_mag ELFMAG && eqb h.ei_class ELFCLASS32 && eqb h.ei_data ELFDATA2LSB && eqb h.ei_version EV_CURRENT
+    && eqb h.e_type ET_REL && eqb h.e_machine EM_386 && eqb h.e_version EV_CURRENT && eqb h.e_ehsize 52
     && eqb h.e_shentsize 40 && eqb h.e_shnum 6 && eqb h.e_shstrndx 5
 
 -- the file begins with such a header, and has its section headers
@@ -67,18 +69,18 @@ exponent_of align = exponent_below 14 align
 
 -- a string table in the file
 abbrev pub is_names : List ℕ → Shdr → Bool
-is_names b s = eqb s.sh_type 3 && lies_in b s.sh_offset s.sh_size
+is_names b s = eqb s.sh_type SHT_STRTAB && lies_in b s.sh_offset s.sh_size
 
 -- `.text`: bytes in the file that are allocated and executed, of an alignment of 1 to 8,192
 abbrev pub is_text : List ℕ → Headers → Bool
 is_text b h =
-    eqb h.text.sh_type 1 && eqb h.text.sh_flags 6 && lies_in b h.text.sh_offset h.text.sh_size
+    eqb h.text.sh_type SHT_PROGBITS && eqb h.text.sh_flags (SHF_ALLOC + SHF_EXECINSTR) && lies_in b h.text.sh_offset h.text.sh_size
     && is_named (name_in b h.section_names h.text.sh_name) (codes ".text") && is_some (exponent_of h.text.sh_addralign)
 
 -- `.rel.text`: at most 65,535 whole entries for `.text`, with the symbols of section header 3
 abbrev pub is_rels : List ℕ → Headers → Bool
 is_rels b h =
-    eqb h.rels.sh_type 9 && lies_in b h.rels.sh_offset h.rels.sh_size
+    eqb h.rels.sh_type SHT_REL && lies_in b h.rels.sh_offset h.rels.sh_size
     && is_named (name_in b h.section_names h.rels.sh_name) (codes ".rel.text")
     && eqb h.rels.sh_link 3 && eqb h.rels.sh_info 1 && eqb h.rels.sh_entsize 8
     && eqb (h.rels.sh_size % 8) 0 && nat_le (h.rels.sh_size / 8) 65535
@@ -86,7 +88,7 @@ is_rels b h =
 -- the symbol table: two or more whole entries, with the names of section header 4, of which two are local
 abbrev pub is_symbols : List ℕ → Shdr → Bool
 is_symbols b s =
-    eqb s.sh_type 2 && lies_in b s.sh_offset s.sh_size && eqb s.sh_link 4 && eqb s.sh_info 2
+    eqb s.sh_type SHT_SYMTAB && lies_in b s.sh_offset s.sh_size && eqb s.sh_link 4 && eqb s.sh_info 2
     && eqb s.sh_entsize 16 && eqb (s.sh_size % 16) 0 && nat_le 2 (s.sh_size / 16)
 
 -- the five section headers are those of a plain object
@@ -135,7 +137,7 @@ is_null_symbol s = eqb s.st_name 0 && eqb s.st_value 0 && eqb s.st_size 0 && eqb
 
 -- the unnamed symbol of `.text` itself
 abbrev pub is_text_symbol : List ℕ → Headers → Sym → Bool
-is_text_symbol b h s = eqb (bind_of s) 0 && eqb (type_of s) 3 && eqb s.st_value 0 && eqb s.st_shndx 1 && is_named (name_in b h.names s.st_name) []
+is_text_symbol b h s = eqb (bind_of s) STB_LOCAL && eqb (type_of s) STT_SECTION && eqb s.st_value 0 && eqb s.st_shndx 1 && is_named (name_in b h.names s.st_name) []
 
 -- undefined, or at a place of `.text` or at its end
 abbrev pub is_plain_place : Headers → Sym → Bool
@@ -144,7 +146,7 @@ is_plain_place h s = eqb s.st_shndx 0 && eqb s.st_value 0 || eqb s.st_shndx 1 &&
 -- a global symbol of no type or a function, with a place and a short name
 unfoldable pub is_plain_symbol : List ℕ → Headers → Sym → Bool
 is_plain_symbol b h s =
-    eqb (bind_of s) 1 && (eqb (type_of s) 0 || eqb (type_of s) 2) && is_plain_place h s && is_short_name (name_in b h.names s.st_name)
+    eqb (bind_of s) STB_GLOBAL && (eqb (type_of s) STT_NOTYPE || eqb (type_of s) STT_FUNC) && is_plain_place h s && is_short_name (name_in b h.names s.st_name)
 
 -- all symbols behind symbol 1 are plain
 unfoldable pub are_plain_symbols : List ℕ → Headers → Bool
@@ -169,7 +171,7 @@ entry_in b h i = rel_in b (h.rels.sh_offset + 8 * i)
 -- R_386_32 or R_386_PC32 to a symbol that is there, with its four bytes in `.text`
 abbrev pub is_plain_rel : Headers → Rel → Bool
 is_plain_rel h r =
-    (eqb (rel_type r) 1 || eqb (rel_type r) 2) && nat_le 1 (rel_sym r) && nat_lt (rel_sym r) (symbol_count h) && nat_le (r.r_offset + 4) h.text.sh_size
+    (eqb (rel_type r) R_386_32 || eqb (rel_type r) R_386_PC32) && nat_le 1 (rel_sym r) && nat_lt (rel_sym r) (symbol_count h) && nat_le (r.r_offset + 4) h.text.sh_size
 
 -- the fields of the two have a byte in common
 abbrev pub meets : Rel → Rel → Bool

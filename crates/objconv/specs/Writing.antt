@@ -2,20 +2,17 @@
 use Rattle.std.proofs.Common.{◌≡◌, refl, sym, ap, subst}
 use Rattle.oc_neutral.specs.declared.section.Section.{Section}
 use Rattle.oc_neutral.specs.Objects.{Object}
-use Rattle.oc_neutral.specs.Targets.{IsDialect, WritesCanonical}
+use Rattle.oc_neutral.specs.Targets.{WritesCanonical}
 use Rattle.oc_linking.specs.Keeping.{all}
 use Rattle.oc_neutral.specs.Shows.{Shows}
 use Rattle.oc_neutral.specs.Written.{IsWritten}
 use Rattle.oc_coff_read.specs.Canonical.{code_file}
+use Rattle.oc_coff_read.specs.Coff32.{coff32_is_dialect}
 use Rattle.objconv.specs.Coded.{IsWritable, coded_with, coded_by, coded, coff_file}
 use Rattle.objconv.specs.Dialects.{coff_dialect}
 use Rattle.objconv.specs.WriterLaw.CodedLemmas.{IsCoded, coded_is}
 use Rattle.objconv.specs.WriterLaw.SeenIs.{seen_is}
 use Rattle.objconv.specs.WriterLaw.SeenShows.{shows_seen}
-
--- COFF for i386 has the words and the alignments of its format
-pub coff_is_dialect : IsDialect coff_dialect
-coff_is_dialect = record { word = refl; output_align = λ align. refl; common_align = λ size align. refl }
 
 -- the file of the object with its section
 pub coff_file-coded : (m : Object) (s : Section) → IsCoded m s → coff_file m ≡ code_file (coded_with m s)
@@ -25,7 +22,7 @@ coff_file-coded m s is = ap (λ xs. code_file (coded_by m xs)) is.sections
 -- every object of one section of code that is ready for COFF is written: its file is well formed, and shows what a reader shows of the object
 pub writes_coff : WritesCanonical coff_dialect IsWritable coff_file
 writes_coff = record {
-  dialect = coff_is_dialect;
+  dialect = coff32_is_dialect;
   written = λ m fits accepted.
       let one = coded_is m accepted in
       let s : Section = one.0 in

@@ -8,6 +8,7 @@ use Rattle.std.proofs.lemmas.Bool.{ne_eqb}
 use Rattle.std.proofs.Math.Dec.{eqb-suc-zero}
 use Rattle.oc_base.specs.Numbers.{bytes_of_number}
 use Rattle.oc_base.proofs.NumberLaws.{length-bytes_of_number, length-table}
+use Rattle.oc_linking.specs.declared.terms.Kind.TheVariants.{Code}
 use Rattle.oc_coff_read.specs.declared.file_header.FileHeader.{FileHeader}
 use Rattle.oc_coff_read.specs.declared.relocation.Relocation.{Relocation}
 use Rattle.oc_coff_read.specs.FileHeader.{file_header_in, file_header_bytes}
@@ -108,7 +109,7 @@ stored : (file xs rest : List ℕ) → drop 60 file ≡ xs ++ rest
 stored file [] rest e = refl
 stored file (x ∷ xs) rest e = rw (eqb-suc-zero (length xs), e) (take_at (x ∷ xs) rest (length (x ∷ xs)) refl)
 
-pub contents_of-code : (o : CodeObject) → contents_of (code_file o) (code_section o) ≡ o.contents
+pub contents_of-code : (o : CodeObject) → contents_of (code_file o) Code (code_section o) ≡ o.contents
 unfolding contents_of
 contents_of-code o = stored (code_file o) o.contents (relocs_on o) (drop-headers o 0)
 

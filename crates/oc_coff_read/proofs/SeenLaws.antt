@@ -1,5 +1,5 @@
 -- What the canonical file of an object of code says: its section, its symbols and its fields.
-use Rattle.std.proofs.Common.{◌≡◌, ℕ, zero, suc, ◌+◌, ◌<◌, ◌≤◌, ◌⊎◌, inl, inr, true, false, cond, eqb, List, [], ◌∷◌, length, get_or, Option, Some, None, refl, ◌∙◌, ap, subst, arith}
+use Rattle.std.proofs.Common.{◌≡◌, ℕ, zero, suc, ◌+◌, ◌<◌, ◌≤◌, ◌⊎◌, inl, inr, true, false, cond, eqb, List, [], ◌∷◌, length, get_or, codes, Option, Some, None, refl, ◌∙◌, ap, subst, arith}
 use Rattle.std.specs.Prelude.{filter_map}
 use Rattle.std.specs.List.{range_with_len}
 use Rattle.std.specs.Option.{option_map}
@@ -15,16 +15,23 @@ use Rattle.oc_coff_read.specs.Sections.{section_of, first_sections, sections_of,
 use Rattle.oc_coff_read.specs.Symbols.{mark_of, entry_of, numbers_from, numbers_of, value_of, binding_of, symbol_with, symbol_of, symbols_of, section_symbol_of, section_symbols_of}
 use Rattle.oc_linking.specs.Targets.{target_among}
 use Rattle.oc_coff_read.specs.Fields.{field_among, fields_of}
-use Rattle.oc_coff_read.specs.Canonical.{External, CodeObject, IsCodeObject, IsExternal, external_entry, code_file}
+use Rattle.oc_coff_read.specs.Canonical.{External, CodeObject, IsCodeObject, IsExternal, code_section, external_entry, code_file}
 use Rattle.oc_coff_read.specs.Seen.{seen_section, seen_binding, seen_symbol, externals_from, seen_symbols, seen_section_symbol, seen_fields, ReadsBack}
 use Rattle.oc_coff_read.proofs.PackedLaws.{until_nul-padded, padded-long}
 use Rattle.oc_coff_read.proofs.FlagLaws.{code_flags_say}
 use Rattle.oc_coff_read.proofs.PlaceLaws.{length-code_file, file_header_in-code, header_of-code, contents_of-code, relocations_of-code, entry_of-section, entry_of-external}
 
+-- the name of the section
+section_name-code : (o : CodeObject) → section_name (code_file o) (code_section o) ≡ codes ".text"
+unfolding section_name
+section_name-code o = refl
+
 -- the section
 pub section_of-code : (o : CodeObject) → IsCodeObject o → section_of (code_file o) 1 ≡ Some (seen_section o)
-unfolding section_of section_name
-section_of-code o is = let s = code_flags_say o.exponent is.exponent in rw (header_of-code o is, s.kind, s.align, s.tag, contents_of-code o) refl
+unfolding section_of
+section_of-code o is =
+    let s = code_flags_say o.exponent is.exponent in
+    rw (header_of-code o is, section_name-code o, s.kind, s.align, s.tag, contents_of-code o) refl
 
 -- the sections
 pub sections_of-code : (o : CodeObject) → IsCodeObject o → sections_of (code_file o) ≡ seen_section o ∷ []

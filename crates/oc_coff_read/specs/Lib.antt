@@ -3,7 +3,6 @@ pub mod Canonical
 pub mod Coff32
 pub mod Fields
 pub mod FileHeader
-pub mod Flags
 pub mod Names
 pub mod Packed
 pub mod Relocation

@@ -3,9 +3,6 @@
 /// Intel 386 and later (PE/COFF, "Machine Types").
 pub const IMAGE_FILE_MACHINE_I386: u16 = 0x14C;
 
-/// The bits of the alignment (PE/COFF, "Section Flags").
-pub const IMAGE_SCN_ALIGN_MASK: u32 = 0x00F0_0000;
-
 /// The section number of a symbol that is defined elsewhere (PE/COFF, "Section Number Values").
 pub const IMAGE_SYM_UNDEFINED: u16 = 0;
 /// The section number -1 of a symbol that is a number (PE/COFF, "Section Number Values").
