@@ -1,7 +1,5 @@
 pub mod BelowLemmas
-pub mod ContentsLemmas
 pub mod Conversion
-pub mod EmissionLemmas
 pub mod FieldLemmas
 pub mod FittingBlank
 pub mod FittingConditions
@@ -27,7 +25,6 @@ pub mod NeutralObject
 pub mod NeutralShows
 pub mod NeutralSymbols
 pub mod ObjectLemmas
-pub mod PaddingLemmas
 pub mod PlainLemmas
 pub mod PlainNeutral
 pub mod RefusalLemmas
@@ -38,4 +35,3 @@ pub mod SectionLemmas
 pub mod SymbolLemmas
 pub mod SymbolsLemmas
 pub mod TargetLemmas
-pub mod WindowLemmas

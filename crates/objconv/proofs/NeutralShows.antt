@@ -24,14 +24,15 @@ use Rattle.oc_neutral.proofs.BuiltLaws.{showing_shows}
 use Rattle.oc_neutral.proofs.Showing.{IsBase, IsCovered, IsShowing, StaysAt, left_in, normal_in, stays, stored_at}
 use Rattle.oc_neutral.proofs.WrittenBytes.{byte_at}
 use Rattle.objconv.specs.declared.headers.Headers.{Headers}
-use Rattle.objconv.specs.Plain.{headers_in, exponent_of, field_at}
+use Rattle.objconv.specs.Plain.{headers_in, field_at}
+use Rattle.oc_coff_write.specs.Alignment.{exponent_of}
 use Rattle.objconv.specs.Fields.{text_in, AreFields}
 use Rattle.objconv.specs.Dialects.{plain_dialect}
 use Rattle.objconv.specs.Neutral.{blanked, neutral_of, neutral_reloc, neutral_target}
 use Rattle.objconv.proofs.FoundLemmas.{IsFound, is_found}
 use Rattle.objconv.proofs.HeaderLemmas.{IsPlain}
 use Rattle.objconv.proofs.SectionLemmas.{section_name-text, sections_of-plain}
-use Rattle.objconv.specs.WriterLaw.CodedObjects.{exponent_is}
+use Rattle.oc_coff_write.specs.WriterLaw.CanonicalLemmas.{exponent_is}
 use Rattle.objconv.proofs.ObjectLemmas.{length-text}
 use Rattle.objconv.proofs.NeutralBytes.{blanked-inside, blanked-outside, length-blanked}
 use Rattle.objconv.proofs.NeutralEntries.{entry_at, at_entry, found_apart}

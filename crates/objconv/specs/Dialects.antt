@@ -1,12 +1,11 @@
--- The two formats of the first path, each as a dialect of its own (our profile).
+-- The format of the first path's input, as a dialect of its own (our profile).
 use Rattle.std.specs.Prelude.{refl}
-use Rattle.oc_base.specs.declared.format.Format.TheVariants.{Elf32, Coff32}
+use Rattle.oc_base.specs.declared.format.Format.TheVariants.{Elf32}
 use Rattle.oc_linking.specs.Rules.{Rules}
 use Rattle.oc_neutral.specs.Alignments.{output_align, common_align}
 use Rattle.oc_neutral.specs.Dialects.{Dialect}
 use Rattle.oc_neutral.specs.Targets.{IsDialect}
 use Rattle.oc_elf_read.specs.Elf32.{elf32_rules}
-use Rattle.oc_coff_read.specs.Coff32.{coff32_rules}
 use Rattle.objconv.specs.Refusals.{plain_refusal}
 
 -- ELF for i386, of which plain objects are read: all else is refused
@@ -29,7 +28,3 @@ plain_dialect = record { format = Elf32; rules = plain_rules }
 pub plain_is_dialect : IsDialect plain_dialect
 unfolding output_align common_align
 plain_is_dialect = record { word = refl; output_align = λ align. refl; common_align = λ size align. refl }
-
--- what the first path writes
-abbrev pub coff_dialect : Dialect
-coff_dialect = record { format = Coff32; rules = coff32_rules }

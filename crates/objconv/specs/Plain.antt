@@ -11,6 +11,7 @@ use Rattle.oc_elf_read.specs.Shdr.{shdr_in}
 use Rattle.oc_elf_read.specs.Sym.{sym_in, bind_of, type_of}
 use Rattle.oc_elf_read.specs.Rel.{rel_in, rel_sym, rel_type}
 use Rattle.oc_elf_read.specs.Names.{name_in, short}
+use Rattle.oc_coff_write.specs.Alignment.{exponent_of}
 use Rattle.objconv.specs.declared.headers.Headers.{Headers}
 
 -- the test holds of each number below n
@@ -59,14 +60,6 @@ headers_in b =
       names = shdr_in b (at + 160);
       section_names = shdr_in b (at + 200);
     }
-
--- which power of two the alignment is, of the first n
-abbrev pub exponent_below : ℕ → ℕ → Option ℕ
-exponent_below n align = first_upto (λ e. if eqb align (2 ^ e) then Some e else None) n
-
--- which power of two the alignment is, of 1 to 8,192
-unfoldable pub exponent_of : ℕ → Option ℕ
-exponent_of align = exponent_below 14 align
 
 -- a string table in the file
 abbrev pub is_names : List ℕ → Shdr → Bool

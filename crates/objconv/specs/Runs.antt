@@ -14,8 +14,9 @@ use Rattle.oc_linking.specs.Faithful.{Faithful}
 use Rattle.oc_convert.specs.Converted.{planned_file}
 use Rattle.objconv.specs.declared.command.RunFault.{RunFault}
 use Rattle.objconv.specs.declared.command.RunFault.TheVariants as fault
-use Rattle.objconv.specs.Coded.{coff_file}
-use Rattle.objconv.specs.Dialects.{plain_dialect, coff_dialect}
+use Rattle.oc_coff_write.specs.CodeObjects.{coff_file}
+use Rattle.objconv.specs.Dialects.{plain_dialect}
+use Rattle.oc_coff_write.specs.Dialects.{coff_dialect}
 use Rattle.objconv.specs.Jobs.{job_of, input_of, output_of, word_message}
 use Rattle.objconv.specs.Refusals.{first_refusal, status_by, status_of}
 

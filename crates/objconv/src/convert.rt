@@ -5,14 +5,14 @@ ghost use Rattle.oc_linking.specs.Keeping.{all};
 ghost use Rattle.oc_linking.specs.Parts.{with_keys};
 ghost use Rattle.oc_convert.specs.Converted.{planned_file};
 ghost use Rattle.oc_convert.specs.Refusals.{IsFaultOf};
-ghost use Rattle.objconv.specs.Coded.{coff_file};
-ghost use Rattle.objconv.specs.Dialects.{plain_dialect, coff_dialect};
+ghost use Rattle.oc_coff_write.specs.CodeObjects.{coff_file};
+ghost use Rattle.objconv.specs.Dialects.{plain_dialect};
+ghost use Rattle.oc_coff_write.specs.Dialects.{coff_dialect};
 ghost use Rattle.objconv.specs.Refusals.{plain_refusal};
 
 use crate::fitter::CoffFitter;
-use crate::planned::PlannedFile;
 use crate::reader::PlainReader;
-use crate::writer::CoffWriter;
+use oc_coff_write::{CoffWriter, PlannedFile};
 use oc_convert::{ConvertFault, convert};
 use std::alloc::Global;
 

@@ -4,7 +4,7 @@ ghost use Rattle.std.specs.List.{IsDistinct};
 ghost use Rattle.std.specs.List.Sorted.{IsStrictlyIncreasing};
 ghost use Rattle.objconv.specs.Keys.{IsKey};
 
-use crate::structures::padded_name;
+use oc_coff_write::padded_name;
 
 /// A name of up to eight bytes as a number, its first byte the highest: names without a NUL have
 /// the same key exactly where they are the same, and the order of the keys is that of the names.

@@ -6,8 +6,9 @@ use Rattle.oc_linking.specs.Faithful.{Faithful}
 use Rattle.oc_outside.specs.Reading.{IsWholeOrLonger}
 use Rattle.oc_convert.specs.Converted.{planned_file}
 use Rattle.objconv.specs.declared.command.RunFault.{RunFault}
-use Rattle.objconv.specs.Coded.{coff_file}
-use Rattle.objconv.specs.Dialects.{plain_dialect, coff_dialect}
+use Rattle.oc_coff_write.specs.CodeObjects.{coff_file}
+use Rattle.objconv.specs.Dialects.{plain_dialect}
+use Rattle.oc_coff_write.specs.Dialects.{coff_dialect}
 use Rattle.objconv.specs.Refusals.{plain_refusal}
 use Rattle.objconv.specs.Runs.{Explains}
 use Rattle.objconv.proofs.RefusalLemmas.{some_and, longer_refused, whole_judged}
