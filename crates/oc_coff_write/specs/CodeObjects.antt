@@ -1,5 +1,5 @@
 -- Objects of one section of code, and what is written of them in COFF for i386 (PE/COFF; our profile).
-use Rattle.std.specs.Prelude.{◌≡◌, ℕ, ◌+◌, ◌%◌, ◌^◌, Bool, true, false, ◌&&◌, nat_eq, nat_le, bytes_eq, not, List, [], ◌∷◌, length, map, codes, Option}
+use Rattle.std.specs.Prelude.{◌≡◌, ℕ, ◌+◌, ◌%◌, ◌^◌, Bool, true, false, ◌&&◌, nat_eq, nat_le, bytes_eq, not, List, [], ◌∷◌, length, map, codes}
 use Rattle.std.specs.List.{list_all}
 use Rattle.std.specs.Option.{option_map, unwrap_or, is_none}
 use Rattle.oc_base.specs.declared.format.Word.TheVariants.{W32}
