@@ -1,5 +1,5 @@
 -- Plain objects: the ELF32 objects that are converted today. Which they are is our profile; the structures are those of the gABI and the i386 psABI.
-use Rattle.std.specs.Prelude.{ℕ, zero, suc, ◌+◌, ◌-◌, ◌*◌, ◌/◌, ◌%◌, ◌^◌, Bool, true, false, not, ◌&&◌, ◌||◌, eqb, nat_lt, nat_le, if◌then◌else◌, ◌≡◌, ◌≤◌, List, [], length, codes, bytes_eq, Option, Some, None}
+use Rattle.std.specs.Prelude.{ℕ, zero, suc, ◌+◌, ◌-◌, ◌*◌, ◌/◌, ◌%◌, Bool, true, false, not, ◌&&◌, ◌||◌, eqb, nat_lt, nat_le, if◌then◌else◌, ◌≡◌, ◌≤◌, List, [], length, codes, bytes_eq, Option, Some, None}
 use Rattle.std.specs.Option.{unwrap_or, is_some}
 use Rattle.oc_linking.specs.Numbers.{first_upto}
 use Rattle.oc_elf_read.specs.declared.ehdr.Ehdr.{Ehdr}
