@@ -11,7 +11,7 @@ use Rattle.oc_convert.specs.Refusals.{IsFaultOf, first_refusal, KeepsNotes}
 use Rattle.objconv.specs.Plain.{headers_in}
 use Rattle.objconv.specs.Refusals.{plain_refusal}
 use Rattle.objconv.specs.Dialects.{plain_dialect}
-use Rattle.objconv.specs.Coded.{unfit_for_coff}
+use Rattle.objconv.specs.Fitting.{unfit_for_coff}
 use Rattle.objconv.proofs.HeaderLemmas.{plain_is}
 use Rattle.objconv.proofs.SectionLemmas.{text_section, sections_of-plain}
 use Rattle.objconv.proofs.Judged.{plain_from, refusal_is_plain}

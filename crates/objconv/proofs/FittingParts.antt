@@ -16,8 +16,8 @@ use Rattle.oc_neutral.specs.declared.reloc.Reloc.{Reloc}
 use Rattle.oc_neutral.specs.KindRules.{same_kind}
 use Rattle.oc_neutral.specs.Objects.{Object}
 use Rattle.oc_neutral.specs.Invariants.{AreBegun, IsObject, groups_of}
-use Rattle.objconv.specs.WriterLaw.CodedLemmas.{none_is}
-use Rattle.objconv.specs.Coded.{is_plain_form, is_plain_symbol, is_plain_section, has_one_section, is_plain_object}
+use Rattle.oc_coff_write.specs.WriterLaw.ConditionLemmas.{none_is}
+use Rattle.oc_coff_write.specs.CodeObjects.{is_plain_form, is_plain_symbol, is_plain_section, has_one_section, is_plain_object}
 
 -- a test that all pass holds of each
 pub every : {X : Type 0} (test : X → Bool) (xs : List X) → list_all test xs ≡ true → AllByRecursion (λ x. test x ≡ true) xs

@@ -6,8 +6,9 @@ use Rattle.oc_base.specs.declared.format.Format.TheVariants.{Coff32}
 use Rattle.oc_neutral.specs.declared.section.Section.{Section}
 use Rattle.oc_neutral.specs.Objects.{Object}
 use Rattle.oc_neutral.specs.Dressing.{in_format, dressed, dressed_among, dressed_section}
-use Rattle.objconv.specs.Coded.{plain_tag, code_tag}
-use Rattle.objconv.specs.Recoded.{recoded, recoded_section}
+use Rattle.oc_coff_write.specs.CodeObjects.{code_tag}
+use Rattle.objconv.specs.Fitting.{plain_tag}
+use Rattle.objconv.specs.Fitting.{recoded, recoded_section}
 use Rattle.objconv.proofs.FittingParts.{Plain, text_with}
 
 module _ (n : Object) (plain : Plain plain_tag n) where

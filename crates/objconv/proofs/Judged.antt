@@ -15,7 +15,7 @@ use Rattle.objconv.specs.Plain.{headers_in, is_plain, rel_count, symbol_count}
 use Rattle.objconv.specs.Refusals.{not_built, plain_refusal}
 use Rattle.objconv.specs.Dialects.{plain_dialect}
 use Rattle.objconv.specs.Neutral.{neutral_of, neutral_symbol}
-use Rattle.objconv.specs.Coded.{is_fit_for_coff, unfit_for_coff}
+use Rattle.objconv.specs.Fitting.{is_fit_for_coff, unfit_for_coff}
 use Rattle.objconv.proofs.HeaderLemmas.{IsPlain, plain_is}
 use Rattle.objconv.proofs.Gathered.{gathered, gathered_fields}
 use Rattle.objconv.specs.Fields.{AreFields}

@@ -1,7 +1,5 @@
 pub mod BelowLemmas
-pub mod ContentsLemmas
 pub mod Conversion
-pub mod EmissionLemmas
 pub mod FieldLemmas
 pub mod FittingBlank
 pub mod FittingConditions
@@ -24,7 +22,6 @@ pub mod NeutralNext
 pub mod NeutralObject
 pub mod NeutralSymbols
 pub mod ObjectLemmas
-pub mod PaddingLemmas
 pub mod PlainLemmas
 pub mod PlainNeutral
 pub mod RefusalLemmas
@@ -33,4 +30,3 @@ pub mod RunLemmas
 pub mod SectionLemmas
 pub mod SymbolLemmas
 pub mod TargetLemmas
-pub mod WindowLemmas

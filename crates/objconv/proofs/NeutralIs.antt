@@ -28,10 +28,11 @@ use Rattle.oc_neutral.proofs.WrittenLemmas.{all_from_places}
 use Rattle.oc_neutral.proofs.StartedLaws.{fieldless_at}
 use Rattle.objconv.specs.declared.headers.Headers.{Headers}
 use Rattle.objconv.specs.Dialects.{plain_dialect}
-use Rattle.objconv.specs.Plain.{exponent_of, headers_in, symbol_count}
+use Rattle.objconv.specs.Plain.{headers_in, symbol_count}
 use Rattle.objconv.specs.Fields.{AreFields, text_in}
 use Rattle.objconv.specs.Neutral.{neutral_draft, neutral_field, neutral_of, neutral_reloc, neutral_section, neutral_symbol, neutral_symbols}
-use Rattle.objconv.specs.WriterLaw.CodedObjects.{exponent_is}
+use Rattle.oc_coff_write.specs.Alignment.{exponent_of}
+use Rattle.oc_coff_write.specs.WriterLaw.CanonicalLemmas.{exponent_is}
 use Rattle.objconv.proofs.HeaderLemmas.{IsPlain}
 use Rattle.objconv.proofs.ObjectLemmas.{length-text, part-bytes}
 use Rattle.objconv.proofs.NeutralBuilding.{first_symbols, limits, symbol_new}

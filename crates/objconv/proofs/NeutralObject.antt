@@ -30,11 +30,12 @@ use Rattle.oc_neutral.specs.Invariants.{AreBytes, IsBinding, IsSymbol as IsNeutr
 use Rattle.oc_neutral.specs.Readable.{IsBlankWhereTyped, IsReadable}
 use Rattle.oc_neutral.proofs.WrittenLemmas.{all_from_places}
 use Rattle.objconv.specs.declared.headers.Headers.{Headers}
-use Rattle.objconv.specs.Plain.{headers_in, is_plain, symbol_count, symbol_in, name_of, exponent_of}
+use Rattle.objconv.specs.Plain.{headers_in, is_plain, symbol_count, symbol_in, name_of}
+use Rattle.oc_coff_write.specs.Alignment.{exponent_of}
 use Rattle.objconv.specs.Fields.{text_in, AreFields}
 use Rattle.objconv.specs.Neutral.{binding_of, neutral_symbol, neutral_symbols, neutral_target, neutral_reloc, neutral_field, neutral_section, neutral_of, neutral_draft}
 use Rattle.objconv.proofs.HeaderLemmas.{IsPlain, plain_is}
-use Rattle.objconv.specs.WriterLaw.CodedObjects.{exponent_is}
+use Rattle.oc_coff_write.specs.WriterLaw.CanonicalLemmas.{exponent_is}
 use Rattle.objconv.proofs.SymbolLemmas.{IsSymbol, plain_symbol, name_of-plain}
 use Rattle.objconv.proofs.NeutralEntries.{entry_found}
 use Rattle.objconv.proofs.ObjectLemmas.{part-bytes}

@@ -4,9 +4,10 @@ use Rattle.std.specs.Option.{is_some, unwrap_or}
 use Rattle.std.proofs.Math.Nat.{pow-le-pow_right}
 use Rattle.std.proofs.lemmas.Bool.{cases_lt}
 use Rattle.std.proofs.lemmas.List.{get_or-drop, get_or_past, get_or-take}
-use Rattle.objconv.specs.WriterLaw.CodedObjects.{exponent_is}
+use Rattle.oc_coff_write.specs.WriterLaw.CanonicalLemmas.{exponent_is}
 use Rattle.objconv.specs.declared.headers.Headers.{Headers}
-use Rattle.objconv.specs.Plain.{exponent_of, AreLaid}
+use Rattle.objconv.specs.Plain.{AreLaid}
+use Rattle.oc_coff_write.specs.Alignment.{exponent_of}
 use Rattle.objconv.specs.Fields.{text_in}
 
 -- an alignment is small

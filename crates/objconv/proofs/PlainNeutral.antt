@@ -25,7 +25,8 @@ use Rattle.oc_neutral.specs.KindRules.{has_nul}
 use Rattle.oc_neutral.specs.declared.reloc.Reloc.{Reloc}
 use Rattle.objconv.specs.Fields.{text_in}
 use Rattle.objconv.specs.Neutral.{binding_of, neutral_section, neutral_symbol, neutral_symbols, neutral_reloc, neutral_field, neutral_of}
-use Rattle.objconv.specs.Coded.{is_plain_binding, is_plain_form, is_plain_mark, is_plain_object, is_plain_section, is_plain_symbol, plain_tag}
+use Rattle.oc_coff_write.specs.CodeObjects.{is_plain_binding, is_plain_form, is_plain_mark, is_plain_object, is_plain_section, is_plain_symbol}
+use Rattle.objconv.specs.Fitting.{plain_tag}
 use Rattle.objconv.proofs.HeaderLemmas.{IsPlain}
 use Rattle.objconv.proofs.ObjectLemmas.{align_small}
 use Rattle.objconv.proofs.Gathered.{Entry}

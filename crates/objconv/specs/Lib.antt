@@ -1,14 +1,8 @@
-pub mod Coded
-pub mod Contents
 pub mod Dialects
-pub mod Emission
 pub mod Fields
+pub mod Fitting
 pub mod Jobs
-pub mod Layouts
 pub mod Neutral
 pub mod Plain
-pub mod Recoded
 pub mod Refusals
 pub mod Runs
-pub mod WriterLaw
-pub mod Writing

@@ -1,5 +1,5 @@
 -- Plain objects: the ELF32 objects that are converted today. Which they are is our profile; the structures are those of the gABI and the i386 psABI.
-use Rattle.std.specs.Prelude.{ℕ, zero, suc, ◌+◌, ◌-◌, ◌*◌, ◌/◌, ◌%◌, ◌^◌, Bool, true, false, not, ◌&&◌, ◌||◌, eqb, nat_lt, nat_le, if◌then◌else◌, ◌≡◌, ◌≤◌, List, [], length, map, codes, bytes_eq, Option, Some, None}
+use Rattle.std.specs.Prelude.{ℕ, zero, suc, ◌+◌, ◌-◌, ◌*◌, ◌/◌, ◌%◌, Bool, true, false, not, ◌&&◌, ◌||◌, eqb, nat_lt, nat_le, if◌then◌else◌, ◌≡◌, ◌≤◌, List, [], length, map, codes, bytes_eq, Option, Some, None}
 use Rattle.std.specs.List.{range_with_len}
 use Rattle.std.specs.Option.{unwrap_or, is_none, is_some}
 use Rattle.oc_linking.specs.Numbers.{first_upto}
@@ -15,6 +15,7 @@ use Rattle.oc_elf_read.specs.Sym.{sym_in, bind_of, type_of}
 use Rattle.oc_elf_read.specs.Rel.{rel_in, rel_sym, rel_type}
 use Rattle.oc_elf_read.specs.Names.{name_in, short}
 use Rattle.oc_neutral.specs.Repeats.{NameList, first_repeat}
+use Rattle.oc_coff_write.specs.Alignment.{exponent_of}
 use Rattle.objconv.specs.declared.headers.Headers.{Headers}
 
 -- the test holds of each number below n
@@ -58,14 +59,6 @@ headers_in b =
       names = shdr_in b (at + 160);
       section_names = shdr_in b (at + 200);
     }
-
--- which power of two the alignment is, of the first n
-abbrev pub exponent_below : ℕ → ℕ → Option ℕ
-exponent_below n align = first_upto (λ e. if eqb align (2 ^ e) then Some e else None) n
-
--- which power of two the alignment is, of 1 to 8,192
-unfoldable pub exponent_of : ℕ → Option ℕ
-exponent_of align = exponent_below 14 align
 
 -- a string table in the file
 abbrev pub is_names : List ℕ → Shdr → Bool

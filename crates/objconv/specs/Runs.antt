@@ -14,8 +14,9 @@ use Rattle.oc_linking.specs.Faithful.{Faithful}
 use Rattle.oc_convert.specs.Converted.{planned_file}
 use Rattle.objconv.specs.declared.command.RunFault.{RunFault}
 use Rattle.objconv.specs.declared.command.RunFault.TheVariants as fault
-use Rattle.objconv.specs.Coded.{coff_file}
-use Rattle.objconv.specs.Dialects.{plain_dialect, coff_dialect}
+use Rattle.oc_coff_write.specs.CodeObjects.{coff_file}
+use Rattle.objconv.specs.Dialects.{plain_dialect}
+use Rattle.oc_coff_read.specs.Coff32.{coff32_dialect}
 use Rattle.objconv.specs.Jobs.{job_of, input_of, output_of, word_message}
 use Rattle.objconv.specs.Refusals.{first_refusal, status_by, status_of}
 
@@ -51,9 +52,9 @@ pub record HasRefusal (input : List ℕ) (files : Option Held) (refusal : Option
 -- the object that shows it, fitted to COFF, and c links as it does, where all is kept and nothing is edited
 pub record IsOutput (input : List ℕ) (files : Option Held) (c : List ℕ) : Type 0 where
   pub accepted : HasRefusal input files None
-  pub planned : (m : Held) → files ≡ Some m → IsSomeAnd (file_of input m) (λ b. c ≡ planned_file plain_dialect coff_dialect coff_file b)
+  pub planned : (m : Held) → files ≡ Some m → IsSomeAnd (file_of input m) (λ b. c ≡ planned_file plain_dialect coff32_dialect coff_file b)
   pub faithful : (m : Held) → files ≡ Some m → IsSomeAnd (file_of input m)
-      (λ b. Faithful plain_dialect.rules b all (with_keys (plain_dialect.rules.symbols b all)) coff_dialect.rules c)
+      (λ b. Faithful plain_dialect.rules b all (with_keys (plain_dialect.rules.symbols b all)) coff32_dialect.rules c)
 
 -- the output holds the output for the input, and all other files stay
 pub record IsWritten (input output : List ℕ) (before now : Option Held) : Type 0 where

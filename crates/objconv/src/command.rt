@@ -6,11 +6,11 @@ ghost use Rattle.objconv.specs.Runs as runs;
 
 use crate::convert::convert_plain;
 use crate::job::job_of;
-use crate::planned::PlannedFile;
 use crate::report::{report, tell, word_words};
 use crate::words::Words;
 use crate::writing::write_plan;
 use oc_base::{Code, Fault, Phase, Spot};
+use oc_coff_write::PlannedFile;
 use oc_convert::ConvertFault;
 use oc_outside::{Console, Files, LIMIT, ReadFault, read_file};
 use std::alloc::Global;

@@ -5,14 +5,14 @@ ghost use Rattle.oc_linking.specs.Keeping.{all};
 ghost use Rattle.oc_linking.specs.Parts.{with_keys};
 ghost use Rattle.oc_convert.specs.Converted.{planned_file};
 ghost use Rattle.oc_convert.specs.Refusals.{IsFaultOf};
-ghost use Rattle.objconv.specs.Coded.{coff_file};
-ghost use Rattle.objconv.specs.Dialects.{plain_dialect, coff_dialect};
+ghost use Rattle.oc_coff_write.specs.CodeObjects.{coff_file};
+ghost use Rattle.objconv.specs.Dialects.{plain_dialect};
+ghost use Rattle.oc_coff_read.specs.Coff32.{coff32_dialect};
 ghost use Rattle.objconv.specs.Refusals.{plain_refusal};
 
 use crate::fitter::CoffFitter;
-use crate::planned::PlannedFile;
 use crate::reader::PlainReader;
-use crate::writer::CoffWriter;
+use oc_coff_write::{CoffWriter, PlannedFile};
 use oc_convert::{ConvertFault, convert};
 use std::alloc::Global;
 
@@ -24,9 +24,9 @@ use std::alloc::Global;
 pub fn convert_plain(alloc: Global, file: &[u8]) -> Result<PlannedFile, ConvertFault>
     requires { length file.now ≤ 67108864 }
     ensures accepted { OnOk result (plain_refusal file.now ≡ None) }
-    ensures planned { IfOk result (λ plan. plan ≡ planned_file plain_dialect coff_dialect coff_file file.now) }
+    ensures planned { IfOk result (λ plan. plan ≡ planned_file plain_dialect coff32_dialect coff_file file.now) }
     ensures faithful { IfOk result (λ plan. Faithful plain_dialect.rules file.now all
-        (with_keys (plain_dialect.rules.symbols file.now all)) coff_dialect.rules plan) }
+        (with_keys (plain_dialect.rules.symbols file.now all)) coff32_dialect.rules plan) }
     ensures refused { IfErr result (IsFaultOf (plain_refusal file.now)) }
 {
     convert(alloc, &PlainReader, &CoffFitter, &CoffWriter, file)

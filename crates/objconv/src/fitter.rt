@@ -5,8 +5,9 @@ ghost use Rattle.oc_chains.specs.Lists.{list_of};
 ghost use Rattle.oc_neutral.specs.KindRules.{has_nul};
 ghost use Rattle.oc_neutral.specs.Families.{same_format};
 ghost use Rattle.oc_neutral.specs.Rows.{same_base, same_width, same_check};
-ghost use Rattle.objconv.specs.Coded as coded;
-ghost use Rattle.objconv.specs.Recoded.{recoded};
+ghost use Rattle.oc_coff_write.specs.CodeObjects as coded;
+ghost use Rattle.objconv.specs.Fitting as fitting;
+ghost use Rattle.objconv.specs.Fitting.{recoded};
 
 use oc_base::{Bytes, Code, Fault, Format, NoMemory, Phase, Spot};
 use oc_coff_read::{IMAGE_SCN_CNT_CODE, IMAGE_SCN_MEM_EXECUTE, IMAGE_SCN_MEM_READ};
@@ -42,7 +43,7 @@ fn is_elf(format: Format) -> bool
 
 // whether the section is code in `.text`, of a plain alignment and tag, in no group
 fn is_plain_section(section: &Section) -> bool
-    ensures { result ≡ coded.is_plain_section coded.plain_tag section.now }
+    ensures { result ≡ coded.is_plain_section fitting.plain_tag section.now }
 {
     section.kind == Kind::Code
         && section.name.as_slice() == TEXT
@@ -53,7 +54,7 @@ fn is_plain_section(section: &Section) -> bool
 
 // whether there is one section, and it is plain
 fn has_one_section(neutral: &Neutral) -> bool
-    ensures { result ≡ coded.has_one_section coded.plain_tag neutral.now.sections }
+    ensures { result ≡ coded.has_one_section fitting.plain_tag neutral.now.sections }
 {
     neutral.section_count() == 1 && is_plain_section(neutral.section(0))
 }
@@ -107,7 +108,7 @@ fn is_wrap(check: Check) -> bool
 
 // whether the relocations of the section are plain
 fn are_plain_relocs(neutral: &Neutral) -> bool
-    requires { coded.has_one_section coded.plain_tag neutral.now.sections ≡ true }
+    requires { coded.has_one_section fitting.plain_tag neutral.now.sections ≡ true }
     ensures { result ≡ list_all (λ x. coded.is_plain_form x.item.form) (list_of neutral.now.relocs 0) }
 {
     neutral
@@ -117,7 +118,7 @@ fn are_plain_relocs(neutral: &Neutral) -> bool
 
 // whether there are no more of them than a section header can count
 fn are_few_relocs(neutral: &Neutral) -> bool
-    requires { coded.has_one_section coded.plain_tag neutral.now.sections ≡ true }
+    requires { coded.has_one_section fitting.plain_tag neutral.now.sections ≡ true }
     ensures { result ≡ nat_le (length (list_of neutral.now.relocs 0)) 65535 }
 {
     neutral.relocs(0).count() <= MOST_RELOCS
@@ -174,9 +175,9 @@ fn are_plain_symbols(neutral: &Neutral) -> bool
 }
 
 // whether the object is a plain object of ELF
-#[tactic(auto, unfolding(crate::specs::Coded::is_fit_for_coff, crate::specs::Coded::is_plain_object))]
+#[tactic(auto, unfolding(crate::specs::Fitting::is_fit_for_coff, oc_coff_write::specs::CodeObjects::is_plain_object))]
 fn is_fit(neutral: &Neutral) -> bool
-    ensures { result ≡ coded.is_fit_for_coff neutral.now }
+    ensures { result ≡ fitting.is_fit_for_coff neutral.now }
 {
     is_elf(neutral.format())
         && has_one_section(neutral)
@@ -187,7 +188,7 @@ fn is_fit(neutral: &Neutral) -> bool
 
 // the refusal of an object that is not written yet
 fn unwritten() -> Fault
-    ensures { result ≡ coded.unwritten }
+    ensures { result ≡ fitting.unwritten }
 {
     let object = Spot {
         phase: Phase::TargetSection,
@@ -199,7 +200,7 @@ fn unwritten() -> Fault
 
 // gives the object the format, and its section the name and the tag, that it has in COFF
 fn recode(alloc: Global, neutral: &mut Neutral) -> Result<(), NoMemory>
-    requires { coded.is_fit_for_coff neutral.old ≡ true }
+    requires { fitting.is_fit_for_coff neutral.old ≡ true }
     ensures { OnOk result (neutral.new ≡ recoded neutral.old) }
 {
     neutral.is_object();
@@ -221,7 +222,7 @@ pub struct CoffFitter;
 
 impl Fits for CoffFitter {
     ghost use Rattle.oc_base.specs.declared.format.Format.TheVariants.{Coff32};
-    ghost use Rattle.objconv.specs.Coded.{unfit_for_coff};
+    ghost use Rattle.objconv.specs.Fitting.{unfit_for_coff};
 
     ghost target = { Coff32 };
 

@@ -2,24 +2,18 @@
 #![tactic(auto)]
 
 mod command;
-mod contents;
 mod convert;
-mod emission;
 mod fields;
 mod fitter;
 mod headers;
 mod job;
-mod layout;
 mod plain;
-mod planned;
 mod reader;
 mod report;
-mod structures;
 mod symbols;
 #[cfg(test)]
 mod tests;
 mod words;
-mod writer;
 mod writing;
 
 pub use command::run;

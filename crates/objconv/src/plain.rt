@@ -5,6 +5,7 @@ ghost use Rattle.oc_elf_read.specs.Names.{name_in};
 ghost use Rattle.objconv.specs.Plain as plain;
 
 use crate::headers::Headers;
+use oc_coff_write::exponent;
 use oc_elf_read::{
     EHDR_SIZE, ELFCLASS32, ELFDATA2LSB, ELFMAG, EM_386, ET_REL, EV_CURRENT, Ehdr, REL_SIZE,
     SHF_ALLOC, SHF_EXECINSTR, SHT_PROGBITS, SHT_REL, SHT_STRTAB, SHT_SYMTAB, SYM_SIZE, Shdr,
@@ -71,19 +72,6 @@ fn read_headers(file: &[u8], start: usize) -> Headers
         names: shdr_at(file, start + 160),
         section_names: shdr_at(file, start + 200),
     }
-}
-
-/// Which power of two the alignment is, of 1 to 8,192. Constant time.
-#[tactic(auto, unfolding(crate::specs::Plain::exponent_of))]
-pub fn exponent(align: u64) -> Option<u32>
-    ensures { result ≡ plain.exponent_of align }
-{
-    for e in 0..14 {
-        if align == 1 << e {
-            return Some(e);
-        }
-    }
-    None
 }
 
 // whether there is a name at `at` of the table, and it is `want`

@@ -6,8 +6,9 @@ use Rattle.oc_linking.specs.Faithful.{Faithful}
 use Rattle.oc_outside.specs.Reading.{IsWholeOrLonger}
 use Rattle.oc_convert.specs.Converted.{planned_file}
 use Rattle.objconv.specs.declared.command.RunFault.{RunFault}
-use Rattle.objconv.specs.Coded.{coff_file}
-use Rattle.objconv.specs.Dialects.{plain_dialect, coff_dialect}
+use Rattle.oc_coff_write.specs.CodeObjects.{coff_file}
+use Rattle.objconv.specs.Dialects.{plain_dialect}
+use Rattle.oc_coff_read.specs.Coff32.{coff32_dialect}
 use Rattle.objconv.specs.Refusals.{plain_refusal}
 use Rattle.objconv.specs.Runs.{Explains}
 use Rattle.objconv.proofs.RefusalLemmas.{some_and, longer_refused, whole_judged}
@@ -15,10 +16,10 @@ use Rattle.objconv.proofs.command.plan.Goals as goal
 
 -- what is said of the planned file and the bytes of the input
 abbrev Planned : List ℕ → List ℕ → Type 0
-Planned c b = c ≡ planned_file plain_dialect coff_dialect coff_file b
+Planned c b = c ≡ planned_file plain_dialect coff32_dialect coff_file b
 
 abbrev IsFaithful : List ℕ → List ℕ → Type 0
-IsFaithful c b = Faithful plain_dialect.rules b all (with_keys (plain_dialect.rules.symbols b all)) coff_dialect.rules c
+IsFaithful c b = Faithful plain_dialect.rules b all (with_keys (plain_dialect.rules.symbols b all)) coff32_dialect.rules c
 
 pub returns-then-len-gt-LIMIT-clause-fault : goal.returns-then-len-gt-LIMIT-clause-fault
 returns-then-len-gt-LIMIT-clause-fault g c =

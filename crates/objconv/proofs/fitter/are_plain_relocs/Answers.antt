@@ -5,7 +5,7 @@ use Rattle.std.proofs.lemmas.Iterator.Search.{all_from_yields_List}
 use Rattle.oc_chains.specs.declared.field.Field.{Field}
 use Rattle.oc_chains.specs.Lists.{list_of}
 use Rattle.oc_neutral.specs.declared.reloc.Reloc.{Reloc}
-use Rattle.objconv.specs.Coded.{is_plain_form}
+use Rattle.oc_coff_write.specs.CodeObjects.{is_plain_form}
 use Rattle.objconv.proofs.fitter.are_plain_relocs.Goals as goal
 
 pub returns : goal.returns

@@ -1,6 +1,6 @@
 -- One symbol that is not plain decides; else one more is.
 use Rattle.std.proofs.Common.{◌<◌, length, sym, ◌∙◌, arith}
-use Rattle.objconv.specs.Coded.{is_plain_symbol}
+use Rattle.oc_coff_write.specs.CodeObjects.{is_plain_symbol}
 use Rattle.objconv.proofs.FittingTests.{all_more, all_stop}
 use Rattle.objconv.proofs.fitter.are_plain_symbols.Goals as goal
 

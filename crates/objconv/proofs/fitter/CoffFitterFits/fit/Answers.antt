@@ -3,7 +3,7 @@ use Rattle.std.proofs.Common.{◌≡◌, true, Some, sym, ◌∙◌, ap, subst}
 use Rattle.oc_base.specs.declared.format.Format.TheVariants.{Coff32}
 use Rattle.oc_neutral.specs.Objects.{Object}
 use Rattle.oc_neutral.specs.Fitted.{IsFit, IsFitted}
-use Rattle.objconv.specs.Coded.{is_fit_for_coff}
+use Rattle.objconv.specs.Fitting.{is_fit_for_coff}
 use Rattle.objconv.proofs.FittingTaken.{fit_parts, refused_by, taken_by}
 use Rattle.objconv.proofs.FittingFit.{fit_recoded}
 use Rattle.objconv.proofs.FittingReady.{fitted_recoded}

@@ -1,0 +1,4 @@
+pub mod ContentsLemmas
+pub mod EmissionLemmas
+pub mod PaddingLemmas
+pub mod WindowLemmas

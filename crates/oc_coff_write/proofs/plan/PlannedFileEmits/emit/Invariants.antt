@@ -1,0 +1,16 @@
+-- What the sink took is the front of the file.
+use Rattle.std.proofs.Common.{◌≡◌, ◌-◌, ◌≤◌, length, take}
+use Rattle.oc_outside.specs.Texts.{grown}
+use Rattle.oc_coff_write.proofs.plan.PlannedFileEmits.emit.Given as goal
+
+abbrev pub invariant-pieces : goal.invariant-pieces
+invariant-pieces g l = record {
+  within : l.at ≤ length l.self;
+  taken : g.S.Sink.taken l.sink ≡ grown (take l.at l.self) (g.S.Sink.taken l.initial.sink);
+  counts : g.S.Sink.faults l.sink ≡ g.S.Sink.faults l.initial.sink;
+  beside : g.S.Sink.beside l.sink ≡ g.S.Sink.beside l.initial.sink;
+  borrow : g.S.Sink.borrow l.sink ≡ g.S.Sink.borrow l.initial.sink;
+}
+
+abbrev pub decreases-pieces : goal.decreases-pieces
+decreases-pieces g l = length l.self - l.at
