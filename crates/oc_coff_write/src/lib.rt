@@ -12,5 +12,4 @@ mod writer;
 
 pub use alignment::exponent;
 pub use plan::PlannedFile;
-pub use structures::padded_name;
 pub use writer::CoffWriter;
