@@ -17,6 +17,10 @@ use Rattle.oc_elf_read.specs.Names.{name_in, short}
 use Rattle.oc_neutral.specs.Repeats.{NameList, first_repeat}
 use Rattle.oc_coff_write.specs.Alignment.{exponent_of}
 use Rattle.objconv.specs.declared.headers.Headers.{Headers}
+use Rattle.oc_elf_read.specs.declared.rel.TheConstants.{REL_SIZE}
+use Rattle.oc_elf_read.specs.declared.sym.TheConstants.{SYM_SIZE}
+use Rattle.oc_elf_read.specs.declared.shdr.TheConstants.{SHDR_SIZE}
+use Rattle.oc_elf_read.specs.declared.ehdr.TheConstants.{EHDR_SIZE}
 
 -- the test holds of each number below n
 abbrev pub all_below : ℕ → (ℕ → Bool) → Bool
@@ -41,23 +45,23 @@ is_short_name (Some name) = nat_le 1 (length name) && nat_le (length name) 8
 abbrev pub is_plain_header : Ehdr → Bool
 is_plain_header h =
     eqb h.ei_mag ELFMAG && eqb h.ei_class ELFCLASS32 && eqb h.ei_data ELFDATA2LSB && eqb h.ei_version EV_CURRENT
-    && eqb h.e_type ET_REL && eqb h.e_machine EM_386 && eqb h.e_version EV_CURRENT && eqb h.e_ehsize 52
-    && eqb h.e_shentsize 40 && eqb h.e_shnum 6 && eqb h.e_shstrndx 5
+    && eqb h.e_type ET_REL && eqb h.e_machine EM_386 && eqb h.e_version EV_CURRENT && eqb h.e_ehsize EHDR_SIZE
+    && eqb h.e_shentsize SHDR_SIZE && eqb h.e_shnum 6 && eqb h.e_shstrndx 5
 
 -- the file begins with such a header, and has its section headers
 unfoldable pub has_header : List ℕ → Bool
-has_header b = nat_le 52 (length b) && is_plain_header (ehdr_in b) && lies_in b (ehdr_in b).e_shoff 240
+has_header b = nat_le EHDR_SIZE (length b) && is_plain_header (ehdr_in b) && lies_in b (ehdr_in b).e_shoff (6 * SHDR_SIZE)
 
 -- section headers 1 to 5: the text, its relocations, the symbols, their names, and the names of the sections
 unfoldable pub headers_in : List ℕ → Headers
 headers_in b =
     let at : ℕ = (ehdr_in b).e_shoff in
     record {
-      text = shdr_in b (at + 40);
-      rels = shdr_in b (at + 80);
-      symbols = shdr_in b (at + 120);
-      names = shdr_in b (at + 160);
-      section_names = shdr_in b (at + 200);
+      text = shdr_in b (at + SHDR_SIZE);
+      rels = shdr_in b (at + 2 * SHDR_SIZE);
+      symbols = shdr_in b (at + 3 * SHDR_SIZE);
+      names = shdr_in b (at + 4 * SHDR_SIZE);
+      section_names = shdr_in b (at + 5 * SHDR_SIZE);
     }
 
 -- a string table in the file
@@ -75,14 +79,14 @@ abbrev pub is_rels : List ℕ → Headers → Bool
 is_rels b h =
     eqb h.rels.sh_type SHT_REL && lies_in b h.rels.sh_offset h.rels.sh_size
     && is_named (name_in b h.section_names h.rels.sh_name) (codes ".rel.text")
-    && eqb h.rels.sh_link 3 && eqb h.rels.sh_info 1 && eqb h.rels.sh_entsize 8
-    && eqb (h.rels.sh_size % 8) 0 && nat_le (h.rels.sh_size / 8) 65535
+    && eqb h.rels.sh_link 3 && eqb h.rels.sh_info 1 && eqb h.rels.sh_entsize REL_SIZE
+    && eqb (h.rels.sh_size % REL_SIZE) 0 && nat_le (h.rels.sh_size / REL_SIZE) 65535
 
 -- the symbol table: two or more whole entries, with the names of section header 4, of which two are local
 abbrev pub is_symbols : List ℕ → Shdr → Bool
 is_symbols b s =
     eqb s.sh_type SHT_SYMTAB && lies_in b s.sh_offset s.sh_size && eqb s.sh_link 4 && eqb s.sh_info 2
-    && eqb s.sh_entsize 16 && eqb (s.sh_size % 16) 0 && nat_le 2 (s.sh_size / 16)
+    && eqb s.sh_entsize SYM_SIZE && eqb (s.sh_size % SYM_SIZE) 0 && nat_le 2 (s.sh_size / SYM_SIZE)
 
 -- the five section headers are those of a plain object
 unfoldable pub are_plain : List ℕ → Headers → Bool
@@ -94,11 +98,11 @@ has_headers b = has_header b && are_plain b (headers_in b)
 
 -- how many symbols there are, by the section headers
 abbrev pub symbol_count : Headers → ℕ
-symbol_count h = h.symbols.sh_size / 16
+symbol_count h = h.symbols.sh_size / SYM_SIZE
 
 -- how many relocations there are, by the section headers
 abbrev pub rel_count : Headers → ℕ
-rel_count h = h.rels.sh_size / 8
+rel_count h = h.rels.sh_size / REL_SIZE
 
 -- the parts that the section headers name lie in the file, and the two tables have whole entries
 pub record AreLaid (b : List ℕ) (h : Headers) : Type 0 where
@@ -106,15 +110,15 @@ pub record AreLaid (b : List ℕ) (h : Headers) : Type 0 where
   pub rels : h.rels.sh_offset + h.rels.sh_size ≤ length b
   pub symbols : h.symbols.sh_offset + h.symbols.sh_size ≤ length b
   pub names : h.names.sh_offset + h.names.sh_size ≤ length b
-  pub rel_table : h.rels.sh_size ≡ 8 * rel_count h
-  pub symbol_table : h.symbols.sh_size ≡ 16 * symbol_count h
+  pub rel_table : h.rels.sh_size ≡ REL_SIZE * rel_count h
+  pub symbol_table : h.symbols.sh_size ≡ SYM_SIZE * symbol_count h
   pub two_symbols : 2 ≤ symbol_count h
   pub few_rels : rel_count h ≤ 65535
   pub aligned : is_some (exponent_of h.text.sh_addralign) ≡ true
 
 -- symbol k
 unfoldable pub symbol_in : List ℕ → Headers → ℕ → Sym
-symbol_in b h k = sym_in b (h.symbols.sh_offset + 16 * k)
+symbol_in b h k = sym_in b (h.symbols.sh_offset + SYM_SIZE * k)
 
 -- the name of a symbol, empty where it has more than eight bytes or is not there
 unfoldable pub name_of : List ℕ → Headers → Sym → List ℕ
@@ -159,7 +163,7 @@ has_symbols b h = is_null_symbol (symbol_in b h 0) && is_text_symbol b h (symbol
 
 -- relocation i
 unfoldable pub entry_in : List ℕ → Headers → ℕ → Rel
-entry_in b h i = rel_in b (h.rels.sh_offset + 8 * i)
+entry_in b h i = rel_in b (h.rels.sh_offset + REL_SIZE * i)
 
 -- R_386_32 or R_386_PC32 to a symbol that is there, with its four bytes in `.text`
 abbrev pub is_plain_rel : Headers → Rel → Bool

@@ -1,4 +1,5 @@
 //! Whether the headers of a file are those of a plain object.
+ghost use Rattle.oc_elf_read.specs.declared.shdr.TheConstants.{SHDR_SIZE};
 ghost use Rattle.std.specs.Prelude.{◌≡◌, ◌+◌, ◌*◌, ◌≤◌, ◌^◌, ◌<◌, length, true, false, IfNone, IfSome, OnSome};
 ghost use Rattle.oc_elf_read.specs.Ehdr.{ehdr_in};
 ghost use Rattle.oc_elf_read.specs.Names.{name_in};
@@ -8,8 +9,8 @@ use crate::headers::Headers;
 use oc_coff_write::exponent;
 use oc_elf_read::{
     EHDR_SIZE, ELFCLASS32, ELFDATA2LSB, ELFMAG, EM_386, ET_REL, EV_CURRENT, Ehdr, REL_SIZE,
-    SHF_ALLOC, SHF_EXECINSTR, SHT_PROGBITS, SHT_REL, SHT_STRTAB, SHT_SYMTAB, SYM_SIZE, Shdr,
-    ehdr_of, shdr_at, short_name,
+    SHDR_SIZE, SHF_ALLOC, SHF_EXECINSTR, SHT_PROGBITS, SHT_REL, SHT_STRTAB, SHT_SYMTAB, SYM_SIZE,
+    Shdr, ehdr_of, shdr_at, short_name,
 };
 
 /// How many section headers a plain object has.
@@ -36,8 +37,8 @@ fn is_plain_header(ehdr: &Ehdr) -> bool
         && ehdr.e_type == ET_REL
         && ehdr.e_machine == EM_386
         && ehdr.e_version == u32::from(EV_CURRENT)
-        && ehdr.e_ehsize == 52
-        && ehdr.e_shentsize == 40
+        && ehdr.e_ehsize == EHDR_SIZE as u16
+        && ehdr.e_shentsize == SHDR_SIZE as u16
         && ehdr.e_shnum == HEADERS
         && ehdr.e_shstrndx == HEADERS - 1
 }
@@ -48,29 +49,30 @@ fn header_of(file: &[u8]) -> Option<Ehdr>
     ensures none { IfNone result (plain.has_header file.now ≡ false) }
     ensures has { OnSome result (plain.has_header file.now ≡ true) }
     ensures is { IfSome result (λ h. h ≡ ehdr_in file.now) }
-    ensures lies { IfSome result (λ h. h.e_shoff + 240 ≤ length file.now) }
+    ensures lies { IfSome result (λ h. h.e_shoff + 6 * SHDR_SIZE ≤ length file.now) }
 {
     if file.len() < EHDR_SIZE {
         return None;
     }
     let ehdr = ehdr_of(file);
-    let plain = is_plain_header(&ehdr) && lies_in(file, ehdr.e_shoff, 240);
+    let plain = is_plain_header(&ehdr)
+        && lies_in(file, ehdr.e_shoff, u64::from(HEADERS) * SHDR_SIZE as u64);
     if plain { Some(ehdr) } else { None }
 }
 
 // the section headers of a file that has such a file header
 #[tactic(auto, unfolding(crate::specs::Plain::headers_in))]
 fn read_headers(file: &[u8], start: usize) -> Headers
-    requires there { start + 240 ≤ length file.now }
+    requires there { start + 6 * SHDR_SIZE ≤ length file.now }
     requires start { start ≡ (ehdr_in file.now).e_shoff }
     ensures { result ≡ plain.headers_in file.now }
 {
     Headers {
-        text: shdr_at(file, start + 40),
-        rels: shdr_at(file, start + 80),
-        symbols: shdr_at(file, start + 120),
-        names: shdr_at(file, start + 160),
-        section_names: shdr_at(file, start + 200),
+        text: shdr_at(file, start + SHDR_SIZE),
+        rels: shdr_at(file, start + 2 * SHDR_SIZE),
+        symbols: shdr_at(file, start + 3 * SHDR_SIZE),
+        names: shdr_at(file, start + 4 * SHDR_SIZE),
+        section_names: shdr_at(file, start + 5 * SHDR_SIZE),
     }
 }
 
@@ -117,8 +119,8 @@ fn is_rels(file: &[u8], headers: &Headers) -> bool
         && rels.sh_link == 3
         && rels.sh_info == 1
         && rels.sh_entsize == REL_SIZE as u64
-        && rels.sh_size % 8 == 0
-        && rels.sh_size / 8 <= MOST_RELS
+        && rels.sh_size % REL_SIZE as u64 == 0
+        && rels.sh_size / REL_SIZE as u64 <= MOST_RELS
 }
 
 // whether this is the symbol table of a plain object
@@ -130,8 +132,8 @@ fn is_symbols(file: &[u8], shdr: &Shdr) -> bool
         && shdr.sh_link == 4
         && shdr.sh_info == 2
         && shdr.sh_entsize == SYM_SIZE as u64
-        && shdr.sh_size % 16 == 0
-        && shdr.sh_size / 16 >= 2
+        && shdr.sh_size % SYM_SIZE as u64 == 0
+        && shdr.sh_size / SYM_SIZE as u64 >= 2
 }
 
 // whether the section headers are those of a plain object

@@ -14,6 +14,10 @@ use Rattle.oc_coff_read.specs.SectionHeader.{section_header_bytes}
 use Rattle.oc_coff_read.specs.SymbolEntry.{symbol_bytes}
 use Rattle.oc_coff_read.specs.SectionAux.{section_aux_bytes}
 use Rattle.oc_coff_read.specs.Relocation.{relocation_bytes}
+use Rattle.oc_coff_read.specs.declared.symbol.TheConstants.{SYMBOL_SIZE}
+use Rattle.oc_coff_read.specs.declared.file_header.TheConstants.{FILE_HEADER_SIZE}
+use Rattle.oc_coff_read.specs.declared.section_header.TheConstants.{SECTION_HEADER_SIZE}
+use Rattle.oc_coff_read.specs.declared.relocation.TheConstants.{RELOCATION_SIZE}
 
 -- an EXTERNAL symbol with a name of up to eight bytes
 pub record External : Type 0 where
@@ -29,13 +33,17 @@ pub record CodeObject : Type 0 where
   pub relocs : List Relocation
   pub symbols : List External
 
--- where the relocations begin: behind the headers and the contents
+-- where the contents begin: behind the headers
+abbrev pub contents_place : ℕ
+contents_place = FILE_HEADER_SIZE + SECTION_HEADER_SIZE
+
+-- where the relocations begin: behind the contents
 abbrev pub relocs_place : CodeObject → ℕ
-relocs_place o = 60 + length o.contents
+relocs_place o = contents_place + length o.contents
 
 -- where the symbols begin: behind the relocations
 abbrev pub symbols_place : CodeObject → ℕ
-symbols_place o = relocs_place o + 10 * length o.relocs
+symbols_place o = relocs_place o + RELOCATION_SIZE * length o.relocs
 
 -- how many entries the symbol table has: the section's symbol, its auxiliary entry, and the externals
 abbrev pub entry_count : CodeObject → ℕ
@@ -72,7 +80,7 @@ code_section o = record {
   VirtualSize = 0;
   VirtualAddress = 0;
   SizeOfRawData = length o.contents;
-  PointerToRawData = pointer_to 60 (length o.contents);
+  PointerToRawData = pointer_to contents_place (length o.contents);
   PointerToRelocations = pointer_to (relocs_place o) (length o.relocs);
   PointerToLinenumbers = 0;
   NumberOfRelocations = length o.relocs;
@@ -124,7 +132,7 @@ code_file o =
 
 -- the length of the canonical file
 abbrev pub code_length : CodeObject → ℕ
-code_length o = symbols_place o + 18 * entry_count o + 4
+code_length o = symbols_place o + SYMBOL_SIZE * entry_count o + 4
 
 -- the numbers of a relocation fit its entry
 pub record FitsEntry (r : Relocation) : Type 0 where

@@ -5,6 +5,7 @@ use Rattle.oc_base.specs.Numbers.{number_at}
 use Rattle.oc_coff_read.specs.declared.section_header.SectionHeader.{SectionHeader}
 use Rattle.oc_coff_read.specs.declared.symbol.SymbolEntry.{SymbolEntry}
 use Rattle.oc_coff_read.specs.FileHeader.{file_header_in}
+use Rattle.oc_coff_read.specs.declared.symbol.TheConstants.{SYMBOL_SIZE}
 
 -- the bytes before the first NUL, or all
 abbrev pub until_nul : List ℕ → List ℕ
@@ -12,7 +13,7 @@ until_nul bytes = before_first (λ c. nat_eq c 0) bytes
 
 -- the name at an offset of the string table, which follows the symbols
 unfoldable pub string_at : List ℕ → ℕ → List ℕ
-string_at file offset = until_nul (drop ((file_header_in file).PointerToSymbolTable + 18 * (file_header_in file).NumberOfSymbols + offset) file)
+string_at file offset = until_nul (drop ((file_header_in file).PointerToSymbolTable + SYMBOL_SIZE * (file_header_in file).NumberOfSymbols + offset) file)
 
 -- the number of decimal digits
 abbrev pub decimal_of : List ℕ → ℕ

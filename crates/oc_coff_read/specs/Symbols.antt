@@ -18,10 +18,11 @@ use Rattle.oc_coff_read.specs.FileHeader.{file_header_in}
 use Rattle.oc_coff_read.specs.SymbolEntry.{symbol_in}
 use Rattle.oc_coff_read.specs.Names.{symbol_name}
 use Rattle.oc_coff_read.specs.Sections.{position_of}
+use Rattle.oc_coff_read.specs.declared.symbol.TheConstants.{SYMBOL_SIZE}
 
 -- entry i of the symbol table
 unfoldable pub entry_of : List ℕ → ℕ → SymbolEntry
-entry_of file i = symbol_in file ((file_header_in file).PointerToSymbolTable + 18 * i)
+entry_of file i = symbol_in file ((file_header_in file).PointerToSymbolTable + SYMBOL_SIZE * i)
 
 -- the list has nothing
 abbrev pub is_empty : List ℕ → Bool

@@ -1,4 +1,5 @@
 //! The file header.
+ghost use Rattle.oc_coff_read.specs.declared.file_header.TheConstants.{FILE_HEADER_SIZE};
 ghost use Rattle.std.specs.Prelude.{◌≡◌, ◌≤◌, length};
 ghost use Rattle.oc_coff_read.specs.FileHeader.{file_header_in};
 
@@ -29,7 +30,7 @@ pub struct FileHeader {
 /// The file header of a file of at least `FILE_HEADER_SIZE` bytes. Constant time.
 #[tactic(auto, unfolding(crate::specs::FileHeader::file_header_in))]
 pub fn file_header_of(file: &[u8]) -> FileHeader
-    requires { 20 ≤ length file.now }
+    requires { FILE_HEADER_SIZE ≤ length file.now }
     ensures { result ≡ file_header_in file.now }
 {
     FileHeader {

@@ -1,4 +1,5 @@
 //! Relocation entries.
+ghost use Rattle.oc_coff_read.specs.declared.relocation.TheConstants.{RELOCATION_SIZE};
 ghost use Rattle.std.specs.Prelude.{◌≡◌, ◌+◌, ◌≤◌, length};
 ghost use Rattle.oc_coff_read.specs.Relocation.{relocation_in};
 
@@ -21,7 +22,7 @@ pub struct Relocation {
 /// The relocation entry at `at`, an offset in the file. Constant time.
 #[tactic(auto, unfolding(crate::specs::Relocation::relocation_in))]
 pub fn relocation_at(file: &[u8], at: usize) -> Relocation
-    requires { at + 10 ≤ length file.now }
+    requires { at + RELOCATION_SIZE ≤ length file.now }
     ensures { result ≡ relocation_in file.now at }
 {
     Relocation {

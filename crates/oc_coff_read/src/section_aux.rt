@@ -1,4 +1,5 @@
 //! The auxiliary entry behind a section's own symbol.
+ghost use Rattle.oc_coff_read.specs.declared.symbol.TheConstants.{SYMBOL_SIZE};
 ghost use Rattle.std.specs.Prelude.{◌≡◌, ◌+◌, ◌≤◌, length};
 ghost use Rattle.oc_coff_read.specs.SectionAux.{section_aux_in};
 
@@ -25,7 +26,7 @@ pub struct SectionAux {
 /// The auxiliary entry at `at`, an offset in the file. Constant time.
 #[tactic(auto, unfolding(crate::specs::SectionAux::section_aux_in))]
 pub fn section_aux_at(file: &[u8], at: usize) -> SectionAux
-    requires { at + 18 ≤ length file.now }
+    requires { at + SYMBOL_SIZE ≤ length file.now }
     ensures { result ≡ section_aux_in file.now at }
 {
     SectionAux {

@@ -1,4 +1,5 @@
 //! Section headers.
+ghost use Rattle.oc_coff_read.specs.declared.section_header.TheConstants.{SECTION_HEADER_SIZE};
 ghost use Rattle.std.specs.Prelude.{◌≡◌, ◌+◌, ◌≤◌, length};
 ghost use Rattle.oc_coff_read.specs.SectionHeader.{section_header_in};
 
@@ -36,7 +37,7 @@ pub struct SectionHeader {
 /// The section header at `at`, an offset in the file. Constant time.
 #[tactic(auto, unfolding(crate::specs::SectionHeader::section_header_in))]
 pub fn section_header_at(file: &[u8], at: usize) -> SectionHeader
-    requires { at + 40 ≤ length file.now }
+    requires { at + SECTION_HEADER_SIZE ≤ length file.now }
     ensures { result ≡ section_header_in file.now at }
 {
     SectionHeader {

@@ -1,4 +1,5 @@
 //! Symbol table entries.
+ghost use Rattle.oc_coff_read.specs.declared.symbol.TheConstants.{SYMBOL_SIZE};
 ghost use Rattle.std.specs.Prelude.{◌≡◌, ◌+◌, ◌≤◌, length};
 ghost use Rattle.oc_coff_read.specs.SymbolEntry.{symbol_in};
 
@@ -28,7 +29,7 @@ pub struct SymbolEntry {
 /// The symbol table entry at `at`, an offset in the file. Constant time.
 #[tactic(auto, unfolding(crate::specs::SymbolEntry::symbol_in))]
 pub fn symbol_at(file: &[u8], at: usize) -> SymbolEntry
-    requires { at + 18 ≤ length file.now }
+    requires { at + SYMBOL_SIZE ≤ length file.now }
     ensures { result ≡ symbol_in file.now at }
 {
     SymbolEntry {

@@ -1,4 +1,6 @@
 //! The headers of the canonical COFF file of an object, from the counts of its parts.
+ghost use Rattle.oc_coff_read.specs.declared.relocation.TheConstants.{RELOCATION_SIZE};
+ghost use Rattle.oc_coff_read.specs.declared.symbol.TheConstants.{SYMBOL_SIZE};
 ghost use Rattle.std.specs.Prelude.{◌≡◌, ◌+◌, ◌*◌, ◌<◌, ◌≤◌, ◌^◌, length};
 ghost use Rattle.oc_coff_read.specs.Canonical as canonical;
 ghost use Rattle.oc_chains.specs.Lists.{list_of};
@@ -10,13 +12,15 @@ use crate::alignment::exponent;
 use crate::structures::padded_name;
 use oc_base::Format;
 use oc_coff_read::{
-    FileHeader, IMAGE_FILE_MACHINE_I386, IMAGE_SCN_CNT_CODE, IMAGE_SCN_MEM_EXECUTE,
-    IMAGE_SCN_MEM_READ, IMAGE_SYM_CLASS_STATIC, SectionAux, SectionHeader, SymbolEntry,
+    FILE_HEADER_SIZE, FileHeader, IMAGE_FILE_MACHINE_I386, IMAGE_SCN_CNT_CODE,
+    IMAGE_SCN_MEM_EXECUTE, IMAGE_SCN_MEM_READ, IMAGE_SYM_CLASS_STATIC, RELOCATION_SIZE,
+    SECTION_HEADER_SIZE, SYMBOL_SIZE, SectionAux, SectionHeader, SymbolEntry,
 };
 use oc_neutral::Neutral;
+use oc_neutral::coff::IMAGE_SCN_ALIGN_1BYTES;
 
 /// Where the contents of `.text` begin: behind the file header and the section header.
-const CODE_PLACE: u32 = 60;
+const CODE_PLACE: u32 = (FILE_HEADER_SIZE + SECTION_HEADER_SIZE) as u32;
 
 /// The numbers that the places of a file's parts follow from.
 #[derive(Clone, Copy, Debug)]
@@ -69,7 +73,10 @@ fn flags(exponent: u32) -> u32
     requires { exponent ≤ 13 }
     ensures { result ≡ canonical.code_flags exponent }
 {
-    IMAGE_SCN_CNT_CODE + IMAGE_SCN_MEM_EXECUTE + IMAGE_SCN_MEM_READ + (exponent + 1) * (1 << 20)
+    IMAGE_SCN_CNT_CODE
+        + IMAGE_SCN_MEM_EXECUTE
+        + IMAGE_SCN_MEM_READ
+        + (exponent + 1) * IMAGE_SCN_ALIGN_1BYTES
 }
 
 impl Layout {
@@ -77,16 +84,16 @@ impl Layout {
 
     /// How many bytes stand before the contents. Constant time.
     pub fn head_size(self) -> usize
-        ensures { result ≡ 60 }
+        ensures { result ≡ canonical.contents_place }
     {
         CODE_PLACE as usize
     }
 
     /// How many bytes stand behind the contents. Constant time.
     pub fn tail_size(self) -> usize
-        ensures { result ≡ 10 * self.relocs + 18 * (self.symbols + 2) + 4 }
+        ensures { result ≡ RELOCATION_SIZE * self.relocs + SYMBOL_SIZE * (self.symbols + 2) + 4 }
     {
-        10 * self.relocs as usize + 18 * (self.symbols as usize + 2) + 4
+        RELOCATION_SIZE * self.relocs as usize + SYMBOL_SIZE * (self.symbols as usize + 2) + 4
     }
 
     /// The file header. Constant time.
@@ -99,7 +106,9 @@ impl Layout {
             Machine: IMAGE_FILE_MACHINE_I386,
             NumberOfSections: 1,
             TimeDateStamp: 0,
-            PointerToSymbolTable: CODE_PLACE + self.size + 10 * u32::from(self.relocs),
+            PointerToSymbolTable: CODE_PLACE
+                + self.size
+                + RELOCATION_SIZE as u32 * u32::from(self.relocs),
             NumberOfSymbols: self.symbols + 2,
             SizeOfOptionalHeader: 0,
             Characteristics: 0,

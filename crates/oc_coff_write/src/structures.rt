@@ -9,7 +9,7 @@ ghost use Rattle.oc_coff_read.specs.SectionHeader.{section_header_bytes};
 ghost use Rattle.oc_coff_read.specs.SymbolEntry.{symbol_bytes};
 
 use oc_base::{NoMemory, push_u16, push_u32};
-use oc_coff_read::{FileHeader, Relocation, SectionAux, SectionHeader, SymbolEntry};
+use oc_coff_read::{FileHeader, Relocation, SYMBOL_SIZE, SectionAux, SectionHeader, SymbolEntry};
 
 /// A name of up to eight bytes, with NULs behind it (PE/COFF, "COFF Symbol Table").
 pub fn padded_name(name: &[u8]) -> [u8; 8]
@@ -75,7 +75,7 @@ pub fn push_relocation(out: &mut Vec<u8>, relocation: Relocation) -> Result<(), 
 
 // the bytes of a symbol table entry
 #[tactic(auto, unfolding(oc_coff_read::specs::SymbolEntry::symbol_bytes, oc_base::specs::Numbers::bytes_of_number))]
-fn symbol_bytes(symbol: SymbolEntry) -> [u8; 18]
+fn symbol_bytes(symbol: SymbolEntry) -> [u8; SYMBOL_SIZE]
     ensures { result ≡ symbol_bytes symbol }
 {
     let n = symbol.Name;

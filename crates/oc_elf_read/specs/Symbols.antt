@@ -19,6 +19,7 @@ use Rattle.oc_elf_read.specs.declared.sym.Sym.{Sym}
 use Rattle.oc_elf_read.specs.Sym.{sym_in, bind_of, type_of}
 use Rattle.oc_elf_read.specs.Names.{name_in}
 use Rattle.oc_elf_read.specs.Sections.{header_of, headers_of, position_of}
+use Rattle.oc_elf_read.specs.declared.sym.TheConstants.{SYM_SIZE}
 
 -- the symbol table, if there is one
 unfoldable pub symtab_of : List ℕ → Option Shdr
@@ -26,7 +27,7 @@ symtab_of file = find (λ s. nat_eq s.sh_type SHT_SYMTAB) (headers_of file)
 
 -- symbol k of a symbol table
 unfoldable pub entry_of : List ℕ → Shdr → ℕ → Sym
-entry_of file table k = sym_in file (table.sh_offset + 16 * k)
+entry_of file table k = sym_in file (table.sh_offset + SYM_SIZE * k)
 
 -- the name of a symbol, in the string table that the symbol table goes with
 unfoldable pub symbol_name : List ℕ → Shdr → Sym → List ℕ
@@ -69,7 +70,7 @@ symbol_of file table k = option_map (symbol_with file table k) (binding_of file 
 -- what there is of the symbols from 1 on
 abbrev pub symbols_by : (Shdr → ℕ → Option Symbol) → Option Shdr → List Symbol
 symbols_by item None = []
-symbols_by item (Some table) = filter_map (item table) (range_with_len 1 (table.sh_size / 16 - 1))
+symbols_by item (Some table) = filter_map (item table) (range_with_len 1 (table.sh_size / SYM_SIZE - 1))
 
 -- the carried symbols, whatever is kept
 unfoldable pub symbols_of : List ℕ → Keep → List Symbol

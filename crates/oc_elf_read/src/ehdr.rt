@@ -1,4 +1,5 @@
 //! The file header.
+ghost use Rattle.oc_elf_read.specs.declared.ehdr.TheConstants.{EHDR_SIZE};
 ghost use Rattle.std.specs.Prelude.{◌≡◌, ◌+◌, ◌≤◌, length};
 ghost use Rattle.oc_elf_read.specs.Ehdr.{ehdr_in};
 
@@ -40,7 +41,7 @@ pub struct Ehdr {
 /// The file header of a file of at least `EHDR_SIZE` bytes. Constant time.
 #[tactic(auto, unfolding(crate::specs::Ehdr::ehdr_in))]
 pub fn ehdr_of(file: &[u8]) -> Ehdr
-    requires { 52 ≤ length file.now }
+    requires { EHDR_SIZE ≤ length file.now }
     ensures { result ≡ ehdr_in file.now }
 {
     Ehdr {

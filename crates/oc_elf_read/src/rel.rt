@@ -1,4 +1,5 @@
 //! Relocation entries with the addend in place.
+ghost use Rattle.oc_elf_read.specs.declared.rel.TheConstants.{REL_SIZE};
 ghost use Rattle.std.specs.Prelude.{◌≡◌, ◌+◌, ◌/◌, ◌%◌, ◌≤◌, length};
 ghost use Rattle.oc_elf_read.specs.Rel.{rel_in, rel_sym, rel_type};
 
@@ -19,7 +20,7 @@ pub struct Rel {
 /// The relocation entry at `at`, an offset in the file. Constant time.
 #[tactic(auto, unfolding(crate::specs::Rel::rel_in))]
 pub fn rel_at(file: &[u8], at: usize) -> Rel
-    requires { at + 8 ≤ length file.now }
+    requires { at + REL_SIZE ≤ length file.now }
     ensures { result ≡ rel_in file.now at }
 {
     Rel {

@@ -1,4 +1,5 @@
 //! Section headers.
+ghost use Rattle.oc_elf_read.specs.declared.shdr.TheConstants.{SHDR_SIZE};
 ghost use Rattle.std.specs.Prelude.{◌≡◌, ◌+◌, ◌≤◌, length};
 ghost use Rattle.oc_elf_read.specs.Shdr.{shdr_in};
 
@@ -33,7 +34,7 @@ pub struct Shdr {
 /// The section header at `at`, an offset in the file. Constant time.
 #[tactic(auto, unfolding(crate::specs::Shdr::shdr_in))]
 pub fn shdr_at(file: &[u8], at: usize) -> Shdr
-    requires { at + 40 ≤ length file.now }
+    requires { at + SHDR_SIZE ≤ length file.now }
     ensures { result ≡ shdr_in file.now at }
 {
     Shdr {

@@ -1,4 +1,5 @@
 //! Symbol table entries.
+ghost use Rattle.oc_elf_read.specs.declared.sym.TheConstants.{SYM_SIZE};
 ghost use Rattle.std.specs.Prelude.{◌≡◌, ◌+◌, ◌/◌, ◌%◌, ◌≤◌, length};
 ghost use Rattle.oc_elf_read.specs.Sym.{sym_in, bind_of, type_of};
 
@@ -27,7 +28,7 @@ pub struct Sym {
 /// The symbol table entry at `at`, an offset in the file. Constant time.
 #[tactic(auto, unfolding(crate::specs::Sym::sym_in))]
 pub fn sym_at(file: &[u8], at: usize) -> Sym
-    requires { at + 16 ≤ length file.now }
+    requires { at + SYM_SIZE ≤ length file.now }
     ensures { result ≡ sym_in file.now at }
 {
     Sym {

@@ -41,7 +41,7 @@ use Rattle.oc_coff_read.specs.Canonical.{CodeObject, code_file}
 use Rattle.oc_coff_read.specs.Sections.{sections_of}
 use Rattle.oc_coff_read.specs.Seen.{seen_binding, seen_symbol, externals_from, ReadsBack}
 use Rattle.oc_coff_read.proofs.SeenLaws.{reads_back}
-use Rattle.oc_coff_write.specs.CodeObjects.{is_plain_mark, field_patch, filled, is_function, external_of, coded_with}
+use Rattle.oc_coff_write.specs.CodeObjects.{code_tag, is_plain_mark, field_patch, filled, is_function, external_of, coded_with}
 use Rattle.oc_coff_read.specs.Coff32.{coff32_dialect}
 use Rattle.oc_coff_write.specs.WriterLaw.ConditionLemmas.{IsPlainLess, IsPlainForm, IsPlainSymbol, IsCoded}
 use Rattle.oc_coff_write.specs.WriterLaw.CanonicalLemmas.{IsPlaced, symbol_placed, section_size, section_power, length-filled, code_object}
@@ -116,7 +116,7 @@ module _ (m : Object) (s : Section) (fits : IsFitted Coff32 m) (is : IsCoded m s
   -- the section without its contents
   frames : map frame_of (shown_sections seen) ≡ map frame_of (sections_of file)
   frames =
-      let made : ℕ → ℕ → parts.Section = λ align size. record { name = codes ".text"; kind = Code; align = align; size = size; contents = []; tag = 0x60000020; number = 1; group = None } in
+      let made : ℕ → ℕ → parts.Section = λ align size. record { name = codes ".text"; kind = Code; align = align; size = size; contents = []; tag = code_tag; number = 1; group = None } in
       ap (λ align. made align s.size ∷ []) (section_power m s fits is).power
       ∙ ap (λ size. made (2 ^ o.exponent) size ∷ []) (sym (section_size m s fits is) ∙ sym (length-filled m s fits is))
       ∙ ap (map frame_of) (sym back.sections)
