@@ -105,7 +105,7 @@ cancels-plain t type = elim (eqb type 2) as (λ c. cancels Address t (cond c les
 pub takes-plain : (s type : ℕ) → takes_section s (neutral_less type) ≡ false
 takes-plain s type = elim (eqb type 2) as (λ c. takes_section s (cond c less.Place less.Zero) ≡ false) [ true ↦ refl | false ↦ refl ]
 
--- the two types of a plain relocation
+-- the row of a relocation stands in the table, and makes the relocation of the object
 record IsRow (text : List ℕ) (at : ℕ) (r : Rel) : Type 0 where
   row : Row
   listed : row_of Elf32 (rel_type r) ≡ Some row

@@ -69,7 +69,7 @@ code_header o = record {
 abbrev pub code_tag : ℕ
 code_tag = IMAGE_SCN_CNT_CODE + IMAGE_SCN_MEM_EXECUTE + IMAGE_SCN_MEM_READ
 
--- with the alignment 2^exponent
+-- and that has the alignment 2^exponent
 abbrev pub code_flags : ℕ → ℕ
 code_flags exponent = code_tag + (exponent + 1) * IMAGE_SCN_ALIGN_1BYTES
 
