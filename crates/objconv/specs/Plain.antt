@@ -174,7 +174,7 @@ is_plain_rel h r =
 abbrev pub meets : Rel → Rel → Bool
 meets x y = nat_lt x.r_offset (y.r_offset + 4) && nat_lt y.r_offset (x.r_offset + 4)
 
--- the field of relocation i meets none of an earlier one
+-- the field of relocation i meets no earlier one
 abbrev pub is_apart : List ℕ → Headers → ℕ → Bool
 is_apart b h i = all_below i (λ j. not (meets (entry_in b h j) (entry_in b h i)))
 
