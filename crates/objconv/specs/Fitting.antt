@@ -1,9 +1,10 @@
 -- Plain objects of ELF, fitted to COFF for i386 (PE/COFF, "Section Flags" and "Special Sections"; our profile).
-use Rattle.std.specs.Prelude.{ℕ, Bool, ◌&&◌, if◌then◌else◌, map, codes, Option, Some, None}
+use Rattle.std.specs.Prelude.{ℕ, ◌+◌, Bool, ◌&&◌, if◌then◌else◌, map, codes, Option, Some, None}
 use Rattle.oc_base.specs.declared.code.Code.TheVariants.{NotBuilt}
 use Rattle.oc_base.specs.declared.fault.Phase.TheVariants.{TargetSection}
 use Rattle.oc_base.specs.declared.fault.Fault.{Fault}
 use Rattle.oc_base.specs.declared.format.Format.TheVariants.{Elf32, Coff32}
+use Rattle.oc_neutral.specs.declared.elf.TheConstants.{SHT_PROGBITS, SHF_ALLOC, SHF_EXECINSTR}
 use Rattle.oc_neutral.specs.declared.section.Section.{Section}
 use Rattle.oc_neutral.specs.Objects.{Object}
 use Rattle.oc_neutral.specs.Families.{same_format}
@@ -12,7 +13,7 @@ use Rattle.oc_coff_write.specs.CodeObjects.{is_plain_object, code_tag}
 
 -- the tag of `.text` in ELF: PROGBITS, allocated and executed
 abbrev pub plain_tag : ℕ
-plain_tag = elf_tag 1 6
+plain_tag = elf_tag SHT_PROGBITS (SHF_ALLOC + SHF_EXECINSTR)
 
 -- the refusal of an object that is not written yet
 abbrev pub unwritten : Fault

@@ -64,7 +64,7 @@ overlays_stay o s (x ∷ xs) each =
     ∙ ap (λ ys. x ∷ ys) (overlays_stay o (s + 1) xs (λ j y here. let f : s + suc j ≡ s + 1 + j = omega arith in subst (λ k. overlay (o k) 0 y ≡ y) f (each (suc j) y here)))
 
 -- what is found at an offset is the relocation of a field there, of which what holds of each field holds
-found_field : (P : Field Reloc → Type 0) (xs : List (Field Reloc)) (at : ℕ) (r : Reloc) → AllByRecursion P xs → reloc_among xs at ≡ Some r
+pub found_field : (P : Field Reloc → Type 0) (xs : List (Field Reloc)) (at : ℕ) (r : Reloc) → AllByRecursion P xs → reloc_among xs at ≡ Some r
     → (x : Field Reloc) × (x.at ≡ at) × (x.item ≡ r) × P x
 found_field P [] at r all here = absurd (none-some r here)
 found_field P (x ∷ xs) at r all here =
@@ -94,6 +94,15 @@ zeros d (suc k) (suc i) = zeros d k i
 contents_zero : (x : Section) (i : ℕ) → get_or x.bytes i 0 ≡ 0 → get_or (contents_of x) i 0 ≡ 0
 contents_zero x i none = elim (is_zero x.kind) as (λ b. get_or (cond b (replicate x.size 0) x.bytes) i 0 ≡ 0) [ true ↦ zeros 0 x.size i | false ↦ none ]
 
+module _ (n : Object) (is : IsObject n) where
+  -- a byte of a section under a field is zero
+  pub bytes_under : (s : ℕ) (x : Section) → slice_get n.sections s ≡ Some x → (at back : ℕ) (r : Reloc) → reloc_at n s at ≡ Some r → back < bytes_of r.form.width
+      → get_or x.bytes (at + back) 0 ≡ 0
+  bytes_under s x here at back r found inside =
+      let f = found_field (IsHeld n s x.bytes) (list_of n.relocs s) at r (is.built.fields.each s x here) found in
+      let width : bytes_of r.form.width ≡ f.0.width = ap (λ (q : Reloc). bytes_of q.form.width) (sym f.2) ∙ sym f.3.width in
+      subst (λ k. get_or x.bytes (k + back) 0 ≡ 0) f.1 (f.3.blank back (subst (λ k. back < k) width inside))
+
 module _ (n : Object) (is : IsObject n) (p : Placement) (v : Valuation) where
   -- what stands under the fields of section s
   abbrev under : ℕ → ℕ → Option Patch
@@ -108,14 +117,6 @@ module _ (n : Object) (is : IsObject n) (p : Placement) (v : Valuation) where
       let same : blank (patch_of p v (field_of n s at reloc.0)) ≡ q = ap (λ f. blank (patch_of p v f)) reloc.2 ∙ ap blank field.2 ∙ z.2 in
       (reloc.0, reloc.1, ap (λ (y : Patch). y.width) same, ap (λ (y : Patch). y.residue) (sym z.2))
 
-  -- a byte of a section under a field is zero
-  bytes_under : (s : ℕ) (x : Section) → slice_get n.sections s ≡ Some x → (at back : ℕ) (r : Reloc) → reloc_at n s at ≡ Some r → back < bytes_of r.form.width
-      → get_or x.bytes (at + back) 0 ≡ 0
-  bytes_under s x here at back r found inside =
-      let f = found_field (IsHeld n s x.bytes) (list_of n.relocs s) at r (is.built.fields.each s x here) found in
-      let width : bytes_of r.form.width ≡ f.0.width = ap (λ (q : Reloc). bytes_of q.form.width) (sym f.2) ∙ sym f.3.width in
-      subst (λ k. get_or x.bytes (k + back) 0 ≡ 0) f.1 (f.3.blank back (subst (λ k. back < k) width inside))
-
   -- and zero is stored there
   byte_zero : (s : ℕ) (x : Section) → slice_get n.sections s ≡ Some x → (i b : ℕ) → byte_upto (under s) i 8 ≡ Some b → (b ≡ 0) × (get_or x.bytes i 0 ≡ 0)
   byte_zero s x here i b stored =
@@ -124,7 +125,7 @@ module _ (n : Object) (is : IsObject n) (p : Placement) (v : Valuation) where
       let r = field_under s (i - k.0) q.1 q.2 in
       let inside : k.0 < bytes_of r.0.form.width = subst (λ w. k.0 < bytes_of w) (sym r.2) q.3 in
       let back : i - k.0 + k.0 ≡ i = (let into = q.0 in omega (arith, into)) in
-      (zero_stored (under s) i k.0 b q.1 q.2 q.0 q.3 r.3 k.2, subst (λ m. get_or x.bytes m 0 ≡ 0) back (bytes_under s x here (i - k.0) k.0 r.0 r.1 inside))
+      (zero_stored (under s) i k.0 b q.1 q.2 q.0 q.3 r.3 k.2, subst (λ m. get_or x.bytes m 0 ≡ 0) back (bytes_under n is s x here (i - k.0) k.0 r.0 r.1 inside))
 
   -- so the contents of a section stay
   pub section_blank : (s : ℕ) (x : Section) → slice_get n.sections s ≡ Some x → overlay (under s) 0 (contents_of x) ≡ contents_of x

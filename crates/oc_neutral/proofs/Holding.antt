@@ -20,10 +20,11 @@ use Rattle.oc_neutral.specs.Invariants.{CanAdd, IsDraft, groups_of}
 use Rattle.oc_neutral.specs.Faces.{shown_section}
 use Rattle.oc_neutral.specs.Shows.{frame_of}
 use Rattle.oc_neutral.specs.Built.{Entry, Given, and_one, given_by, Makes, HasAdded}
+use Rattle.oc_neutral.specs.Again.{IsCovered}
 use Rattle.oc_neutral.proofs.Added.{kept_of, number_left, IsFitting, IsAdded, added}
 use Rattle.oc_neutral.proofs.Addable.{sections-added}
 use Rattle.oc_neutral.proofs.Adding.{have_common, wide_enough}
-use Rattle.oc_neutral.proofs.Showing.{IsCovered, IsShowing, left_in, normal_in, stored_at}
+use Rattle.oc_neutral.proofs.Showing.{IsShowing, left_in, normal_in, stored_at}
 use Rattle.oc_neutral.proofs.DraftAdded.{draft_added, groups_added}
 use Rattle.oc_neutral.proofs.WrittenBytes.{byte_at, lies_in}
 

@@ -20,6 +20,7 @@ pub fn put_all<S: Sink>(sink: &mut S, bytes: &[u8]) -> Result<(), Failed>
     ensures ok { OnOk result (S.taken sink.new ≡ grown bytes.now (S.taken sink.old)) }
     ensures err { OnErr result (TakesPrefix bytes.now (S.taken sink.old) (S.taken sink.new)) }
     ensures counts { S.faults sink.old ≤ S.faults sink.new }
+    ensures steady { OnOk result (S.faults sink.new ≡ S.faults sink.old) }
     ensures cause { OnErr result (Rose (S.faults sink.old) (S.faults sink.new)) }
     ensures beside { S.beside sink.new ≡ S.beside sink.old }
     ensures borrow { S.borrow sink.new ≡ S.borrow sink.old }

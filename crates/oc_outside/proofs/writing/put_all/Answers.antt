@@ -6,7 +6,7 @@ pub pieces-init : goal.pieces-init
 pieces-init g c = record {
   within = search rules;
   taken = sym (grown_nothing (g.S.Sink.taken c.args.sink.now));
-  counts = search rules;
+  steady = search rules;
   beside = search rules;
   borrow = search rules;
 }
@@ -18,7 +18,7 @@ pieces-preserved g c = record {
       turn (g.S.Sink.taken c.args.sink.now) (g.S.Sink.taken c.pieces.sink) (g.S.Sink.taken c.put.new.self)
       c.args.bytes.now c.pieces.at c.min-end.result c.in_ok-count.count
       c.in_ok-count.ensures.taken.1 c.pieces.invariant.taken c.in_ok-count.ensures.ok;
-  counts = search rules;
+  steady = search rules;
   beside = search rules;
   borrow = search rules;
 }

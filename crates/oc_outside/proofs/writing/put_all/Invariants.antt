@@ -6,7 +6,7 @@ abbrev pub invariant-pieces : goal.invariant-pieces
 invariant-pieces g l = record {
   within : l.at ≤ length l.bytes;
   taken : g.S.Sink.taken l.sink ≡ grown (take l.at l.bytes) (g.S.Sink.taken l.initial.sink);
-  counts : g.S.Sink.faults l.initial.sink ≤ g.S.Sink.faults l.sink;
+  steady : g.S.Sink.faults l.sink ≡ g.S.Sink.faults l.initial.sink;
   beside : g.S.Sink.beside l.sink ≡ g.S.Sink.beside l.initial.sink;
   borrow : g.S.Sink.borrow l.sink ≡ g.S.Sink.borrow l.initial.sink;
 }
