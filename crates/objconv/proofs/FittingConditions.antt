@@ -41,7 +41,8 @@ use Rattle.oc_neutral.specs.TargetRelocations.{Standing, standing, standing_in, 
 use Rattle.oc_neutral.specs.Fitted.{first_unfit}
 use Rattle.oc_neutral.proofs.Positions.{each_at}
 use Rattle.oc_neutral.proofs.ShiftLemmas.{four_bytes_hold}
-use Rattle.oc_coff_write.specs.CodeObjects.{code_tag, is_plain_less, is_plain_form, is_plain_binding, is_plain_symbol}
+use Rattle.oc_neutral.specs.Coff.Family.{code_tag}
+use Rattle.oc_coff_write.specs.CodeObjects.{is_plain_less, is_plain_form, is_plain_binding, is_plain_symbol}
 use Rattle.objconv.proofs.FittingParts.{made, has_plain_form}
 
 -- where none is there, none is the first

@@ -28,7 +28,8 @@ use Rattle.oc_neutral.specs.Faces.{contents_of, field_of, shown_sections}
 use Rattle.oc_neutral.specs.Shows.{frame_of, patches_of}
 use Rattle.oc_neutral.specs.Fitted.{fitted_binding, fitted_symbol, fitted_frames, is_stored_at, IsFit}
 use Rattle.oc_neutral.proofs.FitLinks.{from_mapped}
-use Rattle.oc_coff_write.specs.CodeObjects.{code_tag, is_plain_binding, is_plain_symbol}
+use Rattle.oc_neutral.specs.Coff.Family.{code_tag}
+use Rattle.oc_coff_write.specs.CodeObjects.{is_plain_binding, is_plain_symbol}
 use Rattle.objconv.specs.Fitting.{plain_tag}
 use Rattle.objconv.specs.Fitting.{recoded}
 use Rattle.objconv.proofs.FittingParts.{text_with, made, is_made, Plain}

@@ -6,7 +6,7 @@ use Rattle.oc_base.specs.declared.format.Format.TheVariants.{Coff32}
 use Rattle.oc_neutral.specs.declared.section.Section.{Section}
 use Rattle.oc_neutral.specs.Objects.{Object}
 use Rattle.oc_neutral.specs.Dressing.{in_format, dressed, dressed_among, dressed_section}
-use Rattle.oc_coff_write.specs.CodeObjects.{code_tag}
+use Rattle.oc_neutral.specs.Coff.Family.{code_tag}
 use Rattle.objconv.specs.Fitting.{plain_tag}
 use Rattle.objconv.specs.Fitting.{recoded, recoded_section}
 use Rattle.objconv.proofs.FittingParts.{Plain, text_with}

@@ -16,7 +16,8 @@ use Rattle.oc_neutral.specs.HomeNames.{is_home}
 use Rattle.oc_neutral.specs.Fitted.{IsNamed, IsFitted, fitted_binding}
 use Rattle.oc_neutral.proofs.Dressing.{in_format-object, dressed-object}
 use Rattle.oc_neutral.proofs.Positions.{each_weaker}
-use Rattle.oc_coff_write.specs.CodeObjects.{code_tag, is_plain_symbol}
+use Rattle.oc_neutral.specs.Coff.Family.{code_tag}
+use Rattle.oc_coff_write.specs.CodeObjects.{is_plain_symbol}
 use Rattle.objconv.specs.Fitting.{plain_tag}
 use Rattle.objconv.specs.Fitting.{recoded}
 use Rattle.objconv.proofs.FittingParts.{every, text_with, made, is_made, has_plain_form, Plain}

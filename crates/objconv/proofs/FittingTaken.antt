@@ -31,7 +31,8 @@ use Rattle.oc_neutral.proofs.Positions.{there_at}
 use Rattle.oc_neutral.proofs.SortedFields.{HasWidth, fields_same}
 use Rattle.oc_neutral.proofs.Standing.{wide_in}
 use Rattle.oc_convert.specs.Refusals.{TakesFitted}
-use Rattle.oc_coff_write.specs.CodeObjects.{code_tag, is_plain_object, is_plain_symbol, has_one_section, IsWritable}
+use Rattle.oc_neutral.specs.Coff.Family.{code_tag}
+use Rattle.oc_coff_write.specs.CodeObjects.{is_plain_object, is_plain_symbol, has_one_section, IsWritable}
 use Rattle.objconv.specs.Fitting.{plain_tag, unfit_for_coff, is_fit_for_coff, unwritten}
 use Rattle.objconv.specs.Fitting.{recoded, recoded_section}
 use Rattle.objconv.proofs.FittingParts.{Plain, plain_parts, plain_passes, has_plain_form, text_with, sections_are}

@@ -9,7 +9,8 @@ use Rattle.oc_neutral.specs.declared.section.Section.{Section}
 use Rattle.oc_neutral.specs.Objects.{Object}
 use Rattle.oc_neutral.specs.Families.{same_format}
 use Rattle.oc_neutral.specs.Elf.Kinds.{elf_tag}
-use Rattle.oc_coff_write.specs.CodeObjects.{is_plain_object, code_tag}
+use Rattle.oc_neutral.specs.Coff.Family.{code_tag}
+use Rattle.oc_coff_write.specs.CodeObjects.{is_plain_object}
 
 -- the tag of `.text` in ELF: PROGBITS, allocated and executed
 abbrev pub plain_tag : ℕ

@@ -10,7 +10,7 @@ ghost use Rattle.objconv.specs.Fitting as fitting;
 ghost use Rattle.objconv.specs.Fitting.{recoded};
 
 use oc_base::{Bytes, Code, Fault, Format, NoMemory, Phase, Spot};
-use oc_coff_read::{IMAGE_SCN_CNT_CODE, IMAGE_SCN_MEM_EXECUTE, IMAGE_SCN_MEM_READ};
+use oc_coff_write::{ALIGN_BITS, CODE_TAG};
 use oc_convert::{FitFault, Fits};
 use oc_elf_read::{SHF_ALLOC, SHF_EXECINSTR, SHT_PROGBITS};
 use oc_neutral::{
@@ -21,15 +21,15 @@ use std::alloc::Global;
 /// The section's name in either format.
 const TEXT: &[u8] = b".text";
 /// The greatest alignment of a section of COFF.
-const MOST_ALIGN: u32 = 8192;
+const MOST_ALIGN: u32 = 1 << ALIGN_BITS;
 /// The longest name that stands in a symbol's entry, in bytes.
 const MOST_NAME: usize = 8;
 /// How many relocations a section header of COFF can count.
 const MOST_RELOCS: usize = 65_535;
+/// The tag of `.text` in COFF, as objects have it.
+const TEXT_TAG: u64 = CODE_TAG as u64;
 /// The tag of `.text` in ELF: the type, above the flags.
 const PLAIN_TAG: u64 = 8 * SHT_PROGBITS as u64 + SHF_ALLOC + SHF_EXECINSTR;
-/// The tag of `.text` in COFF: its characteristics.
-const CODE_TAG: u64 = (IMAGE_SCN_CNT_CODE + IMAGE_SCN_MEM_EXECUTE + IMAGE_SCN_MEM_READ) as u64;
 
 // whether the format is ELF for i386
 fn is_elf(format: Format) -> bool
@@ -206,7 +206,7 @@ fn recode(alloc: Global, neutral: &mut Neutral) -> Result<(), NoMemory>
     neutral.is_object();
     let name = Bytes::from_slice(alloc, TEXT)?;
     let align = neutral.section(0).align;
-    neutral.dress_section(0, name, CODE_TAG, align);
+    neutral.dress_section(0, name, TEXT_TAG, align);
     neutral.set_format(Format::Coff32);
     Ok(())
 }

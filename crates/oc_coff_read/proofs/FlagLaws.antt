@@ -6,7 +6,8 @@ use Rattle.oc_neutral.specs.declared.coff.TheConstants.{IMAGE_SCN_LNK_NRELOC_OVF
 use Rattle.oc_neutral.specs.KindRules.{has}
 use Rattle.oc_neutral.specs.Coff.Kinds.{coff_kind, coff_tag}
 use Rattle.oc_coff_read.specs.Alignments.{align_of}
-use Rattle.oc_coff_read.specs.Canonical.{code_tag, code_flags}
+use Rattle.oc_neutral.specs.Coff.Family.{code_tag}
+use Rattle.oc_coff_read.specs.Canonical.{code_flags}
 
 -- P holds of 0 to n
 abbrev Upto : (ℕ → Type 0) → ℕ → Type 0

@@ -6,7 +6,8 @@ use Rattle.oc_coff_read.specs.declared.section_header.SectionHeader.{SectionHead
 use Rattle.oc_coff_read.specs.declared.symbol.SymbolEntry.{SymbolEntry}
 use Rattle.oc_coff_read.specs.declared.section_aux.SectionAux.{SectionAux}
 use Rattle.oc_coff_read.specs.declared.relocation.Relocation.{Relocation}
-use Rattle.oc_neutral.specs.declared.coff.TheConstants.{IMAGE_SCN_ALIGN_1BYTES, IMAGE_SCN_CNT_CODE, IMAGE_SCN_MEM_EXECUTE, IMAGE_SCN_MEM_READ}
+use Rattle.oc_neutral.specs.declared.coff.TheConstants.{IMAGE_SCN_ALIGN_1BYTES}
+use Rattle.oc_neutral.specs.Coff.Family.{code_tag}
 use Rattle.oc_coff_read.specs.declared.constants.TheConstants.{IMAGE_FILE_MACHINE_I386, IMAGE_SYM_TYPE_FUNCTION, IMAGE_SYM_CLASS_EXTERNAL, IMAGE_SYM_CLASS_STATIC}
 use Rattle.oc_coff_read.specs.Packed.{padded}
 use Rattle.oc_coff_read.specs.FileHeader.{file_header_bytes}
@@ -64,10 +65,6 @@ code_header o = record {
   SizeOfOptionalHeader = 0;
   Characteristics = 0;
 }
-
--- the flags of code that can be executed and read
-abbrev pub code_tag : ℕ
-code_tag = IMAGE_SCN_CNT_CODE + IMAGE_SCN_MEM_EXECUTE + IMAGE_SCN_MEM_READ
 
 -- and that has the alignment 2^exponent
 abbrev pub code_flags : ℕ → ℕ

@@ -13,7 +13,8 @@ use Rattle.oc_linking.specs.declared.terms.Binding.TheVariants.{Local, Global, U
 use Rattle.oc_linking.specs.Parts.{Symbol}
 use Rattle.oc_neutral.specs.Powers.{natural_align}
 use Rattle.oc_coff_read.specs.declared.symbol.SymbolEntry.{SymbolEntry}
-use Rattle.oc_coff_read.specs.declared.constants.TheConstants.{IMAGE_SYM_UNDEFINED, IMAGE_SYM_ABSOLUTE, IMAGE_SYM_TYPE_FUNCTION, IMAGE_SYM_CLASS_EXTERNAL, IMAGE_SYM_CLASS_STATIC, IMAGE_SYM_CLASS_LABEL, IMAGE_SYM_SECTION_MAX}
+use Rattle.oc_coff_read.specs.declared.constants.TheConstants.{IMAGE_SYM_UNDEFINED, IMAGE_SYM_ABSOLUTE, IMAGE_SYM_TYPE_FUNCTION, IMAGE_SYM_CLASS_EXTERNAL, IMAGE_SYM_CLASS_STATIC, IMAGE_SYM_CLASS_LABEL}
+use Rattle.oc_neutral.specs.declared.coff.TheConstants.{IMAGE_SYM_SECTION_MAX}
 use Rattle.oc_coff_read.specs.FileHeader.{file_header_in}
 use Rattle.oc_coff_read.specs.SymbolEntry.{symbol_in}
 use Rattle.oc_coff_read.specs.Names.{symbol_name}

@@ -7,8 +7,6 @@ pub const IMAGE_FILE_MACHINE_I386: u16 = 0x14C;
 pub const IMAGE_SYM_UNDEFINED: u16 = 0;
 /// The section number -1 of a symbol that is a number (PE/COFF, "Section Number Values").
 pub const IMAGE_SYM_ABSOLUTE: u16 = 0xFFFF;
-/// The greatest section number that a symbol can have (PE/COFF, "Section Number Values").
-pub const IMAGE_SYM_SECTION_MAX: u16 = 0xFEFF;
 /// The type of a function (PE/COFF, "Type Representation").
 pub const IMAGE_SYM_TYPE_FUNCTION: u16 = 0x20;
 /// A symbol that is seen by all files (PE/COFF, "Storage Class").

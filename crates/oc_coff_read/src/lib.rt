@@ -13,14 +13,13 @@ mod symbol;
 
 pub use constants::{
     IMAGE_FILE_MACHINE_I386, IMAGE_REL_I386_ABSOLUTE, IMAGE_SYM_ABSOLUTE, IMAGE_SYM_CLASS_EXTERNAL,
-    IMAGE_SYM_CLASS_LABEL, IMAGE_SYM_CLASS_STATIC, IMAGE_SYM_SECTION_MAX, IMAGE_SYM_TYPE_FUNCTION,
-    IMAGE_SYM_UNDEFINED,
+    IMAGE_SYM_CLASS_LABEL, IMAGE_SYM_CLASS_STATIC, IMAGE_SYM_TYPE_FUNCTION, IMAGE_SYM_UNDEFINED,
 };
 pub use file_header::{FILE_HEADER_SIZE, FileHeader, file_header_of};
 pub use laws::canonical_reads_back;
 pub use oc_neutral::coff::{
     IMAGE_REL_I386_DIR32, IMAGE_REL_I386_REL32, IMAGE_SCN_CNT_CODE, IMAGE_SCN_MEM_EXECUTE,
-    IMAGE_SCN_MEM_READ,
+    IMAGE_SCN_MEM_READ, IMAGE_SYM_SECTION_MAX,
 };
 pub use relocation::{RELOCATION_SIZE, Relocation, relocation_at};
 pub use section_aux::{SectionAux, section_aux_at};

@@ -1,5 +1,5 @@
 -- Objects of one section of code, and what is written of them in COFF for i386 (PE/COFF; our profile).
-use Rattle.std.specs.Prelude.{◌≡◌, ℕ, ◌+◌, ◌%◌, ◌^◌, Bool, true, false, ◌&&◌, nat_eq, nat_le, bytes_eq, not, List, [], ◌∷◌, length, map, codes}
+use Rattle.std.specs.Prelude.{◌≡◌, ℕ, ℤ, ◌+◌, ◌%◌, ◌^◌, Bool, true, false, ◌&&◌, nat_eq, nat_le, bytes_eq, not, List, [], ◌∷◌, length, map, codes}
 use Rattle.std.specs.List.{list_all}
 use Rattle.std.specs.Option.{option_map, unwrap_or, is_none}
 use Rattle.oc_base.specs.declared.format.Word.TheVariants.{W32}
@@ -20,7 +20,7 @@ use Rattle.oc_algebra.specs.declared.form.Form.{Form}
 use Rattle.oc_algebra.specs.Residues.{residue_of}
 use Rattle.oc_chains.specs.declared.field.Field.{Field}
 use Rattle.oc_chains.specs.Lists.{list_of}
-use Rattle.oc_neutral.specs.declared.coff.TheConstants.{IMAGE_SCN_CNT_CODE, IMAGE_SCN_MEM_EXECUTE, IMAGE_SCN_MEM_READ}
+use Rattle.oc_neutral.specs.Coff.Family.{code_tag, coff_align_bits}
 use Rattle.oc_neutral.specs.declared.section.Section.{Section}
 use Rattle.oc_neutral.specs.declared.symbol.Symbol.{Symbol}
 use Rattle.oc_neutral.specs.declared.reloc.Target.{Target}
@@ -29,6 +29,7 @@ use Rattle.oc_neutral.specs.declared.reloc.Reloc.{Reloc}
 use Rattle.oc_neutral.specs.Objects.{Object, reloc_at}
 use Rattle.oc_neutral.specs.Rows.{same_base, same_width, same_check}
 use Rattle.oc_neutral.specs.KindRules.{same_kind, has_nul}
+use Rattle.oc_neutral.specs.Coff.Relocs.{rel32_row}
 use Rattle.oc_coff_read.specs.declared.relocation.Relocation.{Relocation}
 use Rattle.oc_neutral.specs.declared.coff.TheConstants.{IMAGE_REL_I386_DIR32, IMAGE_REL_I386_REL32}
 use Rattle.oc_coff_read.specs.Canonical.{External, CodeObject, code_file}
@@ -68,9 +69,9 @@ is_plain_mark Function = true
 abbrev pub is_plain_symbol : Symbol → Bool
 is_plain_symbol s = is_plain_binding s.binding && is_plain_mark s.mark && nat_le (length s.name) 8 && not (has_nul s.name)
 
--- code in `.text`, of an alignment up to 8,192, with this tag and in no group
+-- code in `.text`, of an alignment that COFF has, with this tag and in no group
 abbrev pub is_plain_section : ℕ → Section → Bool
-is_plain_section tag s = same_kind s.kind Code && bytes_eq s.name (codes ".text") && nat_le s.align 8192 && nat_eq s.tag tag && is_none s.group
+is_plain_section tag s = same_kind s.kind Code && bytes_eq s.name (codes ".text") && nat_le s.align (2 ^ coff_align_bits) && nat_eq s.tag tag && is_none s.group
 
 -- one such section
 abbrev pub has_one_section : ℕ → List Section → Bool
@@ -84,26 +85,26 @@ is_plain_object tag n =
     has_one_section tag n.sections && list_all is_plain_symbol n.symbols
     && nat_le (length (list_of n.relocs 0)) 65535 && list_all (λ (x : Field Reloc). is_plain_form x.item.form) (list_of n.relocs 0)
 
--- the tag of `.text` in COFF: code that can be executed and read
-abbrev pub code_tag : ℕ
-code_tag = IMAGE_SCN_CNT_CODE + IMAGE_SCN_MEM_EXECUTE + IMAGE_SCN_MEM_READ
-
 -- what is written
 abbrev pub IsWritable : Object → Type 0
 IsWritable m = is_plain_object code_tag m ≡ true
 
 -- ... what is written of them
 
--- the number in a field: REL32 counts from the end of the field, and the addend from its beginning
-abbrev pub field_number : Reloc → ℕ
-field_number r = elim r.form.less [
-  | less.Zero ↦ residue_of W32 r.addend
-  | less.Place ↦ (residue_of W32 r.addend + 4) % 2 ^ 32
+-- the number in a field, by what is taken and the addend: a distance counts from the end of the field, and the addend from its beginning
+abbrev pub number_by : Less → ℤ → ℕ
+number_by l addend = elim l [
+  | less.Zero ↦ residue_of W32 addend
+  | less.Place ↦ (residue_of W32 addend + rel32_row.behind) % 2 ^ 32
   | less.GotBase ↦ 0
   | less.ImageBase ↦ 0
   | less.Home ↦ 0
   | less.Section k ↦ 0
 ]
+
+-- the number in the field of a relocation
+abbrev pub field_number : Reloc → ℕ
+field_number r = number_by r.form.less r.addend
 
 -- four bytes that hold it
 abbrev pub field_patch : Reloc → Patch

@@ -19,6 +19,9 @@ use oc_coff_read::{
 use oc_neutral::Neutral;
 use oc_neutral::coff::IMAGE_SCN_ALIGN_1BYTES;
 
+/// The tag of `.text`: code that can be executed and read (PE/COFF, "Section Flags").
+pub const CODE_TAG: u32 = IMAGE_SCN_CNT_CODE + IMAGE_SCN_MEM_EXECUTE + IMAGE_SCN_MEM_READ;
+
 /// Where the contents of `.text` begin: behind the file header and the section header.
 const CODE_PLACE: u32 = (FILE_HEADER_SIZE + SECTION_HEADER_SIZE) as u32;
 
@@ -73,10 +76,7 @@ fn flags(exponent: u32) -> u32
     requires { exponent ≤ 13 }
     ensures { result ≡ canonical.code_flags exponent }
 {
-    IMAGE_SCN_CNT_CODE
-        + IMAGE_SCN_MEM_EXECUTE
-        + IMAGE_SCN_MEM_READ
-        + (exponent + 1) * IMAGE_SCN_ALIGN_1BYTES
+    CODE_TAG + (exponent + 1) * IMAGE_SCN_ALIGN_1BYTES
 }
 
 impl Layout {

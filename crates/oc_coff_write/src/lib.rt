@@ -10,6 +10,7 @@ mod plan;
 mod structures;
 mod writer;
 
-pub use alignment::exponent;
+pub use alignment::{ALIGN_BITS, exponent};
+pub use layout::CODE_TAG;
 pub use plan::PlannedFile;
 pub use writer::CoffWriter;

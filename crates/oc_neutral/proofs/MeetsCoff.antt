@@ -14,6 +14,7 @@ use Rattle.oc_linking.specs.Numbers.{modulus}
 use Rattle.oc_neutral.specs.Tests.{is_cut, is_unnatural}
 use Rattle.oc_neutral.specs.Family.{IsCoff, Family}
 use Rattle.oc_neutral.specs.Powers.{natural_align}
+use Rattle.oc_neutral.specs.declared.coff.TheConstants.{IMAGE_SYM_SECTION_MAX}
 use Rattle.oc_neutral.specs.declared.section.Section.{Section}
 use Rattle.oc_neutral.specs.declared.symbol.Symbol.{Symbol}
 use Rattle.oc_neutral.specs.declared.reloc.Reloc.{Reloc}
@@ -118,9 +119,9 @@ module _ (format : Format) (n : Object) (family : container_of format ≡ IsCoff
   whole : family_of format ≡ coff_family (family_of format).word
   whole = coff_whole format family
 
-  few : length n.sections ≤ 65279
+  few : length n.sections ≤ IMAGE_SYM_SECTION_MAX
   few =
-      not_below 65279 (length n.sections)
+      not_below IMAGE_SYM_SECTION_MAX (length n.sections)
       (subst (λ (f : Family). nat_lt (f.sections (is_relocated format n) n).most (f.sections (is_relocated format n) n).counted ≡ false) whole (section_count_met format n fits).0)
 
   section : (k : ℕ) (s : Section) → slice_get n.sections k ≡ Some s → CoffSection format n s

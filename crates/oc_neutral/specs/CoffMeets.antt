@@ -15,7 +15,7 @@ use Rattle.oc_neutral.specs.declared.symbol.Symbol.{Symbol}
 use Rattle.oc_neutral.specs.declared.reloc.Reloc.{Reloc}
 use Rattle.oc_neutral.specs.Coff.Kinds.{coff_kind, coff_tag}
 use Rattle.oc_neutral.specs.Coff.Strings.{is_long, is_tabled, has_default, default_name, coff_strings, string_offset}
-use Rattle.oc_neutral.specs.declared.coff.TheConstants.{IMAGE_SCN_CNT_UNINITIALIZED_DATA}
+use Rattle.oc_neutral.specs.declared.coff.TheConstants.{IMAGE_SCN_CNT_UNINITIALIZED_DATA, IMAGE_SYM_SECTION_MAX}
 use Rattle.oc_neutral.specs.Families.{family_of, container_of}
 use Rattle.oc_neutral.specs.HomeNames.{output_names}
 use Rattle.oc_neutral.specs.Fitted.{IsFitted}
@@ -80,7 +80,7 @@ pub record CoffReloc (format : Format) (n : Object) (s at : ℕ) (r : Reloc) : T
 -- the object
 pub record MeetsCoff (format : Format) (n : Object) : Type 0 where
   pub bounds : AreBounded n
-  pub few : length n.sections ≤ 65279
+  pub few : length n.sections ≤ IMAGE_SYM_SECTION_MAX
   -- the names that are given to the string table, each with its NUL
   pub strings : sum_by (λ (name : List ℕ). length name + 1) (strings_of format n) ≤ 2 ^ 31
   pub groups : (g : ℕ) → g < length n.groups → HasKeySymbol n g

@@ -1,5 +1,5 @@
 -- What a writer of ELF uses of an object that is ready to be written (gABI, "Section Header" and "Symbol Table"; i386 and x86-64 psABI; our profile).
-use Rattle.std.specs.Prelude.{◌≡◌, ℕ, ◌^◌, ◌<◌, ◌≤◌, true, false, length, slice_get, Some, None}
+use Rattle.std.specs.Prelude.{◌≡◌, ℕ, ◌-◌, ◌^◌, ◌<◌, ◌≤◌, true, false, length, slice_get, Some, None}
 use Rattle.oc_base.specs.declared.format.Format.{Format}
 use Rattle.oc_base.specs.declared.format.Format.TheVariants.{Elf32}
 use Rattle.oc_linking.specs.declared.terms.Kind.TheVariants.{Exception}
@@ -12,7 +12,7 @@ use Rattle.oc_neutral.specs.declared.section.Section.{Section}
 use Rattle.oc_neutral.specs.declared.symbol.Symbol.{Symbol}
 use Rattle.oc_neutral.specs.declared.reloc.Target.TheVariants as target
 use Rattle.oc_neutral.specs.declared.reloc.Reloc.{Reloc}
-use Rattle.oc_neutral.specs.declared.elf.TheConstants.{SHF_ALLOC}
+use Rattle.oc_neutral.specs.declared.elf.TheConstants.{SHN_LORESERVE, SHF_ALLOC}
 use Rattle.oc_neutral.specs.Elf.Kinds.{is_carried_type, elf_kind, elf_tag_type, elf_tag_flags, is_nobits_tag}
 use Rattle.oc_neutral.specs.Families.{container_of}
 use Rattle.oc_neutral.specs.Fitted.{IsFitted}
@@ -64,7 +64,7 @@ pub record ElfReloc (format : Format) (n : Object) (s at : ℕ) (r : Reloc) : Ty
 -- the object
 pub record MeetsElf (format : Format) (n : Object) : Type 0 where
   pub bounds : AreBounded n
-  pub headers : header_count (is_relocated format n) n ≤ 65279
+  pub headers : header_count (is_relocated format n) n ≤ SHN_LORESERVE - 1
   pub table : format ≡ Elf32 → elf_symbol_count n < 2 ^ 24
   pub keys : (g : ℕ) (x : Group) → slice_get n.groups g ≡ Some x → has_nul x.key ≡ false
   pub sections : (k : ℕ) (s : Section) → slice_get n.sections k ≡ Some s → ElfSection n s

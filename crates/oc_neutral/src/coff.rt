@@ -1,4 +1,4 @@
-//! Numbers of COFF that every crate cites: flags of sections, types of relocations (PE/COFF).
+//! Numbers of COFF that every crate cites: flags and numbers of sections, types of relocations (PE/COFF).
 
 /// The section has machine instructions (PE/COFF, "Section Flags").
 pub const IMAGE_SCN_CNT_CODE: u32 = 0x20;
@@ -22,6 +22,9 @@ pub const IMAGE_SCN_MEM_EXECUTE: u32 = 0x2000_0000;
 pub const IMAGE_SCN_MEM_READ: u32 = 0x4000_0000;
 /// Its bytes can be written (PE/COFF, "Section Flags").
 pub const IMAGE_SCN_MEM_WRITE: u32 = 0x8000_0000;
+
+/// The greatest section number that a symbol can have (PE/COFF, "Section Number Values").
+pub const IMAGE_SYM_SECTION_MAX: u16 = 0xFEFF;
 
 /// The target's address (PE/COFF, "Type Indicators", Intel 386).
 pub const IMAGE_REL_I386_DIR32: u16 = 6;

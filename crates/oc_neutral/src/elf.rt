@@ -1,4 +1,4 @@
-//! Numbers of ELF that every crate cites: types and flags of sections, types of relocations (gABI; i386 psABI; x86-64 psABI).
+//! Numbers of ELF that every crate cites: types, flags and numbers of sections, types of relocations (gABI; i386 psABI; x86-64 psABI).
 
 /// Bytes of the program's own meaning (gABI, "Section Header").
 pub const SHT_PROGBITS: u32 = 1;
@@ -12,6 +12,9 @@ pub const SHT_INIT_ARRAY: u32 = 14;
 pub const SHT_FINI_ARRAY: u32 = 15;
 /// Tables for unwinding (x86-64 psABI, "Special Sections").
 pub const SHT_X86_64_UNWIND: u32 = 0x7000_0001;
+
+/// The least of the section numbers that name no section header (gABI, "Special Section Indexes").
+pub const SHN_LORESERVE: u32 = 0xFF00;
 
 /// The section can be written while the program runs (gABI, "Section Header").
 pub const SHF_WRITE: u64 = 1;

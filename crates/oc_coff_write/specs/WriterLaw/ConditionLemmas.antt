@@ -25,7 +25,8 @@ use Rattle.oc_neutral.specs.declared.reloc.Reloc.{Reloc}
 use Rattle.oc_neutral.specs.Objects.{Object}
 use Rattle.oc_neutral.specs.Rows.{same_base, same_width, same_check}
 use Rattle.oc_neutral.specs.KindRules.{same_kind, has_nul}
-use Rattle.oc_coff_write.specs.CodeObjects.{is_plain_less, is_plain_form, is_plain_binding, is_plain_mark, is_plain_symbol, is_plain_section, has_one_section, is_plain_object, code_tag}
+use Rattle.oc_neutral.specs.Coff.Family.{code_tag}
+use Rattle.oc_coff_write.specs.CodeObjects.{is_plain_less, is_plain_form, is_plain_binding, is_plain_mark, is_plain_symbol, is_plain_section, has_one_section, is_plain_object}
 
 -- two tests that hold together hold each
 both : (x y : Bool) → (x && y) ≡ true → (x ≡ true) × (y ≡ true)

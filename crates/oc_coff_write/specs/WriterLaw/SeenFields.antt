@@ -34,10 +34,9 @@ use Rattle.oc_neutral.specs.declared.symbol.Symbol.{Symbol}
 use Rattle.oc_neutral.specs.declared.reloc.Target.{Target}
 use Rattle.oc_neutral.specs.declared.reloc.Target.TheVariants as target
 use Rattle.oc_neutral.specs.declared.reloc.Reloc.{Reloc}
-use Rattle.oc_neutral.specs.declared.coff.TheConstants.{IMAGE_REL_I386_DIR32, IMAGE_REL_I386_REL32}
 use Rattle.oc_neutral.specs.Objects.{Object, reloc_at}
-use Rattle.oc_neutral.specs.Rows.{Row, row, from_behind, TakesZero, TakesPlace}
 use Rattle.oc_neutral.specs.RelocTables.{row_of}
+use Rattle.oc_neutral.specs.Coff.Relocs.{dir32_row, rel32_row}
 use Rattle.oc_neutral.specs.Invariants.{IsThere}
 use Rattle.oc_neutral.specs.Faces.{named_of, field_of, fields_of}
 use Rattle.oc_neutral.specs.Worth.{target_worth, base_of, less_of, residue_at}
@@ -49,21 +48,10 @@ use Rattle.oc_coff_read.specs.Fields.{field_by, field_among}
 use Rattle.oc_coff_read.specs.Seen.{seen_target}
 use Rattle.oc_coff_read.proofs.SeenLaws.{reads_back}
 use Rattle.oc_coff_read.proofs.TargetLaws.{seen_target-section, seen_target-external, field_by-row}
-use Rattle.oc_coff_write.specs.CodeObjects.{field_patch, filled, entry_of, type_of, external_of, coded_with}
+use Rattle.oc_coff_write.specs.CodeObjects.{number_by, field_patch, filled, entry_of, type_of, external_of, coded_with}
 use Rattle.oc_coff_write.specs.WriterLaw.ConditionLemmas.{IsPlainLess, IsPlainForm, IsCoded}
 use Rattle.oc_coff_write.specs.WriterLaw.CanonicalLemmas.{code_object}
 use Rattle.oc_coff_write.specs.WriterLaw.SeenObjects.{seen_reloc, seen_object, slice_get-renumbered, number_of-renumbered, entry_at, find-relocations, reloc_among-seen, IsPut, found_put, apart_of}
-
--- the number in a field, by what is taken and the addend
-abbrev number_by : Less → ℤ → ℕ
-number_by l z = elim l [
-  | less.Zero ↦ residue_of W32 z
-  | less.Place ↦ (residue_of W32 z + 4) % 2 ^ 32
-  | less.GotBase ↦ 0
-  | less.ImageBase ↦ 0
-  | less.Home ↦ 0
-  | less.Section k ↦ 0
-]
 
 -- it is one of four bytes
 number_small : (l : Less) (z : ℤ) → IsPlainLess l → number_by l z % 2 ^ 32 ≡ number_by l z
@@ -83,8 +71,8 @@ absolute_same : (A S N F E : ℕ) → reduced W32 A ≡ reduced W32 S → F ≡ 
 absolute_same A S N F E address number added = omega (arith, address, number, added)
 
 -- REL32 is that less the place behind the field, and so less the field's place
-relative_same : (A S N F E P : ℕ) → reduced W32 A ≡ reduced W32 S → F ≡ (N + 4) % 2 ^ 32 → E ≡ F % 2 ^ 32 → minus W32 (A + E) (P + 4) ≡ minus W32 (S + N) P
-relative_same A S N F E P address number added = omega (arith, address, number, added)
+relative_same : (A S N F E P B : ℕ) → reduced W32 A ≡ reduced W32 S → F ≡ (N + B) % 2 ^ 32 → E ≡ F % 2 ^ 32 → minus W32 (A + E) (P + B) ≡ minus W32 (S + N) P
+relative_same A S N F E P B address number added = omega (arith, address, number, added)
 
 -- a field of four bytes
 abbrev made : Width → Check → Base → Less → (Placement → Valuation → ℕ) → Named → Field
@@ -173,17 +161,15 @@ module _ (m : Object) (s : Section) (fits : IsFitted Coff32 m) (is : IsCoded m s
       elim put.form.less [
         | inl nothing ↦
             let number : F ≡ N = number_in at r here ∙ ap (λ l. number_by l r.addend) nothing in
-            let dir32 : Row = row IMAGE_REL_I386_DIR32 Four Wrap base.Address TakesZero Plain in
-            field_by-row (seen_target o) 0 o.contents (entry_at at r) t dir32 aim.there (ap (λ l. row_of Coff32 (type_of l)) nothing)
+            field_by-row (seen_target o) 0 o.contents (entry_at at r) t dir32_row aim.there (ap (λ l. row_of Coff32 (type_of l)) nothing)
             ∙ ap Some (field_is at r put.form less.Zero nothing aim (λ p v. minus W32 ((aim.worth p v).site.address + E) (0 + 0)) (λ p v.
             absolute_same (aim.worth p v).site.address (worth p v) N F E (aim.same p v) number (extended_low F)
             ∙ value_is less.Zero at r p v put.form.base nothing))
         | inr place ↦
-            let number : F ≡ (N + 4) % 2 ^ 32 = number_in at r here ∙ ap (λ l. number_by l r.addend) place in
-            let rel32 : Row = from_behind 4 (row IMAGE_REL_I386_REL32 Four Wrap base.Address TakesPlace Plain) in
-            field_by-row (seen_target o) 0 o.contents (entry_at at r) t rel32 aim.there (ap (λ l. row_of Coff32 (type_of l)) place)
-            ∙ ap Some (field_is at r put.form less.Place place aim (λ p v. minus W32 ((aim.worth p v).site.address + E) ((p.site 0).address + at + 4)) (λ p v.
-            relative_same (aim.worth p v).site.address (worth p v) N F E ((p.site 0).address + at) (aim.same p v) number (extended_low F)
+            let number : F ≡ (N + rel32_row.behind) % 2 ^ 32 = number_in at r here ∙ ap (λ l. number_by l r.addend) place in
+            field_by-row (seen_target o) 0 o.contents (entry_at at r) t rel32_row aim.there (ap (λ l. row_of Coff32 (type_of l)) place)
+            ∙ ap Some (field_is at r put.form less.Place place aim (λ p v. minus W32 ((aim.worth p v).site.address + E) ((p.site 0).address + at + rel32_row.behind)) (λ p v.
+            relative_same (aim.worth p v).site.address (worth p v) N F E ((p.site 0).address + at) rel32_row.behind (aim.same p v) number (extended_low F)
             ∙ value_is less.Place at r p v put.form.base place))
       ]
 

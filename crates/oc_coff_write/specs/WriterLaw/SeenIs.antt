@@ -40,7 +40,8 @@ use Rattle.oc_neutral.specs.Coff.Strings.{has_default}
 use Rattle.oc_neutral.specs.Manners.{Manner, coff_mark, coff_manner, manner_of, own_manner}
 use Rattle.oc_neutral.specs.Seen.{shown_from, new_position, seen_binding, seen_symbol, seen_symbols, seen_section, seen_target, seen_reloc, seen_field, seen}
 use Rattle.oc_neutral.specs.Seen as again
-use Rattle.oc_coff_write.specs.CodeObjects.{code_tag, is_plain_binding, is_plain_mark}
+use Rattle.oc_neutral.specs.Coff.Family.{code_tag}
+use Rattle.oc_coff_write.specs.CodeObjects.{is_plain_binding, is_plain_mark}
 use Rattle.oc_coff_write.specs.WriterLaw.ConditionLemmas.{IsPlainSymbol, IsCoded}
 use Rattle.oc_coff_write.specs.WriterLaw.CanonicalLemmas.{fields_held}
 use Rattle.oc_coff_write.specs.WriterLaw.SeenObjects as own

@@ -26,7 +26,8 @@ use Rattle.oc_neutral.proofs.FitLinks.{from_mapped}
 use Rattle.oc_neutral.proofs.Standing.{ends_by, wide_in}
 use Rattle.oc_coff_read.specs.declared.relocation.Relocation.{Relocation}
 use Rattle.oc_coff_read.specs.Fields.{relocates}
-use Rattle.oc_coff_write.specs.CodeObjects.{code_tag, entry_of, type_of, relocation_of}
+use Rattle.oc_neutral.specs.Coff.Family.{code_tag}
+use Rattle.oc_coff_write.specs.CodeObjects.{entry_of, type_of, relocation_of}
 use Rattle.oc_coff_write.specs.WriterLaw.ConditionLemmas.{IsPlainLess, IsPlainForm, IsCoded}
 use Rattle.oc_coff_write.specs.WriterLaw.CanonicalLemmas.{section_here, fields_held}
 

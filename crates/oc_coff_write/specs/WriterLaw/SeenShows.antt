@@ -31,7 +31,8 @@ use Rattle.oc_coff_read.specs.Sections.{sections_of}
 use Rattle.oc_coff_read.specs.Seen.{seen_binding, seen_symbol, externals_from, ReadsBack}
 use Rattle.oc_coff_read.specs.Seen as read
 use Rattle.oc_coff_read.proofs.SeenLaws.{reads_back}
-use Rattle.oc_coff_write.specs.CodeObjects.{code_tag, is_plain_mark, field_patch, is_function, external_of, coded_with}
+use Rattle.oc_neutral.specs.Coff.Family.{code_tag}
+use Rattle.oc_coff_write.specs.CodeObjects.{is_plain_mark, field_patch, is_function, external_of, coded_with}
 use Rattle.oc_coff_read.specs.Coff32.{coff32_dialect}
 use Rattle.oc_coff_write.specs.WriterLaw.ConditionLemmas.{IsPlainSymbol, IsCoded}
 use Rattle.oc_coff_write.specs.WriterLaw.CanonicalLemmas.{IsPlaced, symbol_placed, section_size, section_power, length-filled, code_object}

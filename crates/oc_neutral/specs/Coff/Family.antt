@@ -6,7 +6,7 @@ use Rattle.oc_base.specs.declared.format.Word.TheVariants.{W32, W64}
 use Rattle.oc_linking.specs.declared.terms.Kind.{Kind}
 use Rattle.oc_linking.specs.declared.terms.Kind.TheVariants.{Code, ReadOnly, Data, Zero, Init, Fini, Debug, Exception, Note}
 use Rattle.oc_linking.specs.declared.terms.Value.{Value}
-use Rattle.oc_neutral.specs.declared.coff.TheConstants.{IMAGE_SCN_CNT_CODE, IMAGE_SCN_CNT_INITIALIZED_DATA, IMAGE_SCN_CNT_UNINITIALIZED_DATA, IMAGE_SCN_MEM_EXECUTE, IMAGE_SCN_MEM_READ, IMAGE_SCN_MEM_WRITE}
+use Rattle.oc_neutral.specs.declared.coff.TheConstants.{IMAGE_SCN_CNT_CODE, IMAGE_SCN_CNT_INITIALIZED_DATA, IMAGE_SCN_CNT_UNINITIALIZED_DATA, IMAGE_SCN_MEM_EXECUTE, IMAGE_SCN_MEM_READ, IMAGE_SCN_MEM_WRITE, IMAGE_SYM_SECTION_MAX}
 use Rattle.oc_neutral.specs.declared.section.Section.{Section}
 use Rattle.oc_neutral.specs.Objects.{Object}
 use Rattle.oc_neutral.specs.Bindings.{is_long_number}
@@ -24,9 +24,17 @@ use Rattle.oc_neutral.specs.Coff.Strings.{is_tabled, string_offset}
 unfoldable pub coff_gives : Kind → List ℕ → ℕ → Bool
 coff_gives kind name tag = nat_lt tag (2 ^ 32) && nat_eq (coff_tag tag) tag && option_map_or (same_kind kind) (coff_kind name tag) false
 
+-- the tag of code, which can be executed and read
+abbrev pub code_tag : ℕ
+code_tag = IMAGE_SCN_CNT_CODE + IMAGE_SCN_MEM_EXECUTE + IMAGE_SCN_MEM_READ
+
+-- the greatest alignment is 2 to this power
+abbrev pub coff_align_bits : ℕ
+coff_align_bits = 13
+
 -- where a kind is at home
 abbrev pub coff_home : Kind → Option Home
-coff_home Code = named (codes ".text") (IMAGE_SCN_CNT_CODE + IMAGE_SCN_MEM_EXECUTE + IMAGE_SCN_MEM_READ)
+coff_home Code = named (codes ".text") code_tag
 coff_home ReadOnly = named (codes ".rdata") (IMAGE_SCN_CNT_INITIALIZED_DATA + IMAGE_SCN_MEM_READ)
 coff_home Data = named (codes ".data") (IMAGE_SCN_CNT_INITIALIZED_DATA + IMAGE_SCN_MEM_READ + IMAGE_SCN_MEM_WRITE)
 coff_home Zero = named (codes ".bss") (IMAGE_SCN_CNT_UNINITIALIZED_DATA + IMAGE_SCN_MEM_READ + IMAGE_SCN_MEM_WRITE)
@@ -36,9 +44,9 @@ coff_home Exception = unnamed (IMAGE_SCN_CNT_INITIALIZED_DATA + IMAGE_SCN_MEM_RE
 coff_home Debug = None
 coff_home Note = None
 
--- sections: a symbol names one by a number up to 0xFEFF
+-- sections: a symbol names one by a number
 abbrev pub coff_sections : (ℕ → Bool) → Object → Count
-coff_sections relocated n = record { counted = length n.sections; most = 65279 }
+coff_sections relocated n = record { counted = length n.sections; most = IMAGE_SYM_SECTION_MAX }
 
 -- an offset has more digits than a section header has room for
 abbrev pub is_far : ℕ → Bool
@@ -68,8 +76,8 @@ abbrev pub coff_family : Word → Family
 coff_family w = record {
   container = IsCoff;
   word = w;
-  most_align = 2 ^ 13;
-  align = power_upto 13;
+  most_align = 2 ^ coff_align_bits;
+  align = power_upto coff_align_bits;
   common_align = λ size align. natural_align size;
   home = λ relocated kind. coff_home kind;
   renamed = None;

@@ -1,11 +1,11 @@
 -- ELF as a target, and what its readers give (gABI, "Section Header", "Special Sections" and "Symbol Table"; our profile).
-use Rattle.std.specs.Prelude.{ℕ, ◌+◌, ◌^◌, Bool, true, false, not, ◌&&◌, ◌||◌, codes, List, length, count_by, Option, Some, None}
+use Rattle.std.specs.Prelude.{ℕ, ◌+◌, ◌-◌, ◌^◌, Bool, true, false, not, ◌&&◌, ◌||◌, codes, List, length, count_by, Option, Some, None}
 use Rattle.std.specs.List.{range_with_len}
 use Rattle.oc_base.specs.declared.format.Word.{Word}
 use Rattle.oc_base.specs.declared.format.Word.TheVariants.{W32, W64}
 use Rattle.oc_linking.specs.declared.terms.Kind.{Kind}
 use Rattle.oc_linking.specs.declared.terms.Kind.TheVariants.{Code, ReadOnly, Data, Zero, Init, Fini, Debug, Exception, Note}
-use Rattle.oc_neutral.specs.declared.elf.TheConstants.{SHT_PROGBITS, SHT_NOBITS, SHT_INIT_ARRAY, SHT_FINI_ARRAY, SHF_WRITE, SHF_ALLOC, SHF_EXECINSTR}
+use Rattle.oc_neutral.specs.declared.elf.TheConstants.{SHT_PROGBITS, SHT_NOBITS, SHT_INIT_ARRAY, SHT_FINI_ARRAY, SHN_LORESERVE, SHF_WRITE, SHF_ALLOC, SHF_EXECINSTR}
 use Rattle.oc_neutral.specs.declared.group.Group.{Group}
 use Rattle.oc_neutral.specs.Objects.{Object}
 use Rattle.oc_neutral.specs.Building.{has_name}
@@ -63,19 +63,23 @@ abbrev pub has_addends : Word → Bool
 has_addends W32 = false
 has_addends W64 = true
 
+-- the greatest alignment is 2 to this power
+abbrev pub elf_align_bits : ℕ
+elf_align_bits = 20
+
 -- ELF in a word
 abbrev pub elf_family : Word → Family
 elf_family w = record {
   container = IsElf;
   word = w;
-  most_align = 2 ^ 20;
-  align = power_upto 20;
+  most_align = 2 ^ elf_align_bits;
+  align = power_upto elf_align_bits;
   common_align = λ size align. align;
   home = λ relocated kind. elf_home kind;
   renamed = None;
   gives = λ kind name tag. not (has_nul name) && elf_gives kind name tag;
   is_blank = is_nobits_tag;
-  sections = λ relocated n. record { counted = header_count relocated n; most = 65279 };
+  sections = λ relocated n. record { counted = header_count relocated n; most = SHN_LORESERVE - 1 };
   keeps_debug = true;
   takes_exceptions = same_container IsCoff;
   lacks_kind = λ kind. false;

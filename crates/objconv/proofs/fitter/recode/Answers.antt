@@ -7,7 +7,7 @@ use Rattle.oc_neutral.specs.Objects.{Object}
 use Rattle.oc_neutral.specs.Dressing.{in_format, dressed}
 use Rattle.oc_neutral.specs.Invariants.{IsAlign}
 use Rattle.oc_neutral.proofs.Positions.{each_at}
-use Rattle.oc_coff_write.specs.CodeObjects.{code_tag}
+use Rattle.oc_neutral.specs.Coff.Family.{code_tag}
 use Rattle.objconv.proofs.FittingPlace.{has_section, dressed_recoded}
 use Rattle.objconv.proofs.FittingTaken.{fit_parts}
 use Rattle.objconv.proofs.fitter.recode.Goals as goal
