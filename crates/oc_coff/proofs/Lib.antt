@@ -13,5 +13,8 @@ pub mod KeyLaws
 pub mod SeenLaws
 pub mod SymbolLaws
 pub mod TargetLaws
+pub mod FieldLaws
+pub mod SizeLaws
+pub mod CodableLaws
 pub mod WorkedFiles
 mod ReadingRows

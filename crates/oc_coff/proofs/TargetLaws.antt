@@ -72,7 +72,7 @@ module _ (w : Word) (n : Object) (is : IsForCoff w n) (tags_fit : AreTagged w n)
   abbrev pub seen_as : Binding → Binding
   seen_as b = shown_binding (syms n) (seen_binding coff_manner n (shown n) b)
 
-  named : (number : ℕ) (b : Binding) → is_local b ≡ false → named_by number (seen_as b) ≡ Some (Symbolic number)
+  pub named : (number : ℕ) (b : Binding) → is_local b ≡ false → named_by number (seen_as b) ≡ Some (Symbolic number)
   named number (Local v) e = absurd (true≢false e)
   named number (Global v) e = refl
   named number Undefined e = refl
