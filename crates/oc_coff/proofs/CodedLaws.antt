@@ -82,7 +82,7 @@ pub record IsCodedSection (w : Word) (n : Object) (s : Section) : Type 0 where
   pub unset : is_zero s.kind ≡ true → has s.tag IMAGE_SCN_CNT_UNINITIALIZED_DATA ≡ true
   pub size : s.size ≤ 2147483647
 
-zero_kind : (k : Kind) → same_kind Zero k ≡ is_zero k
+pub zero_kind : (k : Kind) → same_kind Zero k ≡ is_zero k
 zero_kind Code = refl
 zero_kind ReadOnly = refl
 zero_kind Data = refl

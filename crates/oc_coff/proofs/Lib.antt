@@ -16,5 +16,6 @@ pub mod TargetLaws
 pub mod FieldLaws
 pub mod SizeLaws
 pub mod CodableLaws
+pub mod ShowsLaw
 pub mod WorkedFiles
 mod ReadingRows
