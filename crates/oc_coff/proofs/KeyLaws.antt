@@ -71,7 +71,7 @@ module _ (w : Word) (n : Object) (is : IsForCoff w n) (small : length (string_ta
       ∙ ap (λ b. cond b (definition_of (entries_in (made_tables w n)) (k + 1)) None) (comdat_header k s here)
       ∙ ap (λ o. cond (is_some s.group) o None) (ap (λ es. definition_of es (k + 1)) entries ∙ own_read k s here)
 
-  definition_some : (k : ℕ) (s : Section) (g : ℕ) → slice_get n.sections k ≡ Some s → s.group ≡ Some g → definition_in (made_tables w n) (k + 1) ≡ Some (section_aux w n k s)
+  pub definition_some : (k : ℕ) (s : Section) (g : ℕ) → slice_get n.sections k ≡ Some s → s.group ≡ Some g → definition_in (made_tables w n) (k + 1) ≡ Some (section_aux w n k s)
   definition_some k s g here group = definition_made k s here ∙ ap (λ o. cond (is_some o) (Some (section_aux w n k s)) None) group
 
   -- the selections of a leader and of another member

@@ -17,5 +17,7 @@ pub mod FieldLaws
 pub mod SizeLaws
 pub mod CodableLaws
 pub mod ShowsLaw
+pub mod HeaderClean
+pub mod SectionClean
 pub mod WorkedFiles
 mod ReadingRows
