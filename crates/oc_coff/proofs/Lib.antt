@@ -19,5 +19,6 @@ pub mod CodableLaws
 pub mod ShowsLaw
 pub mod HeaderClean
 pub mod SectionClean
+pub mod SymbolClean
 pub mod WorkedFiles
 mod ReadingRows

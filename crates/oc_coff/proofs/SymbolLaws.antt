@@ -150,7 +150,7 @@ module _ (w : Word) (n : Object) (is : IsForCoff w n) where
 
   module _ (tags_fit : AreTagged w n) where
     -- what the auxiliary entry of a weak external says
-    tag_read : (k : ℕ) (s : Symbol) (f : Fallback) → slice_get n.symbols k ≡ Some s → s.binding ≡ Weak f
+    pub tag_read : (k : ℕ) (s : Symbol) (f : Fallback) → slice_get n.symbols k ≡ Some s → s.binding ≡ Weak f
         → option_map (λ (x : Slot). x.weak.TagIndex) (outer_slot lines k (Weak f)) ≡ Some (tag_of lines k f)
     tag_read k s f here own = ap (λ (a : WeakAux). Some a.TagIndex) (weak_said lines k f (tags_fit k s f here own))
 
