@@ -20,5 +20,7 @@ pub mod ShowsLaw
 pub mod HeaderClean
 pub mod SectionClean
 pub mod SymbolClean
+pub mod RelocationClean
+pub mod WrittenLaw
 pub mod WorkedFiles
 mod ReadingRows

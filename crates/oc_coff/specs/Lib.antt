@@ -21,3 +21,4 @@ pub mod Lines
 pub mod Bodies
 pub mod Layout
 pub mod Canonical
+pub mod Writing

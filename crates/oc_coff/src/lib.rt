@@ -5,6 +5,7 @@
 
 mod constants;
 mod file_header;
+mod laws;
 mod name;
 mod relocation;
 mod section_aux;
@@ -21,6 +22,7 @@ pub use constants::{
     IMAGE_WEAK_EXTERN_SEARCH_ALIAS, OVERFLOWED_COUNT, STRINGS_HEAD,
 };
 pub use file_header::{FILE_HEADER_SIZE, FileHeader, file_header_of};
+pub use laws::coff_file_is_written;
 pub use name::NAME_SIZE;
 pub use relocation::{RELOCATION_SIZE, Relocation, relocation_at};
 pub use section_aux::{SectionAux, section_aux_at};
