@@ -23,4 +23,6 @@ pub mod SymbolClean
 pub mod RelocationClean
 pub mod WrittenLaw
 pub mod WorkedFiles
+mod CanonicalRows
+mod FaultRows
 mod ReadingRows
