@@ -1,5 +1,5 @@
 -- Canonical files of objects, computed, and compared with worked files of our own and of others; one file with everything was put together by hand.
-use Rattle.std.proofs.Common.{◌≡◌, ℕ, ◌+◌, List, [], ◌∷◌, Some, None, Option, refl, ℤ, false}
+use Rattle.std.proofs.Common.{◌≡◌, ℕ, List, [], ◌∷◌, Some, None, Option, refl, ℤ, false}
 use Rattle.std.specs.Prelude.{codes, replicate, pos, negsuc}
 use Rattle.std.specs.Fmt.{digits}
 use Rattle.oc_base.specs.Strings as strings

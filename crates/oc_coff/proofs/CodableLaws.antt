@@ -1,11 +1,9 @@
 -- The numbers in the structures of a canonical file fit their widths.
-use Rattle.std.proofs.Common.{◌≡◌, ℕ, zero, suc, ◌+◌, ◌-◌, ◌*◌, ◌^◌, ◌<◌, ◌≤◌, Bool, true, false, cond, eqb, List, [], ◌∷◌, ◌++◌, length, map, Option, Some, None, refl, sym, ◌∙◌, ap, subst, arith, inl, inr}
-use Rattle.std.specs.Prelude.{slice_get, nat_lt, min, flat_map}
-use Rattle.std.specs.List.{AllByRecursion}
-use Rattle.std.specs.Option.{option_map_or, is_some}
-use Rattle.std.proofs.lemmas.Bool.{true≢false, ltb-true, cases_lt}
-use Rattle.std.proofs.lemmas.Option.{none-some, same_Some, slice_get_within}
-use Rattle.std.proofs.lemmas.List.{length-map}
+use Rattle.std.proofs.Common.{◌≡◌, ℕ, zero, suc, ◌+◌, ◌*◌, ◌^◌, ◌<◌, ◌≤◌, Bool, true, false, cond, eqb, List, [], ◌∷◌, length, map, Option, Some, None, refl, sym, ap, subst, arith, inl, inr}
+use Rattle.std.specs.Prelude.{slice_get, min, flat_map}
+use Rattle.std.specs.Option.{option_map_or}
+use Rattle.std.proofs.lemmas.Bool.{cases_lt}
+use Rattle.std.proofs.lemmas.Option.{same_Some, slice_get_within}
 use Rattle.oc_base.specs.declared.format.Word.{Word}
 use Rattle.oc_base.specs.declared.format.Word.TheVariants.{W32, W64}
 use Rattle.oc_base.proofs.NumberLaws.{length-table}
@@ -18,33 +16,32 @@ use Rattle.oc_linking.specs.declared.terms.Binding.TheVariants.{Local, Global, U
 use Rattle.oc_linking.specs.Parts.{is_local}
 use Rattle.oc_chains.specs.Lists.{list_of}
 use Rattle.oc_neutral.specs.declared.section.Section.{Section}
-use Rattle.oc_neutral.specs.declared.symbol.Symbol.{Symbol}
 use Rattle.oc_neutral.specs.declared.reloc.Reloc.{Reloc}
 use Rattle.oc_neutral.specs.declared.reloc.Target.{Target}
-use Rattle.oc_neutral.specs.Objects.{Object, reloc_at, reloc_among}
+use Rattle.oc_neutral.specs.Objects.{Object, reloc_at}
 use Rattle.oc_neutral.specs.Coff.Strings.{has_default}
 use Rattle.oc_neutral.specs.SymbolLines.{is_weak_with}
 use Rattle.oc_neutral.proofs.Positions.{there_at}
-use Rattle.oc_shelf.specs.Writing.Parts.{Stands, Laid, laid, laid_end, behind, place_where}
+use Rattle.oc_shelf.specs.Writing.Parts.{place_where}
 use Rattle.oc_shelf.proofs.WritingLaws.PackedLemmas.{Fit}
 use Rattle.oc_shelf.proofs.WritingLaws.PartLemmas.{IsFound, laid_within}
 use Rattle.oc_shelf.proofs.WritingLaws.StandingLemmas.{stands_inside}
 use Rattle.oc_shelf.proofs.WritingLaws.MemberLemmas.{of_map}
 use Rattle.oc_coff.specs.declared.relocation.Relocation.{Relocation}
 use Rattle.oc_coff.specs.Relocation.{relocation_bytes}
-use Rattle.oc_coff.specs.Lines.{Line, SectionLine, LocalLine, DefaultLine, OuterLine, lines_of, line_size, numbered_lines, entry_count, is_section_line, is_default_line, is_outer_line}
-use Rattle.oc_coff.specs.Bodies.{raw_of, target_number, type_of, relocation_of, relocs_of, is_crowded, count_entry, with_count}
+use Rattle.oc_coff.specs.Lines.{Line, SectionLine, LocalLine, DefaultLine, OuterLine, lines_of, line_size, numbered_lines, is_section_line, is_default_line, is_outer_line}
+use Rattle.oc_coff.specs.Bodies.{raw_of, target_number, relocation_of, relocs_of, is_crowded, count_entry, with_count}
 use Rattle.oc_coff.specs.Layout.{laid_parts, is_raw, is_relocs, pointer_to, StringTable, text_of}
-use Rattle.oc_coff.specs.Canonical.{leads, leader_number, selection_of, kept_with, section_flags, header_at, numbers_of, numbers_by, default_numbers, type_by, class_by, aux_by, line_entry, section_aux, tag_of, weak_aux, machine_of, file_header, string_table, coff_file, part_bytes}
-use Rattle.oc_coff.proofs.StructureLaws.{file_header_numbers, section_header_numbers, symbol_numbers, section_aux_numbers, weak_aux_numbers, relocation_numbers, length-relocation_bytes}
-use Rattle.oc_coff.proofs.PartLaws.{stands_raw, stands_relocs, table_place, table_place_is, stands_symbols, length-raw, length-coff_file, part_sized}
+use Rattle.oc_coff.specs.Canonical.{leads, leader_number, header_at, numbers_of, numbers_by, default_numbers, type_by, class_by, aux_by, line_entry, section_aux, tag_of, machine_of, file_header, string_table, coff_file, part_bytes}
+use Rattle.oc_coff.proofs.StructureLaws.{file_header_numbers, section_header_numbers, symbol_numbers, section_aux_numbers, relocation_numbers, length-relocation_bytes}
+use Rattle.oc_coff.proofs.PartLaws.{stands_raw, stands_relocs, table_place_is, length-coff_file, part_sized}
 use Rattle.oc_coff.proofs.TableLaws.{IsCodable}
 use Rattle.oc_coff.proofs.EntryLaws.{IsEntered}
 use Rattle.oc_coff.proofs.LineLaws.{section_found, default_found, outer_found, line_is_of, IsLineOf}
-use Rattle.oc_coff.proofs.CodedLaws.{IsForCoff, IsCodedValue, IsCodedFallback, IsCodedBinding, coded_section, coded_line, outer_coded, weak_default, IsCodedLine}
+use Rattle.oc_coff.proofs.CodedLaws.{IsForCoff, IsCodedValue, IsCodedFallback, IsCodedBinding, coded_section, coded_line, outer_coded, IsCodedLine}
 use Rattle.oc_coff.proofs.SectionLaws.{flags_say}
 use Rattle.oc_coff.proofs.GroupLaws.{leader_of}
-use Rattle.oc_coff.proofs.FieldLaws.{coff_reloc, meets, inside, type_is, has_bytes, found_in, wide_enough, empty_past}
+use Rattle.oc_coff.proofs.FieldLaws.{coff_reloc, meets, type_is, has_bytes, found_in, wide_enough, empty_past}
 use Rattle.oc_coff.proofs.SymbolLaws.{AreTagged}
 use Rattle.oc_coff.proofs.SizeLaws.{small_file, few_entries}
 use Rattle.oc_neutral.specs.Building.{is_zero}

@@ -1,11 +1,8 @@
 -- What COFF can say of an object that is ready for it: of its sections, and of the symbols of its lines.
-use Rattle.std.proofs.Common.{◌≡◌, ℕ, zero, suc, ◌+◌, ◌^◌, ◌<◌, ◌≤◌, ◌≢◌, Bool, true, false, cond, not, ◌&&◌, ◌||◌, List, [], ◌∷◌, ◌++◌, length, codes, Some, None, refl, sym, ◌∙◌, ap, subst, inl, inr, arith}
-use Rattle.std.specs.Prelude.{◌⊎◌, slice_get, nat_lt, nat_eq}
-use Rattle.std.specs.List.{list_any}
+use Rattle.std.proofs.Common.{◌≡◌, ℕ, ◌^◌, ◌<◌, ◌≤◌, ◌≢◌, Bool, true, false, cond, not, List, [], ◌∷◌, length, Some, refl, sym, ◌∙◌, ap, subst, arith}
+use Rattle.std.specs.Prelude.{slice_get, nat_lt}
 use Rattle.std.specs.Option.{unwrap_or}
-use Rattle.std.proofs.lemmas.Bool.{true≢false, ltb-true, lt-ltb, or_left}
-use Rattle.std.proofs.lemmas.Option.{none-some}
-use Rattle.std.proofs.lemmas.List.Folds.{list_any-append}
+use Rattle.std.proofs.lemmas.Bool.{true≢false, ltb-true}
 use Rattle.oc_base.specs.declared.format.Word.{Word}
 use Rattle.oc_base.specs.declared.format.Word.TheVariants.{W32, W64}
 use Rattle.oc_base.specs.Formats.{word_for}
@@ -24,10 +21,10 @@ use Rattle.oc_neutral.specs.declared.section.Section.{Section}
 use Rattle.oc_neutral.specs.declared.symbol.Symbol.{Symbol}
 use Rattle.oc_neutral.specs.declared.coff.TheConstants.{IMAGE_SCN_CNT_UNINITIALIZED_DATA}
 use Rattle.oc_neutral.specs.Objects.{Object}
-use Rattle.oc_neutral.specs.Building.{is_zero, stored_size}
-use Rattle.oc_neutral.specs.Invariants.{IsObject, IsBinding, IsFallback, IsSymbol, HasItsBytes, HasOffset, IsOriginal, is_strong}
+use Rattle.oc_neutral.specs.Building.{is_zero}
+use Rattle.oc_neutral.specs.Invariants.{IsObject, IsBinding, IsFallback, IsSymbol, HasItsBytes, is_strong}
 use Rattle.oc_neutral.specs.Powers.{natural_align}
-use Rattle.oc_neutral.specs.KindRules.{has, has_nul, same_kind, begins}
+use Rattle.oc_neutral.specs.KindRules.{has, has_nul, same_kind}
 use Rattle.oc_neutral.specs.Family.{IsCoff}
 use Rattle.oc_neutral.specs.Families.{container_of}
 use Rattle.oc_neutral.specs.Coff.Kinds.{coff_kind, coff_tag}
@@ -35,12 +32,10 @@ use Rattle.oc_neutral.specs.Coff.Strings.{is_long, is_tabled, has_default, defau
 use Rattle.oc_neutral.specs.CoffMeets.{strings_of, offset_of, MeetsCoff, CoffSection, CoffSymbol}
 use Rattle.oc_neutral.specs.Fitted.{IsFitted}
 use Rattle.oc_neutral.specs.Manners.{coff_manner}
-use Rattle.oc_neutral.specs.Meets.{IsPower}
 use Rattle.oc_neutral.specs.SymbolLines.{needs_default, is_weak_with}
 use Rattle.oc_neutral.specs.WrittenSymbols.{is_written, is_written_as}
 use Rattle.oc_neutral.proofs.MeetsCoff.{meets_coff}
 use Rattle.oc_neutral.proofs.Positions.{each_at}
-use Rattle.oc_coff.specs.declared.constants.TheConstants.{IMAGE_SYM_CLASS_EXTERNAL}
 use Rattle.oc_coff.specs.Fields.{coff_format}
 use Rattle.oc_coff.specs.Lines.{Line, SectionLine, LocalLine, DefaultLine, OuterLine, lines_of}
 use Rattle.oc_coff.specs.Canonical.{class_by}

@@ -1,5 +1,5 @@
 -- The symbols of a canonical file, with their numbers.
-use Rattle.std.proofs.Common.{◌≡◌, ℕ, zero, suc, ◌+◌, ◌*◌, ◌^◌, ◌<◌, Bool, true, false, cond, eqb, List, [], ◌∷◌, ◌++◌, length, map, Option, Some, None, refl, sym, ◌∙◌, ap, arith, append-nil}
+use Rattle.std.proofs.Common.{◌≡◌, ℕ, suc, ◌+◌, cond, eqb, List, [], ◌∷◌, ◌++◌, length, map, Option, Some, None, refl, sym, ◌∙◌, ap, arith, append-nil}
 use Rattle.std.specs.Prelude.{slice_get, flat_map}
 use Rattle.std.proofs.lemmas.List.{length-map}
 use Rattle.oc_base.specs.declared.format.Word.{Word}
@@ -11,13 +11,13 @@ use Rattle.oc_neutral.specs.Objects.{Object}
 use Rattle.oc_shelf.specs.Writing.Parts.{Laid, laid, behind}
 use Rattle.oc_shelf.proofs.WritingLaws.PackedLemmas.{Fit}
 use Rattle.oc_coff.specs.declared.symbol.SymbolEntry.{SymbolEntry}
-use Rattle.oc_coff.specs.SymbolEntry.{symbol_at, symbol_bytes}
+use Rattle.oc_coff.specs.SymbolEntry.{symbol_bytes}
 use Rattle.oc_coff.specs.SectionAux.{section_aux_at, section_aux_bytes}
 use Rattle.oc_coff.specs.WeakAux.{weak_aux_at, weak_aux_bytes}
 use Rattle.oc_coff.specs.Tables.{Slot, slot_at}
 use Rattle.oc_coff.specs.Entries.{Entry, first_of, symbols_from, entries_in}
 use Rattle.oc_coff.specs.Lines.{Line, SectionLine, LocalLine, DefaultLine, OuterLine, lines_of, line_size, numbered_lines}
-use Rattle.oc_coff.specs.Canonical.{line_entry, section_aux, weak_aux, outer_aux, line_aux, line_rows, aux_by, entry_rows}
+use Rattle.oc_coff.specs.Canonical.{line_entry, section_aux, weak_aux, outer_aux, line_aux, line_rows, aux_by}
 use Rattle.oc_coff.proofs.StructureLaws.{symbol_numbers, section_aux_numbers, section_aux_at-bytes, weak_aux_numbers, weak_aux_at-bytes}
 use Rattle.oc_coff.proofs.PartLaws.{field_is_eight, length-line_rows}
 use Rattle.oc_coff.proofs.TableLaws.{read_row, symbol_whole, made_tables}

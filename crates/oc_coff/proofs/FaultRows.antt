@@ -1,5 +1,5 @@
 -- What files are refused for, computed on worked files that were changed at some places: each condition alone, and beside the one before it.
-use Rattle.std.proofs.Common.{◌≡◌, ℕ, zero, suc, ◌+◌, ◌^◌, true, false, List, [], ◌∷◌, ◌++◌, length, map, Some, None, Option, refl}
+use Rattle.std.proofs.Common.{◌≡◌, ℕ, zero, suc, true, false, List, [], ◌∷◌, ◌++◌, length, map, Some, None, Option, refl}
 use Rattle.std.specs.Prelude.{drop, replicate, take}
 use Rattle.std.specs.Option.{option_map}
 use Rattle.oc_base.specs.declared.format.Word.{Word}

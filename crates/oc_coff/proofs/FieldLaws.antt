@@ -1,8 +1,8 @@
 -- The fields of a canonical file are the relocations of the object that is seen.
 use Rattle.oc_algebra.specs.Promises.{Holds}
 use Rattle.oc_chains.specs.Fields.{FollowFrom, end_of}
-use Rattle.std.proofs.Common.{◌≡◌, ℕ, zero, suc, ◌+◌, ◌*◌, ◌%◌, ◌<◌, ◌≤◌, ◌^◌, Bool, true, false, cond, not, ◌&&◌, ◌||◌, eqb, ℤ, List, [], ◌∷◌, length, map, replicate, get_or, Option, Some, None, Result, Ok, Err, refl, sym, ◌∙◌, ap, subst, inl, inr, arith, MatchResult}
-use Rattle.std.specs.Prelude.{◌⊎◌, ◌+ℤ◌, pos, slice_get, find}
+use Rattle.std.proofs.Common.{◌≡◌, ℕ, zero, suc, ◌+◌, ◌%◌, ◌<◌, ◌≤◌, Bool, true, false, cond, not, ◌&&◌, eqb, ℤ, List, [], ◌∷◌, length, map, replicate, get_or, Option, Some, None, Ok, refl, sym, ◌∙◌, ap, subst, inl, inr, arith, MatchResult}
+use Rattle.std.specs.Prelude.{◌+ℤ◌, slice_get, find}
 use Rattle.std.specs.List.{enumerate_from, AllByRecursion}
 use Rattle.std.specs.Option.{option_map, option_map_or, option_and_then}
 use Rattle.std.proofs.lemmas.Bool.{true≢false, eqb-true, eq-eqb, ne_eqb, cases_lt}
@@ -26,18 +26,14 @@ use Rattle.oc_linking.specs.Fits.{bytes_of, span}
 use Rattle.oc_linking.specs.Shows.{Apart}
 use Rattle.oc_linking.specs.Targets as file
 use Rattle.oc_linking.proofs.Storing.{field_holds}
-use Rattle.oc_algebra.specs.declared.fields.AddendTooWide.{AddendTooWide}
-use Rattle.oc_algebra.specs.declared.form.Form.{Form}
 use Rattle.oc_algebra.specs.Residues.{reduced_number}
 use Rattle.oc_algebra.specs.Fields.{extended, to_field_of, from_field_of}
 use Rattle.oc_algebra.proofs.FieldLaws.{written_law}
 use Rattle.oc_chains.specs.declared.field.Field as chains
 use Rattle.oc_chains.specs.Lists.{list_of}
 use Rattle.oc_neutral.specs.declared.section.Section.{Section}
-use Rattle.oc_neutral.specs.declared.symbol.Symbol.{Symbol}
 use Rattle.oc_neutral.specs.declared.reloc.Reloc.{Reloc}
 use Rattle.oc_neutral.specs.declared.reloc.Target.{Target}
-use Rattle.oc_neutral.specs.declared.reloc.Target.TheVariants as target
 use Rattle.oc_neutral.specs.Building.{is_zero}
 use Rattle.oc_neutral.specs.CoffMeets.{CoffReloc}
 use Rattle.oc_neutral.specs.KindRules.{same_kind}
@@ -50,24 +46,21 @@ use Rattle.oc_neutral.specs.RowValues.{row_reloc}
 use Rattle.oc_neutral.specs.Rows as rows
 use Rattle.oc_neutral.specs.Rows.{Row, Taken, TakesZero, TakesPlace, TakesGotBase, TakesImageBase, TakesHome, TakesSection, same_taken, taken_of, shift_of}
 use Rattle.oc_neutral.specs.Seen.{seen_reloc, seen_target}
-use Rattle.oc_neutral.specs.Spelling.{written_row}
 use Rattle.oc_neutral.proofs.FitLinks.{from_mapped}
 use Rattle.oc_neutral.proofs.Positions.{each_at, there_at}
 use Rattle.oc_neutral.proofs.Standing.{ends_by, wide_in}
 use Rattle.oc_shelf.specs.Writing.Parts.{Laid}
 use Rattle.oc_shelf.proofs.WritingLaws.MemberLemmas.{member_map, member_enumerated}
 use Rattle.oc_coff.specs.declared.relocation.Relocation.{Relocation}
-use Rattle.oc_coff.specs.Entries.{entries_in}
-use Rattle.oc_coff.specs.Sections.{Carried, carried_in, sections_in}
-use Rattle.oc_coff.specs.Targets.{Aim, aim_in, target_in}
+use Rattle.oc_coff.specs.Sections.{carried_in}
+use Rattle.oc_coff.specs.Targets.{target_in}
 use Rattle.oc_coff.specs.Fields.{coff_format, relocates, field_by, field_in, fields_in}
 use Rattle.oc_coff.specs.Lines.{Line, numbered_lines}
 use Rattle.oc_coff.specs.Bodies.{number_or, number_by, field_number, field_patch, field_patches, raw_of, target_number, type_of, relocation_of, relocs_of}
-use Rattle.oc_coff.specs.Canonical.{string_table}
 use Rattle.oc_coff.proofs.TableLaws.{made_tables}
 use Rattle.oc_coff.proofs.CodedLaws.{IsForCoff, coded_section, seen_kind}
 use Rattle.oc_coff.proofs.SectionLaws.{made_contents, made_carried}
-use Rattle.oc_coff.proofs.SeenLaws.{shown, syms}
+use Rattle.oc_coff.proofs.SeenLaws.{shown}
 
 -- ... look-ups by offset
 

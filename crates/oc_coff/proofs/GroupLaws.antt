@@ -1,13 +1,12 @@
 -- The groups of a canonical file are those of its object.
-use Rattle.std.proofs.Common.{◌≡◌, ℕ, zero, suc, ◌+◌, ◌-◌, ◌<◌, ◌≤◌, ◌^◌, Bool, true, false, cond, ◌&&◌, ◌||◌, eqb, List, [], ◌∷◌, ◌++◌, length, map, Option, Some, None, refl, sym, ◌∙◌, ap, subst, inl, inr, arith, append_assoc}
+use Rattle.std.proofs.Common.{◌≡◌, ℕ, zero, suc, ◌+◌, ◌<◌, ◌≤◌, Bool, true, false, cond, ◌&&◌, ◌||◌, List, [], ◌∷◌, ◌++◌, length, map, Option, Some, None, refl, sym, ◌∙◌, ap, subst, arith, append_assoc}
 use Rattle.std.specs.Prelude.{slice_get, nat_eq, nat_le, filter, find, flat_map, bytes_eq}
 use Rattle.std.specs.List.{enumerate_from, list_any}
-use Rattle.std.specs.Option.{option_map, option_map_or, option_and_then, is_some}
+use Rattle.std.specs.Option.{option_map_or, option_and_then}
 use Rattle.std.proofs.lemmas.Bool.{true≢false, eqb-true, eq-eqb, ne_eqb, le-leb}
 use Rattle.std.proofs.lemmas.Option.{none-some, same_Some, slice_get_within}
 use Rattle.std.proofs.lemmas.Slice.Eq.{bytes_eq-Decides}
 use Rattle.oc_base.specs.declared.format.Word.{Word}
-use Rattle.oc_linking.specs.declared.terms.Value.{Value}
 use Rattle.oc_linking.specs.declared.terms.Value.TheVariants as value
 use Rattle.oc_linking.specs.declared.terms.Binding.{Binding}
 use Rattle.oc_linking.specs.declared.terms.Binding.TheVariants.{Local, Global, Undefined, Common, Weak}
@@ -18,12 +17,11 @@ use Rattle.oc_neutral.specs.Faces.{key_of}
 use Rattle.oc_neutral.specs.KeySymbols.{global_place, group_at, is_key_name, is_key_at, lies_in}
 use Rattle.oc_neutral.specs.Meets.{HasKeySymbol}
 use Rattle.oc_neutral.specs.Normal.{Place}
-use Rattle.oc_shelf.specs.Writing.Parts.{Laid, laid, laid_end, behind}
+use Rattle.oc_shelf.specs.Writing.Parts.{laid, laid_end, behind}
 use Rattle.oc_shelf.proofs.WritingLaws.MemberLemmas.{each_map, each_enumerated, member_passes, member_enumerated, member_map}
-use Rattle.oc_shelf.proofs.WritingLaws.PackedLemmas.{Fit}
 use Rattle.oc_coff.specs.Entries.{Entry, is_in}
 use Rattle.oc_coff.specs.Comdat.{symbols_of}
-use Rattle.oc_coff.specs.Lines.{Line, SectionLine, LocalLine, DefaultLine, OuterLine, placed_symbols, lines_where, section_lines, lines_of, line_size, numbered_lines}
+use Rattle.oc_coff.specs.Lines.{Line, SectionLine, OuterLine, placed_symbols, lines_where, section_lines, lines_of, line_size, numbered_lines}
 use Rattle.oc_coff.specs.Canonical.{numbers_by, leader_number, leads}
 use Rattle.oc_coff.proofs.EntryLaws.{made_entry}
 use Rattle.oc_coff.proofs.LineLaws.{each_filter, member_filter}

@@ -1,18 +1,12 @@
 -- The header of a canonical file is well formed.
-use Rattle.std.proofs.Common.{◌≡◌, ℕ, zero, suc, ◌+◌, ◌-◌, ◌*◌, ◌^◌, ◌<◌, ◌≤◌, Bool, true, false, cond, not, ◌&&◌, eqb, List, [], ◌∷◌, ◌++◌, length, map, Option, Some, None, refl, sym, ◌∙◌, ap, subst, arith, length-append}
+use Rattle.std.proofs.Common.{◌≡◌, ℕ, ◌+◌, ◌*◌, ◌≤◌, true, false, eqb, List, length, refl, arith}
 use Rattle.std.specs.Prelude.{flat_map, nat_lt}
-use Rattle.std.specs.List.{enumerate_from}
 use Rattle.std.proofs.lemmas.Bool.{ne_eqb, lt-ltb}
 use Rattle.std.proofs.lemmas.Bool.Decides.{nat_tests}
-use Rattle.std.proofs.lemmas.List.{length-map}
-use Rattle.std.proofs.lemmas.List.FromFn.{length-enumerate_from}
 use Rattle.oc_base.specs.declared.format.Word.{Word}
-use Rattle.oc_base.specs.Numbers.{number_at}
 use Rattle.oc_neutral.specs.Objects.{Object}
-use Rattle.oc_coff.specs.declared.file_header.FileHeader.{FileHeader}
 use Rattle.oc_coff.specs.SectionHeader.{section_header_bytes}
 use Rattle.oc_shelf.proofs.WritingLaws.StandingLemmas.{stands_inside}
-use Rattle.oc_coff.specs.Tables.{strings_place, has_strings}
 use Rattle.oc_coff.specs.Lines.{entry_count}
 use Rattle.oc_coff.specs.Layout.{SectionHeads, text_of}
 use Rattle.oc_coff.specs.Canonical.{headers_of, file_header, coff_file, part_bytes}

@@ -1,31 +1,25 @@
 -- The keys of groups are read in a canonical file.
-use Rattle.std.proofs.Common.{◌≡◌, ℕ, ◌+◌, ◌-◌, ◌<◌, ◌≤◌, ◌^◌, Bool, true, false, cond, eqb, List, [], length, map, Option, Some, None, refl, sym, ◌∙◌, ap, subst, arith}
+use Rattle.std.proofs.Common.{◌≡◌, ℕ, ◌+◌, ◌-◌, ◌<◌, ◌^◌, Bool, true, false, cond, eqb, List, [], length, map, Option, Some, None, refl, sym, ◌∙◌, ap, arith}
 use Rattle.std.specs.Prelude.{slice_get, nat_eq}
 use Rattle.std.specs.List.{enumerate_from}
 use Rattle.std.specs.Option.{option_map, option_map_or, option_and_then, unwrap_or, is_some}
-use Rattle.std.proofs.lemmas.Bool.{true≢false, ne_eqb, eq-eqb}
-use Rattle.std.proofs.lemmas.Option.{none-some, same_Some, slice_get_within}
+use Rattle.std.proofs.lemmas.Bool.{ne_eqb}
+use Rattle.std.proofs.lemmas.Option.{same_Some, slice_get_within}
 use Rattle.oc_base.specs.declared.format.Word.{Word}
-use Rattle.oc_linking.specs.declared.terms.Value.TheVariants as value
-use Rattle.oc_linking.specs.declared.terms.Binding.{Binding}
-use Rattle.oc_linking.specs.declared.terms.Binding.TheVariants.{Global}
 use Rattle.oc_linking.specs.Parts.{is_local}
 use Rattle.oc_neutral.specs.declared.section.Section.{Section}
 use Rattle.oc_neutral.specs.declared.symbol.Symbol.{Symbol}
 use Rattle.oc_neutral.specs.Objects.{Object}
 use Rattle.oc_neutral.specs.Faces.{key_of}
-use Rattle.oc_neutral.specs.KeySymbols.{group_at}
 use Rattle.oc_shelf.proofs.WritingLaws.MemberLemmas.{member_map, member_enumerated}
 use Rattle.oc_shelf.proofs.WritingLaws.PackedLemmas.{Fit}
-use Rattle.oc_coff.specs.declared.section_aux.SectionAux.{SectionAux}
 use Rattle.oc_coff.specs.declared.constants.TheConstants.{IMAGE_COMDAT_SELECT_ANY, IMAGE_COMDAT_SELECT_ASSOCIATIVE, IMAGE_SYM_CLASS_EXTERNAL}
-use Rattle.oc_coff.specs.Tables.{SectionTable, Slot}
-use Rattle.oc_coff.specs.Names.{symbol_name}
+use Rattle.oc_coff.specs.Tables.{SectionTable}
 use Rattle.oc_coff.specs.Entries.{Entry, entries_in, name_of, is_class}
 use Rattle.oc_coff.specs.Comdat.{section_numbered, is_comdat, symbols_of, own_definition, definition_of, definition_in, selects, key_symbol, led_key, key_by, key_in}
-use Rattle.oc_coff.specs.Lines.{Line, SectionLine, OuterLine, numbered_lines}
+use Rattle.oc_coff.specs.Lines.{OuterLine, numbered_lines}
 use Rattle.oc_coff.specs.Bodies.{relocs_of}
-use Rattle.oc_coff.specs.Canonical.{leads, leader_number, selection_of, kept_with, section_flags, header_at, section_aux, symbol_field, string_table, class_by}
+use Rattle.oc_coff.specs.Canonical.{leads, leader_number, selection_of, kept_with, header_at, section_aux, string_table, class_by}
 use Rattle.oc_coff.proofs.StructureLaws.{section_aux_numbers}
 use Rattle.oc_coff.proofs.TableLaws.{made_table, made_tables}
 use Rattle.oc_coff.proofs.EntryLaws.{made_entry, section_said}

@@ -1,12 +1,11 @@
 -- The lines of an object: what they are, where they are found, and that they are those by which symbols are seen.
-use Rattle.std.proofs.Common.{◌≡◌, ℕ, zero, suc, ◌+◌, ◌<◌, ◌≤◌, Bool, true, false, cond, not, ◌&&◌, ◌||◌, eqb, List, [], ◌∷◌, ◌++◌, length, map, Option, Some, None, refl, sym, ◌∙◌, ap, subst, inl, inr, arith}
-use Rattle.std.specs.Prelude.{◌⊎◌, slice_get, nat_eq, filter, filter_map, flat_map}
+use Rattle.std.proofs.Common.{◌≡◌, ℕ, zero, suc, ◌+◌, ◌≤◌, Bool, true, false, cond, not, ◌&&◌, List, [], ◌∷◌, ◌++◌, length, map, Option, Some, None, refl, sym, ◌∙◌, ap, subst, inl, inr, arith}
+use Rattle.std.specs.Prelude.{slice_get, nat_eq, filter, filter_map, flat_map}
 use Rattle.std.specs.List.{enumerate_from, cons_option}
 use Rattle.std.specs.Option.{option_map_or}
 use Rattle.std.proofs.lemmas.Bool.{true≢false, eqb-true, eq-eqb}
 use Rattle.std.proofs.lemmas.Option.{none-some, same_Some}
 use Rattle.oc_base.specs.declared.format.Word.{Word}
-use Rattle.oc_linking.specs.declared.terms.Fallback.{Fallback}
 use Rattle.oc_linking.specs.declared.terms.Binding.{Binding}
 use Rattle.oc_linking.specs.declared.terms.Binding.TheVariants.{Local, Global, Undefined, Common, Weak}
 use Rattle.oc_linking.specs.Parts.{is_local}
@@ -14,11 +13,11 @@ use Rattle.oc_neutral.specs.declared.section.Section.{Section}
 use Rattle.oc_neutral.specs.declared.symbol.Symbol.{Symbol}
 use Rattle.oc_neutral.specs.Objects.{Object}
 use Rattle.oc_neutral.specs.Normal.{Place}
-use Rattle.oc_neutral.specs.KeySymbols.{global_place, is_key_at, is_key}
+use Rattle.oc_neutral.specs.KeySymbols.{global_place, is_key_at}
 use Rattle.oc_neutral.specs.SymbolLines.{silent, one, coff_entries, needs_default, is_weak_with, coff_section_lines, coff_lines}
 use Rattle.oc_neutral.proofs.SeenFamilies.{coff_table}
 use Rattle.oc_neutral.specs.WrittenSymbols.{is_written}
-use Rattle.oc_shelf.specs.Writing.Parts.{Laid, laid, behind, place_where}
+use Rattle.oc_shelf.specs.Writing.Parts.{Laid, behind}
 use Rattle.oc_shelf.proofs.WritingLaws.PartLemmas.{IsFound, place_found, laid_part, laid_same}
 use Rattle.oc_shelf.proofs.WritingLaws.MemberLemmas.{member_first, member_second, member_map, member_enumerated, member_flat_map, each_append, each_map, each_flat_map, each_enumerated, of_append, of_map, map-map, map-alike, keyed_once}
 use Rattle.oc_coff.specs.Fields.{coff_format}

@@ -1,7 +1,7 @@
 -- Names of a canonical file are read back.
-use Rattle.std.proofs.Common.{◌≡◌, ℕ, zero, suc, ◌+◌, ◌-◌, ◌*◌, ◌/◌, ◌%◌, ◌^◌, ◌<◌, ◌≤◌, ◌≢◌, Bool, true, false, cond, eqb, List, [], ◌∷◌, ◌++◌, length, take, drop, Option, Some, None, refl, sym, ◌∙◌, ap, subst, arith, append_assoc, append-nil, length-append}
-use Rattle.std.specs.Prelude.{slice_get, nat_eq, nat_lt, nat_le, not, ◌&&◌, ◌||◌, All, decimal, codes}
-use Rattle.std.specs.List.{list_any, list_all, fold, AllByRecursion}
+use Rattle.std.proofs.Common.{◌≡◌, ℕ, ◌+◌, ◌-◌, ◌*◌, ◌/◌, ◌%◌, ◌^◌, ◌<◌, ◌≤◌, ◌≢◌, Bool, true, false, cond, eqb, List, [], ◌∷◌, ◌++◌, length, Some, None, refl, sym, ◌∙◌, ap, arith, append-nil, length-append}
+use Rattle.std.specs.Prelude.{nat_eq, nat_lt, nat_le, ◌&&◌, ◌||◌, All, decimal, codes}
+use Rattle.std.specs.List.{list_all}
 use Rattle.std.specs.Option.{unwrap_or}
 use Rattle.std.proofs.lemmas.Bool.{true≢false, eqb-false, ne_eqb, le-leb}
 use Rattle.std.proofs.lemmas.Bool.Decides.{nat_tests}
@@ -15,12 +15,11 @@ use Rattle.oc_base.specs.Strings.{is_given, table_place, table_text}
 use Rattle.oc_base.proofs.NumberLaws.{length-bytes_of_number, number_at-shift, number_at-bytes}
 use Rattle.oc_neutral.specs.Objects.{Object}
 use Rattle.oc_neutral.specs.KindRules.{begins, has_nul}
-use Rattle.oc_neutral.specs.Coff.Strings.{is_long, is_tabled, coff_strings, string_offset}
+use Rattle.oc_neutral.specs.Coff.Strings.{is_long, is_tabled, string_offset}
 use Rattle.oc_coff.specs.Names.{padded, until_nul, decimal_of, is_nothing, is_digit, name_for, section_name, symbol_name, string_at}
 use Rattle.oc_coff.proofs.PaddedLemmas.{until_nul-padded, padded-long}
-use Rattle.oc_shelf.specs.Writing.Parts.{Stands}
-use Rattle.oc_shelf.proofs.WritingLaws.StandingLemmas.{stands_drop, stands_inside, stands_second}
-use Rattle.oc_shelf.proofs.WritingLaws.StringLemmas.{has_nul-ended, name_in_table, name_read}
+use Rattle.oc_shelf.proofs.WritingLaws.StandingLemmas.{stands_inside}
+use Rattle.oc_shelf.proofs.WritingLaws.StringLemmas.{name_in_table, name_read}
 use Rattle.oc_coff.specs.Fields.{coff_format}
 use Rattle.oc_shelf.specs.Reading.Texts.{text_at}
 use Rattle.oc_coff.specs.Layout.{text_of}

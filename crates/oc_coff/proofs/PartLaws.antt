@@ -2,8 +2,8 @@
 use Rattle.oc_coff.specs.WeakAux.{weak_aux_bytes}
 use Rattle.oc_neutral.specs.SymbolLines.{is_weak_with}
 use Rattle.oc_coff.specs.Fields.{coff_format}
-use Rattle.std.proofs.Common.{◌≡◌, ℕ, zero, suc, ◌+◌, ◌-◌, ◌*◌, ◌<◌, ◌≤◌, Bool, true, false, cond, eqb, List, [], ◌∷◌, ◌++◌, length, map, Option, Some, None, refl, sym, ◌∙◌, ap, subst, arith, append-nil, length-append}
-use Rattle.std.specs.Prelude.{slice_get, flat_map, nat_lt, decimal}
+use Rattle.std.proofs.Common.{◌≡◌, ℕ, zero, suc, ◌+◌, ◌-◌, ◌*◌, ◌≤◌, Bool, true, false, cond, List, [], ◌∷◌, ◌++◌, length, Some, refl, sym, ◌∙◌, ap, subst, arith, append-nil, length-append}
+use Rattle.std.specs.Prelude.{slice_get, flat_map, decimal}
 use Rattle.std.specs.List.{enumerate_from}
 use Rattle.std.proofs.lemmas.List.{length-map}
 use Rattle.std.proofs.lemmas.List.FromFn.{length-enumerate_from}
@@ -16,30 +16,27 @@ use Rattle.oc_linking.specs.declared.terms.Binding.{Binding}
 use Rattle.oc_linking.specs.declared.terms.Binding.TheVariants.{Local, Global, Undefined, Common, Weak}
 use Rattle.oc_linking.proofs.Overlay.{length-overlay}
 use Rattle.oc_neutral.specs.declared.section.Section.{Section}
-use Rattle.oc_neutral.specs.declared.symbol.Symbol.{Symbol}
 use Rattle.oc_neutral.specs.Objects.{Object}
 use Rattle.oc_neutral.specs.Coff.Strings.{is_long, is_tabled, default_name}
 use Rattle.oc_coff.specs.Names.{padded}
 use Rattle.oc_coff.specs.FileHeader.{file_header_bytes}
 use Rattle.oc_coff.specs.SymbolEntry.{symbol_bytes}
 use Rattle.oc_coff.specs.SectionAux.{section_aux_bytes}
-use Rattle.oc_coff.specs.declared.section_header.SectionHeader.{SectionHeader}
-use Rattle.oc_coff.specs.declared.relocation.Relocation.{Relocation}
 use Rattle.oc_coff.specs.SectionHeader.{section_header_bytes}
 use Rattle.oc_coff.specs.Relocation.{relocation_bytes}
 use Rattle.oc_coff.proofs.PaddedLemmas.{length-padded}
-use Rattle.oc_coff.proofs.StructureLaws.{length-file_header_bytes, length-section_header_bytes, length-symbol_bytes, length-section_aux_bytes, length-relocation_bytes, weak_aux_at-bytes, length-weak_aux_bytes}
+use Rattle.oc_coff.proofs.StructureLaws.{length-file_header_bytes, length-section_header_bytes, length-symbol_bytes, length-section_aux_bytes, length-relocation_bytes, length-weak_aux_bytes}
 use Rattle.oc_shelf.specs.Writing.Parts.{Stands, Laid, laid, laid_end, behind, joined, place_where}
 use Rattle.oc_shelf.specs.Writing.Windows.{window}
 use Rattle.oc_shelf.proofs.WritingLaws.WindowLemmas.{window_parts}
-use Rattle.oc_shelf.proofs.WritingLaws.StandingLemmas.{stands_whole, stands_first, stands_second, stands_at, length-entries}
-use Rattle.oc_shelf.proofs.WritingLaws.PartLemmas.{stands_where, place_past, laid_end_from, laid_append, place_behind, joined_append, length-laid_rows, length-joined}
-use Rattle.oc_shelf.proofs.WritingLaws.MemberLemmas.{member_first, member_second, member_enumerated, member_flat_map, each_append, each_flat_map, each_map, each_enumerated}
+use Rattle.oc_shelf.proofs.WritingLaws.StandingLemmas.{stands_whole, stands_first, stands_second, length-entries}
+use Rattle.oc_shelf.proofs.WritingLaws.PartLemmas.{stands_where, place_past, laid_end_from, place_behind, joined_append, length-laid_rows, length-joined}
+use Rattle.oc_shelf.proofs.WritingLaws.MemberLemmas.{member_first, member_enumerated, member_flat_map, each_append, each_flat_map, each_map, each_enumerated}
 use Rattle.oc_coff.specs.Lines.{Line, SectionLine, LocalLine, DefaultLine, OuterLine, line_size, lines_of, numbered_lines, entry_count}
 use Rattle.oc_coff.specs.Bodies.{field_patches, raw_of, relocs_of, with_count}
-use Rattle.oc_coff.specs.Layout.{Part, FileHead, SectionHeads, Raw, Relocs, SymbolTable, StringTable, section_parts, parts_of, text_of, part_size, laid_parts, file_length, is_raw, is_relocs, is_symbol_table}
-use Rattle.oc_neutral.specs.CoffMeets.{offset_of, strings_of}
-use Rattle.oc_coff.specs.Canonical.{symbol_field, section_field, section_header, header_at, headers_of, line_entry, section_aux, weak_aux, tag_of, line_aux, outer_aux, line_rows, entry_rows, file_header, string_table, part_bytes, coff_file}
+use Rattle.oc_coff.specs.Layout.{Part, FileHead, SectionHeads, Raw, Relocs, SymbolTable, StringTable, section_parts, parts_of, text_of, part_size, laid_parts, is_raw, is_relocs, is_symbol_table}
+use Rattle.oc_neutral.specs.CoffMeets.{offset_of}
+use Rattle.oc_coff.specs.Canonical.{symbol_field, section_field, header_at, headers_of, line_entry, section_aux, weak_aux, line_aux, outer_aux, line_rows, entry_rows, file_header, string_table, part_bytes, coff_file}
 
 -- names have eight bytes
 pub length-symbol_field : (w : Word) (n : Object) (name : List ℕ) → length (symbol_field w n name) ≡ 8

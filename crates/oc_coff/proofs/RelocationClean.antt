@@ -1,6 +1,6 @@
 -- The relocation entries of a canonical file break no condition.
-use Rattle.std.proofs.Common.{◌≡◌, ℕ, zero, suc, ◌+◌, ◌≤◌, ◌<◌, Bool, true, false, cond, not, ◌&&◌, ◌||◌, eqb, List, [], ◌∷◌, ◌++◌, length, map, Option, Some, None, refl, sym, ◌∙◌, ap, subst, arith}
-use Rattle.std.specs.Prelude.{slice_get, flat_map, filter, nat_lt, is_none}
+use Rattle.std.proofs.Common.{◌≡◌, ℕ, zero, suc, ◌+◌, ◌≤◌, Bool, true, false, ◌&&◌, ◌||◌, List, [], ◌∷◌, ◌++◌, map, Option, Some, None, refl, sym, ◌∙◌, ap, subst, arith}
+use Rattle.std.specs.Prelude.{slice_get, filter, nat_lt}
 use Rattle.std.specs.List.{AllByRecursion, enumerate_from, list_any}
 use Rattle.std.specs.Option.{option_map_or}
 use Rattle.std.proofs.lemmas.Option.{none-some, same_Some}
@@ -27,7 +27,6 @@ use Rattle.oc_neutral.proofs.Positions.{there_at, each_at}
 use Rattle.oc_shelf.specs.Writing.Parts.{Laid}
 use Rattle.oc_shelf.proofs.WritingLaws.MemberLemmas.{each_flat_map, each_map, each_enumerated}
 use Rattle.oc_shelf.proofs.ReadingLaws.StageLemmas.{Unbroken, IsUnbroken}
-use Rattle.oc_coff.specs.declared.relocation.Relocation.{Relocation}
 use Rattle.oc_coff.specs.Entries.{entries_in}
 use Rattle.oc_coff.specs.Sections.{Carried, carried_in, sections_in}
 use Rattle.oc_coff.specs.Targets.{Aim, aim_in}
@@ -52,12 +51,12 @@ abbrev EndBy : ℕ → List (chains.Field Reloc) → Type 0
 EndBy p ys = AllByRecursion (λ (y : chains.Field Reloc). end_of y ≤ p) ys
 
 end_later : (p q : ℕ) (ys : List (chains.Field Reloc)) → p ≤ q → EndBy p ys → EndBy q ys
-end_later p q [] le all = tt
-end_later p q (y ∷ ys) le all = let l = all.0 in (omega (arith, l, le), end_later p q ys le all.1)
+end_later p q [] le ends = tt
+end_later p q (y ∷ ys) le ends = let l = ends.0 in (omega (arith, l, le), end_later p q ys le ends.1)
 
 end_more : (p : ℕ) (ys : List (chains.Field Reloc)) (x : chains.Field Reloc) → EndBy p ys → end_of x ≤ p → EndBy p (ys ++ x ∷ [])
-end_more p [] x all l = (l, tt)
-end_more p (y ∷ ys) x all l = (all.0, end_more p ys x all.1 l)
+end_more p [] x ends l = (l, tt)
+end_more p (y ∷ ys) x ends l = (ends.0, end_more p ys x ends.1 l)
 
 map_more : {X Y : Type 0} (f : X → Y) (xs : List X) (x : X) → map f xs ++ f x ∷ [] ≡ map f (xs ++ x ∷ [])
 map_more f [] x = refl
@@ -177,8 +176,8 @@ module _ (w : Word) (n : Object) (is : IsForCoff w n) (numbers : HasNumbers w n)
         (ap (λ earlier. slice_get (judged_from c (at + 10) earlier (map (relocation_of w lines) xs)) j) (sym (map_more (relocation_of w lines) ys x)) ∙ h)
       where
         wide_more : (ys : List (chains.Field Reloc)) (x : chains.Field Reloc) → AllByRecursion IsWide ys → IsWide x → AllByRecursion IsWide (ys ++ x ∷ [])
-        wide_more [] x all own = (own, tt)
-        wide_more (y ∷ ys) x all own = (all.0, wide_more ys x all.1 own)
+        wide_more [] x each own = (own, tt)
+        wide_more (y ∷ ys) x each own = (each.0, wide_more ys x each.1 own)
 
     section_clean : (j : ℕ) (z : Judged) → slice_get (judged_from c c.relocs_at [] c.relocs) j ≡ Some z → Unbroken (relocation_conditions w (made_tables w n) z)
     unfolding relocs_of

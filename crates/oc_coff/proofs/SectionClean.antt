@@ -1,15 +1,14 @@
 -- The sections of a canonical file are well formed.
 use Rattle.oc_coff.specs.declared.section_aux.SectionAux.{SectionAux}
-use Rattle.std.proofs.Common.{◌≡◌, ℕ, zero, suc, ◌+◌, ◌-◌, ◌*◌, ◌/◌, ◌%◌, ◌^◌, ◌<◌, ◌≤◌, Bool, true, false, cond, not, ◌&&◌, eqb, List, [], ◌∷◌, ◌++◌, length, map, take, Option, Some, None, refl, sym, ◌∙◌, ap, subst, inl, inr, arith, ◌≢◌, ◌||◌}
-use mathlib.Core.Path.{fun_ext}
-use Rattle.std.specs.Prelude.{◌⊎◌, slice_get, flat_map, nat_lt, min, filter_map, is_none, nat_le}
+use Rattle.std.proofs.Common.{◌≡◌, ℕ, zero, suc, ◌+◌, ◌*◌, ◌<◌, ◌≤◌, Bool, true, false, cond, not, ◌&&◌, eqb, List, [], ◌∷◌, ◌++◌, length, map, Option, Some, None, refl, sym, ◌∙◌, ap, subst, inl, inr, arith, ◌≢◌, ◌||◌}
+use Rattle.std.specs.Prelude.{◌⊎◌, slice_get, flat_map, nat_lt, min, is_none, nat_le}
 use Rattle.std.specs.List.{enumerate_from, sum_by}
-use Rattle.std.specs.Option.{option_map, option_map_or, is_some}
-use Rattle.std.proofs.lemmas.Bool.{true≢false, ne_eqb, lt-ltb, ltb-true, cases_eq, le-leb, cases_lt}
-use Rattle.std.proofs.lemmas.List.{take-map, length-map}
+use Rattle.std.specs.Option.{option_map_or, is_some}
+use Rattle.std.proofs.lemmas.Bool.{true≢false, ne_eqb, ltb-true, le-leb, cases_lt}
+use Rattle.std.proofs.lemmas.List.{length-map}
 use Rattle.std.proofs.lemmas.List.FromFn.{length-enumerate_from}
-use Rattle.std.proofs.lemmas.List.Sums.{sum_by-cons, sum_by-take-le}
-use Rattle.std.proofs.lemmas.Option.{none-some, same_Some, slice_get_within}
+use Rattle.std.proofs.lemmas.List.Sums.{sum_by-cons}
+use Rattle.std.proofs.lemmas.Option.{slice_get_within}
 use Rattle.oc_base.specs.declared.format.Word.{Word}
 use Rattle.oc_base.specs.Numbers.{number_at}
 use Rattle.oc_linking.specs.declared.terms.Kind.TheVariants.{Zero}
@@ -25,9 +24,9 @@ use Rattle.oc_coff.proofs.StructureLaws.{length-relocation_bytes}
 use Rattle.oc_base.proofs.NumberLaws.{length-table}
 use Rattle.oc_shelf.specs.Writing.Parts.{Stands, place_where}
 use Rattle.oc_shelf.proofs.WritingLaws.StandingLemmas.{stands_inside, stands_front}
-use Rattle.oc_shelf.proofs.WritingLaws.MemberLemmas.{filter_map-map, member_enumerated, each_enumerated, member_map}
-use Rattle.oc_coff.specs.Tables.{SectionTable, is_overflowed, Tables}
-use Rattle.oc_coff.specs.Sections.{is_stored, kind_in, Carried, carried_of, align_bits}
+use Rattle.oc_shelf.proofs.WritingLaws.MemberLemmas.{member_enumerated, member_map}
+use Rattle.oc_coff.specs.Tables.{SectionTable, Tables}
+use Rattle.oc_coff.specs.Sections.{is_stored, kind_in, align_bits}
 use Rattle.oc_coff.specs.Lines.{numbered_lines}
 use Rattle.oc_coff.specs.Bodies.{raw_of, relocs_of, is_crowded, count_entry, with_count}
 use Rattle.oc_coff.specs.Layout.{laid_parts, is_raw, is_relocs, pointer_to}
@@ -35,8 +34,8 @@ use Rattle.oc_coff.specs.Canonical.{section_flags, header_at, string_table, coff
 use Rattle.oc_coff.specs.SectionFaults.{Numbered, limit_conditions, table_conditions, raw_conditions, section_conditions, section_stage, names_another, follows_follower, copy_conditions, carried_size, carried_bytes, worth_by}
 use Rattle.oc_coff.proofs.CodedLaws.{seen_kind, IsForCoff, coded_section}
 use Rattle.oc_coff.proofs.PartLaws.{length-raw, raw_past, stands_raw, stands_relocs}
-use Rattle.oc_coff.proofs.TableLaws.{IsCodable, made_table, made_tables, relocation_stands, not_less}
-use Rattle.oc_coff.proofs.SectionLaws.{FlagsSay, flags_say, made_section, made_carried, name_read, kind_read, carried_read, filter_map_all, enumerated_again, sized}
+use Rattle.oc_coff.proofs.TableLaws.{made_table, made_tables, relocation_stands, not_less}
+use Rattle.oc_coff.proofs.SectionLaws.{FlagsSay, flags_say, name_read, kind_read, enumerated_again, sized}
 use Rattle.oc_coff.proofs.HeaderClean.{within_file}
 use Rattle.oc_shelf.proofs.ReadingLaws.StageLemmas.{Unbroken, unbroken_append, IsUnbroken}
 use Rattle.oc_coff.proofs.CodableLaws.{HasNumbers}
@@ -51,7 +50,6 @@ use Rattle.oc_neutral.specs.Building.{stored_size, is_zero}
 use Rattle.oc_linking.specs.declared.terms.Kind.{Kind}
 use Rattle.oc_coff.proofs.FieldLaws.{no_member}
 use Rattle.oc_neutral.proofs.Positions.{there_at}
-use Rattle.oc_linking.specs.Parts as parts
 
 -- ... running sums
 

@@ -1,35 +1,31 @@
 -- The sections of a canonical file are those that are seen.
-use Rattle.std.proofs.Common.{◌≡◌, ℕ, zero, suc, ◌+◌, ◌-◌, ◌*◌, ◌/◌, ◌%◌, ◌^◌, ◌<◌, ◌≤◌, Bool, true, false, cond, not, ◌&&◌, eqb, List, [], ◌∷◌, length, map, replicate, Option, Some, None, refl, sym, ◌∙◌, ap, subst, inl, inr, arith}
-use Rattle.std.specs.Prelude.{slice_get, nat_eq, nat_le, filter_map}
+use Rattle.std.proofs.Common.{◌≡◌, ℕ, suc, ◌+◌, ◌-◌, ◌*◌, ◌/◌, ◌%◌, ◌^◌, ◌<◌, ◌≤◌, Bool, true, false, cond, not, ◌&&◌, eqb, List, [], ◌∷◌, length, map, replicate, Option, Some, None, refl, sym, ◌∙◌, ap, subst, arith}
+use Rattle.std.specs.Prelude.{slice_get, nat_eq, filter_map}
 use Rattle.std.specs.List.{enumerate_from, cons_option}
 use Rattle.std.specs.Option.{unwrap_or, option_map, option_map_or, option_and_then, is_some}
-use Rattle.std.proofs.lemmas.Bool.{true≢false, eqb-true, eq-eqb, ne_eqb, le-leb, cases_eq}
-use Rattle.std.proofs.lemmas.Option.{none-some, same_Some}
+use Rattle.std.proofs.lemmas.Bool.{true≢false, eqb-true, eq-eqb, ne_eqb}
 use Rattle.oc_base.specs.declared.format.Word.{Word}
 use Rattle.oc_linking.specs.declared.terms.Kind.{Kind}
 use Rattle.oc_linking.specs.declared.terms.Kind.TheVariants.{Zero}
 use Rattle.oc_linking.specs.Numbers.{first_from}
 use Rattle.oc_linking.proofs.Searching.{first_from_found, first_from_none}
-use Rattle.oc_base.specs.Strings.{is_given}
 use Rattle.oc_neutral.specs.declared.section.Section.{Section}
 use Rattle.oc_neutral.specs.Objects.{Object}
 use Rattle.oc_neutral.specs.KindRules.{has, same_kind}
 use Rattle.oc_neutral.specs.Coff.Kinds.{coff_kind, coff_tag}
-use Rattle.oc_neutral.specs.Coff.Strings.{is_tabled, coff_strings}
 use Rattle.oc_neutral.specs.declared.coff.TheConstants.{IMAGE_SCN_LNK_NRELOC_OVFL, IMAGE_SCN_LNK_COMDAT, IMAGE_SCN_CNT_UNINITIALIZED_DATA, IMAGE_SCN_ALIGN_1BYTES}
 use Rattle.oc_neutral.proofs.GivenLaws.{coff_kind-tag}
 use Rattle.oc_coff.specs.declared.section_header.SectionHeader.{SectionHeader}
 use Rattle.oc_coff.specs.declared.relocation.Relocation.{Relocation}
 use Rattle.oc_shelf.specs.Writing.Parts.{place_where}
-use Rattle.oc_shelf.proofs.WritingLaws.MemberLemmas.{map-alike, map-map, filter_map-map, each_enumerated}
-use Rattle.oc_coff.specs.Fields.{coff_format}
+use Rattle.oc_shelf.proofs.WritingLaws.MemberLemmas.{map-map, filter_map-map, each_enumerated}
 use Rattle.oc_coff.specs.Names.{section_name}
-use Rattle.oc_coff.specs.Tables.{SectionTable, Tables, relocs_place}
-use Rattle.oc_coff.specs.Sections.{align_of, kind_in, is_stored, Carried, section_of, carried_of, carried_in, sections_in, position_from, position_of, align_bits}
+use Rattle.oc_coff.specs.Tables.{relocs_place}
+use Rattle.oc_coff.specs.Sections.{align_of, kind_in, is_stored, Carried, carried_of, carried_in, sections_in, align_bits}
 use Rattle.oc_coff.specs.Lines.{numbered_lines}
 use Rattle.oc_coff.specs.Bodies.{raw_of, relocs_of, is_crowded}
-use Rattle.oc_coff.specs.Layout.{laid_parts, is_raw, pointer_to}
-use Rattle.oc_coff.specs.Canonical.{align_field, section_flags, section_header, header_at, section_field, string_table}
+use Rattle.oc_coff.specs.Layout.{laid_parts, is_raw}
+use Rattle.oc_coff.specs.Canonical.{align_field, section_flags, header_at, string_table}
 use Rattle.oc_coff.proofs.CodedLaws.{seen_kind, IsCodedSection}
 use Rattle.oc_coff.proofs.PartLaws.{raw_past, length-raw}
 use Rattle.oc_coff.proofs.TableLaws.{made_table, made_tables}

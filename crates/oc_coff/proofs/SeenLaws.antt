@@ -1,9 +1,9 @@
 -- The symbols that are seen of an object, by the lines of its file.
-use Rattle.std.proofs.Common.{◌≡◌, ℕ, zero, suc, ◌+◌, ◌<◌, Bool, true, false, cond, eqb, List, [], ◌∷◌, length, map, Option, Some, None, refl, sym, ◌∙◌, ap, subst, arith}
+use Rattle.std.proofs.Common.{◌≡◌, ℕ, zero, suc, ◌+◌, false, List, [], ◌∷◌, map, Option, Some, None, refl, sym, ◌∙◌, ap, subst}
 use Rattle.std.specs.Prelude.{slice_get, nat_eq, filter_map}
-use Rattle.std.specs.List.{cons_option, position_or_len}
-use Rattle.std.specs.Option.{option_map, option_map_or, option_and_then}
-use Rattle.std.proofs.lemmas.Bool.{true≢false, eq-eqb, ne_eqb}
+use Rattle.std.specs.List.{cons_option}
+use Rattle.std.specs.Option.{option_map, option_and_then}
+use Rattle.std.proofs.lemmas.Bool.{eq-eqb, ne_eqb}
 use Rattle.std.proofs.lemmas.Option.{none-some, same_Some}
 use Rattle.oc_base.specs.declared.format.Word.{Word}
 use Rattle.oc_base.specs.declared.format.Word.TheVariants.{W32, W64}
@@ -12,7 +12,7 @@ use Rattle.oc_linking.specs.Parts.{is_local}
 use Rattle.oc_neutral.specs.declared.symbol.Symbol.{Symbol}
 use Rattle.oc_neutral.specs.Objects.{Object}
 use Rattle.oc_neutral.specs.Families.{container_of}
-use Rattle.oc_neutral.specs.Manners.{Manner, coff_manner, manner_of, own_manner}
+use Rattle.oc_neutral.specs.Manners.{Manner, coff_manner, manner_of}
 use Rattle.oc_neutral.specs.Seen.{shown_from, new_position, seen_symbol, seen_symbols, seen_with, seen}
 use Rattle.oc_neutral.specs.SymbolLines.{coff_lines}
 use Rattle.oc_neutral.proofs.SeenFamilies.{coff_table}

@@ -1,10 +1,10 @@
 -- The canonical file of an object that is ready for COFF shows the object that is seen.
 use Rattle.oc_linking.specs.Images.{overlay}
-use Rattle.std.proofs.Common.{◌≡◌, ℕ, zero, suc, ◌+◌, ◌<◌, ◌≤◌, ◌^◌, Bool, true, false, cond, ◌&&◌, ℤ, List, [], ◌∷◌, length, map, replicate, get_or, Option, Some, None, refl, sym, ◌∙◌, ap, subst, inl, inr, arith}
-use Rattle.std.specs.Prelude.{◌⊎◌, ◌+ℤ◌, pos, slice_get}
+use Rattle.std.proofs.Common.{◌≡◌, ℕ, zero, suc, ◌+◌, ◌<◌, Bool, true, false, cond, ℤ, List, [], ◌∷◌, length, map, replicate, get_or, Option, Some, None, refl, sym, ◌∙◌, ap, subst, inl, inr, arith}
+use Rattle.std.specs.Prelude.{◌⊎◌, slice_get}
 use Rattle.std.specs.List.{enumerate_from}
 use Rattle.std.specs.Option.{option_map, option_and_then, unwrap_or}
-use Rattle.std.proofs.lemmas.Bool.{true≢false, cases_lt}
+use Rattle.std.proofs.lemmas.Bool.{cases_lt}
 use Rattle.std.proofs.lemmas.Option.{none-some, same_Some}
 use Rattle.std.proofs.lemmas.Int.{ints}
 use Rattle.oc_base.specs.declared.format.Word.{Word}
@@ -18,14 +18,12 @@ use Rattle.oc_linking.specs.declared.terms.Patch.{Patch}
 use Rattle.oc_linking.specs.Fits.{bytes_of}
 use Rattle.oc_linking.specs.Keeping.{all, keeps}
 use Rattle.oc_linking.specs.Parts as parts
-use Rattle.oc_linking.specs.Rules.{Field}
 use Rattle.oc_linking.specs.Targets as linked
 use Rattle.oc_linking.specs.Targets.{symbol_target}
-use Rattle.oc_linking.specs.Rules.{Named, Symbolic}
+use Rattle.oc_linking.specs.Rules.{Symbolic}
 use Rattle.oc_linking.proofs.Overlay.{length-overlay}
 use Rattle.oc_linking.proofs.Storing.{others_stay}
 use Rattle.oc_neutral.specs.declared.section.Section.{Section}
-use Rattle.oc_neutral.specs.declared.symbol.Symbol.{Symbol}
 use Rattle.oc_neutral.specs.declared.reloc.Reloc.{Reloc}
 use Rattle.oc_neutral.specs.declared.reloc.Target.{Target}
 use Rattle.oc_neutral.specs.declared.reloc.Target.TheVariants as target
@@ -33,8 +31,8 @@ use Rattle.oc_neutral.specs.Objects.{Object, reloc_at}
 use Rattle.oc_neutral.specs.Again.{IsCovered, HasContents, IsReadAgain}
 use Rattle.oc_neutral.specs.Building.{is_zero}
 use Rattle.oc_neutral.specs.Built.{IsField, IsFree, IsGiven}
-use Rattle.oc_neutral.specs.Dialects.{is_kept, kept_fields}
-use Rattle.oc_neutral.specs.Faces.{contents_of, shown_section, shown_sections, shown_symbol, shown_symbols, key_of}
+use Rattle.oc_neutral.specs.Dialects.{kept_fields}
+use Rattle.oc_neutral.specs.Faces.{contents_of, shown_section, shown_symbol, shown_symbols, key_of}
 use Rattle.oc_neutral.specs.Fitted.{IsFitted}
 use Rattle.oc_neutral.specs.Invariants.{IsObject, IsThere}
 use Rattle.oc_neutral.specs.KindRules.{same_kind}
@@ -51,9 +49,8 @@ use Rattle.oc_neutral.proofs.Positions.{there_at}
 use Rattle.oc_neutral.proofs.RowFieldLaws.{rows_are_fields, section_rows_are_fields, symbol_is_target}
 use Rattle.oc_neutral.proofs.SeenAlike.{relocs_same, numbers_differ}
 use Rattle.oc_neutral.proofs.SeenLaws.{seen_is_object_law}
-use Rattle.oc_shelf.specs.Writing.Parts.{Laid}
-use Rattle.oc_shelf.proofs.WritingLaws.MemberLemmas.{map-map, of_map, member_map, member_enumerated}
-use Rattle.oc_coff.specs.Tables.{Tables, tables_of}
+use Rattle.oc_shelf.proofs.WritingLaws.MemberLemmas.{of_map, member_map, member_enumerated}
+use Rattle.oc_coff.specs.Tables.{tables_of}
 use Rattle.oc_coff.specs.Entries.{entries_in}
 use Rattle.oc_coff.specs.Sections.{carried_in, sections_in}
 use Rattle.oc_coff.specs.Symbols.{symbols_in}
@@ -64,14 +61,14 @@ use Rattle.oc_coff.specs.Lines.{numbered_lines, outer_number}
 use Rattle.oc_coff.specs.Bodies.{field_patch, field_patches, raw_of, target_number}
 use Rattle.oc_coff.specs.Canonical.{coff_file}
 use Rattle.oc_coff.proofs.TableLaws.{made_tables, tables_read}
-use Rattle.oc_coff.proofs.EntryLaws.{made_entry, entries_made}
+use Rattle.oc_coff.proofs.EntryLaws.{entries_made}
 use Rattle.oc_coff.proofs.CodedLaws.{IsForCoff, seen_kind, coded_section, zero_kind}
 use Rattle.oc_coff.proofs.SectionLaws.{made_contents, made_section, made_carried, carried_made, sections_made}
 use Rattle.oc_coff.proofs.KeyLaws.{grouped}
 use Rattle.oc_coff.proofs.SeenLaws.{shown, again, syms, again_is, are_shown, seen_there}
 use Rattle.oc_coff.proofs.SymbolLaws.{S, E, symbols_read}
-use Rattle.oc_coff.proofs.TargetLaws.{seen_as, named, section_aim, symbol_aim}
-use Rattle.oc_coff.proofs.FieldLaws.{meets, row, inside, has_bytes, none_past, reloc_made, field_made, no_field, fields_there, fields_past}
+use Rattle.oc_coff.proofs.TargetLaws.{named, section_aim, symbol_aim}
+use Rattle.oc_coff.proofs.FieldLaws.{meets, row, none_past, reloc_made, field_made, no_field, fields_there, fields_past}
 use Rattle.oc_coff.proofs.CodableLaws.{HasNumbers}
 
 -- every kind is kept

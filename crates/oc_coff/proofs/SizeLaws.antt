@@ -1,12 +1,12 @@
 -- The sizes of a canonical file are numbers of 32 bits.
-use Rattle.std.proofs.Common.{◌≡◌, ℕ, zero, suc, ◌+◌, ◌*◌, ◌^◌, ◌<◌, ◌≤◌, Bool, true, false, cond, ◌&&◌, List, [], ◌∷◌, ◌++◌, length, map, get_or, Option, Some, None, refl, sym, ◌∙◌, ap, subst, arith, length-append}
-use Rattle.std.specs.Prelude.{slice_get, flat_map, not}
+use Rattle.std.proofs.Common.{◌≡◌, ℕ, suc, ◌+◌, ◌*◌, ◌^◌, ◌<◌, ◌≤◌, Bool, true, false, cond, ◌&&◌, List, [], ◌∷◌, ◌++◌, length, map, get_or, refl, sym, ◌∙◌, ap, arith, length-append}
+use Rattle.std.specs.Prelude.{flat_map, not}
 use Rattle.std.specs.List.{sum_by, fold, enumerate_from, AllByRecursion}
 use Rattle.std.proofs.lemmas.List.Sums.{sum_by-cons, sum_by-append}
 use Rattle.std.proofs.lemmas.List.{length-map}
 use Rattle.oc_base.specs.declared.format.Word.{Word}
 use Rattle.oc_base.specs.Strings.{is_maximal, is_given, with_top, tops_of, table_text}
-use Rattle.oc_chains.specs.Lists.{list_of, held_in}
+use Rattle.oc_chains.specs.Lists.{list_of}
 use Rattle.oc_neutral.specs.declared.reloc.Reloc.{Reloc}
 use Rattle.oc_neutral.specs.declared.section.Section.{Section}
 use Rattle.oc_neutral.specs.Objects.{Object}
@@ -15,16 +15,16 @@ use Rattle.oc_neutral.specs.Invariants.{HasItsBytes}
 use Rattle.oc_neutral.specs.CoffMeets.{strings_of}
 use Rattle.oc_neutral.specs.SymbolLines.{coff_lines}
 use Rattle.oc_neutral.proofs.SeenFamilies.{coff_table}
-use Rattle.oc_shelf.specs.Writing.Parts.{Laid, laid_end, behind}
+use Rattle.oc_shelf.specs.Writing.Parts.{laid_end, behind}
 use Rattle.oc_coff.specs.declared.relocation.Relocation.{Relocation}
 use Rattle.oc_coff.specs.Fields.{coff_format}
 use Rattle.oc_coff.specs.Lines.{Line, SectionLine, LocalLine, DefaultLine, OuterLine, lines_of, line_size, numbered_lines, entry_count}
-use Rattle.oc_coff.specs.Bodies.{is_crowded, count_entry, with_count, relocs_of}
-use Rattle.oc_coff.specs.Layout.{Part, FileHead, SectionHeads, Raw, Relocs, SymbolTable, StringTable, section_parts, parts_of, text_of, reloc_entries, part_size, file_length}
-use Rattle.oc_coff.specs.Canonical.{string_table, coff_file}
+use Rattle.oc_coff.specs.Bodies.{is_crowded, count_entry, relocs_of}
+use Rattle.oc_coff.specs.Layout.{Part, FileHead, SectionHeads, Raw, Relocs, section_parts, text_of, reloc_entries, part_size}
+use Rattle.oc_coff.specs.Canonical.{coff_file}
 use Rattle.oc_coff.proofs.CodedLaws.{IsForCoff}
 use Rattle.oc_coff.proofs.LineLaws.{counted_line, lines_counted}
-use Rattle.oc_coff.proofs.PartLaws.{length-coff_file, table_place, parts_split, front_parts}
+use Rattle.oc_coff.proofs.PartLaws.{length-coff_file, table_place, front_parts}
 use Rattle.oc_base.specs.Strings as strings
 use Rattle.oc_chains.specs.declared.field.Field as chains
 use Rattle.oc_neutral.specs.SymbolLines as table

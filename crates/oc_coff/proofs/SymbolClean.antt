@@ -1,13 +1,13 @@
 -- The symbols of a canonical file are well formed.
-use Rattle.std.proofs.Common.{◌≡◌, ℕ, zero, suc, ◌+◌, ◌-◌, ◌*◌, ◌^◌, ◌<◌, ◌≤◌, Bool, true, false, cond, not, ◌&&◌, ◌||◌, eqb, List, [], ◌∷◌, ◌++◌, length, map, take, Option, Some, None, refl, sym, ◌∙◌, ap, subst, inl, inr, arith, option_and_then}
-use Rattle.std.specs.Prelude.{◌⊎◌, slice_get, nat_lt, nat_le, bytes_eq, is_none, codes}
+use Rattle.std.proofs.Common.{◌≡◌, ℕ, zero, suc, ◌+◌, ◌<◌, ◌≤◌, Bool, true, false, cond, not, ◌&&◌, ◌||◌, eqb, List, [], ◌∷◌, ◌++◌, length, take, Option, Some, None, refl, sym, ◌∙◌, ap, subst, inl, inr, arith, option_and_then}
+use Rattle.std.specs.Prelude.{slice_get, nat_lt, is_none, codes}
 use Rattle.std.specs.List.{enumerate_from, list_any}
-use Rattle.std.specs.Option.{option_map_or, is_some, unwrap_or}
-use Rattle.std.proofs.lemmas.Bool.{true≢false, ne_eqb, eq-eqb, le-leb, cases_lt, false_from_ne_true}
+use Rattle.std.specs.Option.{option_map_or, unwrap_or}
+use Rattle.std.proofs.lemmas.Bool.{true≢false, ne_eqb, le-leb, cases_lt, false_from_ne_true}
 use Rattle.std.proofs.lemmas.Slice.Eq.{bytes_eq-Decides}
 use Rattle.std.proofs.lemmas.List.{length-map}
 use Rattle.std.proofs.lemmas.List.FromFn.{length-enumerate_from}
-use Rattle.std.proofs.lemmas.Option.{none-some, same_Some, slice_get_within}
+use Rattle.std.proofs.lemmas.Option.{none-some, slice_get_within}
 use Rattle.oc_base.specs.declared.format.Word.{Word}
 use Rattle.oc_linking.specs.declared.terms.Value.{Value}
 use Rattle.oc_linking.specs.declared.terms.Fallback.{Fallback}
@@ -20,22 +20,20 @@ use Rattle.oc_neutral.specs.declared.symbol.Symbol.{Symbol}
 use Rattle.oc_neutral.specs.Objects.{Object}
 use Rattle.oc_neutral.specs.Coff.Strings.{default_name, has_default, is_long, is_tabled}
 use Rattle.oc_coff.specs.declared.symbol.SymbolEntry.{SymbolEntry}
-use Rattle.oc_coff.specs.SymbolEntry.{symbol_at}
-use Rattle.oc_shelf.specs.Writing.Parts.{Laid, behind}
-use Rattle.oc_shelf.proofs.WritingLaws.PartLemmas.{laid_part, laid_within}
-use Rattle.oc_shelf.proofs.WritingLaws.MemberLemmas.{of_map, member_map, member_enumerated, none_passes}
-use Rattle.oc_coff.specs.Tables.{SectionTable, Tables, Slot}
+use Rattle.oc_shelf.specs.Writing.Parts.{Laid}
+use Rattle.oc_shelf.proofs.WritingLaws.PartLemmas.{laid_within}
+use Rattle.oc_shelf.proofs.WritingLaws.MemberLemmas.{of_map, member_map, none_passes}
+use Rattle.oc_coff.specs.Tables.{SectionTable, Slot}
 use Rattle.oc_coff.specs.Names.{is_nothing, symbol_name}
 use Rattle.oc_coff.specs.Sections.{position_of, sections_in}
 use Rattle.oc_coff.specs.Entries.{Entry, entry_numbered, has_section, is_class, entries_in, name_of}
-use Rattle.oc_coff.specs.Symbols.{value_of, tagged_by}
+use Rattle.oc_coff.specs.Symbols.{tagged_by}
 use Rattle.oc_coff.specs.SymbolFaults.{is_no_section, is_known, is_static, is_external, is_uncarried, can_be_tagged, tag_conditions, is_named, name_conditions, symbol_conditions, symbol_stage, is_past_end, is_undefined}
 use Rattle.oc_coff.specs.Lines.{Line, SectionLine, LocalLine, DefaultLine, OuterLine, line_size, lines_of, numbered_lines, entry_count, is_default_line, is_outer_line}
-use Rattle.oc_coff.specs.Canonical.{header_at, numbers_of, numbers_for, numbers_by, default_numbers, type_by, class_by, aux_by, entry, tag_of, line_entry, symbol_field, string_table, entry_rows}
-use Rattle.oc_coff.proofs.PartLaws.{table_place, length-entry_rows}
+use Rattle.oc_coff.specs.Canonical.{header_at, numbers_of, numbers_by, default_numbers, type_by, class_by, aux_by, entry, tag_of, line_entry, symbol_field, string_table, entry_rows}
+use Rattle.oc_coff.proofs.PartLaws.{length-entry_rows}
 use Rattle.oc_coff.proofs.TableLaws.{made_table, made_tables, read_row}
 use Rattle.oc_coff.proofs.EntryLaws.{made_entry, outer_slot, line_slot, aux_count, sized_aux}
-use Rattle.oc_coff.proofs.SectionLaws.{made_section}
 use Rattle.oc_coff.proofs.LineLaws.{IsLineOf, numbered_is_of, default_found, outer_found, one_outer, numbered_line}
 use Rattle.oc_coff.proofs.CodedLaws.{IsCodedValue, IsCodedFallback, IsCodedBinding, IsCodedSymbol, IsCodedLine, IsForCoff, outer_coded}
 use Rattle.oc_coff.proofs.SymbolLaws.{S, E, position_made, entry_where, numbered_coded, tag_read}
@@ -51,7 +49,6 @@ use Rattle.oc_neutral.specs.KindRules.{has_nul, begins}
 use Rattle.std.proofs.lemmas.List.Folds.{list_any-append}
 use Rattle.oc_linking.specs.declared.terms.Value.TheVariants as value
 use Rattle.oc_linking.specs.declared.terms.Fallback.TheVariants as fallback
-use Rattle.oc_linking.specs.Parts as parts
 
 header_size : (w : Word) (n : Object) (k : ℕ) (s : Section) → (made_table w n (k, s)).header.SizeOfRawData ≡ s.size
 unfolding header_at

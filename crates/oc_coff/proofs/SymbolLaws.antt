@@ -1,15 +1,12 @@
 -- The symbols of a canonical file are those that are seen.
 use Rattle.oc_coff.specs.declared.weak_aux.WeakAux.{WeakAux}
-use Rattle.std.proofs.Common.{◌≡◌, ℕ, zero, suc, ◌+◌, ◌-◌, ◌*◌, ◌^◌, ◌<◌, ◌≤◌, Bool, true, false, cond, not, ◌&&◌, ◌||◌, eqb, List, [], ◌∷◌, ◌++◌, length, map, Option, Some, None, refl, sym, ◌∙◌, ap, subst, inl, inr, arith}
-use Rattle.std.specs.Prelude.{◌⊎◌, slice_get, nat_eq, nat_le, find, filter_map, codes}
-use Rattle.std.specs.List.{enumerate_from, cons_option, list_any, position_or_len}
+use Rattle.std.proofs.Common.{◌≡◌, ℕ, zero, suc, ◌+◌, ◌^◌, ◌<◌, ◌≤◌, Bool, true, false, cond, ◌&&◌, eqb, List, [], ◌∷◌, length, map, Option, Some, None, refl, sym, ◌∙◌, ap, subst, inl, inr, arith}
+use Rattle.std.specs.Prelude.{◌⊎◌, slice_get, filter_map}
+use Rattle.std.specs.List.{enumerate_from}
 use Rattle.std.specs.Option.{unwrap_or, option_map, option_map_or, option_and_then}
-use Rattle.std.proofs.lemmas.Bool.{true≢false, eqb-true, eq-eqb, ne_eqb, le-leb, or_right}
-use Rattle.std.proofs.lemmas.Option.{none-some, same_Some, slice_get_within}
-use Rattle.std.proofs.lemmas.List.Folds.{find_at, list_any-append}
-use Rattle.std.proofs.lemmas.List.FromFn.{length-enumerate_from}
+use Rattle.std.proofs.lemmas.Bool.{true≢false, eq-eqb, ne_eqb, le-leb, or_right}
+use Rattle.std.proofs.lemmas.Option.{same_Some, slice_get_within}
 use Rattle.oc_base.specs.declared.format.Word.{Word}
-use Rattle.oc_base.specs.Strings.{is_given}
 use Rattle.oc_linking.specs.declared.terms.Mark.{Mark}
 use Rattle.oc_linking.specs.declared.terms.Mark.TheVariants.{NoType, Object as ObjectMark, Function}
 use Rattle.oc_linking.specs.declared.terms.Visibility.TheVariants.{Default}
@@ -21,27 +18,25 @@ use Rattle.oc_linking.specs.Parts.{is_local}
 use Rattle.oc_neutral.specs.declared.section.Section.{Section}
 use Rattle.oc_neutral.specs.declared.symbol.Symbol.{Symbol}
 use Rattle.oc_neutral.specs.Objects.{Object}
-use Rattle.oc_neutral.specs.Powers.{natural_align}
-use Rattle.oc_neutral.specs.Faces.{number_of, shown_fallback, shown_binding, shown_symbol, shown_symbols}
-use Rattle.oc_neutral.specs.Coff.Strings.{is_long, coff_strings, default_name, has_default}
+use Rattle.oc_neutral.specs.Faces.{number_of, shown_fallback, shown_binding, shown_symbol}
+use Rattle.oc_neutral.specs.Coff.Strings.{default_name, has_default}
 use Rattle.oc_coff.specs.declared.symbol.SymbolEntry.{SymbolEntry}
-use Rattle.oc_shelf.specs.Writing.Parts.{Laid, behind, place_where}
-use Rattle.oc_shelf.proofs.WritingLaws.PartLemmas.{IsFound, laid_part}
-use Rattle.oc_shelf.proofs.WritingLaws.MemberLemmas.{of_map, map-map, find_first, none_passes, member_passes, member_map, member_filter_map, each_map, filter_map-map, filter_map-results}
-use Rattle.oc_coff.specs.Fields.{coff_format}
+use Rattle.oc_shelf.specs.Writing.Parts.{Laid, place_where}
+use Rattle.oc_shelf.proofs.WritingLaws.PartLemmas.{IsFound}
+use Rattle.oc_shelf.proofs.WritingLaws.MemberLemmas.{of_map, find_first, none_passes, member_passes, member_map, filter_map-map, filter_map-results}
 use Rattle.oc_coff.specs.Names.{is_nothing, symbol_name}
-use Rattle.oc_coff.specs.Tables.{Tables, Slot}
-use Rattle.oc_coff.specs.Sections.{carried_in, sections_in, position_from, position_of}
-use Rattle.oc_coff.specs.Entries.{Entry, entry_numbered, is_class, has_section, entries_in}
-use Rattle.oc_coff.specs.Symbols.{tags, is_tagged, is_section_symbol, value_of, external_binding, fallback_at, fallback_by, weak_binding, local_binding, binding_of, symbol_with, symbol_of, symbols_in}
-use Rattle.oc_coff.specs.Lines.{Line, SectionLine, LocalLine, DefaultLine, OuterLine, lines_of, line_size, numbered_lines, is_default_line, is_outer_line, default_number, outer_number}
-use Rattle.oc_coff.specs.Canonical.{numbers_of, numbers_for, numbers_by, default_numbers, type_by, class_by, aux_by, entry, tag_of, line_entry, symbol_field, string_table, weak_aux}
+use Rattle.oc_coff.specs.Tables.{Slot}
+use Rattle.oc_coff.specs.Sections.{sections_in, position_from, position_of}
+use Rattle.oc_coff.specs.Entries.{Entry, entry_numbered, has_section, entries_in}
+use Rattle.oc_coff.specs.Symbols.{tags, is_tagged, is_section_symbol, value_of, fallback_at, fallback_by, binding_of, symbol_with, symbol_of, symbols_in}
+use Rattle.oc_coff.specs.Lines.{Line, SectionLine, LocalLine, DefaultLine, OuterLine, lines_of, numbered_lines, is_default_line, is_outer_line, default_number, outer_number}
+use Rattle.oc_coff.specs.Canonical.{numbers_of, numbers_by, default_numbers, type_by, class_by, aux_by, entry, tag_of, line_entry, symbol_field, string_table, weak_aux}
 use Rattle.oc_neutral.specs.Seen.{seen_fallback, seen_symbol, new_position, seen_binding}
 use Rattle.oc_coff.proofs.SeenLaws.{seen_line, syms, shown, seen_there, symbols_seen}
 use Rattle.oc_coff.proofs.TableLaws.{made_tables}
 use Rattle.oc_coff.proofs.EntryLaws.{made_entry, outer_slot, weak_said}
 use Rattle.oc_coff.proofs.NameLaws.{symbol_named}
-use Rattle.oc_coff.proofs.SectionLaws.{made_section, made_carried, carried_made}
+use Rattle.oc_coff.proofs.SectionLaws.{made_section}
 use Rattle.oc_coff.proofs.LineLaws.{IsLineOf, numbered_is_of, default_found, outer_found, one_number, one_default, numbered_line}
 use Rattle.oc_coff.proofs.CodedLaws.{IsForCoff, IsCodedValue, IsCodedFallback, IsCodedBinding, IsCodedSymbol, IsCodedLine, coded_line, weak_default}
 use Rattle.oc_shelf.proofs.WritingLaws.PackedLemmas.{Fit}

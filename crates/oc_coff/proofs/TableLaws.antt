@@ -1,13 +1,11 @@
 -- The structures of a canonical file are read back.
 use Rattle.oc_coff.specs.WeakAux.{weak_aux_at}
 use Rattle.oc_coff.specs.SectionAux.{section_aux_at}
-use Rattle.std.proofs.Common.{◌≡◌, ℕ, zero, suc, ◌+◌, ◌-◌, ◌*◌, ◌^◌, ◌<◌, ◌≤◌, Bool, true, false, cond, eqb, List, [], ◌∷◌, ◌++◌, length, map, take, drop, get_or, Option, Some, None, refl, sym, ◌∙◌, ap, subst, arith, append_assoc, append-nil, length-append}
+use Rattle.std.proofs.Common.{◌≡◌, ℕ, suc, ◌+◌, ◌-◌, ◌*◌, ◌^◌, ◌<◌, ◌≤◌, Bool, true, false, cond, eqb, List, [], ◌∷◌, ◌++◌, length, map, take, drop, Some, refl, sym, ◌∙◌, ap, subst, arith, append-nil, length-append}
 use Rattle.std.specs.Prelude.{slice_get, flat_map, nat_lt, min}
-use Rattle.std.specs.List.{enumerate_from, AllByRecursion}
-use Rattle.std.proofs.lemmas.List.{length-map, take_at, take_all}
+use Rattle.std.specs.List.{enumerate_from}
 use Rattle.std.proofs.lemmas.List.FromFn.{length-enumerate_from}
-use Rattle.std.proofs.lemmas.Bool.{true≢false, eqb-true, eq-eqb, ne_eqb, ltb-true, lt-ltb}
-use Rattle.std.proofs.lemmas.Option.{none-some, same_Some}
+use Rattle.std.proofs.lemmas.Bool.{eqb-true, ne_eqb, ltb-true, lt-ltb}
 use Rattle.std.proofs.lemmas.Bool.Decides.{nat_tests}
 use Rattle.oc_base.specs.declared.format.Word.{Word}
 use Rattle.oc_base.specs.Numbers.{number_at, bytes_of_number}
@@ -25,18 +23,17 @@ use Rattle.oc_coff.specs.SectionHeader.{section_header_at, section_header_bytes}
 use Rattle.oc_coff.specs.SymbolEntry.{symbol_at, symbol_bytes}
 use Rattle.oc_coff.specs.Relocation.{relocation_at, relocation_bytes}
 use Rattle.oc_shelf.proofs.WritingLaws.PackedLemmas.{Fit}
-use Rattle.oc_coff.proofs.StructureLaws.{file_header_numbers, length-file_header_bytes, file_header_of-bytes, section_header_numbers, length-section_header_bytes, section_header_at-bytes, section_header_at-shift, symbol_numbers, length-symbol_bytes, symbol_at-bytes, symbol_at-shift, length-relocation_bytes, relocation_at-bytes, relocation_at-shift, relocation_numbers}
-use Rattle.oc_shelf.specs.Writing.Parts.{Stands, Laid, place_where}
+use Rattle.oc_coff.proofs.StructureLaws.{file_header_numbers, file_header_of-bytes, section_header_numbers, length-section_header_bytes, section_header_at-bytes, section_header_at-shift, symbol_numbers, symbol_at-bytes, length-relocation_bytes, relocation_at-bytes, relocation_at-shift, relocation_numbers}
+use Rattle.oc_shelf.specs.Writing.Parts.{Stands, place_where}
 use Rattle.oc_shelf.specs.Reading.Rows.{rows}
-use Rattle.oc_shelf.proofs.WritingLaws.StandingLemmas.{stands_first, stands_front, stands_back, stands_drop, stands_take, stands_number, stands_inside, number_within, bytes_within, rows_read}
-use Rattle.oc_shelf.proofs.WritingLaws.PartLemmas.{place_past}
-use Rattle.oc_shelf.proofs.WritingLaws.MemberLemmas.{map-alike, map-map, each_map, each_enumerated, member_flat_map, member_enumerated}
-use Rattle.oc_coff.specs.Tables.{SectionTable, Tables, is_overflowed, relocs_place, section_table, strings_place, has_strings, strings_of, entries_of, section_tables, tables_of, slot_at, Slot, usual_sizes, reloc_count}
-use Rattle.oc_coff.specs.Lines.{Line, numbered_lines, entry_count, lines_of}
+use Rattle.oc_shelf.proofs.WritingLaws.StandingLemmas.{stands_front, stands_back, stands_drop, stands_take, stands_number, number_within, bytes_within, rows_read}
+use Rattle.oc_shelf.proofs.WritingLaws.MemberLemmas.{map-alike, map-map, each_enumerated}
+use Rattle.oc_coff.specs.Tables.{SectionTable, Tables, relocs_place, section_table, strings_of, entries_of, section_tables, tables_of, slot_at, Slot, usual_sizes, reloc_count}
+use Rattle.oc_coff.specs.Lines.{numbered_lines, entry_count}
 use Rattle.oc_coff.specs.Bodies.{raw_of, relocs_of, is_crowded, count_entry, with_count}
 use Rattle.oc_coff.specs.Layout.{text_of, laid_parts, is_raw, is_relocs, pointer_to}
-use Rattle.oc_coff.specs.Canonical.{section_flags, section_header, header_at, headers_of, line_entry, line_rows, entry_rows, file_header, string_table, coff_file}
-use Rattle.oc_coff.proofs.PartLaws.{IsRow, header_is_eight, entries_are_rows, length-entry_rows, stands_raw, stands_relocs, table_place, table_past, table_place_is, stands_symbols, stands_strings, length-coff_file, stands_header, stands_headers, length-raw, raw_past, relocs_past}
+use Rattle.oc_coff.specs.Canonical.{section_flags, header_at, entry_rows, file_header, string_table, coff_file}
+use Rattle.oc_coff.proofs.PartLaws.{header_is_eight, entries_are_rows, length-entry_rows, stands_raw, stands_relocs, table_place, table_past, table_place_is, stands_symbols, stands_strings, length-coff_file, stands_header, stands_headers, length-raw, raw_past}
 
 -- what the header counts
 pub symbols_counted : (w : Word) (n : Object) → (file_header w n).NumberOfSymbols ≡ entry_count w n

@@ -1,12 +1,11 @@
 -- The targets of a canonical file are those of its object.
-use Rattle.std.proofs.Common.{◌≡◌, ℕ, ◌+◌, ◌<◌, ◌≤◌, ◌^◌, Bool, true, false, cond, eqb, List, length, map, Option, Some, None, refl, sym, ◌∙◌, ap, arith}
+use Rattle.std.proofs.Common.{◌≡◌, ℕ, ◌+◌, ◌<◌, ◌^◌, Bool, true, false, cond, List, length, Option, Some, None, refl, sym, ◌∙◌, ap, arith}
 use Rattle.std.specs.Prelude.{slice_get}
-use Rattle.std.specs.Option.{option_map, option_map_or, option_and_then}
+use Rattle.std.specs.Option.{option_map, option_and_then}
 use Rattle.std.proofs.lemmas.Bool.{true≢false, le-leb}
 use Rattle.std.proofs.lemmas.Option.{slice_get_within}
 use Rattle.oc_base.specs.declared.format.Word.{Word}
 use Rattle.oc_linking.specs.declared.terms.Value.TheVariants as value
-use Rattle.oc_linking.specs.declared.terms.Fallback.{Fallback}
 use Rattle.oc_linking.specs.declared.terms.Fallback.TheVariants as fallback
 use Rattle.oc_linking.specs.declared.terms.Binding.{Binding}
 use Rattle.oc_linking.specs.declared.terms.Binding.TheVariants.{Local, Global, Undefined, Common, Weak}
@@ -22,7 +21,7 @@ use Rattle.oc_neutral.specs.RowFields.{place_target}
 use Rattle.oc_neutral.specs.Seen.{seen_binding, seen_symbol}
 use Rattle.oc_neutral.specs.TargetRelocations.{is_homeless}
 use Rattle.oc_shelf.specs.Writing.Parts.{Laid}
-use Rattle.oc_coff.specs.Entries.{Entry, entries_in, entry_numbered}
+use Rattle.oc_coff.specs.Entries.{entries_in, entry_numbered}
 use Rattle.oc_coff.specs.Sections.{sections_in}
 use Rattle.oc_coff.specs.Symbols.{is_own, value_of, symbol_of}
 use Rattle.oc_coff.specs.Targets.{Aim, aim_at, aim_for, aim_in}

@@ -1,14 +1,12 @@
 -- The canonical file of an object that is ready for COFF is well formed and shows the object that is seen.
-use Rattle.std.proofs.Common.{◌≡◌, ℕ, Option, None, refl, sym, ◌∙◌, ap, subst, List, [], ◌∷◌}
+use Rattle.std.proofs.Common.{◌≡◌, ℕ, None, refl, sym, ◌∙◌, ap, subst, List, [], ◌∷◌}
 use Rattle.oc_base.specs.declared.format.Word.{Word}
 use Rattle.oc_base.specs.declared.format.Word.TheVariants.{W32, W64}
 use Rattle.oc_linking.specs.Keeping.{all}
-use Rattle.oc_linking.specs.FirstFault.{Stage, first_fault}
+use Rattle.oc_linking.specs.FirstFault.{first_fault}
 use Rattle.oc_neutral.specs.Objects.{Object}
-use Rattle.oc_neutral.specs.Fitted.{IsFitted}
 use Rattle.oc_neutral.specs.Targets.{IsDialect}
 use Rattle.oc_shelf.proofs.ReadingLaws.StageLemmas.{Unbroken, no_first_fault}
-use Rattle.oc_coff.specs.Fields.{coff_format}
 use Rattle.oc_coff.specs.HeaderFaults.{header_conditions, header_stage}
 use Rattle.oc_coff.specs.SectionFaults.{section_stage}
 use Rattle.oc_coff.specs.SymbolFaults.{symbol_stage}

@@ -1,5 +1,5 @@
 -- Relocated fields (PE/COFF, "COFF Relocations" and "Type Indicators"; our profile). The number that is added stands in the field.
-use Rattle.std.specs.Prelude.{ℕ, Bool, not, ◌&&◌, nat_eq, List, find, slice_get, Option, Some, None}
+use Rattle.std.specs.Prelude.{ℕ, Bool, not, ◌&&◌, nat_eq, List, find, slice_get, Option}
 use Rattle.std.specs.Option.{option_map, option_and_then}
 use Rattle.oc_base.specs.declared.format.Word.{Word}
 use Rattle.oc_base.specs.declared.format.Word.TheVariants.{W32, W64}

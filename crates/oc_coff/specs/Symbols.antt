@@ -1,5 +1,5 @@
 -- Symbols (PE/COFF, "COFF Symbol Table", "Storage Class", "Section Number Values" and "Auxiliary Format 3: Weak Externals"; our profile).
-use Rattle.std.specs.Prelude.{ℕ, Bool, true, false, not, ◌&&◌, ◌||◌, nat_eq, if◌then◌else◌, List, [], Option, Some, None, filter_map}
+use Rattle.std.specs.Prelude.{ℕ, Bool, false, not, ◌&&◌, ◌||◌, nat_eq, if◌then◌else◌, List, Option, Some, None, filter_map}
 use Rattle.std.specs.List.{list_any}
 use Rattle.std.specs.Option.{option_map, option_map_or, option_and_then}
 use Rattle.oc_linking.specs.declared.terms.Mark.TheVariants.{NoType, Function}

@@ -1,7 +1,5 @@
 -- COFF is written.
-use Rattle.std.specs.Prelude.{ℕ, List}
 use Rattle.oc_base.specs.declared.format.Word.{Word}
-use Rattle.oc_neutral.specs.Objects.{Object}
 use Rattle.oc_neutral.specs.Targets.{WritesCanonical}
 use Rattle.oc_coff.specs.Rules.{coff_dialect}
 use Rattle.oc_coff.specs.Canonical.{coff_file}
