@@ -1,0 +1,3 @@
+pub mod ReadingLaws
+mod Worked
+pub mod WritingLaws

@@ -1,0 +1,9 @@
+pub mod SpanLemmas
+pub mod StageLemmas
+pub mod StepLemmas
+pub mod CollectedLemmas
+pub mod FirstsLemmas
+pub mod SlotLemmas
+pub mod TextLemmas
+pub mod OrderLemmas
+pub mod RowLemmas

@@ -1,0 +1,10 @@
+pub mod EmittedLemmas
+pub mod GatheredLemmas
+pub mod MemberLemmas
+pub mod PackedLemmas
+pub mod PartLemmas
+pub mod PieceLemmas
+pub mod StandingLemmas
+pub mod StringLemmas
+pub mod TableLemmas
+pub mod WindowLemmas

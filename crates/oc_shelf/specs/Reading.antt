@@ -1,0 +1,10 @@
+pub mod Collected
+pub mod Example
+pub mod Firsts
+pub mod Order
+pub mod Rows
+pub mod Slots
+pub mod Spans
+pub mod Steps
+pub mod Stops
+pub mod Texts

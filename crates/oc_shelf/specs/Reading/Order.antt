@@ -1,0 +1,8 @@
+-- Entries in the order of their places (our profile).
+use Rattle.std.specs.declared.cmp.Ordering.{Ordering}
+use Rattle.std.specs.Ordering.{nat_cmp, ordering_then}
+use Rattle.oc_shelf.specs.declared.reading.order.Placed.{Placed}
+
+-- by the place, and at one place by the index
+abbrev pub by_place : Placed → Placed → Ordering
+by_place x y = ordering_then (nat_cmp x.place y.place) (nat_cmp x.index y.index)

@@ -1,0 +1,76 @@
+-- Files made of parts that stand one behind another: where each part begins, and the bytes of the whole (our profile).
+use Rattle.std.specs.Prelude.{◌≡◌, ℕ, ◌+◌, ◌-◌, ◌%◌, ◌≤◌, Bool, List, [], ◌∷◌, ◌++◌, length, replicate, find, flat_map, slice_index_or}
+use Rattle.std.specs.List.{AllByRecursion}
+use Rattle.std.specs.Option.{option_map_or}
+
+-- the bytes xs stand in a file at a place
+pub record Stands (file : List ℕ) (at : ℕ) (xs : List ℕ) : Type 0 where
+  pub front : List ℕ
+  pub back : List ℕ
+  pub is : file ≡ front ++ (xs ++ back)
+  pub place : length front ≡ at
+
+-- a part with the place where it begins
+pub record Laid (X : Type 0) : Type 0 where
+  pub at : ℕ
+  pub part : X
+
+-- parts from a place on: each begins at `begin` of where the one before ends, and takes `size` places
+abbrev pub laid : {X : Type 0} → (ℕ → X → ℕ) → (X → ℕ) → ℕ → List X → List (Laid X)
+laid begin size at [] = []
+laid begin size at (x ∷ xs) = record { at = begin at x; part = x } ∷ laid begin size (begin at x + size x) xs
+
+-- where they end
+abbrev pub laid_end : {X : Type 0} → (ℕ → X → ℕ) → (X → ℕ) → ℕ → List X → ℕ
+laid_end begin size at [] = at
+laid_end begin size at (x ∷ xs) = laid_end begin size (begin at x + size x) xs
+
+-- each begins where the one before ends
+abbrev pub behind : {X : Type 0} → ℕ → X → ℕ
+behind at x = at
+
+-- the next place that the alignment divides
+abbrev pub aligned : ℕ → ℕ → ℕ
+aligned align at = at + (align - at % align) % align
+
+-- the bytes of parts from a place on: zeros up to where a part begins, and its bytes
+abbrev pub joined : {X : Type 0} → (X → List ℕ) → ℕ → List (Laid X) → List ℕ
+joined bytes at [] = []
+joined bytes at (x ∷ xs) = replicate (x.at - at) 0 ++ (bytes x.part ++ joined bytes (x.at + length (bytes x.part)) xs)
+
+-- where the first part begins that passes the test, 0 where none does
+abbrev pub place_where : {X : Type 0} → (X → Bool) → List (Laid X) → ℕ
+place_where {X} test parts = option_map_or (λ (l : Laid X). l.at) (find (λ (l : Laid X). test l.part) parts) 0
+
+-- parts of bytes
+abbrev pub Pieces : Type 0
+Pieces = List (Laid (List ℕ))
+
+-- the file of parts
+abbrev pub file_of : Pieces → List ℕ
+file_of parts = joined (λ x. x) 0 parts
+
+-- part k, and no bytes past the last
+abbrev pub piece_at : Pieces → ℕ → Laid (List ℕ)
+piece_at parts k = slice_index_or parts k (record { at = 0; part = [] })
+
+-- where a part ends
+abbrev pub end_of : Laid (List ℕ) → ℕ
+end_of l = l.at + length l.part
+
+-- from a place on, no part begins before the one before ends
+abbrev pub AreInOrder : ℕ → Pieces → Type 0
+AreInOrder at [] = Unit {0}
+AreInOrder at (l ∷ parts) = (at ≤ l.at) × AreInOrder (end_of l) parts
+
+-- the bytes of a table
+abbrev pub table_of : List (List ℕ) → List ℕ
+table_of rows = flat_map (λ row. row) rows
+
+-- entry k of a table
+abbrev pub row_of : List (List ℕ) → ℕ → List ℕ
+row_of rows k = slice_index_or rows k []
+
+-- each entry of a table has w bytes
+abbrev pub HaveSize : ℕ → List (List ℕ) → Type 0
+HaveSize w rows = AllByRecursion (λ row. length row ≡ w) rows

@@ -1,0 +1,14 @@
+//! What every reader and every writer of a format is proved from, with no word of a format.
+#![tactic(auto)]
+
+mod reading;
+mod writing;
+
+pub use reading::{
+    Judges, Placed, Rows, RunningSum, Slots, Spans, Stop, earlier, judge_all, sort_by_place,
+    text_at,
+};
+pub use writing::{
+    Layout, Parts, ROW, Windowed, WritesRows, aligned_place, copy_window, emit, rows_window,
+    window_of, zero_window,
+};
