@@ -12,6 +12,7 @@ pub mod Naming
 pub mod PlaceLemmas
 mod SameRows
 pub mod Shifting
+pub mod SmallObjects
 pub mod Sorting
 pub mod Stages
 pub mod Steps
