@@ -1,0 +1,9 @@
+pub mod Commas
+pub mod Far
+pub mod Firsts
+pub mod Found
+pub mod Homes
+pub mod Lookup
+pub mod Places
+pub mod Sorting
+pub mod Tables

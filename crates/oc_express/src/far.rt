@@ -1,0 +1,92 @@
+//! Which sections have names that lie too far in a string table (PE/COFF, "Section Table").
+ghost use Rattle.std.specs.Prelude.{◌≡◌, ℕ, [], IfOk, false, get_or, length, map, slice_get, slice_index_or};
+ghost use Rattle.std.specs.Option.{option_and_then, option_map_or};
+ghost use Rattle.oc_neutral.specs.Coff.Family as coff;
+ghost use Rattle.oc_neutral.specs.Families.{family_of};
+ghost use Rattle.oc_neutral.specs.HomeNames.{output_names};
+ghost use Rattle.oc_express.specs.Far.{lies_far, lies_far_in};
+
+use crate::strings::{default_names, given_names};
+use oc_base::{Bytes, Format, NoMemory};
+use oc_neutral::Neutral;
+use oc_strings::offsets;
+use std::alloc::Global;
+
+/// The greatest offset for which a section header has room: its name is `/` and seven digits.
+const MOST_OFFSET: u64 = 9_999_999;
+
+/// How many bytes stand before the first name of a string table: its size.
+const TABLE_HEAD: u32 = 4;
+
+// whether an offset has more digits than a section header has room for
+fn is_far(offset: u64) -> bool
+    ensures { result ≡ coff.is_far offset }
+{
+    offset > MOST_OFFSET
+}
+
+// whether the name at a place among those with these offsets lies too far
+fn is_far_at(offsets: &[u64], place: Option<usize>) -> bool
+    ensures { result ≡ option_map_or coff.is_far (option_and_then (slice_get offsets.now) place) false }
+{
+    let Some(at) = place else {
+        return false;
+    };
+    match offsets.get(at) {
+        Some(offset) => is_far(*offset),
+        None => false,
+    }
+}
+
+// the same for each of these places
+fn far_places(
+    alloc: Global,
+    offsets: &[u64],
+    places: &[Option<usize>],
+) -> Result<Vec<bool>, NoMemory>
+    ensures { IfOk result (λ far. far.items ≡ map (λ place. option_map_or coff.is_far (option_and_then (slice_get offsets.now) place) false) places.now) }
+{
+    let mut far = Vec::with_capacity(alloc, places.len())?;
+    for place in places {
+        far.push(is_far_at(offsets, *place))?;
+    }
+    Ok(far)
+}
+
+// for each section whether its name lies too far in the string table of a COFF output
+fn far_in_table(
+    alloc: Global,
+    target: Format,
+    neutral: &Neutral,
+    names: &[Bytes],
+) -> Result<Vec<bool>, NoMemory>
+    requires { length names.now ≡ length neutral.now.sections }
+    ensures { IfOk result (λ far. (i : ℕ) → slice_index_or far.items i false ≡ lies_far_in (family_of target).writes_local names.now neutral.now (get_or names.now i [])) }
+{
+    let defaults = default_names(alloc, neutral)?;
+    let given = given_names(alloc, target, neutral, names, &defaults)?;
+    let offsets = offsets(alloc, TABLE_HEAD, &given.names)?;
+    far_places(alloc, &offsets, &given.places)
+}
+
+/// For each section, which have these names in the output, whether its name lies too far in the
+/// target's string table; no section past the last one is told of. `NoMemory` where memory ran out.
+///
+/// Where the target is COFF, the table is laid out once: the time is that of sorting the names of the
+/// symbols and sections from their last bytes on. Else it is constant.
+pub(crate) fn far_names(
+    alloc: Global,
+    target: Format,
+    neutral: &Neutral,
+    names: &[Bytes],
+) -> Result<Vec<bool>, NoMemory>
+    requires { names.now ≡ output_names target neutral.now }
+    ensures { IfOk result (λ far. (i : ℕ) → slice_index_or far.items i false ≡ lies_far target neutral.now (get_or names.now i [])) }
+{
+    match target {
+        Format::Coff32 | Format::Coff64 => far_in_table(alloc, target, neutral, names),
+        Format::Elf32 | Format::Elf64 | Format::Mac32 | Format::Mac64 | Format::Omf => {
+            Ok(Vec::new(alloc))
+        }
+    }
+}
