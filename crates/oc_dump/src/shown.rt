@@ -1,0 +1,41 @@
+//! Numbers and names, as lines show them.
+ghost use Rattle.std.specs.Prelude.{◌≡◌, ◌++◌, ◌^◌, OnOk, string_bytes};
+ghost use Rattle.oc_dump.specs.Lines as lines;
+
+use oc_base::{NoMemory, Word};
+
+// puts a byte of a name behind the text
+#[tactic(auto, using(crate::proofs::HexLemmas::hex_shown))]
+fn put_byte(out: &mut String, byte: u8) -> Result<(), NoMemory>
+    ensures { OnOk result (string_bytes out.new ≡ string_bytes out.old ++ lines.shown_byte byte) }
+{
+    if byte.is_ascii_graphic() && byte != b'\\' {
+        out.push(char::from(byte))?;
+    } else {
+        write!(out, "\\x{byte:02x}")?;
+    }
+    Ok(())
+}
+
+/// Puts a name behind the text: graphic characters of ASCII but the backslash as they are, every
+/// other byte as `\x` and two digits. Linear in the name.
+pub(crate) fn put_name(out: &mut String, name: &[u8]) -> Result<(), NoMemory>
+    ensures { OnOk result (string_bytes out.new ≡ string_bytes out.old ++ lines.shown_name name.now) }
+{
+    for byte in name {
+        put_byte(out, *byte)?;
+    }
+    Ok(())
+}
+
+/// Puts a number behind the text, in hexadecimal of 8 or 16 digits by the word. Constant time.
+#[tactic(auto, using(crate::proofs::HexLemmas::hex_shown))]
+pub(crate) fn put_hex(out: &mut String, word: Word, x: u64) -> Result<(), NoMemory>
+    ensures { OnOk result (string_bytes out.new ≡ string_bytes out.old ++ lines.hex (lines.digit_count word) x) }
+{
+    match word {
+        Word::W32 => write!(out, "{x:08x}")?,
+        Word::W64 => write!(out, "{x:016x}")?,
+    }
+    Ok(())
+}
