@@ -1,5 +1,6 @@
 pub mod Commas
 pub mod Counting
+pub mod Cut
 pub mod Finding
 pub mod Firsts
 pub mod Giving

@@ -1,4 +1,5 @@
 pub mod Commas
+pub mod Cut
 pub mod Far
 pub mod Firsts
 pub mod Found

@@ -16,6 +16,7 @@ ghost use Rattle.oc_neutral.specs.Omf.Family as omf;
 ghost use Rattle.oc_neutral.specs.TargetSections as conditions;
 ghost use Rattle.oc_neutral.specs.Tests as tests;
 ghost use Rattle.oc_express.specs.Far.{lies_far};
+ghost use Rattle.oc_express.specs.Cut.{is_cut_key};
 ghost use Rattle.oc_express.specs.Found.{held};
 
 use crate::formats::{keeps_debug, most_align, same_format, takes_exceptions};
@@ -78,24 +79,24 @@ pub(crate) fn key_of(neutral: &Neutral, group: u32) -> Option<&[u8]>
     Some(neutral.group(group).key.as_slice())
 }
 
-// whether the section is a member of a group whose key has a NUL
-fn has_cut_key(neutral: &Neutral, section: &Section) -> bool
+// whether the section is a member of a group whose key has a NUL; `cut` tells of each group
+fn has_cut_key(neutral: &Neutral, section: &Section, cut: &[bool]) -> bool
+    requires { (g : ℕ) → slice_index_or cut.now g false ≡ is_cut_key neutral.now g }
     ensures { result ≡ option_map_or rules.has_nul (option_and_then (faces.key_of neutral.now.groups) section.now.group) false }
 {
-    let Some(group) = section.group else {
-        return false;
-    };
-    match key_of(neutral, group) {
-        Some(key) => has_nul(key),
+    let _ = neutral;
+    match section.group {
+        Some(group) => is_marked(cut, group as usize),
         None => false,
     }
 }
 
 // whether the name has a NUL, or the key of the section's group has one
-fn is_cut(neutral: &Neutral, name: &[u8], section: &Section) -> bool
+fn is_cut(neutral: &Neutral, name: &[u8], section: &Section, cut: &[bool]) -> bool
+    requires { (g : ℕ) → slice_index_or cut.now g false ≡ is_cut_key neutral.now g }
     ensures { result ≡ tests.is_cut neutral.now name.now section.now }
 {
-    has_nul(name) || has_cut_key(neutral, section)
+    has_nul(name) || has_cut_key(neutral, section, cut)
 }
 
 /// Whether a name is longer than one of OMF can be. Constant time.
@@ -113,15 +114,17 @@ fn is_name_form(
     name: &[u8],
     section: &Section,
     far: bool,
+    cut: &[bool],
 ) -> bool
-    requires { far ≡ lies_far target neutral.now name.now }
+    requires far { far ≡ lies_far target neutral.now name.now }
+    requires cut { (g : ℕ) → slice_index_or cut.now g false ≡ is_cut_key neutral.now g }
     ensures { result ≡ conditions.is_name_form target neutral.now name.now section.now }
 {
     match target {
         Format::Elf32 | Format::Elf64 | Format::Mac32 | Format::Mac64 => {
-            is_cut(neutral, name, section)
+            is_cut(neutral, name, section, cut)
         }
-        Format::Coff32 | Format::Coff64 => is_cut(neutral, name, section) || far,
+        Format::Coff32 | Format::Coff64 => is_cut(neutral, name, section, cut) || far,
         Format::Omf => is_too_long(name),
     }
 }
@@ -167,9 +170,11 @@ fn code_of(
     section: &Section,
     far: bool,
     keyed: &[bool],
+    cut: &[bool],
 ) -> Option<Code>
     requires far { far ≡ lies_far target neutral.now name.now }
     requires keyed { (g : ℕ) → slice_index_or keyed.now g false ≡ has_key_symbol neutral.now g }
+    requires cut { (g : ℕ) → slice_index_or cut.now g false ≡ is_cut_key neutral.now g }
     ensures { option_map (fault_at (conditions.section_spot section.now)) result ≡ first_broken (conditions.section_conditions target neutral.now name.now section.now) }
 {
     let from = neutral.format();
@@ -181,7 +186,7 @@ fn code_of(
         Some(Code::KindUnavailable)
     } else if section.align > most_align(target) {
         Some(Code::AlignTooBig)
-    } else if is_name_form(target, neutral, name, section, far) {
+    } else if is_name_form(target, neutral, name, section, far, cut) {
         Some(Code::NameForm)
     } else if is_group_form(target, neutral, section, keyed) {
         Some(Code::GroupForm)
@@ -212,8 +217,9 @@ fn section_spot(section: &Section) -> Spot
 }
 
 /// The first fault of the sections of an object in a target, in the order of the list; `names` are their
-/// names in the output, `far` tells of each whether it lies too far in the string table, and `keyed` of
-/// each group whether it has its key symbol. Linear time but for the names, no memory.
+/// names in the output, `far` tells of each whether it lies too far in the string table, and of each
+/// group `keyed` tells whether it has its key symbol, and `cut` whether its key has a NUL. Linear time but
+/// for the names, no memory.
 #[tactic(auto, using(oc_linking::proofs::Upto::first_upto_stop))]
 pub(crate) fn sections_fault(
     target: Format,
@@ -221,17 +227,20 @@ pub(crate) fn sections_fault(
     names: &[Bytes],
     far: &[bool],
     keyed: &[bool],
+    cut: &[bool],
 ) -> Option<Fault>
     requires names { names.now ≡ output_names target neutral.now }
     requires far { (i : ℕ) → slice_index_or far.now i false ≡ lies_far target neutral.now (get_or names.now i []) }
     requires keyed { (g : ℕ) → slice_index_or keyed.now g false ≡ has_key_symbol neutral.now g }
+    requires cut { (g : ℕ) → slice_index_or cut.now g false ≡ is_cut_key neutral.now g }
     ensures { result ≡ first_upto (λ i. first_broken (conditions.conditions_at target neutral.now i)) (length neutral.now.sections) }
 {
     for k in 0..neutral.section_count() {
         let at = k as usize;
         let section = neutral.section(k);
         let name = name_at(names, at);
-        if let Some(code) = code_of(target, neutral, name, section, is_marked(far, at), keyed) {
+        let far = is_marked(far, at);
+        if let Some(code) = code_of(target, neutral, name, section, far, keyed, cut) {
             return Some(section_spot(section).fault(code));
         }
     }
