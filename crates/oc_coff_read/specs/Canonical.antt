@@ -7,7 +7,7 @@ use Rattle.oc_coff_read.specs.declared.symbol.SymbolEntry.{SymbolEntry}
 use Rattle.oc_coff_read.specs.declared.section_aux.SectionAux.{SectionAux}
 use Rattle.oc_coff_read.specs.declared.relocation.Relocation.{Relocation}
 use Rattle.oc_neutral.specs.declared.coff.TheConstants.{IMAGE_SCN_ALIGN_1BYTES}
-use Rattle.oc_neutral.specs.Coff.Family.{code_tag}
+use Rattle.oc_neutral.specs.Coff.Family.{code_tag, coff_align_bits}
 use Rattle.oc_coff_read.specs.declared.constants.TheConstants.{IMAGE_FILE_MACHINE_I386, IMAGE_SYM_TYPE_FUNCTION, IMAGE_SYM_CLASS_EXTERNAL, IMAGE_SYM_CLASS_STATIC}
 use Rattle.oc_coff_read.specs.Packed.{padded}
 use Rattle.oc_coff_read.specs.FileHeader.{file_header_bytes}
@@ -148,7 +148,7 @@ pub record IsExternal (size : ℕ) (x : External) : Type 0 where
 
 -- the object has a canonical file
 pub record IsCodeObject (o : CodeObject) : Type 0 where
-  pub exponent : o.exponent ≤ 13
+  pub exponent : o.exponent ≤ coff_align_bits
   pub relocs : length o.relocs ≤ 65535
   pub entries : All FitsEntry o.relocs
   pub externals : All (IsExternal (length o.contents)) o.symbols

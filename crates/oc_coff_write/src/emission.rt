@@ -5,6 +5,7 @@ ghost use Rattle.oc_chains.specs.Lists.{list_of};
 ghost use Rattle.oc_coff_read.specs.Canonical as canonical;
 ghost use Rattle.oc_coff_read.specs.Canonical.{CodeObject};
 ghost use Rattle.oc_coff_read.specs.Relocation.{relocation_bytes};
+ghost use Rattle.oc_neutral.specs.Coff.Family.{coff_align_bits};
 ghost use Rattle.oc_neutral.specs.Fitted.{IsFitted};
 ghost use Rattle.oc_coff_write.specs.CodeObjects as coded;
 ghost use Rattle.oc_coff_write.specs.Emission as emission;
@@ -141,7 +142,7 @@ fn push_externals(out: &mut Vec<u8>, neutral: &Neutral) -> Result<(), NoMemory>
 fn head_of(alloc: Global, layout: Layout) -> Result<Vec<u8>, NoMemory>
     requires size { layout.size ≤ 2 ^ 26 }
     requires symbols { layout.symbols ≤ 2 ^ 26 }
-    requires exponent { layout.exponent ≤ 13 }
+    requires exponent { layout.exponent ≤ coff_align_bits }
     ensures { (o : CodeObject) → IsLayout layout o → IfOk result (λ head. head.items ≡ emission.head_of o) }
 {
     let mut out = Vec::with_capacity(alloc, layout.head_size())?;

@@ -4,6 +4,7 @@ ghost use Rattle.oc_coff_read.specs.declared.symbol.TheConstants.{SYMBOL_SIZE};
 ghost use Rattle.std.specs.Prelude.{◌≡◌, ◌+◌, ◌*◌, ◌<◌, ◌≤◌, ◌^◌, length};
 ghost use Rattle.oc_coff_read.specs.Canonical as canonical;
 ghost use Rattle.oc_chains.specs.Lists.{list_of};
+ghost use Rattle.oc_neutral.specs.Coff.Family.{coff_align_bits};
 ghost use Rattle.oc_neutral.specs.Fitted.{IsFitted};
 ghost use Rattle.oc_coff_write.specs.CodeObjects.{IsWritable, coded};
 ghost use Rattle.oc_coff_write.specs.Layouts.{IsLayout};
@@ -51,7 +52,7 @@ pub fn layout_of(neutral: &Neutral) -> Layout
     requires fitted { IsFitted Format.Coff32 neutral.now }
     requires writable { IsWritable neutral.now }
     ensures layout { IsLayout result (coded neutral.now) }
-    ensures exponent { result.exponent ≤ 13 }
+    ensures exponent { result.exponent ≤ coff_align_bits }
     ensures size { result.size ≤ 2 ^ 26 }
     ensures symbols { result.symbols ≤ 2 ^ 26 }
 {
@@ -73,7 +74,7 @@ fn pointer(place: u32, count: u32) -> u32
 
 // the flags of code with an alignment
 fn flags(exponent: u32) -> u32
-    requires { exponent ≤ 13 }
+    requires { exponent ≤ coff_align_bits }
     ensures { result ≡ canonical.code_flags exponent }
 {
     CODE_TAG + (exponent + 1) * IMAGE_SCN_ALIGN_1BYTES
@@ -118,7 +119,7 @@ impl Layout {
     /// The header of `.text`. Constant time.
     pub fn section_header(self) -> SectionHeader
         requires size { self.size ≤ 2 ^ 26 }
-        requires exponent { self.exponent ≤ 13 }
+        requires exponent { self.exponent ≤ coff_align_bits }
         ensures { (o : CodeObject) → IsLayout self o → result ≡ code_section o }
     {
         SectionHeader {

@@ -1,6 +1,6 @@
 -- What the conditions of an object that is written say.
 use Rattle.std.proofs.Common.{◌≡◌, ℕ, ◌≤◌, ◌⊎◌, inl, inr, Bool, true, false, true≢false, List, [], ◌∷◌, length, Option, None, Some, refl, sym, ◌∙◌, ap, subst}
-use Rattle.std.specs.Prelude.{◌&&◌, bytes_eq, codes, slice_get}
+use Rattle.std.specs.Prelude.{◌^◌, ◌&&◌, bytes_eq, codes, slice_get}
 use Rattle.std.specs.List.{AllByRecursion, list_all}
 use Rattle.std.specs.Option.{is_none}
 use Rattle.std.proofs.lemmas.Bool.{eqb-true, leb-true, not-true}
@@ -25,7 +25,7 @@ use Rattle.oc_neutral.specs.declared.reloc.Reloc.{Reloc}
 use Rattle.oc_neutral.specs.Objects.{Object}
 use Rattle.oc_neutral.specs.Rows.{same_base, same_width, same_check}
 use Rattle.oc_neutral.specs.KindRules.{same_kind, has_nul}
-use Rattle.oc_neutral.specs.Coff.Family.{code_tag}
+use Rattle.oc_neutral.specs.Coff.Family.{code_tag, coff_align_bits}
 use Rattle.oc_coff_write.specs.CodeObjects.{is_plain_less, is_plain_form, is_plain_binding, is_plain_mark, is_plain_symbol, is_plain_section, has_one_section, is_plain_object}
 
 -- two tests that hold together hold each
@@ -121,7 +121,7 @@ pub record IsCoded (m : Object) (s : Section) : Type 0 where
   pub sections : m.sections ≡ s ∷ []
   pub kind : s.kind ≡ Code
   pub name : s.name ≡ codes ".text"
-  pub align : s.align ≤ 8192
+  pub align : s.align ≤ 2 ^ coff_align_bits
   pub tag : s.tag ≡ code_tag
   pub group : s.group ≡ None
   pub symbols : AllByRecursion IsPlainSymbol m.symbols
