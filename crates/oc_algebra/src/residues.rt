@@ -9,7 +9,7 @@ use oc_base::Word;
 /// The number from 0 to 2^32 - 1, or to 2^64 - 1, that differs from `n` by a multiple of 2^32 or
 /// 2^64. Constant time.
 #[tactic(auto, unfolding(crate::specs::Residues::residue_of))]
-pub(crate) fn residue(word: Word, n: i128) -> u64
+pub fn residue(word: Word, n: i128) -> u64
     ensures { result ≡ residue_of word n }
 {
     match word {

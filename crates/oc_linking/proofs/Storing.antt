@@ -69,7 +69,7 @@ byte_of_field o at back q here l =
     ∙ ap (λ b. cond b (Some (q.residue / 256 ^ back % 256)) None) (lt-ltb back (bytes_of q.width) l)
 
 -- a byte of a field
-byte-of_field : (o : ℕ → Option Patch) → Apart o → (xs : List ℕ) (at back : ℕ) (q : Patch) → o at ≡ Some q → back < bytes_of q.width → at + bytes_of q.width ≤ length xs
+pub byte-of_field : (o : ℕ → Option Patch) → Apart o → (xs : List ℕ) (at back : ℕ) (q : Patch) → o at ≡ Some q → back < bytes_of q.width → at + bytes_of q.width ≤ length xs
     → get_or (overlay o 0 xs) (at + back) 0 ≡ q.residue / 256 ^ back % 256
 byte-of_field o apart xs at back q here l inside =
     let own : byte_by o (at + back) back ≡ Some (q.residue / 256 ^ back % 256) = byte_of_field o at back q here l in

@@ -156,11 +156,11 @@ module _ (xs ys : List Symbol) (long : length xs ≡ length ys) (numbers : (k : 
   target_same p v (target.Section k) = refl
   target_same p v (target.Symbol k) = worth_same v k
 
-  named_same : (t : Target) → named_of xs t ≡ named_of ys t
+  pub named_same : (t : Target) → named_of xs t ≡ named_of ys t
   named_same (target.Section k) = refl
   named_same (target.Symbol k) = ap Symbolic (numbers k)
 
-  residue_same : (w : Word) (p : Placement) (v : Valuation) (s at : ℕ) (r : Reloc) → residue_at w xs p v s at r ≡ residue_at w ys p v s at r
+  pub residue_same : (w : Word) (p : Placement) (v : Valuation) (s at : ℕ) (r : Reloc) → residue_at w xs p v s at r ≡ residue_at w ys p v s at r
   unfolding residue_at
   residue_same w p v s at r = ap (λ t. minus w (base_of p t r.form.base + residue_of w r.addend) (less_of p s at t r.form.less)) (target_same p v r.target)
 

@@ -13,6 +13,7 @@ use Rattle.oc_neutral.specs.Powers.{natural_align}
 use Rattle.oc_neutral.specs.declared.section.Section.{Section}
 use Rattle.oc_neutral.specs.declared.symbol.Symbol.{Symbol}
 use Rattle.oc_neutral.specs.declared.reloc.Reloc.{Reloc}
+use Rattle.oc_neutral.specs.Coff.Family.{coff_align_bits}
 use Rattle.oc_neutral.specs.Coff.Kinds.{coff_kind, coff_tag}
 use Rattle.oc_neutral.specs.Coff.Strings.{is_long, is_tabled, has_default, default_name, coff_strings, string_offset}
 use Rattle.oc_neutral.specs.declared.coff.TheConstants.{IMAGE_SCN_CNT_UNINITIALIZED_DATA, IMAGE_SYM_SECTION_MAX}
@@ -41,7 +42,7 @@ pub record CoffSection (format : Format) (n : Object) (s : Section) : Type 0 whe
   pub near : is_tabled s.name ≡ true → offset_of format n s.name ≤ 9999999
   -- a group has its key symbol
   pub led : (g : ℕ) → s.group ≡ Some g → HasKeySymbol n g
-  pub align : IsPower 13 s.align
+  pub align : IsPower coff_align_bits s.align
   -- its tag leaves nothing out of 32 bits of flags
   pub small : s.tag < 2 ^ 32
   pub tag : coff_tag s.tag ≡ s.tag

@@ -22,13 +22,13 @@ use Rattle.oc_neutral.specs.Objects.{Object, reloc_at}
 use Rattle.oc_neutral.specs.Readable.{AreZeros}
 use Rattle.oc_neutral.specs.RelocTables.{row_of}
 use Rattle.oc_neutral.specs.Rows.{taken_of, shift_of}
-use Rattle.oc_neutral.specs.Elf.Family.{header_count, elf_symbol_count}
+use Rattle.oc_neutral.specs.Elf.Family.{elf_align_bits, header_count, elf_symbol_count}
 use Rattle.oc_neutral.specs.Relocated.{is_relocated}
 
 -- a section
 pub record ElfSection (n : Object) (s : Section) : Type 0 where
   pub uncut : IsUncut n s
-  pub align : IsPower 20 s.align
+  pub align : IsPower elf_align_bits s.align
   -- its tag has a type of 32 bits that is carried, and is allocated where that is NOBITS
   pub small : elf_tag_type s.tag < 2 ^ 32
   pub carried : is_carried_type (elf_tag_type s.tag) ≡ true

@@ -22,9 +22,16 @@ pub const IMAGE_SCN_MEM_EXECUTE: u32 = 0x2000_0000;
 pub const IMAGE_SCN_MEM_READ: u32 = 0x4000_0000;
 /// Its bytes can be written (PE/COFF, "Section Flags").
 pub const IMAGE_SCN_MEM_WRITE: u32 = 0x8000_0000;
+/// The flags of instructions, which can be executed and read (PE/COFF, "Special Sections").
+pub const CODE_TAG: u32 = IMAGE_SCN_CNT_CODE + IMAGE_SCN_MEM_EXECUTE + IMAGE_SCN_MEM_READ;
+/// The greatest alignment of a section is 2 to this power (PE/COFF, "Section Flags").
+pub const ALIGN_BITS: u32 = 13;
 
 /// The greatest section number that a symbol can have (PE/COFF, "Section Number Values").
 pub const IMAGE_SYM_SECTION_MAX: u16 = 0xFEFF;
+
+/// REL32 takes its distance from the end of its field: so many bytes behind its place (PE/COFF, "Type Indicators").
+pub const REL32_BEHIND: u8 = 4;
 
 /// The target's address (PE/COFF, "Type Indicators", Intel 386).
 pub const IMAGE_REL_I386_DIR32: u16 = 6;

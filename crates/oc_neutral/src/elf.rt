@@ -1,4 +1,6 @@
 //! Numbers of ELF that every crate cites: types, flags and numbers of sections, types of relocations (gABI; i386 psABI; x86-64 psABI).
+ghost use Rattle.std.specs.Prelude.{◌≡◌};
+ghost use Rattle.oc_neutral.specs.Elf.Kinds as kinds;
 
 /// Bytes of the program's own meaning (gABI, "Section Header").
 pub const SHT_PROGBITS: u32 = 1;
@@ -22,6 +24,9 @@ pub const SHF_WRITE: u64 = 1;
 pub const SHF_ALLOC: u64 = 2;
 /// It has machine instructions (gABI, "Section Header").
 pub const SHF_EXECINSTR: u64 = 4;
+
+/// The greatest alignment of a section is 2 to this power (our profile).
+pub const ALIGN_BITS: u32 = 20;
 
 /// The target's address, of four bytes (i386 psABI, "Relocation Types").
 pub const R_386_32: u8 = 1;
@@ -76,3 +81,11 @@ pub const R_X86_64_GOTPC32: u32 = 26;
 pub const R_X86_64_GOTPCRELX: u32 = 41;
 /// The same, of an instruction with a REX prefix (x86-64 psABI, "Relocation Types").
 pub const R_X86_64_REX_GOTPCRELX: u32 = 42;
+
+/// The tag of a section: its type and, of its flags, WRITE, ALLOC and EXECINSTR, as one number (our
+/// profile). Constant time.
+pub fn elf_tag(sh_type: u32, sh_flags: u64) -> u64
+    ensures { result ≡ kinds.elf_tag sh_type sh_flags }
+{
+    8 * u64::from(sh_type) + sh_flags % 8
+}

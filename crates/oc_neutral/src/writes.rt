@@ -1,17 +1,18 @@
 //! What a writer of a format promises.
-ghost use Rattle.std.specs.Prelude.{◌≡◌, ℕ, ◌≤◌, List, length, IfOk, OnOk, OnErr};
+ghost use Rattle.std.specs.Prelude.{◌≡◌, ℕ, ◌+◌, ◌-◌, ◌^◌, ◌<◌, ◌≤◌, List, length, IfOk, OnOk, OnErr};
 ghost use Rattle.oc_outside.specs.Causes.{Rose};
 ghost use Rattle.oc_outside.specs.Texts.{grown, TakesPrefix};
+ghost use Rattle.oc_outside.specs.Windows.{IsFilled};
 ghost use Rattle.oc_neutral.specs.Dialects.{Dialect};
 ghost use Rattle.oc_neutral.specs.Objects.{Object};
 ghost use Rattle.oc_neutral.specs.Targets.{IsDialect, WritesCanonical};
 
 use crate::fitted::Fitted;
 use oc_base::NoMemory;
-use oc_outside::{Failed, Sink};
+use oc_outside::{Failed, PIECE, Sink, put_all};
 use std::alloc::Global;
 
-/// A planned file, which can be put to a sink. No call takes memory.
+/// A planned file, of which any window can be given, though it may not be held. No call takes memory.
 pub trait Emits {
     /// The file.
     ghost file: { Self → List ℕ };
@@ -20,7 +21,12 @@ pub trait Emits {
     fn len(&self) -> u64
         ensures { result ≡ length (file self.now) };
 
-    /// Puts the file to a sink, in pieces of 4,096 bytes, the last one shorter.
+    /// Puts the bytes from `at` on, an offset in the file, into the front of `to`, as many as both
+    /// have, and gives their number; none from the end of the file on. The rest of `to` stays.
+    fn window(&self, at: u64, to: &mut [u8]) -> usize
+        ensures { IsFilled (file self.now) at to.old to.new result };
+
+    /// Puts the file to a sink, in pieces of `PIECE` bytes, the last one shorter. It holds one piece.
     ///
     /// After Failed the sink took some front of the file, and its count rose; else that count stays.
     fn emit<S: Sink>(&self, sink: &mut S) -> Result<(), Failed>
@@ -30,7 +36,18 @@ pub trait Emits {
         ensures steady { OnOk result (S.faults sink.new ≡ S.faults sink.old) }
         ensures cause { OnErr result (Rose (S.faults sink.old) (S.faults sink.new)) }
         ensures beside { S.beside sink.new ≡ S.beside sink.old }
-        ensures borrow { S.borrow sink.new ≡ S.borrow sink.old };
+        ensures borrow { S.borrow sink.new ≡ S.borrow sink.old }
+    {
+        let mut piece = [0; PIECE];
+        let len = self.len();
+        let mut at = 0;
+        'pieces: while at < len {
+            let count = self.window(at, &mut piece);
+            put_all(sink, &piece[..count])?;
+            at += count as u64;
+        }
+        Ok(())
+    }
 }
 
 /// A writer of a format.

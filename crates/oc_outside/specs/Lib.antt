@@ -7,3 +7,4 @@ pub mod Pages
 pub mod Slots
 pub mod MemFiles
 pub mod MemConsole
+pub mod Windows

@@ -12,7 +12,7 @@ use Rattle.oc_shelf.specs.Reading.Steps.{step_place}
 use Rattle.oc_shelf.specs.Reading.Texts.{short, text_at}
 use Rattle.oc_shelf.specs.Writing.Packed.{packed}
 use Rattle.oc_shelf.specs.Writing.Parts.{Laid, aligned, joined, laid, laid_end, place_where}
-use Rattle.oc_shelf.specs.Writing.Windows.{window}
+use Rattle.oc_shelf.proofs.WritingLaws.WindowLemmas.{window}
 
 -- 2, 3 and 5 pass a limit of 9 at the last of them; the second stage is judged after the first
 within : stage_fault (weighed (2 ∷ 3 ∷ 4 ∷ []) 9) ≡ None

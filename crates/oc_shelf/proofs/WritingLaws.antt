@@ -1,4 +1,3 @@
-pub mod EmittedLemmas
 pub mod GatheredLemmas
 pub mod MemberLemmas
 pub mod PackedLemmas

@@ -9,6 +9,6 @@ pub use reading::{
     text_at,
 };
 pub use writing::{
-    Layout, Parts, ROW, Windowed, WritesRows, aligned_place, copy_window, emit, rows_window,
-    window_of, zero_window,
+    Layout, Packed, Parts, ROW, WritesRows, aligned_place, copy_window, rows_window, window_of,
+    zero_window,
 };

@@ -1,14 +1,14 @@
-//! What writers share: files made of parts, any window of them, and putting them to a sink.
-mod emitting;
+//! What writers share: structures as bytes, files made of parts, and any window of them.
 mod layout;
+mod packed;
 mod parts;
 mod rows;
 #[cfg(test)]
 mod tests;
 mod windows;
 
-pub use emitting::emit;
 pub use layout::{Layout, aligned_place};
+pub use packed::Packed;
 pub use parts::{Parts, window_of};
 pub use rows::{ROW, WritesRows, rows_window};
-pub use windows::{Windowed, copy_window, zero_window};
+pub use windows::{copy_window, zero_window};

@@ -5,7 +5,11 @@ use Rattle.std.proofs.lemmas.Bool.{cases_lt}
 use Rattle.std.proofs.lemmas.List.{length-replicate, take_at, take_all, drop-drop, drop_at, drop_all}
 use borrow.Rule.Slice.PartMut.{mid_of, put_mid}
 use Rattle.oc_shelf.specs.Writing.Parts.{Laid, laid, behind, joined}
-use Rattle.oc_shelf.specs.Writing.Windows.{window, IsFilled}
+use Rattle.oc_outside.specs.Windows.{IsFilled}
+
+-- the bytes of a file from one place to another, as far as it has them
+abbrev pub window : ℕ → ℕ → List ℕ → List ℕ
+window from to file = take (to - from) (drop from file)
 
 pub take_none : {X : Type 0} (n : ℕ) → take {A = X} n [] ≡ []
 take_none zero = refl

@@ -1,7 +1,7 @@
 //! Windows of a file that is made of parts.
 ghost use Rattle.std.specs.Prelude.{◌≡◌, ℕ, ◌-◌, ◌<◌, ◌≤◌, List, ◌++◌, length, replicate, take};
 ghost use Rattle.oc_shelf.specs.Writing.Parts.{Pieces, file_of, piece_at, end_of, AreInOrder};
-ghost use Rattle.oc_shelf.specs.Writing.Windows.{IsFilled};
+ghost use Rattle.oc_outside.specs.Windows.{IsFilled};
 
 use crate::writing::windows::zero_window;
 
@@ -85,7 +85,7 @@ fn fill_part<P: Parts>(parts: &P, k: usize, from: u64, done: usize, out: &mut [u
     done + parts.part_window(k, at, &mut out[done..])
 }
 
-/// A window of the file of parts, as `Windowed::window` gives it. The time is the logarithm of the
+/// A window of the file of parts, as `copy_window` gives it. The time is the logarithm of the
 /// number of parts, and that of the parts that meet the window.
 pub fn window_of<P: Parts>(parts: &P, from: u64, out: &mut [u8]) -> usize
     requires { AreInOrder 0 (P.parts parts.now) }

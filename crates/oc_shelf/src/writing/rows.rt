@@ -1,7 +1,7 @@
 //! Windows of a table of entries of one size.
 ghost use Rattle.std.specs.Prelude.{◌≡◌, ℕ, ◌+◌, ◌*◌, ◌-◌, ◌^◌, ◌<◌, ◌≤◌, List, ◌++◌, length};
 ghost use Rattle.oc_shelf.specs.Writing.Parts.{table_of, row_of, HaveSize};
-ghost use Rattle.oc_shelf.specs.Writing.Windows.{IsFilled};
+ghost use Rattle.oc_outside.specs.Windows.{IsFilled};
 
 use crate::writing::windows::copy_window;
 
@@ -55,7 +55,7 @@ fn fill_row<T: WritesRows>(
     done + copy_window(row, at, &mut out[done..])
 }
 
-/// A window of a table, as `Windowed::window` gives it. The time is that of the entries that meet
+/// A window of a table, as `copy_window` gives it. The time is that of the entries that meet
 /// the window.
 pub fn rows_window<T: WritesRows>(table: &T, from: u64, out: &mut [u8]) -> usize
     requires { length (table_of (T.rows table.now)) < 2 ^ 64 }

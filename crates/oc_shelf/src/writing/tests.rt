@@ -1,9 +1,7 @@
-//! Windows of a file of two parts and of a table, and a file of three pieces.
-use crate::writing::emitting::emit;
+//! Windows of a file of two parts and of a table.
 use crate::writing::parts::{Parts, window_of};
 use crate::writing::rows::{WritesRows, rows_window};
-use crate::writing::windows::{Windowed, copy_window};
-use oc_outside::{Failed, Sink};
+use crate::writing::windows::copy_window;
 use std::test::Fail;
 
 /// Three bytes at 1, and again at 6.
@@ -93,72 +91,5 @@ fn windows_of_a_table(rt: HostRuntime) -> Result<(), Fail> {
         let got = rows_window(&table, from, &mut out);
         assert_eq!(rt; (out, got), (want, count), "from {from}");
     }
-    Ok(())
-}
-
-/// Bytes that are held.
-#[derive(Drop)]
-struct Whole {
-    bytes: Vec<u8>,
-}
-
-impl Windowed for Whole {
-    ghost bytes = { λ w. w.bytes.items };
-
-    fn len(&self) -> u64 {
-        self.bytes.len() as u64
-    }
-
-    fn window(&self, from: u64, out: &mut [u8]) -> usize {
-        copy_window(&self.bytes, from, out)
-    }
-}
-
-/// A sink that takes at most 3,000 bytes of a piece, and keeps the length of each.
-#[derive(Drop)]
-struct Slow {
-    given: Vec<usize>,
-    faults: u64,
-}
-
-impl Sink for Slow {
-    ghost use Rattle.std.specs.Prelude.{[], None};
-    ghost use Rattle.oc_outside.specs.Held.{beside_of};
-
-    ghost taken = { λ _. None };
-
-    ghost faults = { λ s. s.faults };
-
-    ghost beside = { λ _. beside_of [] 0 None };
-
-    ghost borrow = { λ _. None };
-
-    #[tactic(auto, unfolding(oc_outside::specs::Texts::grown))]
-    fn put(&mut self, piece: &[u8]) -> Result<usize, Failed> {
-        match self.given.push(piece.len()) {
-            Ok(()) => Ok(piece.len().min(3000)),
-            Err(_) => {
-                self.faults = self.faults.saturating_add(1);
-                Err(Failed)
-            }
-        }
-    }
-}
-
-/// A file of 10,000 bytes is put in pieces of 4,096, and what was not taken of one is put again.
-#[test]
-fn a_file_in_pieces(rt: HostRuntime) -> Result<(), Fail> {
-    let file = Whole {
-        bytes: vec![in rt.alloc(); 7u8; 10_000]?,
-    };
-    let mut slow = Slow {
-        given: Vec::new(rt.alloc()),
-        faults: 0,
-    };
-    emit(&file, &mut slow)?;
-    assert_eq!(rt;
-        slow.given.as_slice(),
-        [4096, 1096, 4096, 1096, 1808].as_slice()
-    );
     Ok(())
 }

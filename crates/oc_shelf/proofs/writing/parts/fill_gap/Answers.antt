@@ -1,7 +1,7 @@
 -- The zeros fill what is left of the buffer.
 use Rattle.std.proofs.Common.{◌≡◌, ℕ, ◌+◌, ◌-◌, ◌++◌, length, replicate, subst, arith}
 use borrow.Rule.Slice.PartMut.{put_mid}
-use Rattle.oc_shelf.specs.Writing.Windows.{IsFilled}
+use Rattle.oc_outside.specs.Windows.{IsFilled}
 use Rattle.oc_shelf.proofs.WritingLaws.WindowLemmas.{filled_rest}
 use Rattle.oc_shelf.proofs.writing.parts.fill_gap.Goals as goal
 

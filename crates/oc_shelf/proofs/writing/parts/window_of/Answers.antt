@@ -1,7 +1,7 @@
 -- A part more fills the buffer further.
 use Rattle.std.proofs.Common.{◌≡◌, ℕ, ◌-◌, ◌<◌, ◌≤◌, List, ◌++◌, length, take, drop, replicate, subst, sym, ◌∙◌, ap, arith, rules}
 use Rattle.oc_shelf.specs.Writing.Parts.{Pieces, file_of, piece_at}
-use Rattle.oc_shelf.specs.Writing.Windows.{IsFilled}
+use Rattle.oc_outside.specs.Windows.{IsFilled}
 use Rattle.oc_shelf.proofs.WritingLaws.PieceLemmas.{bytes_from, cut_behind, file_front, file_more, front_end, gap_long}
 use Rattle.oc_shelf.proofs.WritingLaws.WindowLemmas.{filled_full}
 use Rattle.oc_shelf.proofs.writing.parts.window_of.Goals as goal

@@ -1,7 +1,7 @@
 -- The buffer is filled with the window of the parts before.
 use Rattle.std.proofs.Common.{◌≡◌, length, take}
 use Rattle.oc_shelf.specs.Writing.Parts.{file_of}
-use Rattle.oc_shelf.specs.Writing.Windows.{IsFilled}
+use Rattle.oc_outside.specs.Windows.{IsFilled}
 use Rattle.oc_shelf.proofs.writing.parts.window_of.Given as goal
 
 abbrev pub invariant-loop-k : goal.invariant-loop-k

@@ -2,7 +2,7 @@
 use Rattle.std.proofs.Common.{◌≡◌, ℕ, ◌+◌, ◌-◌, List, length, subst, arith}
 use borrow.Rule.Slice.PartMut.{mid_of}
 use Rattle.oc_shelf.specs.Writing.Parts.{row_of}
-use Rattle.oc_shelf.specs.Writing.Windows.{IsFilled}
+use Rattle.oc_outside.specs.Windows.{IsFilled}
 use Rattle.oc_shelf.proofs.WritingLaws.WindowLemmas.{filled_rest}
 use Rattle.oc_shelf.proofs.writing.rows.fill_row.Goals as goal
 

@@ -1,7 +1,7 @@
 -- An entry more fills the buffer further.
 use Rattle.std.proofs.Common.{ℕ, ◌*◌, ◌/◌, ◌<◌, ◌≤◌, List, length, take, drop, subst, sym, arith, rules}
 use Rattle.oc_shelf.specs.Writing.Parts.{table_of}
-use Rattle.oc_shelf.specs.Writing.Windows.{IsFilled}
+use Rattle.oc_outside.specs.Windows.{IsFilled}
 use Rattle.oc_shelf.proofs.WritingLaws.TableLemmas.{rows_cut, rows_long, rows_more, table_long, times_quotient, times_rises}
 use Rattle.oc_shelf.proofs.WritingLaws.WindowLemmas.{filled_full, filled_nothing}
 use Rattle.oc_shelf.proofs.writing.rows.rows_window.Goals as goal

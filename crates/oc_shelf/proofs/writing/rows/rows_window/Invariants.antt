@@ -1,7 +1,7 @@
 -- The buffer is filled with the window of the entries before.
 use Rattle.std.proofs.Common.{take}
 use Rattle.oc_shelf.specs.Writing.Parts.{table_of}
-use Rattle.oc_shelf.specs.Writing.Windows.{IsFilled}
+use Rattle.oc_outside.specs.Windows.{IsFilled}
 use Rattle.oc_shelf.proofs.writing.rows.rows_window.Given as goal
 
 abbrev pub invariant-loop-k : goal.invariant-loop-k

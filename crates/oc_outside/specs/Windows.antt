@@ -1,9 +1,5 @@
--- Windows of a file (our profile).
+-- Windows: any bytes of a file, put into the front of a buffer (our profile).
 use Rattle.std.specs.Prelude.{◌≡◌, ℕ, ◌-◌, List, ◌++◌, length, take, drop, min}
-
--- the bytes of a file from one place to another, as far as it has them
-abbrev pub window : ℕ → ℕ → List ℕ → List ℕ
-window from to file = take (to - from) (drop from file)
 
 -- n bytes of a file from a place on were put into the front of a buffer, as many as both have; the rest of it stays
 pub record IsFilled (file : List ℕ) (from : ℕ) (old new : List ℕ) (n : ℕ) : Type 0 where
