@@ -5,6 +5,7 @@ ghost use Rattle.oc_neutral.specs.Families as families;
 ghost use Rattle.oc_neutral.specs.Families.{container_of, family_of};
 
 use oc_base::Format;
+use oc_neutral::{coff, elf};
 
 /// Whether two formats are the same, as far as names, tags and debugging information go. Constant time.
 pub(crate) fn same_format(a: Format, b: Format) -> bool
@@ -45,8 +46,8 @@ pub(crate) fn most_align(target: Format) -> u32
     ensures { result ≡ alignments.most_align target }
 {
     match target {
-        Format::Elf32 | Format::Elf64 => 1 << 20,
-        Format::Coff32 | Format::Coff64 => 1 << 13,
+        Format::Elf32 | Format::Elf64 => 1 << elf::ALIGN_BITS,
+        Format::Coff32 | Format::Coff64 => 1 << coff::ALIGN_BITS,
         Format::Mac32 | Format::Mac64 => 1 << 15,
         Format::Omf => 256,
     }

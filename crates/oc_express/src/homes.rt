@@ -3,7 +3,6 @@ ghost use Rattle.std.specs.Prelude.{◌≡◌};
 ghost use Rattle.oc_neutral.specs.Family as family;
 ghost use Rattle.oc_neutral.specs.HomeNames as names;
 ghost use Rattle.oc_neutral.specs.HomeNames.{home_of};
-ghost use Rattle.oc_neutral.specs.Elf.Kinds as kinds;
 ghost use Rattle.oc_neutral.specs.Coff.Family.{coff_home};
 ghost use Rattle.oc_neutral.specs.Elf.Family.{elf_home};
 ghost use Rattle.oc_neutral.specs.Mach.Family.{mach_home};
@@ -13,11 +12,12 @@ ghost use Rattle.oc_express.specs.Homes.{meant_home};
 use crate::formats::same_format;
 use oc_base::Format;
 use oc_neutral::coff::{
-    IMAGE_SCN_CNT_CODE, IMAGE_SCN_CNT_INITIALIZED_DATA, IMAGE_SCN_CNT_UNINITIALIZED_DATA,
-    IMAGE_SCN_MEM_EXECUTE, IMAGE_SCN_MEM_READ, IMAGE_SCN_MEM_WRITE,
+    CODE_TAG, IMAGE_SCN_CNT_INITIALIZED_DATA, IMAGE_SCN_CNT_UNINITIALIZED_DATA, IMAGE_SCN_MEM_READ,
+    IMAGE_SCN_MEM_WRITE,
 };
 use oc_neutral::elf::{
     SHF_ALLOC, SHF_EXECINSTR, SHF_WRITE, SHT_FINI_ARRAY, SHT_INIT_ARRAY, SHT_NOBITS, SHT_PROGBITS,
+    elf_tag,
 };
 use oc_neutral::mach::{
     S_ATTR_PURE_INSTRUCTIONS, S_ATTR_SOME_INSTRUCTIONS, S_MOD_INIT_FUNC_POINTERS,
@@ -51,13 +51,6 @@ fn unnamed(tag: u64) -> Option<Home>
     Some(Home { name: None, tag })
 }
 
-// the tag of a section of ELF of this type and with these flags
-fn elf_tag(sh_type: u32, sh_flags: u64) -> u64
-    ensures { result ≡ kinds.elf_tag sh_type sh_flags }
-{
-    8 * u64::from(sh_type) + sh_flags % 8
-}
-
 // in ELF
 fn elf_home(kind: Kind) -> Option<Home>
     ensures { meant_home result ≡ elf_home kind }
@@ -83,8 +76,6 @@ fn elf_home(kind: Kind) -> Option<Home>
 
 /// The flags of a section of data of COFF, which can be read.
 const COFF_DATA: u32 = IMAGE_SCN_CNT_INITIALIZED_DATA + IMAGE_SCN_MEM_READ;
-/// The flags of its instructions.
-const COFF_CODE: u32 = IMAGE_SCN_CNT_CODE + IMAGE_SCN_MEM_EXECUTE + IMAGE_SCN_MEM_READ;
 /// The flags of its zeros.
 const COFF_ZERO: u32 = IMAGE_SCN_CNT_UNINITIALIZED_DATA + IMAGE_SCN_MEM_READ + IMAGE_SCN_MEM_WRITE;
 
@@ -93,7 +84,7 @@ fn coff_home(kind: Kind) -> Option<Home>
     ensures { meant_home result ≡ coff_home kind }
 {
     match kind {
-        Kind::Code => named(b".text", COFF_CODE.into()),
+        Kind::Code => named(b".text", CODE_TAG.into()),
         Kind::ReadOnly => named(b".rdata", COFF_DATA.into()),
         Kind::Data => named(b".data", (COFF_DATA + IMAGE_SCN_MEM_WRITE).into()),
         Kind::Zero => named(b".bss", COFF_ZERO.into()),

@@ -1,10 +1,12 @@
-//! What a target can express of an object: how it writes the form of a relocation, what sections are
-//! called in it, and the first section, symbol or relocation that it cannot write.
+//! What a target can express of an object: how it writes the form of a relocation, the first section,
+//! symbol or relocation that it cannot write, and the object that is ready to be written in it.
 #![tactic(auto)]
 
 mod aligns;
 mod counts;
+mod dress;
 mod far;
+mod fitting;
 mod formats;
 mod forms;
 mod homes;
@@ -26,4 +28,5 @@ mod tables;
 mod tests;
 mod unfit;
 
+pub use fitting::{FitFault, fit};
 pub use forms::{NoForm, Spelling, lookup};

@@ -14,12 +14,11 @@ ghost use Rattle.oc_express.specs.Firsts.{first_in};
 
 use crate::forms::written_row;
 use crate::shifts::field_shift;
-use crate::stored::is_stored;
 use crate::symbols::{is_absolute, is_local};
 use oc_algebra::to_field;
 use oc_base::{Code, Fault, Format, Phase, Spot, word_of};
 use oc_chains::Field;
-use oc_neutral::{Base, Binding, Fallback, Form, Less, Neutral, Reloc, Target, Value};
+use oc_neutral::{Base, Binding, Fallback, Form, Less, Neutral, Reloc, Target, Value, is_stored};
 
 // whether it is a Local with an absolute number
 fn is_local_number(binding: Binding) -> bool

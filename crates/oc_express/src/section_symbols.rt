@@ -8,9 +8,8 @@ ghost use Rattle.oc_neutral.specs.Normal.{takes_section};
 
 use crate::keys::mark;
 use crate::sections::is_marked;
-use crate::stored::{is_long_distance, is_section};
 use oc_base::NoMemory;
-use oc_neutral::{Form, Less, Neutral, Reloc, Target};
+use oc_neutral::{Form, Less, Neutral, Reloc, Target, is_long_distance, is_section};
 use std::alloc::Global;
 
 // whether a relocation of a section is the distance of the section's own start

@@ -22,7 +22,7 @@ ghost use Rattle.oc_express.specs.Found.{held};
 use crate::formats::{keeps_debug, most_align, same_format, takes_exceptions};
 use crate::stored::is_relocated;
 use oc_base::{Bytes, Code, Fault, Format, Phase, Spot};
-use oc_neutral::{Kind, Neutral, Section};
+use oc_neutral::{Kind, Neutral, Section, coff, elf};
 
 // whether two kinds are the same
 fn same_kind(a: Kind, b: Kind) -> bool
@@ -279,7 +279,8 @@ fn most(target: Format) -> u64
     ensures { (n : Object) → result ≡ (conditions.section_counts target n).most }
 {
     match target {
-        Format::Elf32 | Format::Elf64 | Format::Coff32 | Format::Coff64 => 65_279,
+        Format::Elf32 | Format::Elf64 => u64::from(elf::SHN_LORESERVE) - 1,
+        Format::Coff32 | Format::Coff64 => coff::IMAGE_SYM_SECTION_MAX.into(),
         Format::Mac32 | Format::Mac64 => 255,
         Format::Omf => 30_000,
     }

@@ -60,7 +60,7 @@ const COFF32: [Row; 5] = [
     row!(coff::IMAGE_REL_I386_DIR32NB, None, 0; Four Wrap Address ImageBase Plain),
     row!(coff::IMAGE_REL_I386_SECREL, None, 0; Four Wrap Address Home Plain),
     row!(coff::IMAGE_REL_I386_SECTION, None, 0; Two Wrap HomeNumber Zero Plain),
-    row!(coff::IMAGE_REL_I386_REL32, None, 4; Four Wrap Address Place Plain),
+    row!(coff::IMAGE_REL_I386_REL32, None, coff::REL32_BEHIND; Four Wrap Address Place Plain),
 ];
 
 /// The types of x64 (PE/COFF, "Type Indicators").
@@ -70,7 +70,7 @@ const COFF64: [Row; 6] = [
     row!(coff::IMAGE_REL_AMD64_ADDR32NB, None, 0; Four Unsigned Address ImageBase Plain),
     row!(coff::IMAGE_REL_AMD64_SECREL, None, 0; Four Unsigned Address Home Plain),
     row!(coff::IMAGE_REL_AMD64_SECTION, None, 0; Two Wrap HomeNumber Zero Plain),
-    row!(coff::IMAGE_REL_AMD64_REL32, None, 4; Four Signed Address Place Plain),
+    row!(coff::IMAGE_REL_AMD64_REL32, None, coff::REL32_BEHIND; Four Signed Address Place Plain),
 ];
 
 /// The types of i386 (Mach-O reference, "Relocation Data Structures").

@@ -1,0 +1,8 @@
+use Rattle.bench_express.proofs.Shaped.{begun_elf}
+use Rattle.bench_express.proofs.begun.Goals as goal
+
+pub returns : goal.returns
+returns c =
+    let made = c.in_ok-code.ensures in
+    begun_elf c.new-builder.result c.add_section.new.self c.in_ok-code.field-0 c.new-builder.ensures c.in_ok-add_section.ensures.added
+    (record { kind = made.kind; name = made.name; tag = made.tag; align = made.align; alone = made.alone })
