@@ -1,23 +1,46 @@
-//! ELF files as the gABI and the i386 psABI lay them out: their structures, and what a file says of
-//! sections, symbols and relocated fields.
+//! ELF objects of both classes: their structures, the rules by which they are read, and the readers.
 #![tactic(auto)]
 
+mod added_relocs;
+mod bindings;
+mod built_groups;
+mod built_relocs;
+mod built_sections;
+mod built_symbols;
+mod class;
 mod constants;
 mod ehdr;
+mod frame;
+mod groups;
+mod headers;
+mod homes;
+mod judging;
+mod kind;
+mod laws;
+mod meaning;
 mod names;
+mod positions;
+mod reader;
 mod rel;
+mod relocs;
+mod section_stage;
+mod sections;
 mod shdr;
+mod signatures;
+mod started;
+mod stood;
 mod sym;
+mod symbol_stage;
+mod symbols;
 #[cfg(test)]
 mod tests;
 
-pub use constants::{
-    ELFCLASS32, ELFDATA2LSB, ELFMAG, EM_386, ET_REL, EV_CURRENT, R_386_NONE, SHT_REL, SHT_STRTAB,
-    SHT_SYMTAB, STB_GLOBAL, STB_LOCAL, STT_FUNC, STT_NOTYPE, STT_SECTION,
-};
-pub use ehdr::{EHDR_SIZE, Ehdr, ehdr_of};
-pub use names::{short_name, table_of};
-pub use oc_neutral::elf::{R_386_32, R_386_PC32, SHF_ALLOC, SHF_EXECINSTR, SHT_PROGBITS};
-pub use rel::{REL_SIZE, Rel, rel_at};
-pub use shdr::{SHDR_SIZE, Shdr, shdr_at};
-pub use sym::{SYM_SIZE, Sym, sym_at};
+pub use class::ElfClass;
+pub use ehdr::{Ehdr, ehdr_of, ehdr_size};
+pub use judging::judge;
+pub use laws::clean_is_shown;
+pub use meaning::Meaning;
+pub use reader::{ElfReader32, ElfReader64};
+pub use rel::{Rel, rel_at, rel_size};
+pub use shdr::{Shdr, null_shdr, shdr_at, shdr_size};
+pub use sym::{Sym, sym_at, sym_size};

@@ -1,0 +1,214 @@
+-- The relocations of a file without faults, added one after the other.
+use Rattle.std.proofs.Common.{◌≡◌, ℕ, ◌+◌, ◌<◌, ◌≤◌, Bool, true, false, cond, List, [], ◌∷◌, None, Some, Ok, refl, sym, ◌∙◌, ap, subst, arith}
+use Rattle.std.specs.Prelude.{◌&&◌, ◌||◌, not, nat_eq}
+use Rattle.std.specs.List.{AllByRecursion}
+use Rattle.std.specs.Option.{option_map, option_and_then}
+use Rattle.std.proofs.lemmas.Bool.{eqb-true, true≢false}
+use Rattle.std.proofs.lemmas.List.{length-map}
+use Rattle.std.proofs.lemmas.Option.{none-some, same_Some, slice_get-map, slice_get_within}
+use Rattle.oc_linking.specs.declared.terms.Binding.{Binding}
+use Rattle.oc_linking.specs.declared.terms.Binding.TheVariants.{Local, Global, Undefined, Common, Weak}
+use Rattle.oc_linking.specs.declared.terms.Keep.{Keep}
+use Rattle.oc_linking.specs.declared.terms.Kind.{Kind}
+use Rattle.oc_linking.specs.declared.terms.Kind.TheVariants.{Code, ReadOnly, Data, Zero, Init, Fini, Debug, Exception, Note}
+use Rattle.oc_linking.specs.declared.terms.Value.TheVariants as value
+use Rattle.oc_linking.specs.Fits.{bytes_of}
+use Rattle.oc_linking.specs.Parts as parts
+use Rattle.oc_linking.specs.Rules.{Field}
+use Rattle.oc_neutral.specs.declared.elf.TheConstants.{SHT_NOTE, SHT_NOBITS, SHT_INIT_ARRAY, SHT_FINI_ARRAY, SHT_X86_64_UNWIND, SHF_WRITE, SHF_ALLOC, SHF_EXECINSTR}
+use Rattle.oc_neutral.specs.declared.reloc.Reloc.{Reloc}
+use Rattle.oc_neutral.specs.declared.reloc.Target.{Target}
+use Rattle.oc_neutral.specs.declared.reloc.Target.TheVariants as target
+use Rattle.oc_neutral.specs.declared.symbol.Symbol.{Symbol}
+use Rattle.oc_neutral.specs.Building.{Draft, is_zero, reloc_added}
+use Rattle.oc_neutral.specs.Built.{AreOfFile, Given, HasAdded, IsField, IsStarted, and_one}
+use Rattle.oc_neutral.specs.Dialects.{kept_fields}
+use Rattle.oc_neutral.specs.Computed.{computed_symbol, placed_binding}
+use Rattle.oc_neutral.specs.Elf.Kinds.{elf_kind, is_debug_name, is_unwind_name}
+use Rattle.oc_neutral.specs.Invariants.{CanAdd, IsLessThere, IsTargetThere}
+use Rattle.oc_neutral.specs.KindRules.{first_rule, has}
+use Rattle.oc_neutral.specs.Normal.{Place, local_place, place_among}
+use Rattle.oc_neutral.specs.Rows.{Row, Taken, TakesZero, TakesPlace, TakesGotBase, TakesImageBase, TakesHome, TakesSection, less_of, same_taken}
+use Rattle.oc_neutral.specs.Started.{stored_section}
+use Rattle.oc_neutral.proofs.BuiltSteps.{added_more, added_same, can_still}
+use Rattle.oc_neutral.proofs.CleanLaws.{clean_is_added}
+use Rattle.oc_elf_read.specs.Built.{keys_of, symboled}
+use Rattle.oc_elf_read.specs.CarriedSections.{section_with, sections_of}
+use Rattle.oc_elf_read.specs.CarriedSymbols.{symbols_of}
+use Rattle.oc_elf_read.specs.Elf.{elf_dialect}
+use Rattle.oc_elf_read.specs.Frames.{Framed, header_at}
+use Rattle.oc_elf_read.specs.Given.{given_at}
+use Rattle.oc_elf_read.specs.Laid.{IsFrame}
+use Rattle.oc_elf_read.specs.Sections.{is_type, section_name}
+use Rattle.oc_elf_read.specs.Tables.{reloc_of, symbol_count}
+use Rattle.oc_elf_read.proofs.AimedFields.{IsAim, local_below}
+use Rattle.oc_elf_read.proofs.CarriedLemmas.{IsHere, kind_here, number_here, section_here}
+use Rattle.oc_elf_read.proofs.FoundFields.{IsClean}
+use Rattle.oc_elf_read.proofs.RowLemmas.{IsRow, is_row}
+use Rattle.oc_elf_read.proofs.SectionLemmas.{here}
+use Rattle.oc_elf_read.proofs.StandingFields.{IsStanding, are_apart, are_of_file, differences_fit}
+
+-- ... what can be added
+
+-- a section whose type is not NOBITS is not Zero
+not_zero : (rules : List (Bool × Kind)) (otherwise : Kind) → AllByRecursion (λ (r : Bool × Kind). r.0 ≡ true → is_zero r.1 ≡ false) rules → is_zero otherwise ≡ false → is_zero (first_rule rules otherwise) ≡ false
+not_zero [] otherwise all last = last
+not_zero (r ∷ rules) otherwise all last = by r.0 refl (not_zero rules otherwise all.1 last)
+  where
+    by : (b : Bool) → r.0 ≡ b → is_zero (first_rule rules otherwise) ≡ false → is_zero (cond b r.1 (first_rule rules otherwise)) ≡ false
+    by true e rest = all.0 e
+    by false e rest = rest
+
+stored_kind : (name : List ℕ) (type flags : ℕ) → nat_eq type SHT_NOBITS ≡ false → is_zero (elf_kind name type flags) ≡ false
+unfolding elf_kind
+stored_kind name type flags other =
+    not_zero (
+    (is_unwind_name name || nat_eq type SHT_X86_64_UNWIND, Exception)
+    ∷ (not (has flags SHF_ALLOC) && is_debug_name name, Debug)
+    ∷ (not (has flags SHF_ALLOC), Note)
+    ∷ (nat_eq type SHT_NOTE, Note)
+    ∷ (nat_eq type SHT_INIT_ARRAY, Init)
+    ∷ (nat_eq type SHT_FINI_ARRAY, Fini)
+    ∷ (nat_eq type SHT_NOBITS, Zero)
+    ∷ (has flags SHF_EXECINSTR, Code)
+    ∷ (has flags SHF_WRITE, Data)
+    ∷ []) ReadOnly
+    ((λ e. refl), ((λ e. refl), ((λ e. refl), ((λ e. refl), ((λ e. refl), ((λ e. refl), ((λ e. absurd (true≢false (sym e ∙ other))), ((λ e. refl), ((λ e. refl), tt))))))))) refl
+
+size_here : (f : Framed) (frame : IsFrame f) (s : ℕ) (x : parts.Section) (m : IsHere f s x) → x.size ≡ (here f m.k).sh_size
+unfolding section_with
+size_here f frame s x m = ap (λ (y : parts.Section). y.size) (sym m.is)
+
+-- a Local's place, in a binding as it is stored
+stored_place : (all : List parts.Symbol) (b : Binding) (place : Place) → local_place (placed_binding all b) ≡ Some place → b ≡ Local (value.Place place.0 place.1)
+stored_place all (Local (value.Place k offset)) place e = ap (λ (q : Place). Local (value.Place q.0 q.1)) (same_Some (k, offset) place e)
+stored_place all (Local (value.Absolute n)) place e = absurd (none-some place e)
+stored_place all (Global v) place e = absurd (none-some place e)
+stored_place all Undefined place e = absurd (none-some place e)
+stored_place all (Common size align) place e = absurd (none-some place e)
+stored_place all (Weak g) place e = absurd (none-some place e)
+
+-- what is given for some places alone
+abbrev given_where : Framed → Keep → (ℕ → ℕ → Bool) → Given
+given_where f keep done s at = cond (done s at) (given_at f keep s at) None
+
+module _ (f : Framed) (keep : Keep) (frame : IsFrame f) (clean : IsClean f keep) (started : IsStarted (elf_dialect f.class) f.file keep (symboled f (symbol_count f))) where
+  abbrev base : Draft
+  base = symboled f (symbol_count f)
+
+  -- an entry stands at an offset of the section at position s
+  abbrev pub Standing : ℕ → ℕ → Type 0
+  Standing s at = IsStanding f keep frame clean base.object started.symbols s at
+
+  -- its target is there
+  target_there : (t : Target) → IsAim f t → IsTargetThere base.object t
+  unfolding place_among
+  target_there (target.Section k) low = record {
+    itself = subst (λ (m : ℕ). k < m) (sym (length-map (sections_of f) (stored_section (keys_of f)))) low;
+    section = λ place e. absurd (none-some place e);
+  }
+  target_there (target.Symbol p) (j, y, is, there) = record {
+    itself = subst (λ (m : ℕ). p < m) (sym (length-map (symbols_of f) (computed_symbol (symbols_of f)))) (slice_get_within (symbols_of f) p y there);
+    section = λ place e. subst (λ (m : ℕ). place.0 < m) (sym (length-map (sections_of f) (stored_section (keys_of f))))
+        (local_below f j place.0 place.1 y is
+        (stored_place (symbols_of f) y.binding place (sym (ap (option_and_then (λ (z : Symbol). local_place z.binding)) (slice_get-map (computed_symbol (symbols_of f)) (symbols_of f) p ∙ ap (option_map (computed_symbol (symbols_of f))) there)) ∙ e)));
+  }
+
+  -- it takes no section
+  less_there : (row : Row) → IsRow row → IsLessThere base.object (less_of row.taken 0)
+  less_there row is = by row.taken is.alone
+    where
+      by : (t : Taken) → same_taken t TakesSection ≡ false → IsLessThere base.object (less_of t 0)
+      by TakesZero e = tt
+      by TakesPlace e = tt
+      by TakesGotBase e = tt
+      by TakesImageBase e = tt
+      by TakesHome e = tt
+      by TakesSection e = absurd (true≢false e)
+
+  -- a relocation can be added before any other
+  can_base : (s at : ℕ) (m : Standing s at) → CanAdd base.object s at m.meant.reloc
+  can_base s at m = record {
+    section = stored_section (keys_of f) m.x;
+    there = slice_get-map (stored_section (keys_of f)) (sections_of f) s ∙ ap (option_map (stored_section (keys_of f))) m.there;
+    inside = subst (λ (b : Bool). at + bytes_of m.meant.reloc.form.width ≤ cond b 0 m.x.size) (sym stored) inside;
+    target = target_there m.meant.reloc.target m.meant.aim;
+    less = subst (IsLessThere base.object) (sym (ap (λ g. g.less) m.meant.form)) (less_there m.good.row (is_row f (reloc_of f m.x.number m.k) m.good.row m.good.listed));
+  }
+    where
+      h : IsHere f s m.x
+      h = section_here f s m.x m.there
+
+      stored : is_zero m.x.kind ≡ false
+      stored =
+          ap is_zero (kind_here f s m.x h)
+          ∙ stored_kind (section_name f (here f h.k)) (here f h.k).sh_type (here f h.k).sh_flags
+          (ap (λ (i : ℕ). is_type SHT_NOBITS (header_at f.headers i)) (sym (number_here f s m.x h)) ∙ m.good.stored)
+
+      inside : at + bytes_of m.meant.reloc.form.width ≤ m.x.size
+      inside =
+          let ends = m.good.inside in
+          let offset : (reloc_of f m.x.number m.k).r_offset ≡ at = m.offset in
+          let width : bytes_of m.meant.reloc.form.width ≡ bytes_of m.good.row.width = ap (λ g. bytes_of g.width) m.meant.form in
+          let size : m.x.size ≡ (header_at f.headers m.x.number).sh_size = size_here f frame s m.x h ∙ ap (λ (i : ℕ). (header_at f.headers i).sh_size) (sym (number_here f s m.x h)) in
+          omega (arith, ends, offset, width, size)
+
+  -- ... a step
+
+  -- what was given so far are fields of the file
+  part_of_file : (done : ℕ → ℕ → Bool) → AreOfFile (elf_dialect f.class) f.file keep base.object (given_where f keep done)
+  part_of_file done s at r e = by (done s at) e
+    where
+      by : (b : Bool) → cond b (given_at f keep s at) None ≡ Some r → (x : Field) × (kept_fields (elf_dialect f.class) f.file keep s at ≡ Some x) × IsField (elf_dialect f.class) f.file keep base.object s at r x
+      by true e = are_of_file f keep frame clean base.object started.symbols s at r e
+      by false e = absurd (none-some r e)
+
+  -- one more place
+  one_more : (done more : ℕ → ℕ → Bool) (s at : ℕ) (r : Reloc) → given_at f keep s at ≡ Some r → ((t x : ℕ) → more t x ≡ (done t x || nat_eq t s && nat_eq at x))
+      → (t x : ℕ) → and_one (given_where f keep done) s at r t x ≡ given_where f keep more t x
+  one_more done more s at r there grown t x = by (nat_eq t s) (nat_eq at x) refl refl ∙ ap (λ b. cond b (given_at f keep t x) None) (sym (grown t x))
+    where
+      by : (a b : Bool) → nat_eq t s ≡ a → nat_eq at x ≡ b → cond (a && b) (Some r) (cond (done t x) (given_at f keep t x) None) ≡ cond (done t x || a && b) (given_at f keep t x) None
+      by true true e g =
+          let given : given_at f keep t x ≡ Some r = ap (λ (i : ℕ). given_at f keep i x) (eqb-true t s e) ∙ ap (λ (i : ℕ). given_at f keep s i) (sym (eqb-true at x g)) ∙ there in
+          of (done t x) given
+        where
+          of : (d : Bool) → given_at f keep t x ≡ Some r → Some r ≡ cond (d || true) (given_at f keep t x) None
+          of true given = sym given
+          of false given = sym given
+      by true false e g = of (done t x)
+        where
+          of : (d : Bool) → cond d (given_at f keep t x) None ≡ cond (d || false) (given_at f keep t x) None
+          of true = refl
+          of false = refl
+      by false b e g = of (done t x)
+        where
+          of : (d : Bool) → cond d (given_at f keep t x) None ≡ cond (d || false) (given_at f keep t x) None
+          of true = refl
+          of false = refl
+
+  -- a relocation at a place where none is yet is added
+  pub record IsTaken (d : Draft) (s at : ℕ) (r : Reloc) (more : ℕ → ℕ → Bool) : Type 0 where
+    pub can : CanAdd d.object s at r
+    pub next : Draft
+    pub ok : reloc_added d s at r ≡ Ok next
+    pub added : HasAdded base next (given_where f keep more)
+
+  pub taken : (done more : ℕ → ℕ → Bool) (d : Draft) (s at : ℕ) (m : Standing s at) → HasAdded base d (given_where f keep done) → done s at ≡ false → ((t x : ℕ) → more t x ≡ (done t x || nat_eq t s && nat_eq at x))
+      → IsTaken d s at m.meant.reloc more
+  taken done more d s at m has new grown = record {
+    can = can;
+    next = step.0;
+    ok = step.1;
+    added = added_same base step.0 (and_one (given_where f keep done) s at m.meant.reloc) (given_where f keep more) (added_more base d step.0 (given_where f keep done) s at m.meant.reloc has can step.1) (one_more done more s at m.meant.reloc m.given grown);
+  }
+    where
+      can : CanAdd d.object s at m.meant.reloc
+      can = can_still base d (given_where f keep done) started.draft started.relocs started.folded has s at m.meant.reloc (can_base s at m)
+
+      is : IsField (elf_dialect f.class) f.file keep base.object s at m.meant.reloc m.meant.field
+      is = subst (λ (x : ℕ). IsField (elf_dialect f.class) f.file keep base.object s x m.meant.reloc m.meant.field) m.offset m.meant.is
+
+      step : (e : Draft) × (reloc_added d s at m.meant.reloc ≡ Ok e)
+      step = clean_is_added (elf_dialect f.class) f.file keep base d (given_where f keep done) started (are_apart f keep frame clean base.object started.symbols) (differences_fit f keep frame clean base.object started.symbols) has
+          (part_of_file done) s at m.meant.reloc m.meant.field m.field is (ap (λ b. cond b (given_at f keep s at) None) new)

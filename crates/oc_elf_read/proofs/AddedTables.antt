@@ -1,0 +1,363 @@
+-- What is given, table by table and entry by entry.
+use Rattle.std.proofs.Common.{◌≡◌, ℕ, ◌+◌, ◌^◌, ◌<◌, ◌≤◌, ◌⊎◌, inl, inr, Bool, true, false, cond, List, [], length, take, Option, None, Some, Ok, refl, sym, ◌∙◌, ap, subst, arith, get_or}
+use Rattle.std.specs.Prelude.{◌&&◌, ◌||◌, nat_eq, nat_lt, slice_get, is_some}
+use Rattle.std.specs.List.Sorted.{IsPermutation}
+use Rattle.std.specs.Option.{option_map_or, option_and_then}
+use Rattle.std.proofs.lemmas.Bool.{cases_eq, cases_lt, eq-eqb, ne_eqb, true≢false}
+use Rattle.std.proofs.lemmas.Bool.Decides.{nat_tests}
+use Rattle.std.proofs.Math.Seq.{take-length}
+use Rattle.std.proofs.lemmas.List.Folds.{list_any_more}
+use Rattle.std.proofs.lemmas.Option.{same_Some}
+use Rattle.oc_linking.specs.declared.terms.Keep.{Keep}
+use Rattle.oc_linking.specs.Keeping.{keeps}
+use Rattle.oc_linking.specs.Numbers.{first_upto}
+use Rattle.oc_linking.specs.Parts as parts
+use Rattle.oc_neutral.specs.declared.reloc.Reloc.{Reloc}
+use Rattle.oc_neutral.specs.declared.elf.TheConstants.{SHT_NOBITS}
+use Rattle.oc_neutral.specs.Building.{Draft, reloc_added}
+use Rattle.oc_neutral.specs.Built.{HasAdded, IsStarted}
+use Rattle.oc_neutral.specs.Invariants.{CanAdd}
+use Rattle.oc_shelf.specs.declared.reading.order.Placed.{Placed}
+use Rattle.oc_shelf.specs.Reading.Collected.{collected}
+use Rattle.oc_shelf.proofs.ReadingLaws.CollectedLemmas.{collected-at}
+use Rattle.oc_shelf.proofs.ReadingLaws.StageLemmas.{both_hold}
+use Rattle.oc_elf_read.specs.declared.rel.Rel.{Rel}
+use Rattle.oc_elf_read.specs.Built.{IsPlaced, symboled}
+use Rattle.oc_elf_read.specs.CarriedSections.{position_of, section_of, section_with, sections_of}
+use Rattle.oc_elf_read.specs.Elf.{elf_dialect}
+use Rattle.oc_elf_read.specs.Fields.{is_idle, rel_at, width_of}
+use Rattle.oc_elf_read.specs.Frames.{Framed}
+use Rattle.oc_elf_read.specs.Given.{given_at, given_before, given_with, is_among, is_before, placed, reloc_by}
+use Rattle.oc_elf_read.specs.Laid.{IsFrame}
+use Rattle.oc_elf_read.specs.RelocRules.{entry_fault, is_kept_section}
+use Rattle.oc_elf_read.specs.Sections.{contents_of, is_carried, is_type, kind_of}
+use Rattle.oc_elf_read.specs.Tables.{reloc_count, reloc_of, symbol_count}
+use Rattle.oc_elf_read.proofs.AddedRelocs.{IsTaken, Standing, taken}
+use Rattle.oc_elf_read.proofs.ApartEntries.{differ_at, fit_at}
+use Rattle.oc_elf_read.proofs.BuildLemmas.{length-contents, placed_at}
+use Rattle.oc_elf_read.proofs.CarriedLemmas.{IsHere, kind_here, number_here, section_here}
+use Rattle.oc_elf_read.proofs.FoundFields.{IsClean, IsEntry, entries_clean, entry_found, entry_there}
+use Rattle.oc_elf_read.proofs.PlaceLemmas.{section_some}
+use Rattle.oc_elf_read.proofs.PlacedEntries.{IsPlacedEntry, among_all, not_among, placed_at as entry_placed}
+use Rattle.oc_elf_read.proofs.RelocLemmas.{IsGood, field_inside, nameable_there}
+use Rattle.oc_elf_read.proofs.SectionLemmas.{here}
+use Rattle.oc_elf_read.proofs.StandingFields.{given_standing, stands}
+
+-- the first entry at the offset of an entry is that entry
+rel_is : (f : Framed) (i k : ℕ) → first_upto (entry_fault f i) (reloc_count f i) ≡ None → k < reloc_count f i → is_idle (reloc_of f i k) ≡ false → rel_at f i (reloc_of f i k).r_offset ≡ Some (reloc_of f i k)
+rel_is f i k clean low busy = by (rel_at f i (reloc_of f i k).r_offset) refl
+  where
+    by : (o : Option Rel) → rel_at f i (reloc_of f i k).r_offset ≡ o → o ≡ Some (reloc_of f i k)
+    by None e = absurd (true≢false (sym (entry_there f i k low busy) ∙ ap (λ (o : Option Rel). is_some o) e))
+    by (Some r) e = of (entry_found f i (reloc_of f i k).r_offset r e)
+      where
+        of : IsEntry f i (reloc_of f i k).r_offset r → Some r ≡ Some (reloc_of f i k)
+        of m = elim (cases_eq m.k k) [
+          | inl same ↦ ap Some (sym m.is ∙ ap (reloc_of f i) same)
+          | inr other ↦ absurd (apart other)
+        ]
+          where
+            offset : (reloc_of f i m.k).r_offset ≡ (reloc_of f i k).r_offset
+            offset = ap (λ (q : Rel). q.r_offset) m.is ∙ m.offset
+
+            apart : (m.k ≡ k → ⊥) → ⊥
+            apart other = elim (cases_lt m.k k) [
+              | inl before ↦ differ_at f i clean m.k k before low m.busy busy offset
+              | inr later ↦ differ_at f i clean k m.k (let below = m.below in ne_lt m.k k later other) m.below busy m.busy (sym offset)
+            ]
+              where
+                ne_lt : (a b : ℕ) → b ≤ a → (a ≡ b → ⊥) → b < a
+                ne_lt a b le ne = elim (cases_eq a b) [ inl same ↦ absurd (ne same) | inr other ↦ omega (arith, le, other) ]
+
+-- the section at the position of section i
+at_position : (f : Framed) (i p : ℕ) → i < length f.headers → is_carried (here f i) ≡ true → position_of f i ≡ Some p → slice_get (sections_of f) p ≡ Some (section_with f i (here f i))
+at_position f i p low carried position =
+    subst (λ (q : ℕ). slice_get (sections_of f) q ≡ Some (section_with f i (here f i)))
+    (same_Some (length (collected (section_of f) i)) p (sym (ap (λ (o : Option parts.Section). cond (is_some o) (Some (length (collected (section_of f) i))) None) (section_some f i carried)) ∙ position))
+    (collected-at (section_of f) i (length f.headers) (section_with f i (here f i)) (section_some f i carried) low)
+
+number_of : (f : Framed) (i : ℕ) → (section_with f i (here f i)).number ≡ i
+unfolding section_with
+number_of f i = refl
+
+kind_of_it : (f : Framed) (i : ℕ) → (section_with f i (here f i)).kind ≡ kind_of f (here f i)
+unfolding section_with
+kind_of_it f i = refl
+
+contents_of_it : (f : Framed) (i : ℕ) → (section_with f i (here f i)).contents ≡ contents_of f (here f i)
+unfolding section_with
+contents_of_it f i = refl
+
+kept_parts : (f : Framed) (keep : Keep) (i : ℕ) → is_kept_section f keep i ≡ true → (is_carried (here f i) ≡ true) × (keeps keep (kind_of f (here f i)) ≡ true)
+kept_parts f keep i kept = both_hold (is_carried (here f i)) (keeps keep (kind_of f (here f i))) kept
+
+-- a section that is kept has a position
+pub kept_position : (f : Framed) (keep : Keep) (i : ℕ) → is_kept_section f keep i ≡ true → is_some (position_of f i) ≡ true
+kept_position f keep i kept =
+    ap (λ (o : Option parts.Section). is_some (cond (is_some o) (Some (length (collected (section_of f) i))) None)) (section_some f i (kept_parts f keep i kept).0)
+
+-- ... sections
+
+module _ (f : Framed) (keep : Keep) (frame : IsFrame f) where
+  -- nothing is given for no sections
+  pub given_none : (t x : ℕ) → given_before f keep 0 t x ≡ None
+  unfolding given_at
+  given_none t x = by (slice_get (sections_of f) t)
+    where
+      by : (o : Option parts.Section) → cond (option_map_or (λ (y : parts.Section). nat_lt y.number 0) o true)
+          (option_and_then (λ (y : parts.Section). cond (keeps keep y.kind) (option_and_then (reloc_by f y.contents) (rel_at f y.number x)) None) o) None ≡ None
+      by None = refl
+      by (Some y) = ap (λ b. cond b (cond (keeps keep y.kind) (option_and_then (reloc_by f y.contents) (rel_at f y.number x)) None) None) (low y.number)
+        where
+          low : (n : ℕ) → nat_lt n 0 ≡ false
+          low n = grind (arith, nat_tests)
+
+  -- for all sections all is given
+  pub given_all : (t x : ℕ) → given_before f keep (length f.headers) t x ≡ given_at f keep t x
+  given_all t x = by (slice_get (sections_of f) t) refl
+    where
+      by : (o : Option parts.Section) → slice_get (sections_of f) t ≡ o → cond (option_map_or (λ (y : parts.Section). nat_lt y.number (length f.headers)) o true) (given_at f keep t x) None ≡ given_at f keep t x
+      by None e = refl
+      by (Some y) e =
+          let m : IsHere f t y = section_here f t y e in
+          ap (λ b. cond b (given_at f keep t x) None) (ap (λ (n : ℕ). nat_lt n (length f.headers)) (number_here f t y m) ∙ below m.k (length f.headers) m.low)
+        where
+          below : (a b : ℕ) → a < b → nat_lt a b ≡ true
+          below a b l = grind (arith, nat_tests)
+
+  -- sections with other numbers than i
+  passed : (n i : ℕ) → (n ≡ i → ⊥) → nat_lt n (i + 1) ≡ nat_lt n i
+  passed n i other = by (nat_lt n i) refl
+    where
+      by : (b : Bool) → nat_lt n i ≡ b → nat_lt n (i + 1) ≡ b
+      by true e = grind (arith, nat_tests)
+      by false e = elim (cases_eq n i) [ inl same ↦ absurd (other same) | inr ne ↦ grind (arith, nat_tests) ]
+
+  -- a section that is left out is given nothing
+  pub given_left : (i : ℕ) → is_kept_section f keep i ≡ false → (t x : ℕ) → given_before f keep i t x ≡ given_before f keep (i + 1) t x
+  unfolding given_at
+  given_left i left t x = by (slice_get (sections_of f) t) refl
+    where
+      by : (o : Option parts.Section) → slice_get (sections_of f) t ≡ o
+          → cond (option_map_or (λ (y : parts.Section). nat_lt y.number i) o true)
+          (option_and_then (λ (y : parts.Section). cond (keeps keep y.kind) (option_and_then (reloc_by f y.contents) (rel_at f y.number x)) None) o) None
+          ≡ cond (option_map_or (λ (y : parts.Section). nat_lt y.number (i + 1)) o true)
+          (option_and_then (λ (y : parts.Section). cond (keeps keep y.kind) (option_and_then (reloc_by f y.contents) (rel_at f y.number x)) None) o) None
+      by None e = refl
+      by (Some y) e = elim (cases_eq y.number i) [
+        | inl same ↦ both (nat_lt y.number i) (nat_lt y.number (i + 1)) (keeps keep y.kind) (unkept same)
+        | inr other ↦ ap (λ b. cond b (cond (keeps keep y.kind) (option_and_then (reloc_by f y.contents) (rel_at f y.number x)) None) None) (sym (passed y.number i other))
+      ]
+        where
+          m : IsHere f t y
+          m = section_here f t y e
+
+          unkept : y.number ≡ i → keeps keep y.kind ≡ false
+          unkept same =
+              let k : m.k ≡ i = sym (number_here f t y m) ∙ same in
+              ap (keeps keep) (kind_here f t y m)
+              ∙ sym (ap (λ b. b && keeps keep (kind_of f (here f m.k))) m.carried)
+              ∙ ap (λ (j : ℕ). is_kept_section f keep j) k ∙ left
+
+          both : (a b c : Bool) → c ≡ false → cond a (cond c (option_and_then (reloc_by f y.contents) (rel_at f y.number x)) None) None ≡ cond b (cond c (option_and_then (reloc_by f y.contents) (rel_at f y.number x)) None) None
+          both a b true e = absurd (true≢false e)
+          both true true false e = refl
+          both true false false e = refl
+          both false true false e = refl
+          both false false false e = refl
+
+-- ... entries
+
+-- before the first entry
+pub given_first : (f : Framed) (keep : Keep) (i p : ℕ) (t x : ℕ) → given_before f keep i t x ≡ given_with f keep i p [] t x
+given_first f keep i p t x = by (is_before f i t) (nat_eq t p)
+  where
+    by : (a b : Bool) → cond a (given_at f keep t x) None ≡ cond (a || b && false) (given_at f keep t x) None
+    by true b = refl
+    by false true = refl
+    by false false = refl
+
+module _ (f : Framed) (keep : Keep) (frame : IsFrame f) (clean : IsClean f keep) (started : IsStarted (elf_dialect f.class) f.file keep (symboled f (symbol_count f)))
+    (i p : ℕ) (low : i < length f.headers) (kept : is_kept_section f keep i ≡ true) (position : position_of f i ≡ Some p) where
+  entries_are : first_upto (entry_fault f i) (reloc_count f i) ≡ None
+  entries_are = entries_clean f keep i clean.relocs low kept
+
+  there : slice_get (sections_of f) p ≡ Some (section_with f i (here f i))
+  there = at_position f i p low (kept_parts f keep i kept).0 position
+
+  number_at : is_before f i p ≡ false
+  number_at = ap (λ (o : Option parts.Section). option_map_or (λ (y : parts.Section). nat_lt y.number i) o true) there ∙ ap (λ (n : ℕ). nat_lt n i) (number_of f i) ∙ self i
+    where
+      self : (n : ℕ) → nat_lt n n ≡ false
+      self n = grind (arith, nat_tests)
+
+  -- another position has another number
+  other_number : (t : ℕ) (y : parts.Section) → slice_get (sections_of f) t ≡ Some y → (t ≡ p → ⊥) → y.number ≡ i → ⊥
+  other_number t y e other same =
+      let m : IsHere f t y = section_here f t y e in
+      let k : m.k ≡ i = sym (number_here f t y m) ∙ same in
+      other (same_Some t p (sym m.at ∙ ap (position_of f) k ∙ position))
+
+  -- an entry stands at its offset
+  pub record IsNext (k : ℕ) : Type 0 where
+    pub standing : Standing f keep frame clean started p (reloc_of f i k).r_offset
+    pub is : reloc_by f (contents_of f (here f i)) (reloc_of f i k) ≡ Some standing.meant.reloc
+    pub lies : (here f i).sh_offset + (here f i).sh_size ≤ length f.file
+    pub stored : is_type SHT_NOBITS (here f i) ≡ false
+    pub named : (reloc_of f i k).r_sym < symbol_count f
+    pub inside : (reloc_of f i k).r_offset + width_of f (reloc_of f i k) ≤ length (contents_of f (here f i))
+    pub small : (reloc_of f i k).r_offset < 2 ^ 32
+
+  pub next_at : (k : ℕ) → k < reloc_count f i → is_idle (reloc_of f i k) ≡ false → IsNext k
+  next_at k below busy = record {
+    standing = m;
+    is = ap (λ (xs : List ℕ). reloc_by f xs (reloc_of f i k)) (sym (ap (λ (y : parts.Section). y.contents) section ∙ contents_of_it f i)) ∙ ap (reloc_by f m.x.contents) (sym same ∙ ap (λ (q : ℕ). reloc_of f q m.k) (sym number)) ∙ m.meant.there;
+    lies = placed.lies good.stored;
+    stored = good.stored;
+    named = nameable_there f (reloc_of f i k).r_sym good.nameable;
+    inside = let ends = field_inside f i (reloc_of f i k) good in let long = length-contents f (here f i) placed in omega (arith, ends, long);
+    small = let ends = field_inside f i (reloc_of f i k) good in let size = placed.size in omega (arith, ends, size);
+  }
+    where
+      carried : is_carried (here f i) ≡ true
+      carried = (kept_parts f keep i kept).0
+
+      placed : IsPlaced f (here f i)
+      placed = placed_at f frame clean.sections i low carried
+
+      good : IsGood f i (reloc_of f i k)
+      good = (fit_at f i entries_are k below busy).good
+
+      x : parts.Section
+      x = section_with f i (here f i)
+
+      rel : rel_at f x.number (reloc_of f i k).r_offset ≡ Some (reloc_of f i k)
+      rel = ap (λ (j : ℕ). rel_at f j (reloc_of f i k).r_offset) (number_of f i) ∙ rel_is f i k entries_are below busy
+
+      kept_it : keeps keep x.kind ≡ true
+      kept_it = ap (keeps keep) (kind_of_it f i) ∙ (kept_parts f keep i kept).1
+
+      m : Standing f keep frame clean started p (reloc_of f i k).r_offset
+      m = stands f keep frame clean (symboled f (symbol_count f)).object started.symbols p (reloc_of f i k).r_offset x (reloc_of f i k) there kept_it rel
+
+      section : m.x ≡ x
+      section = same_Some m.x x (sym m.there ∙ there)
+
+      number : m.x.number ≡ i
+      number = ap (λ (y : parts.Section). y.number) section ∙ number_of f i
+
+      same : reloc_of f i m.k ≡ reloc_of f i k
+      same =
+          let lower : m.k < reloc_count f i = subst (λ (q : ℕ). m.k < reloc_count f q) number m.below in
+          let busier : is_idle (reloc_of f i m.k) ≡ false = subst (λ (q : ℕ). is_idle (reloc_of f q m.k) ≡ false) number m.busy in
+          let offset : (reloc_of f i m.k).r_offset ≡ (reloc_of f i k).r_offset = subst (λ (q : ℕ). (reloc_of f q m.k).r_offset ≡ (reloc_of f i k).r_offset) number m.offset in
+          same_Some (reloc_of f i m.k) (reloc_of f i k) (sym (rel_is f i m.k entries_are lower busier) ∙ ap (rel_at f i) offset ∙ rel_is f i k entries_are below busy)
+
+  module _ (entries : List Placed) (are : IsPermutation (collected (placed f i) (reloc_count f i)) entries) where
+    abbrev done : ℕ → ℕ → ℕ → Bool
+    done j t x = is_before f i t || nat_eq t p && is_among (take j entries) x
+
+    -- nothing is given at the place of an entry before it is added
+    pub new_place : (j : ℕ) (d : Placed) → j < length entries → done j p (get_or entries j d).place ≡ false
+    new_place j d below = by (is_before f i p) (is_among (take j entries) (get_or entries j d).place) number_at (not_among f i entries_are entries are j d below)
+      where
+        by : (a c : Bool) → a ≡ false → c ≡ false → (a || nat_eq p p && c) ≡ false
+        by false false e g = of (nat_eq p p)
+          where
+            of : (b : Bool) → (b && false) ≡ false
+            of true = refl
+            of false = refl
+        by true c e g = absurd (true≢false e)
+        by false true e g = absurd (true≢false g)
+
+    -- with it one more place is given
+    pub one_place : (j : ℕ) (d : Placed) → j < length entries → (t x : ℕ) → done (j + 1) t x ≡ (done j t x || nat_eq t p && nat_eq (get_or entries j d).place x)
+    one_place j d below t x =
+        ap (λ b. is_before f i t || nat_eq t p && b) (list_any_more (λ (e : Placed). nat_eq e.place x) entries j d below)
+        ∙ by (is_before f i t) (nat_eq t p) (is_among (take j entries) x) (nat_eq (get_or entries j d).place x)
+      where
+        by : (a b c e : Bool) → (a || b && (c || e)) ≡ (a || b && c || b && e)
+        by true b c e = refl
+        by false true true e = refl
+        by false true false e = refl
+        by false false c e = refl
+
+    -- entry j stands at its offset, and is added
+    pub next_of : (j : ℕ) (e : Placed) → j < length entries → IsNext (get_or entries j e).index
+    next_of j e below =
+        let is : IsPlacedEntry f i (get_or entries j e) = entry_placed f i entries_are entries are j e below in
+        next_at (get_or entries j e).index is.low is.busy
+
+    pub added_next : (j : ℕ) (e : Placed) (below : j < length entries) (d : Draft) → HasAdded (symboled f (symbol_count f)) d (given_with f keep i p (take j entries))
+        → IsTaken f keep frame clean started d p (reloc_of f i (get_or entries j e).index).r_offset (next_of j e below).standing.meant.reloc (done (j + 1))
+    added_next j e below d has =
+        let is : IsPlacedEntry f i (get_or entries j e) = entry_placed f i entries_are entries are j e below in
+        taken f keep frame clean started (done j) (done (j + 1)) d p (reloc_of f i (get_or entries j e).index).r_offset (next_of j e below).standing has
+        (ap (done j p) is.place ∙ new_place j e below)
+        (λ t x. one_place j e below t x ∙ ap (λ (q : ℕ). done j t x || nat_eq t p && nat_eq q x) (sym is.place))
+
+    -- its relocation, as it was read, can be added
+    pub record IsReady (d : Draft) (j : ℕ) (r : Rel) (o : Reloc) : Type 0 where
+      pub can : CanAdd d.object p r.r_offset o
+      pub next : Draft
+      pub ok : reloc_added d p r.r_offset o ≡ Ok next
+      pub added : HasAdded (symboled f (symbol_count f)) next (given_with f keep i p (take (j + 1) entries))
+
+    pub ready : (j : ℕ) (e : Placed) → j < length entries → (d : Draft) → HasAdded (symboled f (symbol_count f)) d (given_with f keep i p (take j entries)) → (r : Rel) → r ≡ reloc_of f i (get_or entries j e).index
+        → (o : Reloc) → reloc_by f (contents_of f (here f i)) r ≡ Some o → IsReady d j r o
+    ready j e below d has r read o made =
+        let t : IsTaken f keep frame clean started d p (reloc_of f i (get_or entries j e).index).r_offset (next_of j e below).standing.meant.reloc (done (j + 1)) = added_next j e below d has in
+        let same : (next_of j e below).standing.meant.reloc ≡ o = same_Some (next_of j e below).standing.meant.reloc o (sym (next_of j e below).is ∙ ap (reloc_by f (contents_of f (here f i))) (sym read) ∙ made) in
+        record {
+          can = subst (λ (q : Rel). CanAdd d.object p q.r_offset o) (sym read) (subst (CanAdd d.object p (reloc_of f i (get_or entries j e).index).r_offset) same t.can);
+          next = t.next;
+          ok = ap (λ (q : Rel). reloc_added d p q.r_offset o) read ∙ ap (reloc_added d p (reloc_of f i (get_or entries j e).index).r_offset) (sym same) ∙ t.ok;
+          added = t.added;
+        }
+
+    -- with all entries the section is done
+    pub table_done : (t x : ℕ) → given_with f keep i p (take (length entries) entries) t x ≡ given_before f keep (i + 1) t x
+    table_done t x = by (slice_get (sections_of f) t) refl (cases_eq t p)
+      where
+        -- what is given in the section is among them
+        given_among : t ≡ p → is_among (take (length entries) entries) x ≡ false → given_at f keep t x ≡ None
+        given_among same none = of (given_at f keep t x) refl
+          where
+            of : (o : Option Reloc) → given_at f keep t x ≡ o → o ≡ None
+            of None e = refl
+            of (Some r) e =
+                let m : Standing f keep frame clean started t x = given_standing f keep frame clean (symboled f (symbol_count f)).object started.symbols t x r e in
+                let section : m.x ≡ section_with f i (here f i) = same_Some m.x (section_with f i (here f i)) (sym m.there ∙ ap (slice_get (sections_of f)) same ∙ there) in
+                let number : m.x.number ≡ i = ap (λ (y : parts.Section). y.number) section ∙ number_of f i in
+                let among : is_among entries (reloc_of f i m.k).r_offset ≡ true = among_all f i entries_are entries are m.k (subst (λ (q : ℕ). m.k < reloc_count f q) number m.below) (subst (λ (q : ℕ). is_idle (reloc_of f q m.k) ≡ false) number m.busy) in
+                let offset : (reloc_of f i m.k).r_offset ≡ x = subst (λ (q : ℕ). (reloc_of f q m.k).r_offset ≡ x) number m.offset in
+                absurd (true≢false (sym among ∙ ap (is_among entries) offset ∙ ap (λ (es : List Placed). is_among es x) (sym (take-length entries)) ∙ none))
+
+        by : (o : Option parts.Section) → slice_get (sections_of f) t ≡ o → (t ≡ p) ⊎ (t ≡ p → ⊥)
+            → cond (option_map_or (λ (y : parts.Section). nat_lt y.number i) o true || nat_eq t p && is_among (take (length entries) entries) x) (given_at f keep t x) None
+            ≡ cond (option_map_or (λ (y : parts.Section). nat_lt y.number (i + 1)) o true) (given_at f keep t x) None
+        by None e d = refl
+        by (Some y) e (inl same) =
+            let section : y ≡ section_with f i (here f i) = same_Some y (section_with f i (here f i)) (sym e ∙ ap (slice_get (sections_of f)) same ∙ there) in
+            let number : y.number ≡ i = ap (λ (z : parts.Section). z.number) section ∙ number_of f i in
+            of (is_among (take (length entries) entries) x) refl (nat_lt y.number i) (nat_lt y.number (i + 1)) (more y.number number) (nat_eq t p) (eq-eqb t p same)
+          where
+            more : (n : ℕ) → n ≡ i → nat_lt n (i + 1) ≡ true
+            more n same = grind (arith, nat_tests)
+
+            of : (c : Bool) → is_among (take (length entries) entries) x ≡ c → (a b : Bool) → b ≡ true → (q : Bool) → q ≡ true → cond (a || q && c) (given_at f keep t x) None ≡ cond b (given_at f keep t x) None
+            of true g true true h true k = refl
+            of true g false true h true k = refl
+            of false g true true h true k = refl
+            of false g false true h true k = sym (given_among same g)
+            of c g a false h q k = absurd (true≢false (sym h))
+            of c g a b h false k = absurd (true≢false (sym k))
+        by (Some y) e (inr other) =
+            of (nat_lt y.number i) (nat_lt y.number (i + 1)) (nat_eq t p) (ne_eqb t p other) (passed f keep frame y.number i (other_number t y e other))
+          where
+            of : (a b q : Bool) → q ≡ false → b ≡ a → cond (a || q && is_among (take (length entries) entries) x) (given_at f keep t x) None ≡ cond b (given_at f keep t x) None
+            of true true false h k = refl
+            of false false false h k = refl
+            of true false q h k = absurd (true≢false (sym k))
+            of false true q h k = absurd (true≢false k)
+            of a b true h k = absurd (true≢false h)

@@ -1,0 +1,91 @@
+-- The relocation that is given to the Builder for each entry, and those that are given for a file (our profile).
+use Rattle.std.specs.Prelude.{ℕ, ◌&&◌, ◌||◌, Bool, nat_eq, nat_lt, true, List, slice_get, Option, Some, None, if◌then◌else◌}
+use Rattle.std.specs.Prelude.{ℤ, pos, ◌+ℤ◌}
+use Rattle.oc_base.specs.declared.format.Word.{Word}
+use Rattle.oc_base.specs.declared.format.Word.TheVariants.{W32, W64}
+use Rattle.oc_base.specs.Numbers.{number_at}
+use Rattle.oc_linking.specs.declared.terms.Base.{Base}
+use Rattle.oc_linking.specs.declared.terms.Base.TheVariants.{Address, Slot, GotBase, HomeNumber}
+use Rattle.oc_linking.specs.declared.terms.Width.{Width}
+use Rattle.oc_linking.specs.declared.terms.Width.TheVariants.{Eight}
+use Rattle.oc_linking.specs.Fits.{bytes_of}
+use Rattle.oc_algebra.specs.Fields.{from_field_of}
+use Rattle.oc_algebra.specs.Residues.{reduced_number}
+use Rattle.oc_elf_read.specs.declared.class.ElfClass.{ElfClass}
+use Rattle.oc_elf_read.specs.declared.class.ElfClass.TheVariants.{Class32, Class64}
+use Rattle.std.specs.List.{list_any}
+use Rattle.std.specs.Option.{option_map, option_map_or, option_and_then}
+use Rattle.oc_linking.specs.declared.terms.Keep.{Keep}
+use Rattle.oc_linking.specs.Keeping.{keeps}
+use Rattle.oc_linking.specs.Parts as parts
+use Rattle.oc_neutral.specs.Built.{Given}
+use Rattle.oc_neutral.specs.declared.reloc.Reloc.{Reloc}
+use Rattle.oc_neutral.specs.declared.reloc.Target.TheVariants as target
+use Rattle.oc_neutral.specs.Normal.{moved_addend}
+use Rattle.oc_neutral.specs.Rows.{Row}
+use Rattle.oc_neutral.specs.RowValues.{row_reloc}
+use Rattle.oc_shelf.specs.declared.reading.order.Placed.{Placed}
+use Rattle.oc_elf_read.specs.declared.meaning.Meaning.{Meaning}
+use Rattle.oc_elf_read.specs.declared.rel.Rel.{Rel}
+use Rattle.oc_elf_read.specs.CarriedSymbols.{home_of, symbol_position}
+use Rattle.oc_elf_read.specs.Classes.{word_of}
+use Rattle.oc_elf_read.specs.Entries.{is_section_symbol}
+use Rattle.oc_elf_read.specs.CarriedSections.{sections_of}
+use Rattle.oc_elf_read.specs.Fields.{addend_in, is_idle, rel_at, row_for}
+use Rattle.oc_elf_read.specs.Frames.{Framed}
+use Rattle.oc_elf_read.specs.Tables.{entry_of, reloc_of}
+
+-- the relocation of an entry with that row: against the section for its own symbol, with the offset added, else against the symbol
+abbrev pub reloc_with : Framed → List ℕ → Rel → Row → Option Reloc
+reloc_with f contents r row =
+    if is_section_symbol (entry_of f r.r_sym)
+    then option_map (λ k. row_reloc (word_of f.class) row 0 (moved_addend row.base (addend_in f.class row contents r) (entry_of f r.r_sym).st_value) (target.Section k)) (home_of f (entry_of f r.r_sym))
+    else option_map (λ k. row_reloc (word_of f.class) row 0 (addend_in f.class row contents r) (target.Symbol k)) (symbol_position f r.r_sym)
+
+-- where its type has a row
+unfoldable pub reloc_by : Framed → List ℕ → Rel → Option Reloc
+reloc_by f contents r = option_and_then (reloc_with f contents r) (row_for f r)
+
+-- the number that is added, reduced, for a field of that width
+abbrev pub addend_by : ElfClass → Width → List ℕ → Rel → ℤ
+addend_by Class32 width contents r = from_field_of W32 width (pos 0) (number_at contents r.r_offset (bytes_of width))
+addend_by Class64 width contents r = from_field_of W64 Eight (pos 0) r.r_addend
+
+-- and with the offset of a place, where the address of the place is taken
+abbrev pub moved_by : Word → Base → ℤ → ℕ → ℤ
+moved_by w Address a offset = reduced_number w (a +ℤ pos offset)
+moved_by w Slot a offset = a
+moved_by w GotBase a offset = a
+moved_by w HomeNumber a offset = a
+
+-- the relocation of an entry with that meaning
+abbrev pub reloc_meant : Framed → List ℕ → Rel → Meaning → Option Reloc
+reloc_meant f contents r m =
+    if is_section_symbol (entry_of f r.r_sym)
+    then option_map (λ k. record { target = target.Section k; form = m.form; addend = moved_by (word_of f.class) m.form.base (addend_by f.class m.form.width contents r) (entry_of f r.r_sym).st_value; hint = m.hint }) (home_of f (entry_of f r.r_sym))
+    else option_map (λ k. record { target = target.Symbol k; form = m.form; addend = addend_by f.class m.form.width contents r; hint = m.hint }) (symbol_position f r.r_sym)
+
+-- entry k of the table of section i with the offset of its field, where it says something
+abbrev pub placed : Framed → ℕ → ℕ → Option Placed
+placed f i k = if is_idle (reloc_of f i k) then None else Some (record { place = (reloc_of f i k).r_offset; index = k })
+
+-- what is given for the field at an offset of the section at position s, where that is kept
+unfoldable pub given_at : Framed → Keep → Given
+given_at f keep s at =
+    option_and_then (λ (x : parts.Section). if keeps keep x.kind then option_and_then (reloc_by f x.contents) (rel_at f x.number at) else None) (slice_get (sections_of f) s)
+
+-- the section at a position has a number below i; so has one that is not there
+abbrev pub is_before : Framed → ℕ → ℕ → Bool
+is_before f i s = option_map_or (λ (x : parts.Section). nat_lt x.number i) (slice_get (sections_of f) s) true
+
+-- one of the entries is at an offset
+abbrev pub is_among : List Placed → ℕ → Bool
+is_among entries at = list_any (λ (e : Placed). nat_eq e.place at) entries
+
+-- what is given for the sections with numbers below i
+abbrev pub given_before : Framed → Keep → ℕ → Given
+given_before f keep i s at = if is_before f i s then given_at f keep s at else None
+
+-- and for some entries of the table of section i, which is at position p
+abbrev pub given_with : Framed → Keep → ℕ → ℕ → List Placed → Given
+given_with f keep i p entries s at = if is_before f i s || nat_eq s p && is_among entries at then given_at f keep s at else None

@@ -1,0 +1,154 @@
+//! The relocations of the object.
+ghost use Rattle.std.specs.Prelude.{◌≡◌, ◌+◌, ◌<◌, ◌≤◌, ◌^◌, ℕ, length, take, true, None, Some, IfOk, OnOk};
+ghost use Rattle.std.specs.List.Sorted.{IsPermutation};
+ghost use Rattle.oc_base.specs.Numbers.{number_at};
+ghost use Rattle.oc_linking.specs.Fits.{bytes_of};
+ghost use Rattle.oc_shelf.specs.Reading.Collected.{collected};
+ghost use Rattle.oc_elf_read.specs.Fields as fields;
+ghost use Rattle.oc_elf_read.specs.Given as given;
+ghost use Rattle.oc_elf_read.specs.Known.{IsAimed, IsTable};
+ghost use Rattle.oc_elf_read.specs.Tables as tables;
+
+use crate::class::ElfClass;
+use crate::frame::Frame;
+use crate::homes::home_of;
+use crate::meaning::{Meaning, meaning_of};
+use crate::rel::Rel;
+use crate::relocs::{Aims, is_idle, reloc_count, reloc_of};
+use crate::shdr::Shdr;
+use crate::symbols::{entry_of, is_section_symbol};
+use oc_algebra::{from_field, reduce};
+use oc_base::{NoMemory, Word, u8_in, u16_in, u32_in, u64_in};
+use oc_neutral::{Base, Reloc, Target, Width};
+use oc_shelf::{Placed, sort_by_place};
+use std::alloc::Global;
+
+// the number in the bytes of a field
+fn number_in(contents: &[u8], at: usize, width: Width) -> u64
+    requires { at + bytes_of width ≤ length contents.now }
+    ensures { result ≡ number_at contents.now at (bytes_of width) }
+{
+    match width {
+        Width::One => u8_in(contents, at).into(),
+        Width::Two => u16_in(contents, at).into(),
+        Width::Four => u32_in(contents, at).into(),
+        Width::Eight => u64_in(contents, at),
+    }
+}
+
+// the number that is added, reduced: it stands in the field of these contents, or in the entry
+fn addend_of(class: ElfClass, contents: &[u8], width: Width, r: &Rel) -> i64
+    requires { r.now.r_offset + bytes_of width ≤ length contents.now }
+    ensures { result ≡ given.addend_by class width contents.now r.now }
+{
+    match class {
+        ElfClass::Class32 => {
+            let field = number_in(contents, r.r_offset as usize, width);
+            from_field(class.word(), width, 0, field)
+        }
+        ElfClass::Class64 => from_field(class.word(), Width::Eight, 0, r.r_addend),
+    }
+}
+
+// the addend against a section, where it was against a place at that offset
+fn moved(word: Word, base: Base, addend: i64, offset: u64) -> i64
+    ensures { result ≡ given.moved_by word base addend offset }
+{
+    match base {
+        Base::Address => reduce(word, i128::from(addend) + i128::from(offset)),
+        Base::Slot | Base::GotBase | Base::HomeNumber => addend,
+    }
+}
+
+// a relocation with that meaning
+fn reloc_by(meaning: Meaning, target: Target, addend: i64) -> Reloc
+    ensures { result ≡ record { target = target; form = meaning.form; addend = addend; hint = meaning.hint } }
+{
+    Reloc {
+        target,
+        form: meaning.form,
+        addend,
+        hint: meaning.hint,
+    }
+}
+
+// the relocation of an entry with that meaning
+fn reloc_with(
+    frame: &Frame,
+    aims: &Aims,
+    contents: &[u8],
+    r: &Rel,
+    meaning: Meaning,
+) -> Option<Reloc>
+    requires aims { IsAimed frame.now aims.now.table.now aims.now.sections.now aims.now.symbols.now }
+    requires there { r.now.r_sym < tables.symbol_count frame.now }
+    requires inside { r.now.r_offset + bytes_of meaning.form.width ≤ length contents.now }
+    ensures { result ≡ given.reloc_meant frame.now contents.now r.now meaning }
+{
+    let s = entry_of(frame, aims.table, r.r_sym);
+    let addend = addend_of(frame.class(), contents, meaning.form.width, r);
+    if !is_section_symbol(&s) {
+        return match aims.symbols.get(r.r_sym) {
+            Some(k) => Some(reloc_by(meaning, Target::Symbol(k), addend)),
+            None => None,
+        };
+    }
+    let word = frame.class().word();
+    match home_of(frame, aims.sections, &s) {
+        Some(k) => {
+            let addend = moved(word, meaning.form.base, addend, s.st_value);
+            Some(reloc_by(meaning, Target::Section(k), addend))
+        }
+        None => None,
+    }
+}
+
+/// The relocation of an entry, where its type has a row and its symbol can be a target. Constant
+/// time.
+pub(crate) fn reloc_for(frame: &Frame, aims: &Aims, contents: &[u8], r: &Rel) -> Option<Reloc>
+    requires aims { IsAimed frame.now aims.now.table.now aims.now.sections.now aims.now.symbols.now }
+    requires there { r.now.r_sym < tables.symbol_count frame.now }
+    requires inside { r.now.r_offset + fields.width_of frame.now r.now ≤ length contents.now }
+    ensures { result ≡ given.reloc_by frame.now contents.now r.now }
+{
+    match meaning_of(frame.class(), r.r_type) {
+        Some(meaning) => reloc_with(frame, aims, contents, r, meaning),
+        None => None,
+    }
+}
+
+// the entries of the table of section `i` that say something, each with the offset of its field
+fn gathered(alloc: Global, frame: &Frame, i: u32, table: &Shdr) -> Result<Vec<Placed>, NoMemory>
+    requires { IsTable frame.now i table.now }
+    ensures { IfOk result (λ entries. entries.items ≡ collected (given.placed frame.now i) (tables.reloc_count frame.now i)) }
+{
+    let count = reloc_count(frame, i, table);
+    let mut entries = Vec::with_capacity(alloc, count as usize)?;
+    for k in 0..count {
+        let r = reloc_of(frame, i, table, k);
+        if !is_idle(&r) {
+            entries.push(Placed {
+                place: r.r_offset,
+                index: k,
+            })?;
+        }
+    }
+    Ok(entries)
+}
+
+/// The entries of the table of section `i` that say something, each with the offset of its field, in
+/// the order of the offsets, in which they are added in constant time each. `NoMemory` where memory
+/// ran out. The time is that of n log2(n) steps for n entries.
+pub(crate) fn in_order(
+    alloc: Global,
+    frame: &Frame,
+    i: u32,
+    table: &Shdr,
+) -> Result<Vec<Placed>, NoMemory>
+    requires { IsTable frame.now i table.now }
+    ensures { IfOk result (λ entries. IsPermutation (collected (given.placed frame.now i) (tables.reloc_count frame.now i)) entries.items) }
+{
+    let mut entries = gathered(alloc, frame, i, table)?;
+    sort_by_place(&mut entries);
+    Ok(entries)
+}

@@ -1,0 +1,125 @@
+//! The readers of both classes.
+ghost use Rattle.std.specs.Prelude.{◌≡◌, ◌≤◌, length, None, IfErr, IfOk, OnOk};
+ghost use Rattle.oc_linking.specs.FirstFault.{first_fault};
+ghost use Rattle.oc_neutral.specs.Readable.{IsReadable, IsReadFault};
+ghost use Rattle.oc_neutral.specs.Shows.{Shows};
+ghost use Rattle.oc_shelf.specs.Reading.Stops.{IsStop};
+ghost use Rattle.oc_elf_read.specs.Elf.{elf_dialect, fault_in, rest_stages};
+ghost use Rattle.oc_elf_read.specs.Known.{IsFound};
+
+#[cfg(test)]
+mod tests;
+
+use crate::added_relocs::add_relocations;
+use crate::class::ElfClass;
+use crate::frame::{Frame, read_frame};
+use crate::judging::{Found, by_class, check_rest};
+use crate::relocs::Aims;
+use crate::started::start;
+use oc_base::NoMemory;
+use oc_neutral::{Keep, Neutral, ReadFault, Reads, are_bytes};
+use oc_shelf::Stop;
+use std::alloc::Global;
+
+// the object of a file without faults
+fn object_of(alloc: Global, frame: &Frame, keep: &Keep, found: &Found) -> Result<Neutral, NoMemory>
+    requires clean { first_fault (rest_stages frame.now keep.now) ≡ None }
+    requires found { IsFound frame.now found.now.tables.symtab found.now.tables.relocs found.now.tables.owners found.now.sections found.now.symbols }
+    ensures shows { IfOk result (Shows (elf_dialect frame.now.class) frame.now.file keep.now) }
+    ensures readable { IfOk result IsReadable }
+{
+    frame.is_frame();
+    are_bytes(frame.file());
+    let table = frame.header(found.tables.symtab.unwrap_or(0));
+    let mut builder = start(alloc, frame, &table, &found.tables.owners, &found.sections)?;
+    builder.is_draft();
+    let aims = Aims {
+        table: &table,
+        sections: &found.sections,
+        symbols: &found.symbols,
+    };
+    add_relocations(
+        alloc,
+        frame,
+        keep,
+        &found.tables.relocs,
+        &aims,
+        &mut builder,
+    )?;
+    Ok(builder.finish())
+}
+
+// reads a file
+fn read_file(alloc: Global, class: ElfClass, file: &[u8], keep: &Keep) -> Result<Neutral, Stop>
+    requires { length file.now ≤ 67108864 }
+    ensures clean { OnOk result (fault_in class file.now keep.now ≡ None) }
+    ensures stop { IfErr result (IsStop (fault_in class file.now keep.now)) }
+    ensures shows { IfOk result (Shows (elf_dialect class) file.now keep.now) }
+    ensures readable { IfOk result IsReadable }
+{
+    let frame = match read_frame(alloc, class, file) {
+        Err(stop) => return Err(stop),
+        Ok(frame) => frame,
+    };
+    let found = match check_rest(alloc, &frame, keep) {
+        Err(stop) => return Err(stop),
+        Ok(found) => found,
+    };
+    match object_of(alloc, &frame, keep, &found) {
+        Err(NoMemory) => Err(Stop::NoMemory),
+        Ok(object) => Ok(object),
+    }
+}
+
+// reads a file, and tells its fault in the variant of its class
+fn read_elf(alloc: Global, class: ElfClass, bytes: &[u8], keep: &Keep) -> Result<Neutral, ReadFault>
+    requires { length bytes.now ≤ 67108864 }
+    ensures well_formed { OnOk result (fault_in class bytes.now keep.now ≡ None) }
+    ensures shows { IfOk result (Shows (elf_dialect class) bytes.now keep.now) }
+    ensures readable { IfOk result IsReadable }
+    ensures fault { IfErr result (IsReadFault (fault_in class bytes.now keep.now)) }
+{
+    match read_file(alloc, class, bytes, keep) {
+        Ok(object) => Ok(object),
+        Err(Stop::NoMemory) => Err(ReadFault::NoMemory),
+        Err(Stop::Fault(fault)) => Err(by_class(fault)),
+    }
+}
+
+/// The reader of ELF objects of 32 bits, for i386.
+///
+/// The time is that of `judge`, and linear in the bytes of the file.
+#[derive(Clone, Copy, Debug)]
+pub struct ElfReader32;
+
+impl Reads for ElfReader32 {
+    ghost use Rattle.oc_elf_read.specs.Elf.{elf_dialect, elf_is_dialect};
+    ghost use Rattle.oc_elf_read.specs.declared.class.ElfClass.TheVariants.{Class32};
+
+    ghost dialect = { elf_dialect Class32 };
+
+    fn read(&self, alloc: Global, bytes: &[u8], keep: &Keep) -> Result<Neutral, ReadFault> {
+        read_elf(alloc, ElfClass::Class32, bytes, keep)
+    }
+
+    ghost law = { elf_is_dialect Class32 };
+}
+
+/// The reader of ELF objects of 64 bits, for x86-64.
+///
+/// The time is that of `judge`, and linear in the bytes of the file.
+#[derive(Clone, Copy, Debug)]
+pub struct ElfReader64;
+
+impl Reads for ElfReader64 {
+    ghost use Rattle.oc_elf_read.specs.Elf.{elf_dialect, elf_is_dialect};
+    ghost use Rattle.oc_elf_read.specs.declared.class.ElfClass.TheVariants.{Class64};
+
+    ghost dialect = { elf_dialect Class64 };
+
+    fn read(&self, alloc: Global, bytes: &[u8], keep: &Keep) -> Result<Neutral, ReadFault> {
+        read_elf(alloc, ElfClass::Class64, bytes, keep)
+    }
+
+    ghost law = { elf_is_dialect Class64 };
+}
