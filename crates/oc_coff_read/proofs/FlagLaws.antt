@@ -1,78 +1,52 @@
--- The flags of code, at each of its alignments.
-use Rattle.std.proofs.Common.{◌≡◌, ℕ, zero, suc, ◌^◌, ◌≤◌, false, codes, Some, refl, inl, inr, subst, sym, arith}
-use Rattle.std.proofs.lemmas.Bool.{cases_eq}
-use Rattle.oc_linking.specs.declared.terms.Kind.TheVariants.{Code}
-use Rattle.oc_neutral.specs.declared.coff.TheConstants.{IMAGE_SCN_LNK_NRELOC_OVFL}
-use Rattle.oc_neutral.specs.KindRules.{has}
-use Rattle.oc_neutral.specs.Coff.Kinds.{coff_kind, coff_tag}
-use Rattle.oc_coff_read.specs.Alignments.{align_of}
-use Rattle.oc_neutral.specs.Coff.Family.{code_tag}
-use Rattle.oc_coff_read.specs.Canonical.{code_flags}
+-- The characteristics of a section are read back.
+use Rattle.std.proofs.Common.{◌≡◌, ℕ, ◌+◌, ◌*◌, ◌/◌, ◌%◌, ◌^◌, ◌<◌, ◌≤◌, arith}
+use Rattle.oc_neutral.specs.Coff.Kinds.{coff_tag}
 
--- P holds of 0 to n
-abbrev Upto : (ℕ → Type 0) → ℕ → Type 0
-Upto P zero = P 0
-Upto P (suc n) = Upto P n × P (suc n)
+-- a tag, an alignment, and the flags of a section with copies and of a count that does not fit
+pub record IsFlags (tag a c o : ℕ) : Type 0 where
+  pub own : coff_tag tag ≡ tag
+  pub small : tag < 2 ^ 32
+  pub one : 1 ≤ a
+  pub align : a ≤ 14
+  pub copies : c ≤ 1
+  pub crowded : o ≤ 1
 
--- and so of each number that is not above n
-upto : (P : ℕ → Type 0) (n : ℕ) → Upto P n → (k : ℕ) → k ≤ n → P k
-upto P zero each k l = let e : 0 ≡ k = omega arith in subst P e each
-upto P (suc n) each k l = elim (cases_eq k (suc n)) [
-  | inl same ↦ subst P (sym same) each.1
-  | inr other ↦ upto P n each.0 k (omega arith)
-]
+module _ (tag a c o : ℕ) (fl : IsFlags tag a c o) where
+  -- the tag has nothing where the others stand
+  pub record IsSplit : Type 0 where
+    pub high : ℕ
+    pub middle : ℕ
+    pub low : ℕ
+    pub parts : tag ≡ high * 2 ^ 25 + middle * 2 ^ 13 + low
+    pub few : high < 2 ^ 7
+    pub some : middle < 2 ^ 7
+    pub small : low < 2 ^ 12
 
--- what the flags of code say, under the name `.text`
-pub record Says (exponent : ℕ) : Type 0 where
-  pub plain : has (code_flags exponent) IMAGE_SCN_LNK_NRELOC_OVFL ≡ false
-  pub kind : coff_kind (codes ".text") (code_flags exponent) ≡ Some Code
-  pub align : align_of (code_flags exponent) ≡ 2 ^ exponent
-  pub tag : coff_tag (code_flags exponent) ≡ code_tag
+  split : IsSplit
+  unfolding coff_tag
+  split =
+      let own : coff_tag tag ≡ tag = fl.own in
+      let below = fl.small in
+      record { high = tag / 2 ^ 25; middle = tag / 2 ^ 13 % 2 ^ 7; low = tag % 2 ^ 12; parts = omega (arith, own); few = omega (arith, below); some = omega arith; small = omega arith }
 
--- one section of code can be aligned to 1, 2, .., 8192
-pub code_flags_say : (exponent : ℕ) → exponent ≤ 13 → Says exponent
-unfolding coff_kind coff_tag
-code_flags_say =
-    let r : (exponent : ℕ) → has (code_flags exponent) IMAGE_SCN_LNK_NRELOC_OVFL ≡ false → coff_kind (codes ".text") (code_flags exponent) ≡ Some Code
-    → align_of (code_flags exponent) ≡ 2 ^ exponent → coff_tag (code_flags exponent) ≡ code_tag → Says exponent
-    = λ exponent plain kind align tag. record { plain = plain; kind = kind; align = align; tag = tag } in
-    upto Says 13 (
-      (
-        (
-          (
-            (
-              (
-                (
-                  (
-                    (
-                      (
-                        (
-                          (
-                            (
-                              r 0 refl refl refl refl,
-                              r 1 refl refl refl refl,
-                            ),
-                            r 2 refl refl refl refl,
-                          ),
-                          r 3 refl refl refl refl,
-                        ),
-                        r 4 refl refl refl refl,
-                      ),
-                      r 5 refl refl refl refl,
-                    ),
-                    r 6 refl refl refl refl,
-                  ),
-                  r 7 refl refl refl refl,
-                ),
-                r 8 refl refl refl refl,
-              ),
-              r 9 refl refl refl refl,
-            ),
-            r 10 refl refl refl refl,
-          ),
-          r 11 refl refl refl refl,
-        ),
-        r 12 refl refl refl refl,
-      ),
-      r 13 refl refl refl refl,
-    )
+  abbrev flags : ℕ
+  flags = tag + a * 2 ^ 20 + c * 0x1000 + o * 0x1000000
+
+  pub flags_small : flags < 2 ^ 32
+  flags_small = let s = split in let e = s.parts in let f = s.few in let m = s.some in let l = s.small in let al = fl.align in let cl = fl.copies in let ol = fl.crowded in omega (arith, e, f, m, l, al, cl, ol)
+
+  pub flags_align : flags / 2 ^ 20 % 16 ≡ a
+  flags_align = let s = split in let e = s.parts in let m = s.some in let l = s.small in let al = fl.align in let cl = fl.copies in let ol = fl.crowded in omega (arith, e, m, l, al, cl, ol)
+
+  pub flags_overflow : flags / 0x1000000 % 2 ≡ o
+  flags_overflow = let s = split in let e = s.parts in let m = s.some in let l = s.small in let al = fl.align in let cl = fl.copies in let ol = fl.crowded in omega (arith, e, m, l, al, cl, ol)
+
+  pub flags_copies : flags / 0x1000 % 2 ≡ c
+  flags_copies = let s = split in let e = s.parts in let m = s.some in let l = s.small in let cl = fl.copies in omega (arith, e, m, l, cl)
+
+  pub flags_zeros : flags / 0x80 % 2 ≡ tag / 0x80 % 2
+  flags_zeros = omega arith
+
+  pub flags_tag : coff_tag flags ≡ tag
+  unfolding coff_tag
+  flags_tag = let s = split in let e = s.parts in let m = s.some in let l = s.small in let al = fl.align in let cl = fl.copies in let ol = fl.crowded in omega (arith, e, m, l, al, cl, ol)

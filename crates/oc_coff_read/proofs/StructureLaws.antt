@@ -1,20 +1,21 @@
--- Structures read back from their bytes, behind other bytes and in tables.
-use Rattle.std.proofs.Common.{◌≡◌, ℕ, zero, suc, ◌+◌, ◌*◌, ◌<◌, List, [], ◌∷◌, ◌++◌, length, get_or, take, drop, refl, ◌∙◌, ap, arith, append_assoc}
-use Rattle.std.specs.Prelude.{All, flat_map}
+-- Structures read back from their bytes, behind other bytes.
+use Rattle.std.proofs.Common.{◌≡◌, ℕ, ◌+◌, List, [], ◌∷◌, ◌++◌, length, take, drop, refl, ◌∙◌, ap, arith}
 use Rattle.std.proofs.Math.Seq.{drop-append-add}
 use Rattle.oc_base.proofs.NumberLaws.{number_at-shift}
 use Rattle.oc_coff_read.specs.declared.file_header.FileHeader.{FileHeader}
 use Rattle.oc_coff_read.specs.declared.section_header.SectionHeader.{SectionHeader}
 use Rattle.oc_coff_read.specs.declared.symbol.SymbolEntry.{SymbolEntry}
 use Rattle.oc_coff_read.specs.declared.section_aux.SectionAux.{SectionAux}
+use Rattle.oc_coff_read.specs.declared.weak_aux.WeakAux.{WeakAux}
 use Rattle.oc_coff_read.specs.declared.relocation.Relocation.{Relocation}
-use Rattle.oc_coff_read.specs.FileHeader.{file_header_in, file_header_bytes}
-use Rattle.oc_coff_read.specs.SectionHeader.{section_header_in, section_header_bytes}
-use Rattle.oc_coff_read.specs.SymbolEntry.{symbol_in, symbol_bytes}
-use Rattle.oc_coff_read.specs.SectionAux.{section_aux_in, section_aux_bytes}
-use Rattle.oc_coff_read.specs.Relocation.{relocation_in, relocation_bytes}
-use Rattle.oc_coff_read.specs.Canonical.{FitsEntry}
-use Rattle.oc_coff_read.proofs.PackedLaws.{Fit, length-packed, number_at-packed, length-named, name_at-named, number_at-named}
+use Rattle.oc_coff_read.specs.FileHeader.{file_header_of, file_header_bytes}
+use Rattle.oc_coff_read.specs.SectionHeader.{section_header_at, section_header_bytes}
+use Rattle.oc_coff_read.specs.SymbolEntry.{symbol_at, symbol_bytes}
+use Rattle.oc_coff_read.specs.SectionAux.{section_aux_at, section_aux_bytes}
+use Rattle.oc_coff_read.specs.WeakAux.{weak_aux_at, weak_aux_bytes}
+use Rattle.oc_coff_read.specs.Relocation.{relocation_at, relocation_bytes}
+use Rattle.oc_shelf.proofs.WritingLaws.PackedLemmas.{Fit, length-packed, number_at-packed}
+use Rattle.oc_coff_read.proofs.PaddedLemmas.{length-named, name_at-named, number_at-named}
 
 -- the numbers of a file header
 abbrev pub file_header_numbers : FileHeader → List (ℕ × ℕ)
@@ -27,9 +28,9 @@ unfolding file_header_bytes
 length-file_header_bytes h = length-packed (file_header_numbers h)
 
 -- a file header reads back
-pub file_header_in-bytes : (h : FileHeader) (rest : List ℕ) → Fit (file_header_numbers h) → file_header_in (file_header_bytes h ++ rest) ≡ h
-unfolding file_header_in file_header_bytes
-file_header_in-bytes h rest fit =
+pub file_header_of-bytes : (h : FileHeader) (rest : List ℕ) → Fit (file_header_numbers h) → file_header_of (file_header_bytes h ++ rest) ≡ h
+unfolding file_header_of file_header_bytes
+file_header_of-bytes h rest fit =
     let ns : List (ℕ × ℕ) = file_header_numbers h in
     rw (
       number_at-packed ns 0 0 rest fit (omega arith) refl,
@@ -56,9 +57,9 @@ unfolding section_header_bytes
 length-section_header_bytes h eight = length-named h.Name (section_header_numbers h) eight
 
 -- a section header reads back
-pub section_header_in-bytes : (h : SectionHeader) (rest : List ℕ) → length h.Name ≡ 8 → Fit (section_header_numbers h) → section_header_in (section_header_bytes h ++ rest) 0 ≡ h
-unfolding section_header_in section_header_bytes
-section_header_in-bytes h rest eight fit =
+pub section_header_at-bytes : (h : SectionHeader) (rest : List ℕ) → length h.Name ≡ 8 → Fit (section_header_numbers h) → section_header_at (section_header_bytes h ++ rest) 0 ≡ h
+unfolding section_header_at section_header_bytes
+section_header_at-bytes h rest eight fit =
     let ns : List (ℕ × ℕ) = section_header_numbers h in
     rw (
       name_at-named h.Name ns rest eight,
@@ -74,9 +75,9 @@ section_header_in-bytes h rest eight fit =
     ) refl
 
 -- a section header past a front
-pub section_header_in-shift : (front ys : List ℕ) (at j : ℕ) → at ≡ length front + j → section_header_in (front ++ ys) at ≡ section_header_in ys j
-unfolding section_header_in
-section_header_in-shift front ys at j e = rw (
+pub section_header_at-shift : (front ys : List ℕ) (at j : ℕ) → at ≡ length front + j → section_header_at (front ++ ys) at ≡ section_header_at ys j
+unfolding section_header_at
+section_header_at-shift front ys at j e = rw (
   name_at-shift front ys at j e,
   number_at-shift front ys (at + 8) (j + 8) 4 (omega (arith, e)),
   number_at-shift front ys (at + 12) (j + 12) 4 (omega (arith, e)),
@@ -99,9 +100,9 @@ unfolding symbol_bytes
 length-symbol_bytes s eight = length-named s.Name (symbol_numbers s) eight
 
 -- a symbol table entry reads back
-pub symbol_in-bytes : (s : SymbolEntry) (rest : List ℕ) → length s.Name ≡ 8 → Fit (symbol_numbers s) → symbol_in (symbol_bytes s ++ rest) 0 ≡ s
-unfolding symbol_in symbol_bytes
-symbol_in-bytes s rest eight fit =
+pub symbol_at-bytes : (s : SymbolEntry) (rest : List ℕ) → length s.Name ≡ 8 → Fit (symbol_numbers s) → symbol_at (symbol_bytes s ++ rest) 0 ≡ s
+unfolding symbol_at symbol_bytes
+symbol_at-bytes s rest eight fit =
     let ns : List (ℕ × ℕ) = symbol_numbers s in
     rw (
       name_at-named s.Name ns rest eight,
@@ -113,9 +114,9 @@ symbol_in-bytes s rest eight fit =
     ) refl
 
 -- a symbol table entry past a front
-pub symbol_in-shift : (front ys : List ℕ) (at j : ℕ) → at ≡ length front + j → symbol_in (front ++ ys) at ≡ symbol_in ys j
-unfolding symbol_in
-symbol_in-shift front ys at j e = rw (
+pub symbol_at-shift : (front ys : List ℕ) (at j : ℕ) → at ≡ length front + j → symbol_at (front ++ ys) at ≡ symbol_at ys j
+unfolding symbol_at
+symbol_at-shift front ys at j e = rw (
   name_at-shift front ys at j e,
   number_at-shift front ys (at + 8) (j + 8) 4 (omega (arith, e)),
   number_at-shift front ys (at + 12) (j + 12) 2 (omega (arith, e)),
@@ -134,9 +135,9 @@ unfolding section_aux_bytes
 length-section_aux_bytes a = length-packed (section_aux_numbers a)
 
 -- a section's auxiliary entry reads back
-pub section_aux_in-bytes : (a : SectionAux) (rest : List ℕ) → Fit (section_aux_numbers a) → section_aux_in (section_aux_bytes a ++ rest) 0 ≡ a
-unfolding section_aux_in section_aux_bytes
-section_aux_in-bytes a rest fit =
+pub section_aux_at-bytes : (a : SectionAux) (rest : List ℕ) → Fit (section_aux_numbers a) → section_aux_at (section_aux_bytes a ++ rest) 0 ≡ a
+unfolding section_aux_at section_aux_bytes
+section_aux_at-bytes a rest fit =
     let ns : List (ℕ × ℕ) = section_aux_numbers a in
     rw (
       number_at-packed ns 0 0 rest fit (omega arith) refl,
@@ -145,6 +146,25 @@ section_aux_in-bytes a rest fit =
       number_at-packed ns 3 8 rest fit (omega arith) refl,
       number_at-packed ns 4 12 rest fit (omega arith) refl,
       number_at-packed ns 5 14 rest fit (omega arith) refl,
+    ) refl
+
+-- the numbers of a weak external's auxiliary entry
+abbrev pub weak_aux_numbers : WeakAux → List (ℕ × ℕ)
+weak_aux_numbers a = (4, a.TagIndex) ∷ (4, a.Characteristics) ∷ (10, 0) ∷ []
+
+-- a weak external's auxiliary entry has 18 bytes
+pub length-weak_aux_bytes : (a : WeakAux) → length (weak_aux_bytes a) ≡ 18
+unfolding weak_aux_bytes
+length-weak_aux_bytes a = length-packed (weak_aux_numbers a)
+
+-- a weak external's auxiliary entry reads back
+pub weak_aux_at-bytes : (a : WeakAux) (rest : List ℕ) → Fit (weak_aux_numbers a) → weak_aux_at (weak_aux_bytes a ++ rest) 0 ≡ a
+unfolding weak_aux_at weak_aux_bytes
+weak_aux_at-bytes a rest fit =
+    let ns : List (ℕ × ℕ) = weak_aux_numbers a in
+    rw (
+      number_at-packed ns 0 0 rest fit (omega arith) refl,
+      number_at-packed ns 1 4 rest fit (omega arith) refl,
     ) refl
 
 -- the numbers of a relocation entry
@@ -157,11 +177,10 @@ unfolding relocation_bytes
 length-relocation_bytes r = length-packed (relocation_numbers r)
 
 -- a relocation entry reads back
-pub relocation_in-bytes : (r : Relocation) (rest : List ℕ) → FitsEntry r → relocation_in (relocation_bytes r ++ rest) 0 ≡ r
-unfolding relocation_in relocation_bytes
-relocation_in-bytes r rest fits =
+pub relocation_at-bytes : (r : Relocation) (rest : List ℕ) → Fit (relocation_numbers r) → relocation_at (relocation_bytes r ++ rest) 0 ≡ r
+unfolding relocation_at relocation_bytes
+relocation_at-bytes r rest fit =
     let ns : List (ℕ × ℕ) = relocation_numbers r in
-    let fit : Fit ns = (fits.VirtualAddress, (fits.SymbolTableIndex, (fits.Type, tt))) in
     rw (
       number_at-packed ns 0 0 rest fit (omega arith) refl,
       number_at-packed ns 1 4 rest fit (omega arith) refl,
@@ -169,25 +188,10 @@ relocation_in-bytes r rest fits =
     ) refl
 
 -- a relocation entry past a front
-pub relocation_in-shift : (front ys : List ℕ) (at j : ℕ) → at ≡ length front + j → relocation_in (front ++ ys) at ≡ relocation_in ys j
-unfolding relocation_in
-relocation_in-shift front ys at j e = rw (
+pub relocation_at-shift : (front ys : List ℕ) (at j : ℕ) → at ≡ length front + j → relocation_at (front ++ ys) at ≡ relocation_at ys j
+unfolding relocation_at
+relocation_at-shift front ys at j e = rw (
   number_at-shift front ys at j 4 e,
   number_at-shift front ys (at + 4) (j + 4) 4 (omega (arith, e)),
   number_at-shift front ys (at + 8) (j + 8) 2 (omega (arith, e)),
 ) refl
-
--- entry i of a relocation table
-pub relocation_in-table : (relocs : List Relocation) (rest : List ℕ) (i at : ℕ) (d : Relocation) → All FitsEntry relocs → i < length relocs → at ≡ 10 * i
-    → relocation_in (flat_map relocation_bytes relocs ++ rest) at ≡ get_or relocs i d
-relocation_in-table [] rest i at d fits l e = absurd (omega arith)
-relocation_in-table (r ∷ relocs) rest zero at d fits l e =
-    ap (λ bytes. relocation_in bytes at) (append_assoc (relocation_bytes r) (flat_map relocation_bytes relocs) rest)
-    ∙ ap (λ k. relocation_in (relocation_bytes r ++ (flat_map relocation_bytes relocs ++ rest)) k) e
-    ∙ relocation_in-bytes r (flat_map relocation_bytes relocs ++ rest) (fits 0 r l)
-relocation_in-table (r ∷ relocs) rest (suc i) at d fits l e =
-    let past : at ≡ length (relocation_bytes r) + 10 * i = rw (length-relocation_bytes r) (omega (arith, e)) in
-    let later : All FitsEntry relocs = λ k x m. fits (suc k) x (omega arith) in
-    ap (λ bytes. relocation_in bytes at) (append_assoc (relocation_bytes r) (flat_map relocation_bytes relocs) rest)
-    ∙ relocation_in-shift (relocation_bytes r) (flat_map relocation_bytes relocs ++ rest) at (10 * i) past
-    ∙ relocation_in-table relocs rest i (10 * i) d later (omega arith) refl

@@ -1,155 +1,256 @@
--- The canonical file of an object of one section of code (PE/COFF; our profile).
-use Rattle.std.specs.Prelude.{◌≡◌, ℕ, ◌+◌, ◌*◌, ◌^◌, ◌<◌, ◌≤◌, ◌≢◌, Bool, nat_eq, if◌then◌else◌, List, ◌++◌, length, codes, flat_map, All}
+-- The canonical file of an object that is ready for COFF (PE/COFF; our profile).
+use Rattle.std.specs.Prelude.{ℕ, ◌+◌, ◌*◌, ◌^◌, nat_eq, if◌then◌else◌, List, [], ◌∷◌, ◌++◌, length, map, flat_map, decimal, min, Option, ◌&&◌, Bool}
+use Rattle.std.specs.List.{find, list_any, enumerate_from}
+use Rattle.std.specs.Option.{option_and_then, option_map_or, unwrap_or}
+use Rattle.oc_base.specs.declared.format.Word.{Word}
+use Rattle.oc_base.specs.declared.format.Word.TheVariants.{W32, W64}
 use Rattle.oc_base.specs.Numbers.{bytes_of_number}
+use Rattle.oc_linking.specs.declared.terms.Mark.{Mark}
+use Rattle.oc_linking.specs.declared.terms.Mark.TheVariants.{NoType, Object as ObjectMark, Function}
+use Rattle.oc_linking.specs.declared.terms.Value.{Value}
+use Rattle.oc_linking.specs.declared.terms.Value.TheVariants as value
+use Rattle.oc_linking.specs.declared.terms.Fallback.{Fallback}
+use Rattle.oc_linking.specs.declared.terms.Fallback.TheVariants as fallback
+use Rattle.oc_linking.specs.declared.terms.Binding.{Binding}
+use Rattle.oc_linking.specs.declared.terms.Binding.TheVariants.{Local, Global, Undefined, Common, Weak}
+use Rattle.oc_linking.specs.Numbers.{first_from}
+use Rattle.oc_neutral.specs.declared.section.Section.{Section}
+use Rattle.oc_neutral.specs.declared.symbol.Symbol.{Symbol}
+use Rattle.oc_neutral.specs.Objects.{Object}
+use Rattle.oc_neutral.specs.Normal.{Place}
+use Rattle.oc_neutral.specs.KeySymbols.{global_place, is_key_at, is_key_name, lies_in}
+use Rattle.oc_neutral.specs.Coff.Strings.{is_long, is_tabled, default_name}
+use Rattle.oc_neutral.specs.CoffMeets.{offset_of}
+use Rattle.oc_neutral.specs.declared.coff.TheConstants.{IMAGE_SCN_ALIGN_1BYTES, IMAGE_SCN_LNK_COMDAT, IMAGE_SCN_LNK_NRELOC_OVFL}
+use Rattle.oc_shelf.specs.Writing.Parts.{Laid, joined, place_where}
+use Rattle.oc_coff_read.specs.declared.constants.TheConstants.{IMAGE_FILE_MACHINE_I386, IMAGE_FILE_MACHINE_AMD64, IMAGE_SYM_UNDEFINED, IMAGE_SYM_ABSOLUTE, IMAGE_SYM_TYPE_FUNCTION, IMAGE_SYM_CLASS_EXTERNAL, IMAGE_SYM_CLASS_STATIC, IMAGE_SYM_CLASS_WEAK_EXTERNAL, IMAGE_COMDAT_SELECT_ANY, IMAGE_COMDAT_SELECT_ASSOCIATIVE, IMAGE_WEAK_EXTERN_SEARCH_ALIAS, OVERFLOWED_COUNT, STRINGS_HEAD}
 use Rattle.oc_coff_read.specs.declared.file_header.FileHeader.{FileHeader}
 use Rattle.oc_coff_read.specs.declared.section_header.SectionHeader.{SectionHeader}
 use Rattle.oc_coff_read.specs.declared.symbol.SymbolEntry.{SymbolEntry}
 use Rattle.oc_coff_read.specs.declared.section_aux.SectionAux.{SectionAux}
+use Rattle.oc_coff_read.specs.declared.weak_aux.WeakAux.{WeakAux}
 use Rattle.oc_coff_read.specs.declared.relocation.Relocation.{Relocation}
-use Rattle.oc_neutral.specs.declared.coff.TheConstants.{IMAGE_SCN_ALIGN_1BYTES}
-use Rattle.oc_neutral.specs.Coff.Family.{code_tag, coff_align_bits}
-use Rattle.oc_coff_read.specs.declared.constants.TheConstants.{IMAGE_FILE_MACHINE_I386, IMAGE_SYM_TYPE_FUNCTION, IMAGE_SYM_CLASS_EXTERNAL, IMAGE_SYM_CLASS_STATIC}
-use Rattle.oc_coff_read.specs.Packed.{padded}
 use Rattle.oc_coff_read.specs.FileHeader.{file_header_bytes}
 use Rattle.oc_coff_read.specs.SectionHeader.{section_header_bytes}
 use Rattle.oc_coff_read.specs.SymbolEntry.{symbol_bytes}
 use Rattle.oc_coff_read.specs.SectionAux.{section_aux_bytes}
+use Rattle.oc_coff_read.specs.WeakAux.{weak_aux_bytes}
 use Rattle.oc_coff_read.specs.Relocation.{relocation_bytes}
-use Rattle.oc_coff_read.specs.declared.symbol.TheConstants.{SYMBOL_SIZE}
-use Rattle.oc_coff_read.specs.declared.file_header.TheConstants.{FILE_HEADER_SIZE}
-use Rattle.oc_coff_read.specs.declared.section_header.TheConstants.{SECTION_HEADER_SIZE}
-use Rattle.oc_coff_read.specs.declared.relocation.TheConstants.{RELOCATION_SIZE}
+use Rattle.oc_coff_read.specs.Names.{padded}
+use Rattle.oc_coff_read.specs.Fields.{coff_format}
+use Rattle.oc_coff_read.specs.Lines.{Line, SectionLine, LocalLine, DefaultLine, OuterLine, numbered_lines, entry_count, default_number, outer_number}
+use Rattle.oc_coff_read.specs.Bodies.{raw_of, relocs_of, is_crowded, with_count}
+use Rattle.oc_coff_read.specs.Layout.{Part, FileHead, SectionHeads, Raw, Relocs, SymbolTable, StringTable, text_of, laid_parts, is_raw, is_relocs, is_symbol_table, pointer_to}
 
--- an EXTERNAL symbol with a name of up to eight bytes
-pub record External : Type 0 where
-  pub name : List ℕ
-  pub Value : ℕ
-  pub SectionNumber : ℕ
-  pub function : Bool
+-- ... names
 
--- an object of one section of code, with alignment 2^exponent
-pub record CodeObject : Type 0 where
-  pub exponent : ℕ
-  pub contents : List ℕ
-  pub relocs : List Relocation
-  pub symbols : List External
+-- the eight bytes of a symbol's name: the name, or four zeros and its offset in the string table
+unfoldable pub symbol_field : Word → Object → List ℕ → List ℕ
+symbol_field w n name = if is_long name then bytes_of_number 4 0 ++ bytes_of_number 4 (offset_of (coff_format w) n name) else padded name
 
--- where the contents begin: behind the headers
-abbrev pub contents_place : ℕ
-contents_place = FILE_HEADER_SIZE + SECTION_HEADER_SIZE
+-- the eight bytes of a section's name: the name, or `/` (47) and its offset in decimal digits
+unfoldable pub section_field : Word → Object → List ℕ → List ℕ
+section_field w n name = if is_tabled name then padded (47 ∷ decimal (offset_of (coff_format w) n name)) else padded name
 
--- where the relocations begin: behind the contents
-abbrev pub relocs_place : CodeObject → ℕ
-relocs_place o = contents_place + length o.contents
+-- ... groups
 
--- where the symbols begin: behind the relocations
-abbrev pub symbols_place : CodeObject → ℕ
-symbols_place o = relocs_place o + RELOCATION_SIZE * length o.relocs
+-- the number of the section that leads a group: the one with the group's key symbol
+unfoldable pub leader_number : Object → ℕ → ℕ
+leader_number n g =
+    option_map_or (λ (place : Place). place.0 + 1) (option_and_then (λ (s : Symbol). global_place s.binding) (find (λ (s : Symbol). lies_in n g s && is_key_name n s.name g) n.symbols)) 0
 
--- how many entries the symbol table has: the section's symbol, its auxiliary entry, and the externals
-abbrev pub entry_count : CodeObject → ℕ
-entry_count o = length o.symbols + 2
+-- the section at a position leads its group
+abbrev pub leads : Object → ℕ → Bool
+leads n k = list_any (is_key_at n k) n.symbols
 
--- a pointer to that many things: 0 where there are none
-abbrev pub pointer_to : ℕ → ℕ → ℕ
-pointer_to place count = if nat_eq count 0 then 0 else place
+-- which copies of the section at a position are kept, where it is in a group: any of its leader's, and else that of the leader
+abbrev pub selection_of : Object → ℕ → Option ℕ → ℕ
+selection_of n k group = option_map_or (λ g. if leads n k then IMAGE_COMDAT_SELECT_ANY else IMAGE_COMDAT_SELECT_ASSOCIATIVE) group 0
+
+-- the number of the section with which it is kept, where that is another one
+abbrev pub kept_with : Object → ℕ → Option ℕ → ℕ
+kept_with n k group = option_map_or (λ g. if leads n k then 0 else leader_number n g) group 0
+
+-- ... sections
+
+-- the alignment in the flags: n + 1 for 2^n
+unfoldable pub align_field : ℕ → ℕ
+align_field align = unwrap_or (first_from (λ k. nat_eq align (2 ^ k)) 0 14) 0 + 1
+
+-- the characteristics of a section
+abbrev pub section_flags : Section → List Relocation → ℕ
+section_flags s relocs =
+    s.tag + align_field s.align * IMAGE_SCN_ALIGN_1BYTES + option_map_or (λ g. IMAGE_SCN_LNK_COMDAT) s.group 0 + (if is_crowded relocs then IMAGE_SCN_LNK_NRELOC_OVFL else 0)
+
+-- the section header
+abbrev pub section_header : Word → Object → Section → List Relocation → ℕ → ℕ → SectionHeader
+section_header w n s relocs raw_at relocs_at = record {
+  Name = section_field w n s.name;
+  VirtualSize = 0;
+  VirtualAddress = 0;
+  SizeOfRawData = s.size;
+  PointerToRawData = pointer_to raw_at (length s.bytes);
+  PointerToRelocations = pointer_to relocs_at (length relocs);
+  PointerToLinenumbers = 0;
+  NumberOfRelocations = min (length relocs) OVERFLOWED_COUNT;
+  NumberOfLinenumbers = 0;
+  Characteristics = section_flags s relocs;
+}
+
+-- the header of the section at a position
+unfoldable pub header_at : Word → Object → ℕ × Section → SectionHeader
+header_at w n x =
+    section_header w n x.1 (relocs_of w (numbered_lines w n) n x.0) (place_where (is_raw x.0) (laid_parts w n)) (place_where (is_relocs x.0) (laid_parts w n))
+
+-- the section headers
+abbrev pub headers_of : Word → Object → List SectionHeader
+headers_of w n = map (header_at w n) (enumerate_from 0 n.sections)
+
+-- ... symbols
+
+-- a value: its number, and the number of its section
+abbrev pub numbers_of : Value → ℕ × ℕ
+numbers_of (value.Place k offset) = (offset, k + 1)
+numbers_of (value.Absolute n) = (n, IMAGE_SYM_ABSOLUTE)
+
+-- what stands for a fallback: its place, or the absolute number 0
+abbrev pub numbers_for : Fallback → ℕ × ℕ
+numbers_for (fallback.Place k offset) = (offset, k + 1)
+numbers_for fallback.Zero = (0, IMAGE_SYM_ABSOLUTE)
+numbers_for (fallback.Name k) = (0, IMAGE_SYM_UNDEFINED)
+
+-- the value and the section number of a symbol
+abbrev pub numbers_by : Binding → ℕ × ℕ
+numbers_by (Local v) = numbers_of v
+numbers_by (Global v) = numbers_of v
+numbers_by Undefined = (0, IMAGE_SYM_UNDEFINED)
+numbers_by (Common size align) = (size, IMAGE_SYM_UNDEFINED)
+numbers_by (Weak f) = (0, IMAGE_SYM_UNDEFINED)
+
+-- and of its default
+abbrev pub default_numbers : Binding → ℕ × ℕ
+default_numbers (Local v) = (0, IMAGE_SYM_UNDEFINED)
+default_numbers (Global v) = (0, IMAGE_SYM_UNDEFINED)
+default_numbers Undefined = (0, IMAGE_SYM_UNDEFINED)
+default_numbers (Common size align) = (0, IMAGE_SYM_UNDEFINED)
+default_numbers (Weak f) = numbers_for f
+
+-- the type of a symbol with that mark
+abbrev pub type_by : Mark → ℕ
+type_by NoType = 0
+type_by ObjectMark = 0
+type_by Function = IMAGE_SYM_TYPE_FUNCTION
+
+-- the class of a symbol that is not Local
+abbrev pub class_by : Binding → ℕ
+class_by (Local v) = IMAGE_SYM_CLASS_STATIC
+class_by (Global v) = IMAGE_SYM_CLASS_EXTERNAL
+class_by Undefined = IMAGE_SYM_CLASS_EXTERNAL
+class_by (Common size align) = IMAGE_SYM_CLASS_EXTERNAL
+class_by (Weak f) = IMAGE_SYM_CLASS_WEAK_EXTERNAL
+
+-- how many auxiliary entries it has
+abbrev pub aux_by : Binding → ℕ
+aux_by (Local v) = 0
+aux_by (Global v) = 0
+aux_by Undefined = 0
+aux_by (Common size align) = 0
+aux_by (Weak f) = 1
+
+-- an entry
+abbrev pub entry : List ℕ → ℕ × ℕ → ℕ → ℕ → ℕ → SymbolEntry
+entry field numbers type class auxiliary = record {
+  Name = field;
+  Value = numbers.0;
+  SectionNumber = numbers.1;
+  «Type» = type;
+  StorageClass = class;
+  NumberOfAuxSymbols = auxiliary;
+}
+
+-- the entry of a line
+abbrev pub line_entry : Word → Object → Line → SymbolEntry
+line_entry w n (SectionLine k s) = entry (symbol_field w n s.name) (0, k + 1) 0 IMAGE_SYM_CLASS_STATIC 1
+line_entry w n (LocalLine k s) = entry (symbol_field w n s.name) (numbers_by s.binding) (type_by s.mark) IMAGE_SYM_CLASS_STATIC 0
+line_entry w n (DefaultLine k s) = entry (symbol_field w n (default_name s.name)) (default_numbers s.binding) 0 IMAGE_SYM_CLASS_STATIC 0
+line_entry w n (OuterLine k s) = entry (symbol_field w n s.name) (numbers_by s.binding) (type_by s.mark) (class_by s.binding) (aux_by s.binding)
+
+-- the auxiliary entry of a section's symbol
+abbrev pub section_aux : Word → Object → ℕ → Section → SectionAux
+section_aux w n k s = record {
+  Length = s.size;
+  NumberOfRelocations = min (length (relocs_of w (numbered_lines w n) n k)) OVERFLOWED_COUNT;
+  NumberOfLinenumbers = 0;
+  CheckSum = 0;
+  Number = kept_with n k s.group;
+  Selection = selection_of n k s.group;
+}
+
+-- the number of the symbol that a fallback of the symbol at position k tags: the symbol that it names, or the default
+abbrev pub tag_of : List (Laid Line) → ℕ → Fallback → ℕ
+tag_of lines k (fallback.Place s offset) = default_number lines k
+tag_of lines k fallback.Zero = default_number lines k
+tag_of lines k (fallback.Name j) = outer_number lines j
+
+-- the auxiliary entry of a weak external
+abbrev pub weak_aux : List (Laid Line) → ℕ → Fallback → WeakAux
+weak_aux lines k f = record { TagIndex = tag_of lines k f; Characteristics = IMAGE_WEAK_EXTERN_SEARCH_ALIAS }
+
+-- the auxiliary entries of a symbol that is not Local
+abbrev pub outer_aux : List (Laid Line) → ℕ → Binding → List (List ℕ)
+outer_aux lines k (Local v) = []
+outer_aux lines k (Global v) = []
+outer_aux lines k Undefined = []
+outer_aux lines k (Common size align) = []
+outer_aux lines k (Weak f) = weak_aux_bytes (weak_aux lines k f) ∷ []
+
+-- the auxiliary entries of a line
+abbrev pub line_aux : Word → Object → Line → List (List ℕ)
+line_aux w n (SectionLine k s) = section_aux_bytes (section_aux w n k s) ∷ []
+line_aux w n (LocalLine k s) = []
+line_aux w n (DefaultLine k s) = []
+line_aux w n (OuterLine k s) = outer_aux (numbered_lines w n) k s.binding
+
+-- the entries of a line
+unfoldable pub line_rows : Word → Object → Line → List (List ℕ)
+line_rows w n line = symbol_bytes (line_entry w n line) ∷ line_aux w n line
+
+-- the entries of the symbol table
+abbrev pub entry_rows : Word → Object → List (List ℕ)
+entry_rows w n = flat_map (λ (l : Laid Line). line_rows w n l.part) (numbered_lines w n)
+
+-- ... the file
+
+-- the machine of a word
+abbrev pub machine_of : Word → ℕ
+machine_of W32 = IMAGE_FILE_MACHINE_I386
+machine_of W64 = IMAGE_FILE_MACHINE_AMD64
 
 -- the file header
-abbrev pub code_header : CodeObject → FileHeader
-code_header o = record {
-  Machine = IMAGE_FILE_MACHINE_I386;
-  NumberOfSections = 1;
+unfoldable pub file_header : Word → Object → FileHeader
+file_header w n = record {
+  Machine = machine_of w;
+  NumberOfSections = length n.sections;
   TimeDateStamp = 0;
-  PointerToSymbolTable = symbols_place o;
-  NumberOfSymbols = entry_count o;
+  PointerToSymbolTable = place_where is_symbol_table (laid_parts w n);
+  NumberOfSymbols = entry_count w n;
   SizeOfOptionalHeader = 0;
   Characteristics = 0;
 }
 
--- and that has the alignment 2^exponent
-abbrev pub code_flags : ℕ → ℕ
-code_flags exponent = code_tag + (exponent + 1) * IMAGE_SCN_ALIGN_1BYTES
+-- the string table
+abbrev pub string_table : Word → Object → List ℕ
+string_table w n = bytes_of_number STRINGS_HEAD (STRINGS_HEAD + length (text_of w n)) ++ text_of w n
 
--- the section header
-abbrev pub code_section : CodeObject → SectionHeader
-code_section o = record {
-  Name = padded (codes ".text");
-  VirtualSize = 0;
-  VirtualAddress = 0;
-  SizeOfRawData = length o.contents;
-  PointerToRawData = pointer_to contents_place (length o.contents);
-  PointerToRelocations = pointer_to (relocs_place o) (length o.relocs);
-  PointerToLinenumbers = 0;
-  NumberOfRelocations = length o.relocs;
-  NumberOfLinenumbers = 0;
-  Characteristics = code_flags o.exponent;
-}
+-- the bytes of a part
+unfoldable pub part_bytes : Word → Object → Part → List ℕ
+part_bytes w n FileHead = file_header_bytes (file_header w n)
+part_bytes w n SectionHeads = flat_map section_header_bytes (headers_of w n)
+part_bytes w n (Raw k s) = raw_of w n k s
+part_bytes w n (Relocs k s) = flat_map relocation_bytes (with_count (relocs_of w (numbered_lines w n) n k))
+part_bytes w n SymbolTable = flat_map (λ (row : List ℕ). row) (entry_rows w n)
+part_bytes w n StringTable = string_table w n
 
--- the section's symbol
-abbrev pub code_symbol : SymbolEntry
-code_symbol = record {
-  Name = padded (codes ".text");
-  Value = 0;
-  SectionNumber = 1;
-  «Type» = 0;
-  StorageClass = IMAGE_SYM_CLASS_STATIC;
-  NumberOfAuxSymbols = 1;
-}
-
--- its auxiliary entry
-abbrev pub code_aux : CodeObject → SectionAux
-code_aux o = record { Length = length o.contents; NumberOfRelocations = length o.relocs; NumberOfLinenumbers = 0; CheckSum = 0; Number = 0; Selection = 0 }
-
--- an external symbol's entry
-abbrev pub external_entry : External → SymbolEntry
-external_entry x = record {
-  Name = padded x.name;
-  Value = x.Value;
-  SectionNumber = x.SectionNumber;
-  «Type» = if x.function then IMAGE_SYM_TYPE_FUNCTION else 0;
-  StorageClass = IMAGE_SYM_CLASS_EXTERNAL;
-  NumberOfAuxSymbols = 0;
-}
-
--- its bytes
-unfoldable pub external_bytes : External → List ℕ
-external_bytes x = symbol_bytes (external_entry x)
-
--- the canonical file: headers, contents, relocations, symbols, and a string table without a string
-unfoldable pub code_file : CodeObject → List ℕ
-code_file o =
-    file_header_bytes (code_header o)
-    ++ (section_header_bytes (code_section o)
-    ++ (o.contents
-    ++ (flat_map relocation_bytes o.relocs
-    ++ (symbol_bytes code_symbol
-    ++ (section_aux_bytes (code_aux o)
-    ++ (flat_map external_bytes o.symbols
-    ++ bytes_of_number 4 4))))))
-
--- the length of the canonical file
-abbrev pub code_length : CodeObject → ℕ
-code_length o = symbols_place o + SYMBOL_SIZE * entry_count o + 4
-
--- the numbers of a relocation fit its entry
-pub record FitsEntry (r : Relocation) : Type 0 where
-  pub VirtualAddress : r.VirtualAddress < 2 ^ 32
-  pub SymbolTableIndex : r.SymbolTableIndex < 2 ^ 32
-  pub «Type» : r.Type < 2 ^ 16
-
--- an external symbol of an object whose section has `size` bytes: undefined, or a place in that section; its name has one to eight bytes, none of them NUL
-pub record IsExternal (size : ℕ) (x : External) : Type 0 where
-  pub named : 1 ≤ length x.name
-  pub short : length x.name ≤ 8
-  pub no_nul : All (λ c. c ≢ 0) x.name
-  pub section : x.SectionNumber ≤ 1
-  pub undefined : x.SectionNumber ≡ 0 → x.Value ≡ 0
-  pub place : x.Value ≤ size
-
--- the object has a canonical file
-pub record IsCodeObject (o : CodeObject) : Type 0 where
-  pub exponent : o.exponent ≤ coff_align_bits
-  pub relocs : length o.relocs ≤ 65535
-  pub entries : All FitsEntry o.relocs
-  pub externals : All (IsExternal (length o.contents)) o.symbols
-  pub length : code_length o < 2 ^ 32
+-- the canonical file
+unfoldable pub coff_file : Word → Object → List ℕ
+coff_file w n = joined (part_bytes w n) 0 (laid_parts w n)

@@ -1,12 +1,12 @@
 -- The file header (PE/COFF, "COFF File Header").
 use Rattle.std.specs.Prelude.{ℕ, List, [], ◌∷◌}
 use Rattle.oc_base.specs.Numbers.{number_at}
+use Rattle.oc_shelf.specs.Writing.Packed.{packed}
 use Rattle.oc_coff_read.specs.declared.file_header.FileHeader.{FileHeader}
-use Rattle.oc_coff_read.specs.Packed.{packed}
 
 -- the file header
-unfoldable pub file_header_in : List ℕ → FileHeader
-file_header_in file = record {
+unfoldable pub file_header_of : List ℕ → FileHeader
+file_header_of file = record {
   Machine = number_at file 0 2;
   NumberOfSections = number_at file 2 2;
   TimeDateStamp = number_at file 4 4;

@@ -1,12 +1,12 @@
 -- Relocation entries (PE/COFF, "COFF Relocations").
 use Rattle.std.specs.Prelude.{ℕ, ◌+◌, List, [], ◌∷◌}
 use Rattle.oc_base.specs.Numbers.{number_at}
+use Rattle.oc_shelf.specs.Writing.Packed.{packed}
 use Rattle.oc_coff_read.specs.declared.relocation.Relocation.{Relocation}
-use Rattle.oc_coff_read.specs.Packed.{packed}
 
 -- the relocation entry at a place of the file
-unfoldable pub relocation_in : List ℕ → ℕ → Relocation
-relocation_in file at = record {
+unfoldable pub relocation_at : List ℕ → ℕ → Relocation
+relocation_at file at = record {
   VirtualAddress = number_at file at 4;
   SymbolTableIndex = number_at file (at + 4) 4;
   «Type» = number_at file (at + 8) 2;

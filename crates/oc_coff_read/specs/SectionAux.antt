@@ -1,12 +1,12 @@
 -- The auxiliary entry behind a section's own symbol (PE/COFF, "Auxiliary Format 5: Section Definitions").
 use Rattle.std.specs.Prelude.{ℕ, ◌+◌, List, [], ◌∷◌}
 use Rattle.oc_base.specs.Numbers.{number_at}
+use Rattle.oc_shelf.specs.Writing.Packed.{packed}
 use Rattle.oc_coff_read.specs.declared.section_aux.SectionAux.{SectionAux}
-use Rattle.oc_coff_read.specs.Packed.{packed}
 
 -- the auxiliary entry at a place of the file
-unfoldable pub section_aux_in : List ℕ → ℕ → SectionAux
-section_aux_in file at = record {
+unfoldable pub section_aux_at : List ℕ → ℕ → SectionAux
+section_aux_at file at = record {
   Length = number_at file at 4;
   NumberOfRelocations = number_at file (at + 4) 2;
   NumberOfLinenumbers = number_at file (at + 6) 2;

@@ -1,12 +1,12 @@
 -- Section headers (PE/COFF, "Section Table").
 use Rattle.std.specs.Prelude.{ℕ, ◌+◌, List, [], ◌∷◌, ◌++◌, take, drop}
 use Rattle.oc_base.specs.Numbers.{number_at}
+use Rattle.oc_shelf.specs.Writing.Packed.{packed}
 use Rattle.oc_coff_read.specs.declared.section_header.SectionHeader.{SectionHeader}
-use Rattle.oc_coff_read.specs.Packed.{packed}
 
 -- the section header at a place of the file
-unfoldable pub section_header_in : List ℕ → ℕ → SectionHeader
-section_header_in file at = record {
+unfoldable pub section_header_at : List ℕ → ℕ → SectionHeader
+section_header_at file at = record {
   Name = take 8 (drop at file);
   VirtualSize = number_at file (at + 8) 4;
   VirtualAddress = number_at file (at + 12) 4;

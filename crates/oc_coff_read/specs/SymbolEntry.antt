@@ -1,12 +1,12 @@
 -- Symbol table entries (PE/COFF, "COFF Symbol Table").
 use Rattle.std.specs.Prelude.{ℕ, ◌+◌, List, [], ◌∷◌, ◌++◌, take, drop}
 use Rattle.oc_base.specs.Numbers.{number_at}
+use Rattle.oc_shelf.specs.Writing.Packed.{packed}
 use Rattle.oc_coff_read.specs.declared.symbol.SymbolEntry.{SymbolEntry}
-use Rattle.oc_coff_read.specs.Packed.{packed}
 
 -- the symbol table entry at a place of the file
-unfoldable pub symbol_in : List ℕ → ℕ → SymbolEntry
-symbol_in file at = record {
+unfoldable pub symbol_at : List ℕ → ℕ → SymbolEntry
+symbol_at file at = record {
   Name = take 8 (drop at file);
   Value = number_at file (at + 8) 4;
   SectionNumber = number_at file (at + 12) 2;

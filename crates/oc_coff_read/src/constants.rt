@@ -2,11 +2,17 @@
 
 /// Intel 386 and later (PE/COFF, "Machine Types").
 pub const IMAGE_FILE_MACHINE_I386: u16 = 0x14C;
+/// x64 (PE/COFF, "Machine Types").
+pub const IMAGE_FILE_MACHINE_AMD64: u16 = 0x8664;
 
 /// The section number of a symbol that is defined elsewhere (PE/COFF, "Section Number Values").
 pub const IMAGE_SYM_UNDEFINED: u16 = 0;
 /// The section number -1 of a symbol that is a number (PE/COFF, "Section Number Values").
 pub const IMAGE_SYM_ABSOLUTE: u16 = 0xFFFF;
+/// The section number -2 of a symbol for debuggers (PE/COFF, "Section Number Values").
+pub const IMAGE_SYM_DEBUG: u16 = 0xFFFE;
+/// The greatest section number that a symbol can have (PE/COFF, "Section Number Values").
+pub const IMAGE_SYM_SECTION_MAX: u16 = 0xFEFF;
 /// The type of a function (PE/COFF, "Type Representation").
 pub const IMAGE_SYM_TYPE_FUNCTION: u16 = 0x20;
 /// A symbol that is seen by all files (PE/COFF, "Storage Class").
@@ -15,6 +21,29 @@ pub const IMAGE_SYM_CLASS_EXTERNAL: u8 = 2;
 pub const IMAGE_SYM_CLASS_STATIC: u8 = 3;
 /// A label of this file alone (PE/COFF, "Storage Class").
 pub const IMAGE_SYM_CLASS_LABEL: u8 = 6;
+/// The begin or the end of a function (PE/COFF, "Storage Class").
+pub const IMAGE_SYM_CLASS_FUNCTION: u8 = 101;
+/// The name of a source file (PE/COFF, "Storage Class").
+pub const IMAGE_SYM_CLASS_FILE: u8 = 103;
+/// A symbol with a default for where no other file defines it (PE/COFF, "Storage Class").
+pub const IMAGE_SYM_CLASS_WEAK_EXTERNAL: u8 = 105;
 
-/// An entry that says nothing (PE/COFF, "Type Indicators").
+/// A second definition is a fault of the linker (PE/COFF, "COMDAT Sections").
+pub const IMAGE_COMDAT_SELECT_NODUPLICATES: u8 = 1;
+/// A linker keeps any one of the copies (PE/COFF, "COMDAT Sections").
+pub const IMAGE_COMDAT_SELECT_ANY: u8 = 2;
+/// The section is kept exactly where another section is (PE/COFF, "COMDAT Sections").
+pub const IMAGE_COMDAT_SELECT_ASSOCIATIVE: u8 = 5;
+
+/// The default of a weak external stands for it (PE/COFF, "Auxiliary Format 3: Weak Externals").
+pub const IMAGE_WEAK_EXTERN_SEARCH_ALIAS: u32 = 3;
+
+/// An entry that says nothing; on x64, `IMAGE_REL_AMD64_ABSOLUTE` is the same number (PE/COFF, "Type
+/// Indicators").
 pub const IMAGE_REL_I386_ABSOLUTE: u16 = 0;
+
+/// The count of relocations in the header of a section that has more (PE/COFF, "Section Flags").
+pub const OVERFLOWED_COUNT: u16 = 0xFFFF;
+
+/// How many bytes of a string table hold its size (PE/COFF, "COFF String Table").
+pub const STRINGS_HEAD: usize = 4;

@@ -1,7 +1,7 @@
 //! The file header.
 ghost use Rattle.oc_coff_read.specs.declared.file_header.TheConstants.{FILE_HEADER_SIZE};
 ghost use Rattle.std.specs.Prelude.{◌≡◌, ◌≤◌, length};
-ghost use Rattle.oc_coff_read.specs.FileHeader.{file_header_in};
+ghost use Rattle.oc_coff_read.specs.FileHeader.{file_header_of};
 
 use oc_base::{u16_in, u32_in};
 
@@ -28,10 +28,10 @@ pub struct FileHeader {
 }
 
 /// The file header of a file of at least `FILE_HEADER_SIZE` bytes. Constant time.
-#[tactic(auto, unfolding(crate::specs::FileHeader::file_header_in))]
+#[tactic(auto, unfolding(crate::specs::FileHeader::file_header_of))]
 pub fn file_header_of(file: &[u8]) -> FileHeader
     requires { FILE_HEADER_SIZE ≤ length file.now }
-    ensures { result ≡ file_header_in file.now }
+    ensures { result ≡ file_header_of file.now }
 {
     FileHeader {
         Machine: u16_in(file, 0),

@@ -1,8 +1,9 @@
-//! Laws of the definitions: each is the contract of a function that does nothing.
-ghost use Rattle.oc_coff_read.specs.Seen.{CanonicalReadsBack};
+//! Laws of the definitions, each the contract of a function that does nothing.
+ghost use Rattle.oc_coff_read.specs.Writing.{CoffIsWritten};
 
-/// The canonical file of each object of one section of code has, by the rules of COFF for i386, the
-/// section, the symbols and the fields of that object. Does nothing.
-pub fn canonical_reads_back()
-    ensures { CanonicalReadsBack }
+/// For both words: the rules of COFF have the word and the alignments that are told of its format,
+/// and the canonical file of every object that is ready for COFF is well formed and shows the
+/// object that is seen of it.
+pub fn coff_file_is_written()
+    ensures { CoffIsWritten }
 {}

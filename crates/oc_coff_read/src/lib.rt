@@ -1,5 +1,6 @@
-//! COFF object files as PE/COFF lays them out: their structures, what a file says of sections,
-//! symbols and relocated fields, and the canonical file of one section.
+//! COFF object files as PE/COFF lays them out, for i386 and x64: their structures, what makes a file
+//! well formed, what it says of sections, groups, symbols and relocated fields, and the canonical
+//! file of each object that is ready for COFF.
 #![tactic(auto)]
 
 mod constants;
@@ -10,18 +11,21 @@ mod relocation;
 mod section_aux;
 mod section_header;
 mod symbol;
+mod weak_aux;
 
 pub use constants::{
-    IMAGE_FILE_MACHINE_I386, IMAGE_REL_I386_ABSOLUTE, IMAGE_SYM_ABSOLUTE, IMAGE_SYM_CLASS_EXTERNAL,
-    IMAGE_SYM_CLASS_LABEL, IMAGE_SYM_CLASS_STATIC, IMAGE_SYM_TYPE_FUNCTION, IMAGE_SYM_UNDEFINED,
+    IMAGE_COMDAT_SELECT_ANY, IMAGE_COMDAT_SELECT_ASSOCIATIVE, IMAGE_COMDAT_SELECT_NODUPLICATES,
+    IMAGE_FILE_MACHINE_AMD64, IMAGE_FILE_MACHINE_I386, IMAGE_REL_I386_ABSOLUTE, IMAGE_SYM_ABSOLUTE,
+    IMAGE_SYM_CLASS_EXTERNAL, IMAGE_SYM_CLASS_FILE, IMAGE_SYM_CLASS_FUNCTION,
+    IMAGE_SYM_CLASS_LABEL, IMAGE_SYM_CLASS_STATIC, IMAGE_SYM_CLASS_WEAK_EXTERNAL, IMAGE_SYM_DEBUG,
+    IMAGE_SYM_SECTION_MAX, IMAGE_SYM_TYPE_FUNCTION, IMAGE_SYM_UNDEFINED,
+    IMAGE_WEAK_EXTERN_SEARCH_ALIAS, OVERFLOWED_COUNT, STRINGS_HEAD,
 };
 pub use file_header::{FILE_HEADER_SIZE, FileHeader, file_header_of};
-pub use laws::canonical_reads_back;
-pub use oc_neutral::coff::{
-    IMAGE_REL_I386_DIR32, IMAGE_REL_I386_REL32, IMAGE_SCN_CNT_CODE, IMAGE_SCN_MEM_EXECUTE,
-    IMAGE_SCN_MEM_READ, IMAGE_SYM_SECTION_MAX,
-};
+pub use laws::coff_file_is_written;
+pub use name::NAME_SIZE;
 pub use relocation::{RELOCATION_SIZE, Relocation, relocation_at};
 pub use section_aux::{SectionAux, section_aux_at};
 pub use section_header::{SECTION_HEADER_SIZE, SectionHeader, section_header_at};
 pub use symbol::{SYMBOL_SIZE, SymbolEntry, symbol_at};
+pub use weak_aux::{WeakAux, weak_aux_at};

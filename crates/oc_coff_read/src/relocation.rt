@@ -1,7 +1,7 @@
 //! Relocation entries.
 ghost use Rattle.oc_coff_read.specs.declared.relocation.TheConstants.{RELOCATION_SIZE};
 ghost use Rattle.std.specs.Prelude.{◌≡◌, ◌+◌, ◌≤◌, length};
-ghost use Rattle.oc_coff_read.specs.Relocation.{relocation_in};
+ghost use Rattle.oc_coff_read.specs.Relocation.{relocation_at};
 
 use oc_base::{u16_in, u32_in};
 
@@ -20,10 +20,10 @@ pub struct Relocation {
 }
 
 /// The relocation entry at `at`, an offset in the file. Constant time.
-#[tactic(auto, unfolding(crate::specs::Relocation::relocation_in))]
+#[tactic(auto, unfolding(crate::specs::Relocation::relocation_at))]
 pub fn relocation_at(file: &[u8], at: usize) -> Relocation
     requires { at + RELOCATION_SIZE ≤ length file.now }
-    ensures { result ≡ relocation_in file.now at }
+    ensures { result ≡ relocation_at file.now at }
 {
     Relocation {
         VirtualAddress: u32_in(file, at),

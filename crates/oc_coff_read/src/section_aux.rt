@@ -1,7 +1,7 @@
 //! The auxiliary entry behind a section's own symbol.
 ghost use Rattle.oc_coff_read.specs.declared.symbol.TheConstants.{SYMBOL_SIZE};
 ghost use Rattle.std.specs.Prelude.{◌≡◌, ◌+◌, ◌≤◌, length};
-ghost use Rattle.oc_coff_read.specs.SectionAux.{section_aux_in};
+ghost use Rattle.oc_coff_read.specs.SectionAux.{section_aux_at};
 
 use oc_base::{u8_in, u16_in, u32_in};
 
@@ -24,10 +24,10 @@ pub struct SectionAux {
 }
 
 /// The auxiliary entry at `at`, an offset in the file. Constant time.
-#[tactic(auto, unfolding(crate::specs::SectionAux::section_aux_in))]
+#[tactic(auto, unfolding(crate::specs::SectionAux::section_aux_at))]
 pub fn section_aux_at(file: &[u8], at: usize) -> SectionAux
     requires { at + SYMBOL_SIZE ≤ length file.now }
-    ensures { result ≡ section_aux_in file.now at }
+    ensures { result ≡ section_aux_at file.now at }
 {
     SectionAux {
         Length: u32_in(file, at),

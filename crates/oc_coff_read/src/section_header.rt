@@ -1,7 +1,7 @@
 //! Section headers.
 ghost use Rattle.oc_coff_read.specs.declared.section_header.TheConstants.{SECTION_HEADER_SIZE};
 ghost use Rattle.std.specs.Prelude.{◌≡◌, ◌+◌, ◌≤◌, length};
-ghost use Rattle.oc_coff_read.specs.SectionHeader.{section_header_in};
+ghost use Rattle.oc_coff_read.specs.SectionHeader.{section_header_at};
 
 use crate::name::name_at;
 use oc_base::{u16_in, u32_in};
@@ -35,10 +35,10 @@ pub struct SectionHeader {
 }
 
 /// The section header at `at`, an offset in the file. Constant time.
-#[tactic(auto, unfolding(crate::specs::SectionHeader::section_header_in))]
+#[tactic(auto, unfolding(crate::specs::SectionHeader::section_header_at))]
 pub fn section_header_at(file: &[u8], at: usize) -> SectionHeader
     requires { at + SECTION_HEADER_SIZE ≤ length file.now }
-    ensures { result ≡ section_header_in file.now at }
+    ensures { result ≡ section_header_at file.now at }
 {
     SectionHeader {
         Name: name_at(file, at),

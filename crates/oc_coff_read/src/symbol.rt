@@ -1,7 +1,7 @@
 //! Symbol table entries.
 ghost use Rattle.oc_coff_read.specs.declared.symbol.TheConstants.{SYMBOL_SIZE};
 ghost use Rattle.std.specs.Prelude.{◌≡◌, ◌+◌, ◌≤◌, length};
-ghost use Rattle.oc_coff_read.specs.SymbolEntry.{symbol_in};
+ghost use Rattle.oc_coff_read.specs.SymbolEntry.{symbol_at};
 
 use crate::name::name_at;
 use oc_base::{u8_in, u16_in, u32_in};
@@ -27,10 +27,10 @@ pub struct SymbolEntry {
 }
 
 /// The symbol table entry at `at`, an offset in the file. Constant time.
-#[tactic(auto, unfolding(crate::specs::SymbolEntry::symbol_in))]
+#[tactic(auto, unfolding(crate::specs::SymbolEntry::symbol_at))]
 pub fn symbol_at(file: &[u8], at: usize) -> SymbolEntry
     requires { at + SYMBOL_SIZE ≤ length file.now }
-    ensures { result ≡ symbol_in file.now at }
+    ensures { result ≡ symbol_at file.now at }
 {
     SymbolEntry {
         Name: name_at(file, at),

@@ -1,7 +1,11 @@
-pub mod Alignment
-pub mod CodeObjects
-pub mod Contents
-pub mod Emission
-pub mod Layouts
-pub mod WriterLaw
+pub mod Bodies
+pub mod Entries
+pub mod Keys
+pub mod LaidParts
+pub mod Lines
+pub mod Numbers
+pub mod Plans
+pub mod Shifts
+pub mod Strings
+pub mod Values
 pub mod Writing

@@ -1,19 +1,19 @@
-//! The alignments of a section of COFF.
+//! The alignments of sections (PE/COFF, "Section Flags").
 ghost use Rattle.std.specs.Prelude.{◌≡◌, ◌*◌, ◌^◌};
-ghost use Rattle.oc_coff_write.specs.Alignment.{exponent_of};
+ghost use Rattle.oc_coff_read.specs.Canonical as canonical;
 
-/// The greatest alignment of a section is 2 to this power (PE/COFF, "Section Flags").
-pub const ALIGN_BITS: u32 = 13;
+use oc_neutral::coff::ALIGN_BITS;
 
-/// Which power of two the alignment is, of those that COFF has. Constant time.
-#[tactic(auto, unfolding(crate::specs::Alignment::exponent_of))]
-pub fn exponent(align: u64) -> Option<u32>
-    ensures { result ≡ exponent_of align }
+/// The alignment in the flags of a section: `n + 1` for `2^n`, and 1 for what is none of these. Constant
+/// time.
+#[tactic(auto, unfolding(oc_coff_read::specs::Canonical::align_field))]
+pub(crate) fn align_field(align: u32) -> u32
+    ensures { result ≡ canonical.align_field align }
 {
-    for e in 0..ALIGN_BITS + 1 {
-        if align == 1 << e {
-            return Some(e);
+    for n in 0..ALIGN_BITS + 1 {
+        if align == 1 << n {
+            return n + 1;
         }
     }
-    None
+    1
 }

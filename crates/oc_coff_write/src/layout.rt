@@ -1,166 +1,79 @@
-//! The headers of the canonical COFF file of an object, from the counts of its parts.
-ghost use Rattle.oc_coff_read.specs.declared.relocation.TheConstants.{RELOCATION_SIZE};
-ghost use Rattle.oc_coff_read.specs.declared.symbol.TheConstants.{SYMBOL_SIZE};
-ghost use Rattle.std.specs.Prelude.{◌≡◌, ◌+◌, ◌*◌, ◌<◌, ◌≤◌, ◌^◌, length};
-ghost use Rattle.oc_coff_read.specs.Canonical as canonical;
-ghost use Rattle.oc_chains.specs.Lists.{list_of};
-ghost use Rattle.oc_neutral.specs.Coff.Family.{coff_align_bits};
+//! Where the parts of the file begin.
+ghost use Rattle.std.specs.Prelude.{◌≡◌, ◌+◌, ◌<◌, ◌^◌, ◌++◌, [], ◌∷◌, IfOk, List, OnOk, flat_map, map};
+ghost use Rattle.std.specs.List.{enumerate_from};
+ghost use Rattle.oc_base.specs.declared.format.Word.{Word as Width};
 ghost use Rattle.oc_neutral.specs.Fitted.{IsFitted};
-ghost use Rattle.oc_coff_write.specs.CodeObjects.{IsWritable, coded};
-ghost use Rattle.oc_coff_write.specs.Layouts.{IsLayout};
+ghost use Rattle.oc_neutral.specs.Objects.{Object};
+ghost use Rattle.oc_coff_read.specs.Fields.{coff_format};
+ghost use Rattle.oc_coff_read.specs.Layout.{Part, FileHead, SectionHeads, parts_of, part_size, section_parts};
+ghost use Rattle.oc_coff_read.specs.Lines.{entry_count};
+ghost use Rattle.oc_coff_write.specs.Bodies.{relocations_in};
+ghost use Rattle.oc_coff_write.specs.LaidParts.{AreLaid};
+ghost use Rattle.oc_coff_write.specs.Strings.{table_for};
 
-use crate::alignment::exponent;
-use crate::structures::padded_name;
-use oc_base::Format;
+use crate::counts;
+use oc_base::{NoMemory, Word};
 use oc_coff_read::{
-    FILE_HEADER_SIZE, FileHeader, IMAGE_FILE_MACHINE_I386, IMAGE_SCN_CNT_CODE,
-    IMAGE_SCN_MEM_EXECUTE, IMAGE_SCN_MEM_READ, IMAGE_SYM_CLASS_STATIC, RELOCATION_SIZE,
-    SECTION_HEADER_SIZE, SYMBOL_SIZE, SectionAux, SectionHeader, SymbolEntry,
+    FILE_HEADER_SIZE, RELOCATION_SIZE, Relocation, SECTION_HEADER_SIZE, STRINGS_HEAD, SYMBOL_SIZE,
 };
 use oc_neutral::Neutral;
-use oc_neutral::coff::IMAGE_SCN_ALIGN_1BYTES;
+use oc_shelf::Layout;
+use oc_strings::Table;
+use std::alloc::Global;
 
-/// The tag of `.text`: code that can be executed and read (PE/COFF, "Section Flags").
-pub const CODE_TAG: u32 = IMAGE_SCN_CNT_CODE + IMAGE_SCN_MEM_EXECUTE + IMAGE_SCN_MEM_READ;
-
-/// Where the contents of `.text` begin: behind the file header and the section header.
-const CODE_PLACE: u32 = (FILE_HEADER_SIZE + SECTION_HEADER_SIZE) as u32;
-
-/// The numbers that the places of a file's parts follow from.
-#[derive(Clone, Copy, Debug)]
-pub struct Layout {
-    /// Which power of two the alignment is.
-    pub exponent: u32,
-    /// The length of the contents, in bytes.
-    pub size: u32,
-    /// How many relocations there are.
-    pub relocs: u16,
-    /// How many external symbols there are.
-    pub symbols: u32,
-}
-
-// how many relocations the first section has
-fn reloc_count(neutral: &Neutral) -> usize
-    requires { 0 < length neutral.now.sections }
-    ensures { result ≡ length (list_of neutral.now.relocs 0) }
+// lays a part of so many bytes behind the last
+fn lay(layout: &mut Layout, size: usize) -> Result<(), NoMemory>
+    requires { layout.old.end + size < 2 ^ 32 }
+    ensures { OnOk result ((w : Width) (n : Object) (xs : List Part) (x : Part) → AreLaid w n layout.old.places.items layout.old.end xs → part_size w n x ≡ size → AreLaid w n layout.new.places.items layout.new.end (xs ++ x ∷ [])) }
 {
-    neutral.relocs(0).count()
+    layout.lay(1, size as u64)?;
+    Ok(())
 }
 
-/// The layout of the file of an object that is ready to be written. Linear in the relocations.
-pub fn layout_of(neutral: &Neutral) -> Layout
-    requires fitted { IsFitted Format.Coff32 neutral.now }
-    requires writable { IsWritable neutral.now }
-    ensures layout { IsLayout result (coded neutral.now) }
-    ensures exponent { result.exponent ≤ coff_align_bits }
-    ensures size { result.size ≤ 2 ^ 26 }
-    ensures symbols { result.symbols ≤ 2 ^ 26 }
+// lays the parts of the sections behind the headers
+fn lay_sections(
+    layout: &mut Layout,
+    word: Word,
+    neutral: &Neutral,
+    relocs: &[Vec<Relocation>],
+) -> Result<(), NoMemory>
+    requires fitted { IsFitted (coff_format word) neutral.now }
+    requires relocs { map (λ v. v.items) relocs.now ≡ relocations_in word neutral.now }
+    requires before { AreLaid word neutral.now layout.old.places.items layout.old.end (FileHead ∷ SectionHeads ∷ []) }
+    ensures { OnOk result (AreLaid word neutral.now layout.new.places.items layout.new.end (FileHead ∷ SectionHeads ∷ flat_map section_parts (enumerate_from 0 neutral.now.sections))) }
 {
-    let section = neutral.section(0);
-    Layout {
-        exponent: exponent(section.align.into()).unwrap_or(0),
-        size: section.size,
-        relocs: reloc_count(neutral) as u16,
-        symbols: neutral.symbol_count(),
+    for k in 0..neutral.section_count() {
+        let count = counts::entry_count(relocs[k as usize].len());
+        lay(layout, neutral.section(k).bytes.as_slice().len())?;
+        lay(layout, RELOCATION_SIZE * count)?;
     }
+    Ok(())
 }
 
-// a place where things stand, or 0 where there are none
-fn pointer(place: u32, count: u32) -> u32
-    ensures { result ≡ canonical.pointer_to place count }
+/// Where the parts of the file begin, with these relocations of each section, so many entries of the
+/// symbol table, and this string table. `NoMemory` where memory ran out. Linear in the sections.
+pub(crate) fn layout_of(
+    alloc: Global,
+    word: Word,
+    neutral: &Neutral,
+    relocs: &[Vec<Relocation>],
+    entries: usize,
+    names: &Table,
+) -> Result<Layout, NoMemory>
+    requires fitted { IsFitted (coff_format word) neutral.now }
+    requires relocs { map (λ v. v.items) relocs.now ≡ relocations_in word neutral.now }
+    requires entries { entries ≡ entry_count word neutral.now }
+    requires names { names.now ≡ table_for word neutral.now }
+    ensures { IfOk result (λ layout. AreLaid word neutral.now layout.places.items layout.end (parts_of neutral.now)) }
 {
-    if count == 0 { 0 } else { place }
-}
-
-// the flags of code with an alignment
-fn flags(exponent: u32) -> u32
-    requires { exponent ≤ coff_align_bits }
-    ensures { result ≡ canonical.code_flags exponent }
-{
-    CODE_TAG + (exponent + 1) * IMAGE_SCN_ALIGN_1BYTES
-}
-
-impl Layout {
-    ghost use Rattle.oc_coff_read.specs.Canonical.{CodeObject, code_header, code_section, code_aux};
-
-    /// How many bytes stand before the contents. Constant time.
-    pub fn head_size(self) -> usize
-        ensures { result ≡ canonical.contents_place }
-    {
-        CODE_PLACE as usize
-    }
-
-    /// How many bytes stand behind the contents. Constant time.
-    pub fn tail_size(self) -> usize
-        ensures { result ≡ RELOCATION_SIZE * self.relocs + SYMBOL_SIZE * (self.symbols + 2) + 4 }
-    {
-        RELOCATION_SIZE * self.relocs as usize + SYMBOL_SIZE * (self.symbols as usize + 2) + 4
-    }
-
-    /// The file header. Constant time.
-    pub fn file_header(self) -> FileHeader
-        requires size { self.size ≤ 2 ^ 26 }
-        requires symbols { self.symbols ≤ 2 ^ 26 }
-        ensures { (o : CodeObject) → IsLayout self o → result ≡ code_header o }
-    {
-        FileHeader {
-            Machine: IMAGE_FILE_MACHINE_I386,
-            NumberOfSections: 1,
-            TimeDateStamp: 0,
-            PointerToSymbolTable: CODE_PLACE
-                + self.size
-                + RELOCATION_SIZE as u32 * u32::from(self.relocs),
-            NumberOfSymbols: self.symbols + 2,
-            SizeOfOptionalHeader: 0,
-            Characteristics: 0,
-        }
-    }
-
-    /// The header of `.text`. Constant time.
-    pub fn section_header(self) -> SectionHeader
-        requires size { self.size ≤ 2 ^ 26 }
-        requires exponent { self.exponent ≤ coff_align_bits }
-        ensures { (o : CodeObject) → IsLayout self o → result ≡ code_section o }
-    {
-        SectionHeader {
-            Name: padded_name(b".text"),
-            VirtualSize: 0,
-            VirtualAddress: 0,
-            SizeOfRawData: self.size,
-            PointerToRawData: pointer(CODE_PLACE, self.size),
-            PointerToRelocations: pointer(CODE_PLACE + self.size, self.relocs.into()),
-            PointerToLinenumbers: 0,
-            NumberOfRelocations: self.relocs,
-            NumberOfLinenumbers: 0,
-            Characteristics: flags(self.exponent),
-        }
-    }
-
-    /// The auxiliary entry of the symbol of `.text`. Constant time.
-    pub fn section_aux(self) -> SectionAux
-        ensures { (o : CodeObject) → IsLayout self o → result ≡ code_aux o }
-    {
-        SectionAux {
-            Length: self.size,
-            NumberOfRelocations: self.relocs,
-            NumberOfLinenumbers: 0,
-            CheckSum: 0,
-            Number: 0,
-            Selection: 0,
-        }
-    }
-}
-
-/// The symbol of `.text`. Constant time.
-pub fn section_symbol() -> SymbolEntry
-    ensures { result ≡ canonical.code_symbol }
-{
-    SymbolEntry {
-        Name: padded_name(b".text"),
-        Value: 0,
-        SectionNumber: 1,
-        Type: 0,
-        StorageClass: IMAGE_SYM_CLASS_STATIC,
-        NumberOfAuxSymbols: 1,
-    }
+    let mut layout = Layout::new(alloc);
+    lay(&mut layout, FILE_HEADER_SIZE)?;
+    lay(
+        &mut layout,
+        SECTION_HEADER_SIZE * neutral.section_count() as usize,
+    )?;
+    lay_sections(&mut layout, word, neutral, relocs)?;
+    lay(&mut layout, SYMBOL_SIZE * entries)?;
+    lay(&mut layout, STRINGS_HEAD + names.bytes().len())?;
+    Ok(layout)
 }

@@ -1,16 +1,29 @@
-//! The writer of COFF for i386, of objects of one section of code: their structures as bytes, the
-//! layout of the file, its parts, and the plan of the whole.
+//! The writers of COFF: the symbol table and the string table of an object, the layout of its file, and
+//! the plan, which gives any window of the file.
 #![tactic(auto)]
 
 mod alignment;
-mod contents;
-mod emission;
+mod counts;
+mod entries;
+mod flags;
+mod forms;
+mod headers;
+mod keys;
 mod layout;
+mod lines;
+mod names;
+mod numbers;
 mod plan;
+mod planning;
+mod raw;
+mod relocations;
+mod section_names;
+mod strings;
 mod structures;
+mod symbols;
+mod tables;
+mod values;
 mod writer;
 
-pub use alignment::{ALIGN_BITS, exponent};
-pub use layout::CODE_TAG;
-pub use plan::PlannedFile;
-pub use writer::CoffWriter;
+pub use plan::Plan;
+pub use writer::{CoffWriter32, CoffWriter64};

@@ -1,95 +1,157 @@
-//! Files that are planned.
-ghost use Rattle.std.specs.Prelude.{◌≡◌, ◌+◌, ◌-◌, ◌^◌, ◌<◌, ◌≤◌, ◌++◌, length, min, take, drop};
+//! Planned files.
+ghost use Rattle.std.specs.Prelude.{◌≡◌, ◌+◌, ◌<◌, ◌^◌, [], Some, length, map, slice_get, slice_index_or};
+ghost use Rattle.oc_outside.specs.Windows.{IsFilled};
+ghost use Rattle.oc_shelf.specs.Writing.Parts.{table_of};
+ghost use Rattle.oc_coff_read.specs.SectionHeader.{section_header_bytes};
+ghost use Rattle.oc_coff_write.specs.Entries.{entry_bytes};
+ghost use Rattle.oc_coff_write.specs.Plans.{IsPlan, parts_by, relocation_rows};
 
-use oc_base::Bytes;
-use oc_neutral::Emits;
-use oc_outside::{Failed, PIECE, Sink};
+use crate::entries::Entry;
+use crate::structures::pack_file_header;
+use crate::tables::{entries_window, headers_window, relocations_window, strings_window};
+use oc_coff_read::{FileHeader, Relocation, SectionHeader};
+use oc_neutral::{Emits, Section};
+use oc_shelf::{Layout, Parts, copy_window, window_of};
+use oc_strings::Table;
 use std::marker::Model;
 
-#[cfg(test)]
-mod tests;
-
-/// A planned file, in memory as it is to be put: the headers, the contents of its section, and what
-/// stands behind them. Contracts see the file, which has fewer than 2^64 bytes.
+/// A planned file: its headers, the bytes and the relocations of its sections, the entries of its
+/// symbol table, and its string table. Contracts see the bytes of its parts, in their order.
 #[derive(Debug, Drop)]
-pub struct PlannedFile {
-    head: Vec<u8>,
-    contents: Bytes,
-    tail: Vec<u8>,
+pub struct Plan {
+    header: FileHeader,
+    headers: Vec<SectionHeader>,
+    /// With the numbers in their fields.
+    sections: Vec<Section>,
+    /// Of each section.
+    relocs: Vec<Vec<Relocation>>,
+    entries: Vec<Entry>,
+    names: Table,
+    layout: Layout,
 }
 
-impl Model for PlannedFile {
-    ghost use Rattle.std.specs.Prelude.{ℕ, ◌^◌, ◌<◌, List, ◌++◌, length};
+impl Model for Plan {
+    ghost use Rattle.std.specs.Prelude.{ℕ, List, map};
+    ghost use Rattle.oc_coff_read.specs.SectionHeader.{section_header_bytes};
+    ghost use Rattle.oc_coff_write.specs.Entries.{entry_bytes};
+    ghost use Rattle.oc_coff_write.specs.Plans.{IsPlan, parts_by};
 
-    ghost Value = { List ℕ };
+    ghost Value = { List (List ℕ) };
 
-    ghost view = { λ p. p.head.items ++ (p.contents ++ p.tail.items) };
+    ghost view = { λ p. parts_by p.header (map section_header_bytes p.headers.items) (map (λ s. s.bytes) p.sections.items) (map (λ v. v.items) p.relocs.items) (map entry_bytes p.entries.items) p.names };
 
-    ghost invariant = { λ p. length (p.head.items ++ (p.contents ++ p.tail.items)) < 2 ^ 64 };
+    ghost invariant = { λ p. IsPlan
+        (parts_by p.header (map section_header_bytes p.headers.items) (map (λ s. s.bytes) p.sections.items) (map (λ v. v.items) p.relocs.items) (map entry_bytes p.entries.items) p.names)
+        (map section_header_bytes p.headers.items) (map (λ s. s.bytes) p.sections.items) (map (λ v. v.items) p.relocs.items) (map entry_bytes p.entries.items) p.layout.places.items p.layout.end };
 }
 
-// lays what fits of a part, from an offset on, behind the first `done` bytes of `to`; gives how many
-// bytes are laid there now
-fn lay(part: &[u8], from: usize, to: &mut [u8], done: usize) -> usize
-    requires { done ≤ length to.old }
-    ensures length { length to.new ≡ length to.old }
-    ensures count { result ≡ min (length to.old) (done + (length part.now - from)) }
-    ensures bytes { take result to.new ≡ take (length to.old) (take done to.old ++ drop from part.now) }
-{
-    let rest = &part[from.min(part.len())..];
-    let count = rest.len().min(to.len() - done);
-    let front = &rest[..count];
-    let place = &mut to[done..done + count];
-    place.copy_from_slice(front);
-    done + count
-}
-
-impl PlannedFile {
-    /// The file of a head, the contents of a section and a tail, which are taken over as they are.
-    /// Constant time, no memory.
-    pub fn new(head: Vec<u8>, contents: Bytes, tail: Vec<u8>) -> PlannedFile
-        requires { length (head.items ++ (contents ++ tail.items)) < 2 ^ 64 }
-        ensures { result ≡ head.items ++ (contents ++ tail.items) }
+impl Plan {
+    /// The plan of a file of these, where the layout is that of its parts. Constant time, no memory.
+    pub(crate) fn new(
+        header: FileHeader,
+        headers: Vec<SectionHeader>,
+        sections: Vec<Section>,
+        relocs: Vec<Vec<Relocation>>,
+        entries: Vec<Entry>,
+        names: Table,
+        layout: Layout,
+    ) -> Plan
+        requires { IsPlan
+            (parts_by header (map section_header_bytes headers.items) (map (λ s. s.bytes) sections.items) (map (λ v. v.items) relocs.items) (map entry_bytes entries.items) names)
+            (map section_header_bytes headers.items) (map (λ s. s.bytes) sections.items) (map (λ v. v.items) relocs.items) (map entry_bytes entries.items) layout.places.items layout.end }
+        ensures { result ≡ parts_by header (map section_header_bytes headers.items) (map (λ s. s.bytes) sections.items) (map (λ v. v.items) relocs.items) (map entry_bytes entries.items) names }
     {
-        PlannedFile {
-            head,
-            contents,
-            tail,
+        Plan {
+            header,
+            headers,
+            sections,
+            relocs,
+            entries,
+            names,
+            layout,
         }
     }
+}
 
-    // lays the bytes of the file from an offset on into `to`, as many as there are and fit; gives how
-    // many
-    fn window(&self, at: usize, to: &mut [u8]) -> usize
-        ensures length { length to.new ≡ length to.old }
-        ensures count { result ≡ min (length to.old) (length self.now - at) }
-        ensures bytes { take result to.new ≡ take (length to.old) (drop at self.now) }
-    {
-        let contents = self.contents.as_slice();
-        let behind = at.saturating_sub(self.head.len());
-        let past = behind.saturating_sub(contents.len());
-        let mut done = lay(self.head.as_slice(), at, to, 0);
-        done = lay(contents, behind, to, done);
-        lay(self.tail.as_slice(), past, to, done)
+// where part `k` ends, of parts that begin at these places, the last of which ends at `end`
+fn end_at(places: &[u64], end: u64, k: usize) -> u64
+    requires { k < length places.now }
+    ensures last { k + 1 ≡ length places.now → result ≡ end }
+    ensures next { k + 1 < length places.now → slice_get places.now (k + 1) ≡ Some result }
+{
+    if k + 1 == places.len() {
+        end
+    } else {
+        places[k + 1]
     }
 }
 
-impl Emits for PlannedFile {
-    ghost file = { λ p. p };
+// a window of the bytes of the section at a position
+fn raw_window(sections: &[Section], k: usize, from: u64, out: &mut [u8]) -> usize
+    requires { k < length sections.now }
+    ensures { IsFilled (slice_index_or (map (λ s. s.bytes) sections.now) k []) from out.old out.new result }
+{
+    copy_window(sections[k].bytes.as_slice(), from, out)
+}
+
+// a window of its relocation entries
+fn table_window(relocs: &[Vec<Relocation>], k: usize, from: u64, out: &mut [u8]) -> usize
+    requires there { k < length relocs.now }
+    requires small { length (table_of (relocation_rows (slice_index_or (map (λ v. v.items) relocs.now) k []))) < 2 ^ 32 }
+    ensures { IsFilled (table_of (relocation_rows (slice_index_or (map (λ v. v.items) relocs.now) k []))) from out.old out.new result }
+{
+    relocations_window(&relocs[k], from, out)
+}
+
+impl Parts for Plan {
+    ghost use Rattle.oc_coff_write.specs.Plans.{pieces_laid};
+
+    ghost parts = { λ p. pieces_laid p };
+
+    fn count(&self) -> usize {
+        self.layout.places.len()
+    }
+
+    fn place(&self, k: usize) -> u64 {
+        self.layout.places[k]
+    }
+
+    fn end(&self, k: usize) -> u64 {
+        end_at(&self.layout.places, self.layout.end, k)
+    }
+
+    fn part_window(&self, k: usize, from: u64, out: &mut [u8]) -> usize {
+        if k == 0 {
+            return copy_window(pack_file_header(&self.header).as_slice(), from, out);
+        }
+        if k == 1 {
+            return headers_window(&self.headers, from, out);
+        }
+        let part = k - 2;
+        let section = part / 2;
+        if section == self.sections.len() {
+            if part % 2 == 0 {
+                return entries_window(&self.entries, from, out);
+            }
+            return strings_window(&self.names, from, out);
+        }
+        if part % 2 == 0 {
+            return raw_window(&self.sections, section, from, out);
+        }
+        table_window(&self.relocs, section, from, out)
+    }
+}
+
+impl Emits for Plan {
+    ghost use Rattle.oc_coff_write.specs.Plans.{file_by};
+
+    ghost file = { λ p. file_by p };
 
     fn len(&self) -> u64 {
-        self.head.len() as u64 + self.contents.as_slice().len() as u64 + self.tail.len() as u64
+        self.layout.end
     }
 
-    fn emit<S: Sink>(&self, sink: &mut S) -> Result<(), Failed> {
-        let mut window = [0; PIECE];
-        let mut at = 0;
-        'pieces: while (at as u64) < self.len() {
-            let count = self.window(at, &mut window);
-            let piece = &window[..count];
-            let taken = sink.put(piece)?;
-            at += taken;
-        }
-        Ok(())
+    fn window(&self, at: u64, to: &mut [u8]) -> usize {
+        window_of(self, at, to)
     }
 }

@@ -1,131 +1,121 @@
 //! COFF structures as bytes.
-ghost use Rattle.std.specs.Prelude.{◌≡◌, ◌≤◌, [], ◌∷◌, ◌++◌, length, OnOk};
+ghost use Rattle.std.specs.Prelude.{◌≡◌, ◌+◌, ◌≤◌, ◌++◌, length};
 ghost use Rattle.oc_base.specs.Numbers.{bytes_of_number};
 ghost use Rattle.oc_coff_read.specs.FileHeader.{file_header_bytes};
-ghost use Rattle.oc_coff_read.specs.Packed.{packed, padded};
 ghost use Rattle.oc_coff_read.specs.Relocation.{relocation_bytes};
 ghost use Rattle.oc_coff_read.specs.SectionAux.{section_aux_bytes};
 ghost use Rattle.oc_coff_read.specs.SectionHeader.{section_header_bytes};
 ghost use Rattle.oc_coff_read.specs.SymbolEntry.{symbol_bytes};
+ghost use Rattle.oc_coff_read.specs.WeakAux.{weak_aux_bytes};
+ghost use Rattle.oc_shelf.specs.declared.writing.rows.TheConstants.{ROW};
 
-use oc_base::{NoMemory, push_u16, push_u32};
-use oc_coff_read::{FileHeader, Relocation, SYMBOL_SIZE, SectionAux, SectionHeader, SymbolEntry};
+use oc_coff_read::{FileHeader, Relocation, SectionAux, SectionHeader, SymbolEntry, WeakAux};
+use oc_shelf::Packed;
 
-/// A name of up to eight bytes, with NULs behind it (PE/COFF, "COFF Symbol Table").
-pub fn padded_name(name: &[u8]) -> [u8; 8]
-    requires { length name.now ≤ 8 }
-    ensures { result ≡ padded name.now }
-{
-    let mut padded = [0; 8];
-    padded[..name.len()].copy_from_slice(name);
-    padded
-}
-
-/// Puts a file header behind `out`.
+/// A file header.
 #[tactic(auto, unfolding(oc_coff_read::specs::FileHeader::file_header_bytes))]
-pub fn push_file_header(out: &mut Vec<u8>, header: &FileHeader) -> Result<(), NoMemory>
-    ensures { OnOk result (out.new.items ≡ out.old.items ++ file_header_bytes header.now) }
+pub fn pack_file_header(header: &FileHeader) -> Packed
+    ensures { result ≡ file_header_bytes header.now }
 {
-    push_u16(out, header.Machine)?;
-    push_u16(out, header.NumberOfSections)?;
-    push_u32(out, header.TimeDateStamp)?;
-    push_u32(out, header.PointerToSymbolTable)?;
-    push_u32(out, header.NumberOfSymbols)?;
-    push_u16(out, header.SizeOfOptionalHeader)?;
-    push_u16(out, header.Characteristics)?;
-    Ok(())
+    let mut out = Packed::new();
+    out.put_u16(header.Machine);
+    out.put_u16(header.NumberOfSections);
+    out.put_u32(header.TimeDateStamp);
+    out.put_u32(header.PointerToSymbolTable);
+    out.put_u32(header.NumberOfSymbols);
+    out.put_u16(header.SizeOfOptionalHeader);
+    out.put_u16(header.Characteristics);
+    out
 }
 
-/// Puts a section header behind `out`.
+/// A section header.
 #[tactic(auto, unfolding(oc_coff_read::specs::SectionHeader::section_header_bytes))]
-pub fn push_section_header(out: &mut Vec<u8>, header: &SectionHeader) -> Result<(), NoMemory>
-    ensures { OnOk result (out.new.items ≡ out.old.items ++ section_header_bytes header.now) }
+pub fn pack_section_header(header: &SectionHeader) -> Packed
+    ensures { result ≡ section_header_bytes header.now }
 {
-    out.extend_from_slice(&header.Name)?;
-    push_u32(out, header.VirtualSize)?;
-    push_u32(out, header.VirtualAddress)?;
-    push_u32(out, header.SizeOfRawData)?;
-    push_u32(out, header.PointerToRawData)?;
-    push_u32(out, header.PointerToRelocations)?;
-    push_u32(out, header.PointerToLinenumbers)?;
-    push_counts(out, header)
+    let mut out = Packed::new();
+    out.put(&header.Name);
+    out.put_u32(header.VirtualSize);
+    out.put_u32(header.VirtualAddress);
+    out.put_u32(header.SizeOfRawData);
+    out.put_u32(header.PointerToRawData);
+    out.put_u32(header.PointerToRelocations);
+    out.put_u32(header.PointerToLinenumbers);
+    out.put_u16(header.NumberOfRelocations);
+    out.put_u16(header.NumberOfLinenumbers);
+    out.put_u32(header.Characteristics);
+    out
 }
 
-// puts what stands behind the pointers of a section header behind `out`
-fn push_counts(out: &mut Vec<u8>, header: &SectionHeader) -> Result<(), NoMemory>
-    ensures { OnOk result (out.new.items ≡ out.old.items
-        ++ packed ((2, header.now.NumberOfRelocations) ∷ (2, header.now.NumberOfLinenumbers)
-        ∷ (4, header.now.Characteristics) ∷ [])) }
-{
-    push_u16(out, header.NumberOfRelocations)?;
-    push_u16(out, header.NumberOfLinenumbers)?;
-    push_u32(out, header.Characteristics)?;
-    Ok(())
-}
-
-/// Puts a relocation entry behind `out`.
+/// A relocation entry.
 #[tactic(auto, unfolding(oc_coff_read::specs::Relocation::relocation_bytes))]
-pub fn push_relocation(out: &mut Vec<u8>, relocation: Relocation) -> Result<(), NoMemory>
-    ensures { OnOk result (out.new.items ≡ out.old.items ++ relocation_bytes relocation) }
+pub fn pack_relocation(relocation: Relocation) -> Packed
+    ensures { result ≡ relocation_bytes relocation }
 {
-    push_u32(out, relocation.VirtualAddress)?;
-    push_u32(out, relocation.SymbolTableIndex)?;
-    push_u16(out, relocation.Type)
+    let mut out = Packed::new();
+    out.put_u32(relocation.VirtualAddress);
+    out.put_u32(relocation.SymbolTableIndex);
+    out.put_u16(relocation.Type);
+    out
 }
 
-// the bytes of a symbol table entry
-#[tactic(auto, unfolding(oc_coff_read::specs::SymbolEntry::symbol_bytes, oc_base::specs::Numbers::bytes_of_number))]
-fn symbol_bytes(symbol: SymbolEntry) -> [u8; SYMBOL_SIZE]
-    ensures { result ≡ symbol_bytes symbol }
+/// A symbol table entry.
+#[tactic(auto, unfolding(oc_coff_read::specs::SymbolEntry::symbol_bytes))]
+pub fn pack_symbol(symbol: &SymbolEntry) -> Packed
+    ensures { result ≡ symbol_bytes symbol.now }
 {
-    let n = symbol.Name;
-    let v = symbol.Value.to_le_bytes();
-    let s = symbol.SectionNumber.to_le_bytes();
-    let t = symbol.Type.to_le_bytes();
-    let class = symbol.StorageClass;
-    let aux = symbol.NumberOfAuxSymbols;
-    [
-        n[0], n[1], n[2], n[3], n[4], n[5], n[6], n[7], v[0], v[1], v[2], v[3], s[0], s[1], t[0],
-        t[1], class, aux,
-    ]
+    let mut out = Packed::new();
+    out.put(&symbol.Name);
+    out.put_u32(symbol.Value);
+    out.put_u16(symbol.SectionNumber);
+    out.put_u16(symbol.Type);
+    out.put_u8(symbol.StorageClass);
+    out.put_u8(symbol.NumberOfAuxSymbols);
+    out
 }
 
-/// Puts a symbol table entry behind `out`.
-pub fn push_symbol(out: &mut Vec<u8>, symbol: &SymbolEntry) -> Result<(), NoMemory>
-    ensures { OnOk result (out.new.items ≡ out.old.items ++ symbol_bytes symbol.now) }
+// puts the three unused bytes of a section's auxiliary entry
+#[tactic(auto, unfolding(oc_base::specs::Numbers::bytes_of_number))]
+fn put_three(out: &mut Packed)
+    requires { length out.old + 3 ≤ ROW }
+    ensures { out.new ≡ out.old ++ bytes_of_number 3 0 }
 {
-    out.extend_from_slice(&symbol_bytes(*symbol))?;
-    Ok(())
+    out.put(&[0; 3]);
 }
 
-/// Puts the auxiliary entry of a section's own symbol behind `out`.
+/// The auxiliary entry of a section's own symbol.
 #[tactic(auto, unfolding(oc_coff_read::specs::SectionAux::section_aux_bytes))]
-pub fn push_section_aux(out: &mut Vec<u8>, aux: &SectionAux) -> Result<(), NoMemory>
-    ensures { OnOk result (out.new.items ≡ out.old.items ++ section_aux_bytes aux.now) }
+pub fn pack_section_aux(aux: &SectionAux) -> Packed
+    ensures { result ≡ section_aux_bytes aux.now }
 {
-    push_u32(out, aux.Length)?;
-    push_u16(out, aux.NumberOfRelocations)?;
-    push_u16(out, aux.NumberOfLinenumbers)?;
-    push_u32(out, aux.CheckSum)?;
-    push_u16(out, aux.Number)?;
-    push_u8(out, aux.Selection)?;
-    push_zeros(out)
+    let mut out = Packed::new();
+    out.put_u32(aux.Length);
+    out.put_u16(aux.NumberOfRelocations);
+    out.put_u16(aux.NumberOfLinenumbers);
+    out.put_u32(aux.CheckSum);
+    out.put_u16(aux.Number);
+    out.put_u8(aux.Selection);
+    put_three(&mut out);
+    out
 }
 
-// puts a byte behind `out`
+// puts the ten unused bytes of a weak external's auxiliary entry
 #[tactic(auto, unfolding(oc_base::specs::Numbers::bytes_of_number))]
-fn push_u8(out: &mut Vec<u8>, x: u8) -> Result<(), NoMemory>
-    ensures { OnOk result (out.new.items ≡ out.old.items ++ bytes_of_number 1 x) }
+fn put_ten(out: &mut Packed)
+    requires { length out.old + 10 ≤ ROW }
+    ensures { out.new ≡ out.old ++ bytes_of_number 10 0 }
 {
-    out.push(x)?;
-    Ok(())
+    out.put(&[0; 10]);
 }
 
-// puts the three unused bytes of an auxiliary entry behind `out`
-#[tactic(auto, unfolding(oc_base::specs::Numbers::bytes_of_number))]
-fn push_zeros(out: &mut Vec<u8>) -> Result<(), NoMemory>
-    ensures { OnOk result (out.new.items ≡ out.old.items ++ bytes_of_number 3 0) }
+/// The auxiliary entry of a weak external.
+#[tactic(auto, unfolding(oc_coff_read::specs::WeakAux::weak_aux_bytes))]
+pub fn pack_weak_aux(aux: &WeakAux) -> Packed
+    ensures { result ≡ weak_aux_bytes aux.now }
 {
-    out.extend_from_slice(&[0, 0, 0])?;
-    Ok(())
+    let mut out = Packed::new();
+    out.put_u32(aux.TagIndex);
+    out.put_u32(aux.Characteristics);
+    put_ten(&mut out);
+    out
 }

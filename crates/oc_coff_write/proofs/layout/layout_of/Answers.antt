@@ -1,48 +1,54 @@
--- The counts are those of what is written.
-use Rattle.std.proofs.Common.{◌≡◌, ℕ, ◌≤◌, List, length, Option, sym, ◌∙◌, ap, subst, arith}
-use Rattle.std.specs.Option.{unwrap_or}
-use Rattle.std.proofs.lemmas.List.{length-map}
-use Rattle.oc_chains.specs.Lists.{list_of}
-use Rattle.oc_neutral.specs.declared.section.Section.{Section}
+-- Each part has the size that the canonical file gives it, and ends within 32 bits.
+use Rattle.std.proofs.Common.{◌+◌, ◌*◌, List, [], ◌∷◌, ◌++◌, length, refl, sym, ◌∙◌, ap, subst, arith}
 use Rattle.oc_neutral.specs.Objects.{Object}
-use Rattle.oc_coff_write.specs.CodeObjects.{relocation_of, external_of}
-use Rattle.oc_coff_write.specs.Alignment.{exponent_of}
-use Rattle.oc_coff_write.specs.WriterLaw.ConditionLemmas.{IsCoded, coded_is, coded_at}
-use Rattle.oc_coff_write.specs.WriterLaw.CanonicalLemmas.{section_size, section_small, section_power, length-filled}
-use Rattle.oc_coff_write.proofs.ContentsLemmas.{coded-with}
+use Rattle.oc_coff_read.specs.Layout.{Part, FileHead, SectionHeads, SymbolTable, StringTable}
+use Rattle.oc_coff_read.proofs.CodedLaws.{for_coff}
+use Rattle.oc_coff_write.specs.LaidParts.{AreLaid}
+use Rattle.oc_coff_write.proofs.LaidLemmas.{front, none_laid, heads_room, table_room, strings_room, text_is, whole}
 use Rattle.oc_coff_write.proofs.layout.layout_of.Goals as goal
 
-pub section-section-requires : goal.section-section-requires
-section-section-requires c =
-    let one = coded_is c.args.neutral.now c.requires.writable in
-    let count : length c.args.neutral.now.sections ≡ 1 = ap (λ (xs : List Section). length xs) one.1.sections in
-    omega (arith, count)
+pub lay-requires-2 : goal.lay-requires-2
+lay-requires-2 c =
+    let n : Object = c.args.neutral.now in
+    let is = for_coff c.args.word n c.requires.fitted in
+    let first = c.in_ok-lay.ensures c.args.word n [] FileHead (none_laid c.args.word n c.new-layout.result.places.items c.new-layout.result.end c.new-layout.ensures.places c.new-layout.ensures.end) refl in
+    let ends = first.ends in
+    let room = heads_room c.args.word n is in
+    let count = c.section_count.ensures in
+    omega (arith, ends, room, count)
 
-pub overflow_cast-result : goal.overflow_cast-result
-overflow_cast-result c =
-    let few = (coded_is c.args.neutral.now c.requires.writable).1.few in
-    let count = c.reloc_count.ensures in
-    omega (arith, few, count)
+pub lay_sections-requires-clause-before : goal.lay_sections-requires-clause-before
+lay_sections-requires-clause-before c =
+    let n : Object = c.args.neutral.now in
+    let first = c.in_ok-lay.ensures c.args.word n [] FileHead (none_laid c.args.word n c.new-layout.result.places.items c.new-layout.result.end c.new-layout.ensures.places c.new-layout.ensures.end) refl in
+    c.in_ok-lay-2.ensures c.args.word n (FileHead ∷ []) SectionHeads first (ap (λ m. 40 * m) (sym c.section_count.ensures))
+
+pub overflow_mul-entries : goal.overflow_mul-entries
+overflow_mul-entries c =
+    let room = table_room c.args.word c.args.neutral.now (for_coff c.args.word c.args.neutral.now c.requires.fitted) in
+    let count = c.requires.entries in
+    omega (arith, room, count)
+
+pub lay-requires-3 : goal.lay-requires-3
+lay-requires-3 c =
+    let room = table_room c.args.word c.args.neutral.now (for_coff c.args.word c.args.neutral.now c.requires.fitted) in
+    let count = c.requires.entries in
+    let ends = c.in_ok-lay_sections.ensures.ends in
+    omega (arith, room, count, ends)
+
+pub lay-requires-4 : goal.lay-requires-4
+lay-requires-4 c =
+    let n : Object = c.args.neutral.now in
+    let room = strings_room c.args.word n (for_coff c.args.word n c.requires.fitted) in
+    let laid = c.in_ok-lay-3.ensures c.args.word n (front n) SymbolTable c.in_ok-lay_sections.ensures (ap (λ m. 18 * m) (sym c.requires.entries)) in
+    let ends = laid.ends in
+    let text = ap length (c.bytes.ensures ∙ text_is c.args.word n c.args.names.now c.requires.names) in
+    omega (arith, room, ends, text)
 
 pub returns : goal.returns
 returns c =
-    let m : Object = c.args.neutral.now in
-    let s : Section = c.section-section.result.now in
-    let is : IsCoded m s = coded_at m s c.requires.writable c.section-section.ensures in
-    let exponent : unwrap_or (exponent_of s.align) 0 ≡ c.unwrap_or.result
-    = ap (λ k. unwrap_or (exponent_of k) 0) (sym c.into.ensures) ∙ sym (c.unwrap_or.ensures ∙ ap (λ (e : Option ℕ). unwrap_or e 0) c.exponent.ensures) in
-    let size = section_size m s c.requires.fitted is in
-    let small = section_small m s c.requires.fitted is in
-    let symbols = c.symbol_count.ensures in
-    let few = c.requires.fitted.few_symbols in
-    record {
-      layout = rw (coded-with m s is) (record {
-        exponent = exponent;
-        size = length-filled m s c.requires.fitted is ∙ size;
-        relocs = length-map (list_of m.relocs 0) relocation_of ∙ sym c.reloc_count.ensures;
-        symbols = length-map m.symbols external_of ∙ sym symbols;
-      });
-      exponent = subst (λ k. k ≤ 13) exponent (section_power m s c.requires.fitted is).small;
-      size = omega (arith, size, small);
-      symbols = omega (arith, symbols, few);
-    }
+    let n : Object = c.args.neutral.now in
+    let laid = c.in_ok-lay-3.ensures c.args.word n (front n) SymbolTable c.in_ok-lay_sections.ensures (ap (λ m. 18 * m) (sym c.requires.entries)) in
+    let text = ap length (c.bytes.ensures ∙ text_is c.args.word n c.args.names.now c.requires.names) in
+    subst (λ (ps : List Part). AreLaid c.args.word n c.lay-4.new.layout.places.items c.lay-4.new.layout.end ps) (whole n)
+    (c.in_ok-lay-4.ensures c.args.word n (front n ++ SymbolTable ∷ []) StringTable laid (ap (λ m. 4 + m) (sym text)))

@@ -1,0 +1,9 @@
+use Rattle.std.proofs.Common.{◌≡◌, ◌++◌, map, Some}
+use Rattle.oc_coff_read.specs.Lines.{LocalLine, lines_where, is_written_local}
+use Rattle.oc_coff_write.specs.Lines.{lines_in}
+use Rattle.oc_coff_write.proofs.LineLemmas.{lines_left}
+use Rattle.oc_coff_write.proofs.lines.add_locals.Given as goal
+
+-- the lines so far, and those that are left
+abbrev pub invariant-loop-k : goal.invariant-loop-k
+invariant-loop-k l = lines_in l.neutral l.lines.items ++ lines_left LocalLine (is_written_local l.word) l.neutral.symbols l.k ≡ lines_in l.neutral l.fn.lines.items ++ map Some (lines_where LocalLine (is_written_local l.word) l.neutral)

@@ -1,0 +1,164 @@
+//! The lines of the symbol table: what stands in it, in its order (PE/COFF, "COFF Symbol Table"; our
+//! profile).
+ghost use Rattle.std.specs.Prelude.{◌≡◌, ◌++◌, [], ◌∷◌, if◌then◌else◌, flat_map, map, Some, IfOk, OnOk};
+ghost use Rattle.std.specs.List.{enumerate_from};
+ghost use Rattle.std.specs.Option.{option_map_or};
+ghost use Rattle.oc_linking.specs.Parts as parts;
+ghost use Rattle.oc_neutral.specs.SymbolLines as symbol_lines;
+ghost use Rattle.oc_coff_read.specs.Lines as coff_lines;
+ghost use Rattle.oc_coff_write.specs.Keys.{AreKeys};
+ghost use Rattle.oc_coff_write.specs.Lines.{lines_in, AreLines};
+ghost use Rattle.oc_coff_write.specs.declared.lines.Line.TheVariants as made;
+
+use crate::keys::is_key;
+use oc_base::{NoMemory, Word};
+use oc_neutral::{Binding, Fallback, Neutral, Symbol, Value};
+use std::alloc::Global;
+
+/// A line of the symbol table, by the position of its section or symbol in the object.
+#[derive(Clone, Copy, Debug)]
+pub(crate) enum Line {
+    /// The symbol of a section.
+    Section(u32),
+    /// A Local.
+    Local(u32),
+    /// The symbol that stands for the fallback of a Weak.
+    Default(u32),
+    /// A symbol that is not Local.
+    Outer(u32),
+}
+
+/// Whether a binding is Local. Constant time.
+fn is_local(binding: Binding) -> bool
+    ensures { result ≡ parts.is_local binding }
+{
+    match binding {
+        Binding::Local(_) => true,
+        Binding::Global(_) | Binding::Undefined | Binding::Common { .. } | Binding::Weak(_) => {
+            false
+        }
+    }
+}
+
+// whether a symbol is a Local that is written: in 64 bits all but those of long numbers
+fn is_written_local(word: Word, symbol: &Symbol) -> bool
+    ensures { result ≡ coff_lines.is_written_local word symbol.now }
+{
+    match (word, symbol.binding) {
+        (Word::W64, Binding::Local(Value::Absolute(number))) => number < 1 << 32,
+        (_, binding) => is_local(binding),
+    }
+}
+
+// whether a Weak has a symbol of its own for its fallback
+fn needs_default(symbol: &Symbol) -> bool
+    ensures { result ≡ symbol_lines.needs_default symbol.now }
+{
+    match symbol.binding {
+        Binding::Weak(Fallback::Place { .. } | Fallback::Zero) => true,
+        Binding::Weak(Fallback::Name(_))
+        | Binding::Local(_)
+        | Binding::Global(_)
+        | Binding::Undefined
+        | Binding::Common { .. } => false,
+    }
+}
+
+// whether a symbol is not Local, and no key symbol
+fn is_free(neutral: &Neutral, symbol: &Symbol) -> bool
+    ensures { result ≡ coff_lines.is_free neutral.now symbol.now }
+{
+    !is_local(symbol.binding) && !is_key(neutral, symbol)
+}
+
+// adds a line that is wanted
+fn give_line(lines: &mut Vec<Line>, line: Line, wanted: bool) -> Result<(), NoMemory>
+    ensures { OnOk result (lines.new.items ≡ lines.old.items ++ (if wanted then line ∷ [] else [])) }
+{
+    if wanted {
+        lines.push(line)?;
+    }
+    Ok(())
+}
+
+// adds the lines of the Locals that are written
+fn add_locals(lines: &mut Vec<Line>, word: Word, neutral: &Neutral) -> Result<(), NoMemory>
+    ensures { OnOk result (lines_in neutral.now lines.new.items ≡ lines_in neutral.now lines.old.items ++ map Some (coff_lines.lines_where coff_lines.LocalLine (coff_lines.is_written_local word) neutral.now)) }
+{
+    for k in 0..neutral.symbol_count() {
+        let symbol = neutral.symbol(k);
+        let wanted = is_written_local(word, symbol);
+        give_line(lines, Line::Local(k), wanted)?;
+    }
+    Ok(())
+}
+
+// adds the lines of the symbols that stand for fallbacks
+fn add_defaults(lines: &mut Vec<Line>, neutral: &Neutral) -> Result<(), NoMemory>
+    ensures { OnOk result (lines_in neutral.now lines.new.items ≡ lines_in neutral.now lines.old.items ++ map Some (coff_lines.lines_where coff_lines.DefaultLine symbol_lines.needs_default neutral.now)) }
+{
+    for k in 0..neutral.symbol_count() {
+        let symbol = neutral.symbol(k);
+        let wanted = needs_default(symbol);
+        give_line(lines, Line::Default(k), wanted)?;
+    }
+    Ok(())
+}
+
+// adds the lines of the symbols that are not Local and no key symbols
+fn add_outers(lines: &mut Vec<Line>, neutral: &Neutral) -> Result<(), NoMemory>
+    ensures { OnOk result (lines_in neutral.now lines.new.items ≡ lines_in neutral.now lines.old.items ++ map Some (coff_lines.lines_where coff_lines.OuterLine (coff_lines.is_free neutral.now) neutral.now)) }
+{
+    for k in 0..neutral.symbol_count() {
+        let symbol = neutral.symbol(k);
+        let wanted = is_free(neutral, symbol);
+        give_line(lines, Line::Outer(k), wanted)?;
+    }
+    Ok(())
+}
+
+// adds the line of a section, and that of the key symbol that lies in it
+fn add_section(lines: &mut Vec<Line>, section: u32, key: Option<u32>) -> Result<(), NoMemory>
+    ensures { OnOk result (lines.new.items ≡ lines.old.items ++ made.Section section ∷ option_map_or (λ k. made.Outer k ∷ []) key []) }
+{
+    lines.push(Line::Section(section))?;
+    if let Some(key) = key {
+        lines.push(Line::Outer(key))?;
+    }
+    Ok(())
+}
+
+// adds the lines of the sections, each with its key symbol
+fn add_sections(
+    lines: &mut Vec<Line>,
+    neutral: &Neutral,
+    keys: &[Option<u32>],
+) -> Result<(), NoMemory>
+    requires { AreKeys neutral.now keys.now }
+    ensures { OnOk result (lines_in neutral.now lines.new.items ≡ lines_in neutral.now lines.old.items ++ map Some (flat_map (coff_lines.section_lines neutral.now) (enumerate_from 0 neutral.now.sections))) }
+{
+    neutral.is_object();
+    for k in 0..neutral.section_count() {
+        add_section(lines, k, keys[k as usize])?;
+    }
+    Ok(())
+}
+
+/// The lines of an object, of whose sections these are the key symbols. `NoMemory` where memory ran
+/// out. Linear in the sections, the symbols and their names.
+pub(crate) fn lines_of(
+    alloc: Global,
+    word: Word,
+    neutral: &Neutral,
+    keys: &[Option<u32>],
+) -> Result<Vec<Line>, NoMemory>
+    requires { AreKeys neutral.now keys.now }
+    ensures { IfOk result (λ lines. AreLines word neutral.now lines.items) }
+{
+    let mut lines = Vec::new(alloc);
+    add_sections(&mut lines, neutral, keys)?;
+    add_locals(&mut lines, word, neutral)?;
+    add_defaults(&mut lines, neutral)?;
+    add_outers(&mut lines, neutral)?;
+    Ok(lines)
+}

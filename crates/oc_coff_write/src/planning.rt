@@ -1,0 +1,52 @@
+//! Planning the canonical COFF file of an object that is ready to be written.
+ghost use Rattle.std.specs.Prelude.{◌≡◌, IfOk, map};
+ghost use Rattle.oc_coff_read.specs.Fields.{coff_format};
+ghost use Rattle.oc_coff_write.specs.Bodies.{raws_in};
+ghost use Rattle.oc_coff_write.specs.Plans.{coff_parts};
+
+use crate::headers::{file_header_of, headers_of};
+use crate::layout::layout_of;
+use crate::plan::Plan;
+use crate::raw::write_all;
+use crate::relocations::all_relocations;
+use crate::symbols::symbols_of;
+use oc_base::{NoMemory, Word};
+use oc_neutral::{Fitted, Neutral, Section};
+use std::alloc::Global;
+
+// the sections of an object, with the numbers in their fields
+fn sections_of(word: Word, neutral: Neutral) -> Vec<Section>
+    ensures { map (λ s. s.bytes) result.items ≡ raws_in word neutral }
+{
+    neutral.is_object();
+    let (_groups, mut sections, _symbols, relocs) = neutral.into_parts();
+    write_all(word, &relocs, sections.as_mut_slice());
+    sections
+}
+
+/// The plan of the canonical COFF file of an object that is ready to be written. `NoMemory` where memory
+/// ran out. Linear in the object, but for looking up names in the string table; what the plan does not
+/// need of the object is given back.
+pub(crate) fn plan_object(alloc: Global, word: Word, fitted: Fitted) -> Result<Plan, NoMemory>
+    requires { fitted.format ≡ coff_format word }
+    ensures { IfOk result (λ plan. plan ≡ coff_parts word fitted) }
+{
+    fitted.is_fitted();
+    let neutral = fitted.neutral();
+    let made = symbols_of(alloc, word, neutral)?;
+    let entries = made.entries.len();
+    let relocs = all_relocations(alloc, word, neutral, &made.numbers)?;
+    let layout = layout_of(alloc, word, neutral, &relocs, entries, &made.names)?;
+    let headers = headers_of(alloc, word, neutral, &made.names, &relocs, &layout.places)?;
+    let header = file_header_of(word, neutral, &layout.places, entries);
+    let sections = sections_of(word, fitted.into_neutral());
+    Ok(Plan::new(
+        header,
+        headers,
+        sections,
+        relocs,
+        made.entries,
+        made.names,
+        layout,
+    ))
+}

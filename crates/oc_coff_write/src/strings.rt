@@ -1,0 +1,77 @@
+//! The string table (PE/COFF, "COFF String Table"; our profile).
+ghost use Rattle.std.specs.Prelude.{◌≡◌, ◌++◌, [], ◌∷◌, if◌then◌else◌, flat_map, Some, IsSome, IfOk, OnOk};
+ghost use Rattle.oc_base.specs.Formats.{word_for};
+ghost use Rattle.oc_neutral.specs.Families.{container_of};
+ghost use Rattle.oc_neutral.specs.Family.{IsCoff};
+ghost use Rattle.oc_neutral.specs.Fitted.{IsFitted};
+ghost use Rattle.oc_coff_read.specs.Lines as coff_lines;
+ghost use Rattle.oc_coff_write.specs.Lines.{line_in, AreLines};
+ghost use Rattle.oc_coff_write.specs.Strings.{line_strings, table_for};
+
+use crate::lines::Line;
+use crate::names::{default_name, is_long, is_tabled};
+use oc_base::{Bytes, NoMemory};
+use oc_coff_read::STRINGS_HEAD;
+use oc_neutral::Neutral;
+use oc_strings::Table;
+use std::alloc::Global;
+
+// gives a name that is wanted
+fn give(alloc: Global, given: &mut Vec<Bytes>, name: &[u8], wanted: bool) -> Result<(), NoMemory>
+    ensures { OnOk result (given.new.items ≡ given.old.items ++ (if wanted then name.now ∷ [] else [])) }
+{
+    if wanted {
+        given.push(Bytes::from_slice(alloc, name)?)?;
+    }
+    Ok(())
+}
+
+// gives the name of a line, where it stands in the table
+fn give_line(
+    alloc: Global,
+    given: &mut Vec<Bytes>,
+    neutral: &Neutral,
+    line: Line,
+) -> Result<(), NoMemory>
+    requires { IsSome (line_in neutral.now line) }
+    ensures { OnOk result ((is : coff_lines.Line) → line_in neutral.now line ≡ Some is → given.new.items ≡ given.old.items ++ line_strings is) }
+{
+    match line {
+        Line::Section(k) => {
+            let name = neutral.section(k).name.as_slice();
+            give(alloc, given, name, is_tabled(name))
+        }
+        Line::Local(k) | Line::Outer(k) => {
+            let name = neutral.symbol(k).name.as_slice();
+            give(alloc, given, name, is_long(name))
+        }
+        Line::Default(k) => {
+            given.push(default_name(alloc, neutral.symbol(k).name.as_slice())?)?;
+            Ok(())
+        }
+    }
+}
+
+// the names that are given for these lines
+fn given_names(alloc: Global, neutral: &Neutral, lines: &[Line]) -> Result<Vec<Bytes>, NoMemory>
+    requires { AreLines (word_for neutral.now.format) neutral.now lines.now }
+    ensures { IfOk result (λ given. given.items ≡ flat_map line_strings (coff_lines.lines_of (word_for neutral.now.format) neutral.now)) }
+{
+    let mut given = Vec::new(alloc);
+    for line in lines {
+        give_line(alloc, &mut given, neutral, *line)?;
+    }
+    Ok(given)
+}
+
+/// The string table of an object with these lines. `NoMemory` where memory ran out. Time as for
+/// `Table::of`.
+pub(crate) fn table_of(alloc: Global, neutral: &Neutral, lines: &[Line]) -> Result<Table, NoMemory>
+    requires coff { container_of neutral.now.format ≡ IsCoff }
+    requires fitted { IsFitted neutral.now.format neutral.now }
+    requires lines { AreLines (word_for neutral.now.format) neutral.now lines.now }
+    ensures { IfOk result (λ table. table ≡ table_for (word_for neutral.now.format) neutral.now) }
+{
+    let given = given_names(alloc, neutral, lines)?;
+    Table::of(alloc, STRINGS_HEAD as u32, &given)
+}

@@ -1,0 +1,59 @@
+//! The symbol table and the string table of an object (PE/COFF, "COFF Symbol Table" and "COFF String
+//! Table"; our profile).
+ghost use Rattle.std.specs.Prelude.{◌≡◌, IfOk, length, map};
+ghost use Rattle.oc_neutral.specs.Fitted.{IsFitted};
+ghost use Rattle.oc_coff_read.specs.Canonical.{entry_rows};
+ghost use Rattle.oc_coff_read.specs.Fields.{coff_format};
+ghost use Rattle.oc_coff_read.specs.Lines.{entry_count};
+ghost use Rattle.oc_coff_write.specs.Entries.{entry_bytes};
+ghost use Rattle.oc_coff_write.specs.Numbers.{IsNumbered};
+ghost use Rattle.oc_coff_write.specs.Strings.{table_for};
+
+use crate::entries::{Entry, Made, entries_of};
+use crate::keys::{keys_of, leaders_of};
+use crate::lines::lines_of;
+use crate::numbers::Numbers;
+use crate::strings::table_of;
+use oc_base::{NoMemory, Word};
+use oc_neutral::Neutral;
+use oc_strings::Table;
+use std::alloc::Global;
+
+/// The symbol table of an object.
+#[derive(Debug, Drop)]
+pub(crate) struct Symbols {
+    /// The string table.
+    pub(crate) names: Table,
+    /// The numbers of the symbols.
+    pub(crate) numbers: Numbers,
+    /// The entries in their order.
+    pub(crate) entries: Vec<Entry>,
+}
+
+/// The symbol table of an object that is ready for COFF. `NoMemory` where memory ran out. Linear in the
+/// object, but for the string table and the look-ups in it.
+pub(crate) fn symbols_of(alloc: Global, word: Word, neutral: &Neutral) -> Result<Symbols, NoMemory>
+    requires { IsFitted (coff_format word) neutral.now }
+    ensures names { IfOk result (λ made. made.names ≡ table_for word neutral.now) }
+    ensures numbers { IfOk result (λ made. IsNumbered word neutral.now made.numbers) }
+    ensures rows { IfOk result (λ made. map entry_bytes made.entries.items ≡ entry_rows word neutral.now) }
+    ensures count { IfOk result (λ made. length made.entries.items ≡ entry_count word neutral.now) }
+{
+    let keys = keys_of(alloc, neutral)?;
+    let leaders = leaders_of(alloc, neutral)?;
+    let lines = lines_of(alloc, word, neutral, &keys)?;
+    let names = table_of(alloc, neutral, &lines)?;
+    let numbers = Numbers::of(alloc, neutral, &lines)?;
+    let made = Made {
+        keys: &keys,
+        leaders: &leaders,
+        names: &names,
+        numbers: &numbers,
+    };
+    let entries = entries_of(alloc, neutral, made, &lines)?;
+    Ok(Symbols {
+        names,
+        numbers,
+        entries,
+    })
+}
