@@ -1,25 +1,48 @@
 -- Where an object shows a file, it is the file's, and its refusal is the first.
-use Rattle.std.proofs.Common.{◌≡◌, ℕ, List, Option, None, sym, ◌∙◌, ap, subst}
+use Rattle.std.proofs.Common.{◌≡◌, ℕ, List, Option, None, Result, Ok, sym, ◌∙◌, ap, subst}
+use Rattle.oc_base.specs.declared.format.Format.{Format}
 use Rattle.oc_base.specs.declared.fault.Fault.{Fault}
-use Rattle.oc_linking.specs.Keeping.{all}
+use Rattle.oc_linking.specs.declared.terms.Keep.{Keep}
 use Rattle.oc_linking.specs.Numbers.{or_else}
 use Rattle.oc_neutral.specs.Objects.{Object}
 use Rattle.oc_neutral.specs.Invariants.{IsObject}
 use Rattle.oc_neutral.specs.Dialects.{Dialect}
 use Rattle.oc_neutral.specs.Shows.{Shows}
 use Rattle.oc_neutral.specs.Computed.{object_in}
+use Rattle.oc_neutral.specs.Fitted.{first_unfit}
 use Rattle.oc_neutral.proofs.ShownComputed.{shown_is_computed}
+use Rattle.oc_names.specs.Wishes.{Wishes}
+use Rattle.oc_names.specs.Edited.{edited}
+use Rattle.oc_convert.specs.declared.fault.ConvertFault.{ConvertFault}
+use Rattle.oc_convert.specs.declared.fault.ConvertFault.TheVariants as fault
 use Rattle.oc_convert.specs.Converted.{HasObject}
-use Rattle.oc_convert.specs.Refusals.{object_refusal, first_refusal}
+use Rattle.oc_convert.specs.Refusals.{IsFaultOf, IsStepFault, kept_of_file, edited_refusal, object_refusal, first_refusal}
 
-module _ (f : Dialect) (b : List ℕ) (n : Object) (is : IsObject n) (shows : Shows f b all n) where
+-- a fault that stands first
+pub first_stands : (first second : Option Fault) (e : ConvertFault) → IsFaultOf first e → IsFaultOf (or_else first second) e
+first_stands first second fault.NoMemory is = tt
+first_stands first second (fault.Refused f) is = ap (λ o. or_else o second) is
+
+-- a fault of editing
+pub edit_stands : (to : Format) (step : Result Object Fault) (e : ConvertFault) → IsStepFault step e → IsFaultOf (edited_refusal to step) e
+edit_stands to step fault.NoMemory is = tt
+edit_stands to step (fault.Refused f) is = ap (edited_refusal to) is
+
+module _ (wishes : Wishes) (f : Dialect) (to : Format) (b : List ℕ) (n : Object) (is : IsObject n) (shows : Shows f b (kept_of_file wishes f to) n) where
+  abbrev keep : Keep
+  keep = kept_of_file wishes f to
+
   -- that object is the file's
-  pub has_object : HasObject f b
+  pub has_object : HasObject f b keep
   has_object =
-      let same : n ≡ object_in f b all = shown_is_computed f b all n is shows in
-      record { is_object = subst (λ m. IsObject m) same is; shows = subst (λ m. Shows f b all m) same shows }
+      let same : n ≡ object_in f b keep = shown_is_computed f b keep n is shows in
+      record { is_object = subst (λ m. IsObject m) same is; shows = subst (λ m. Shows f b keep m) same shows }
 
   -- its refusal is the first
-  pub refused_by_object : (unfit : Object → Option Fault) → f.rules.fault b all ≡ None → first_refusal f unfit b ≡ object_refusal unfit n
-  refused_by_object unfit good =
-      ap (λ first. or_else first (object_refusal unfit (object_in f b all))) good ∙ ap (object_refusal unfit) (sym (shown_is_computed f b all n is shows))
+  pub refused_by_object : f.rules.fault b keep ≡ None → first_refusal wishes f to b ≡ object_refusal wishes to n
+  refused_by_object good =
+      ap (λ first. or_else first (object_refusal wishes to (object_in f b keep))) good ∙ ap (object_refusal wishes to) (sym (shown_is_computed f b keep n is shows))
+
+  -- where the edits give an object, it is that object's
+  pub refused_by_edited : f.rules.fault b keep ≡ None → (m : Object) → edited wishes to n ≡ Ok m → first_refusal wishes f to b ≡ first_unfit to m
+  refused_by_edited good m made = refused_by_object good ∙ ap (edited_refusal to) made

@@ -1,4 +1,8 @@
+mod IdentifyRows
+mod DispatchRows
+pub mod Dispatching
 pub mod Firsts
 pub mod Notes
 pub mod Outlines
+pub mod Ready
 pub mod Whole

@@ -1,2 +1,4 @@
 pub mod Converted
+pub mod Dispatched
+pub mod Identified
 pub mod Refusals

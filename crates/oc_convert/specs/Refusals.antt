@@ -1,54 +1,44 @@
--- The first refusal of a conversion in which all is kept and nothing is edited (our profile).
-use Rattle.std.specs.Prelude.{◌≡◌, ℕ, true, nat_lt, if◌then◌else◌, List, length, slice_get, Option, Some, None}
+-- The first refusal of a conversion (our profile).
+use Rattle.std.specs.Prelude.{◌≡◌, List, ℕ, Option, Some, Result, Ok, Err}
 use Rattle.oc_base.specs.declared.format.Format.{Format}
-use Rattle.oc_base.specs.declared.code.Code.TheVariants.{LimitSymbols}
-use Rattle.oc_base.specs.declared.fault.Phase.TheVariants.{Edit}
 use Rattle.oc_base.specs.declared.fault.Fault.{Fault}
-use Rattle.oc_linking.specs.declared.terms.Kind.TheVariants.{Note}
-use Rattle.oc_linking.specs.Parts as parts
-use Rattle.oc_linking.specs.Keeping.{all}
+use Rattle.oc_linking.specs.declared.terms.Keep.{Keep}
 use Rattle.oc_linking.specs.Numbers.{or_else}
-use Rattle.oc_neutral.specs.Families.{same_format}
 use Rattle.oc_neutral.specs.Objects.{Object}
-use Rattle.oc_neutral.specs.Invariants.{IsObject}
 use Rattle.oc_neutral.specs.Dialects.{Dialect}
 use Rattle.oc_neutral.specs.Computed.{object_in}
-use Rattle.oc_neutral.specs.Fitted.{IsFit, IsFitted}
+use Rattle.oc_neutral.specs.Fitted.{first_unfit}
+use Rattle.oc_names.specs.Wishes.{Wishes}
+use Rattle.oc_names.specs.Kept.{keep_for}
+use Rattle.oc_names.specs.Edited.{edited}
 use Rattle.oc_convert.specs.declared.fault.ConvertFault.{ConvertFault}
 use Rattle.oc_convert.specs.declared.fault.ConvertFault.TheVariants as fault
-use Rattle.oc_convert.specs.declared.fits.FitFault.{FitFault}
-use Rattle.oc_convert.specs.declared.fits.FitFault.TheVariants as refused
-
--- the refusal is what is refused; want of memory says nothing
-abbrev pub IsFitFault : Option Fault → FitFault → Type 0
-IsFitFault refusal (refused.Refused f) = refusal ≡ Some f
-IsFitFault refusal refused.NoMemory = Unit {0}
 
 -- the fault is the first; want of memory says nothing
 abbrev pub IsFaultOf : Option Fault → ConvertFault → Type 0
 IsFaultOf first (fault.Refused f) = first ≡ Some f
 IsFaultOf first fault.NoMemory = Unit {0}
 
--- the refusal of an object of so many symbols
-abbrev pub too_many_symbols : ℕ → Fault
-too_many_symbols count = record { phase = Edit; index = 0; code = LimitSymbols; place = count }
+-- the fault is that of the step; want of memory says nothing
+abbrev pub IsStepFault : {X : Type 0} → Result X Fault → ConvertFault → Type 0
+IsStepFault step (fault.Refused f) = step ≡ Err f
+IsStepFault step fault.NoMemory = Unit {0}
 
--- the refusal of an object of more than 16,777,216 symbols
-abbrev pub symbols_refusal : Object → Option Fault
-symbols_refusal n = if nat_lt 16777216 (length n.symbols) then Some (too_many_symbols (length n.symbols)) else None
+-- what is kept of a file of the dialect on its way to a target
+abbrev pub kept_of_file : Wishes → Dialect → Format → Keep
+kept_of_file wishes f to = keep_for wishes f.format to
 
--- the first refusal of an object, where `unfit` gives what a target refuses it for
-abbrev pub object_refusal : (Object → Option Fault) → Object → Option Fault
-object_refusal unfit n = or_else (symbols_refusal n) (unfit n)
+-- the refusal of what the edits give: their first fault, or the first condition of the target that the edited object breaks
+abbrev pub edited_refusal : Format → Result Object Fault → Option Fault
+edited_refusal to (Ok n) = first_unfit to n
+edited_refusal to (Err f) = Some f
 
--- the first refusal of a file of the dialect for a target, or none: the file's first fault, or else the first refusal of the file's object
-abbrev pub first_refusal : Dialect → (Object → Option Fault) → List ℕ → Option Fault
-first_refusal f unfit b = or_else (f.rules.fault b all) (object_refusal unfit (object_in f b all))
+-- the first refusal of an object: the first fault of the edits, or else the first condition of the target that the edited object breaks
+abbrev pub object_refusal : Wishes → Format → Object → Option Fault
+object_refusal wishes to n = edited_refusal to (edited wishes to n)
 
--- notes stay within their format: a file that has some is converted to its own
-abbrev pub KeepsNotes : Dialect → Format → List ℕ → Type 0
-KeepsNotes f target b = (k : ℕ) (s : parts.Section) → slice_get (f.rules.sections b) k ≡ Some s → s.kind ≡ Note → same_format target f.format ≡ true
-
--- whatever the object, a target's writer takes what it is fitted to, where it is not refused
-abbrev pub TakesFitted : Format → (Object → Option Fault) → (Object → Type 0) → Type 0
-TakesFitted target unfit accepts = (n m : Object) → IsObject n → unfit n ≡ None → IsFit target n m → IsFitted target m → accepts m
+-- the first refusal of a file of the dialect, or none: the file's first fault as it is kept, or else the first refusal of the file's object
+abbrev pub first_refusal : Wishes → Dialect → Format → List ℕ → Option Fault
+first_refusal wishes f to b =
+    let keep : Keep = kept_of_file wishes f to in
+    or_else (f.rules.fault b keep) (object_refusal wishes to (object_in f b keep))

@@ -1,0 +1,65 @@
+-- Which readers and writers are built, and what reading with them gives (our profile).
+use Rattle.std.specs.Prelude.{◌≡◌, ℕ, List, Option, Some, None, Ok}
+use Rattle.oc_base.specs.declared.format.Format.{Format}
+use Rattle.oc_base.specs.declared.format.Format.TheVariants.{Elf32, Elf64, Coff32, Coff64, Mac32, Mac64, Omf}
+use Rattle.oc_base.specs.declared.format.Word.{Word}
+use Rattle.oc_base.specs.declared.format.Word.TheVariants.{W32, W64}
+use Rattle.oc_linking.specs.declared.terms.Keep.{Keep}
+use Rattle.oc_neutral.specs.Objects.{Object}
+use Rattle.oc_neutral.specs.Dialects.{Dialect}
+use Rattle.oc_neutral.specs.Computed.{object_in}
+use Rattle.oc_neutral.specs.Readable.{IsReadable}
+use Rattle.oc_neutral.specs.Shows.{Shows}
+use Rattle.oc_elf_read.specs.declared.class.ElfClass.TheVariants.{Class32, Class64}
+use Rattle.oc_elf_read.specs.Elf.{elf_dialect}
+use Rattle.oc_coff_read.specs.Canonical.{coff_file}
+use Rattle.oc_coff_read.specs.Rules.{coff_dialect}
+use Rattle.oc_names.specs.Wishes.{Wishes}
+use Rattle.oc_convert.specs.Converted.{IsFaithful, planned_file}
+use Rattle.oc_convert.specs.Dispatched.{Built, Writer}
+use Rattle.oc_convert.specs.Identified.{identified}
+
+-- the readers: those of ELF
+abbrev pub reader_of : Format → Option Dialect
+reader_of Elf32 = Some (elf_dialect Class32)
+reader_of Elf64 = Some (elf_dialect Class64)
+reader_of Coff32 = None
+reader_of Coff64 = None
+reader_of Mac32 = None
+reader_of Mac64 = None
+reader_of Omf = None
+
+-- the writer of COFF for a word
+abbrev pub coff_writer : Word → Writer
+coff_writer w = record { dialect = coff_dialect w; canonical = coff_file w }
+
+-- the writers: those of COFF
+abbrev pub writer_of : Format → Option Writer
+writer_of Coff32 = Some (coff_writer W32)
+writer_of Coff64 = Some (coff_writer W64)
+writer_of Elf32 = None
+writer_of Elf64 = None
+writer_of Mac32 = None
+writer_of Mac64 = None
+writer_of Omf = None
+
+-- both
+abbrev pub built : Built
+built = record { reader = reader_of; writer = writer_of }
+
+-- c is the file that the writer of the target has for the file b of the dialect f, and it links as the edited b does
+pub record IsPlanned (wishes : Wishes) (to : Format) (f : Dialect) (b c : List ℕ) : Type 0 where
+  pub writer : Writer
+  pub is_writer : built.writer to ≡ Some writer
+  pub planned : planned_file wishes f to writer.canonical b ≡ Ok c
+  pub faithful : IsFaithful wishes f writer.dialect b c
+
+-- n is the object of the file b: the one that is computed from it by the rules of its format, and it shows the file as it is kept
+pub record IsRead (keep : Keep) (b : List ℕ) (n : Object) : Type 0 where
+  pub from : Format
+  pub identified : identified b ≡ Some from
+  pub reader : Dialect
+  pub is_reader : built.reader from ≡ Some reader
+  pub computed : n ≡ object_in reader b keep
+  pub shows : Shows reader b keep n
+  pub readable : IsReadable n

@@ -1,0 +1,37 @@
+//! The planned file of any format that is written.
+ghost use Rattle.std.specs.Prelude.{ℕ, List};
+
+use oc_coff_write::{CoffWriter32, CoffWriter64};
+use oc_neutral::{Emits, Writes};
+
+/// The planned file of any format that is written.
+#[derive(Debug, Drop)]
+pub enum AnyPlan {
+    /// A file of COFF for i386.
+    Coff32(<CoffWriter32 as Writes>::Plan),
+    /// A file of COFF for x64.
+    Coff64(<CoffWriter64 as Writes>::Plan),
+}
+
+impl Emits for AnyPlan {
+    ghost use Rattle.oc_dispatch.specs.declared.any_plan.AnyPlan.TheVariants as any;
+
+    ghost file = { elim [
+      | any.Coff32 plan ↦ ⟦<<CoffWriter32 as Writes>::Plan as Emits>⟧.file plan
+      | any.Coff64 plan ↦ ⟦<<CoffWriter64 as Writes>::Plan as Emits>⟧.file plan
+    ] };
+
+    fn len(&self) -> u64 {
+        match self {
+            AnyPlan::Coff32(plan) => plan.len(),
+            AnyPlan::Coff64(plan) => plan.len(),
+        }
+    }
+
+    fn window(&self, at: u64, to: &mut [u8]) -> usize {
+        match self {
+            AnyPlan::Coff32(plan) => plan.window(at, to),
+            AnyPlan::Coff64(plan) => plan.window(at, to),
+        }
+    }
+}

@@ -1,0 +1,130 @@
+//! The conversion of a file of any format to any other, as far as both are built.
+ghost use Rattle.std.specs.Prelude.{◌≡◌, ◌≤◌, length, true, None, Some, IfErr, IfOk, OnOk};
+ghost use Rattle.std.specs.Option.{is_some};
+ghost use Rattle.oc_base.specs.Formats.{word_for};
+ghost use Rattle.oc_neutral.specs.Families.{same_word};
+ghost use Rattle.oc_convert.specs.Dispatched.{IsDispatched, dispatch_refusal, refusal_by};
+ghost use Rattle.oc_convert.specs.Identified.{identified};
+ghost use Rattle.oc_convert.specs.Refusals.{IsFaultOf};
+ghost use Rattle.oc_dispatch.specs.Built.{IsPlanned, built};
+
+use crate::any_plan::AnyPlan;
+use crate::header::header_refusal;
+use oc_base::{Code, Format, Word, word_of};
+use oc_coff_write::{CoffWriter32, CoffWriter64};
+use oc_convert::{ConvertFault, convert, identify};
+use oc_elf_read::{ElfReader32, ElfReader64};
+use oc_names::Edits;
+use oc_neutral::{Emits, Reads};
+use std::alloc::Global;
+
+/// Whether files of the format can be written: those of COFF can. Constant time, no memory.
+pub fn is_written(to: Format) -> bool
+    ensures { result ≡ is_some (built.writer to) }
+{
+    match to {
+        Format::Coff32 | Format::Coff64 => true,
+        Format::Elf32 | Format::Elf64 | Format::Mac32 | Format::Mac64 | Format::Omf => false,
+    }
+}
+
+// the conversion of a file that this reader reads
+fn dispatch_from<R: Reads>(
+    alloc: Global,
+    reader: &R,
+    from: Format,
+    to: Format,
+    bytes: &[u8],
+    edits: &Edits,
+) -> Result<AnyPlan, ConvertFault>
+    requires size { length bytes.now ≤ 67108864 }
+    requires source { R.dialect.format ≡ from }
+    requires word { word_for to ≡ word_for from }
+    ensures accepted { OnOk result (refusal_by edits.now to bytes.now (Some R.dialect) (built.writer to) ≡ None) }
+    ensures refused { IfErr result (IsFaultOf (refusal_by edits.now to bytes.now (Some R.dialect) (built.writer to))) }
+    ensures planned { IfOk result (λ plan. IsPlanned edits.now to R.dialect bytes.now (⟦<AnyPlan as Emits>⟧.file plan)) }
+{
+    match to {
+        Format::Coff32 => {
+            match convert(alloc, reader, &CoffWriter32, from, to, bytes, edits) {
+                Ok(plan) => Ok(AnyPlan::Coff32(plan)),
+                Err(fault) => Err(fault),
+            }
+        }
+        Format::Coff64 => {
+            match convert(alloc, reader, &CoffWriter64, from, to, bytes, edits) {
+                Ok(plan) => Ok(AnyPlan::Coff64(plan)),
+                Err(fault) => Err(fault),
+            }
+        }
+        Format::Elf32 | Format::Elf64 | Format::Mac32 | Format::Mac64 | Format::Omf => {
+            Err(header_refusal(Code::NotBuilt))
+        }
+    }
+}
+
+// whether the two formats have addresses of one size
+fn have_one_word(from: Format, to: Format) -> bool
+    ensures { result ≡ same_word (word_for from) (word_for to) }
+{
+    matches!(
+        (word_of(from), word_of(to)),
+        (Word::W32, Word::W32) | (Word::W64, Word::W64)
+    )
+}
+
+// the conversion of a file of this format
+fn dispatch_identified(
+    alloc: Global,
+    from: Format,
+    to: Format,
+    bytes: &[u8],
+    edits: &Edits,
+) -> Result<AnyPlan, ConvertFault>
+    requires size { length bytes.now ≤ 67108864 }
+    requires identified { identified bytes.now ≡ Some from }
+    requires word { same_word (word_for from) (word_for to) ≡ true }
+    ensures accepted { OnOk result (dispatch_refusal built edits.now to bytes.now ≡ None) }
+    ensures refused { IfErr result (IsFaultOf (dispatch_refusal built edits.now to bytes.now)) }
+    ensures dispatched { IfOk result (λ plan. IsDispatched built edits.now to bytes.now (⟦<AnyPlan as Emits>⟧.file plan)) }
+{
+    match from {
+        Format::Elf32 => dispatch_from(alloc, &ElfReader32, from, to, bytes, edits),
+        Format::Elf64 => dispatch_from(alloc, &ElfReader64, from, to, bytes, edits),
+        Format::Coff32 | Format::Coff64 | Format::Mac32 | Format::Mac64 | Format::Omf => {
+            Err(header_refusal(Code::NotBuilt))
+        }
+    }
+}
+
+/// Plans the file in the format `to` of a file of at most 67,108,864 bytes, as the user wants it
+/// edited. The format of the file is found by its first bytes.
+///
+/// `Refused` exactly where there is a first refusal: in the file header `UnknownFormat`, where the
+/// first bytes are those of no format; else `WordSize`, where the formats have addresses of two
+/// sizes; else `NotBuilt`, where the format of the file is not read yet or the target is not written
+/// yet; else the first refusal of `convert`, of any class. Where there is none, the planned file is the
+/// canonical one for the file's object, edited and fitted, and it links as the edited input does.
+/// `NoMemory` where memory ran out. Takes the memory and time of `convert`.
+pub fn dispatch(
+    alloc: Global,
+    to: Format,
+    bytes: &[u8],
+    edits: &Edits,
+) -> Result<AnyPlan, ConvertFault>
+    requires { length bytes.now ≤ 67108864 }
+    ensures accepted { OnOk result (dispatch_refusal built edits.now to bytes.now ≡ None) }
+    ensures refused { IfErr result (IsFaultOf (dispatch_refusal built edits.now to bytes.now)) }
+    ensures dispatched { IfOk result (λ plan. IsDispatched built edits.now to bytes.now (⟦<AnyPlan as Emits>⟧.file plan)) }
+{
+    match identify(bytes) {
+        None => Err(header_refusal(Code::UnknownFormat)),
+        Some(from) => {
+            if have_one_word(from, to) {
+                dispatch_identified(alloc, from, to, bytes, edits)
+            } else {
+                Err(header_refusal(Code::WordSize))
+            }
+        }
+    }
+}

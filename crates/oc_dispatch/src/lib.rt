@@ -1,0 +1,12 @@
+//! The readers and writers that are built, behind one call each: a file's format is found by its
+//! first bytes, and the target's by its name.
+#![tactic(auto)]
+
+mod any_plan;
+mod dispatching;
+mod header;
+mod reading;
+
+pub use any_plan::AnyPlan;
+pub use dispatching::{dispatch, is_written};
+pub use reading::read_any;

@@ -1,0 +1,65 @@
+//! The object of a file of any format that is read.
+ghost use Rattle.std.specs.Prelude.{◌≡◌, ◌≤◌, length, None, IfErr, IfOk, OnOk};
+ghost use Rattle.oc_neutral.specs.Computed.{object_in};
+ghost use Rattle.oc_neutral.specs.Readable.{IsReadable};
+ghost use Rattle.oc_neutral.specs.Shows.{Shows};
+ghost use Rattle.oc_convert.specs.Dispatched.{reading_refusal};
+ghost use Rattle.oc_convert.specs.Refusals.{IsFaultOf};
+ghost use Rattle.oc_dispatch.specs.Built.{IsRead, built};
+
+use crate::header::header_refusal;
+use oc_base::{Code, Format};
+use oc_convert::{ConvertFault, identify};
+use oc_elf_read::{ElfReader32, ElfReader64};
+use oc_neutral::{Keep, Neutral, ReadFault, Reads, shown_object_is_computed};
+use std::alloc::Global;
+
+// the object of a file that this reader reads
+fn read_by<R: Reads>(
+    alloc: Global,
+    reader: &R,
+    bytes: &[u8],
+    keep: &Keep,
+) -> Result<Neutral, ConvertFault>
+    requires { length bytes.now ≤ 67108864 }
+    ensures well_formed { OnOk result (R.dialect.rules.fault bytes.now keep.now ≡ None) }
+    ensures refused { IfErr result (IsFaultOf (R.dialect.rules.fault bytes.now keep.now)) }
+    ensures computed { IfOk result (λ n. n ≡ object_in R.dialect bytes.now keep.now) }
+    ensures shows { IfOk result (Shows R.dialect bytes.now keep.now) }
+    ensures readable { IfOk result IsReadable }
+{
+    shown_object_is_computed();
+    match reader.read(alloc, bytes, keep) {
+        Ok(neutral) => {
+            neutral.is_object();
+            Ok(neutral)
+        }
+        Err(ReadFault::Malformed(fault) | ReadFault::Outside(fault) | ReadFault::Limit(fault)) => {
+            Err(ConvertFault::Refused(fault))
+        }
+        Err(ReadFault::NoMemory) => Err(ConvertFault::NoMemory),
+    }
+}
+
+/// The object of a file of at most 67,108,864 bytes, of which only what `keep` says is examined for
+/// relocations. The format of the file is found by its first bytes.
+///
+/// `Refused` exactly where there is a first refusal: in the file header `UnknownFormat`, where the
+/// first bytes are those of no format; else `NotBuilt`, where the format is not read yet; else the
+/// first fault of the file, of any class. Where there is none, it is the one object that shows the
+/// file. `NoMemory` where memory ran out. Takes the memory and time of reading.
+pub fn read_any(alloc: Global, bytes: &[u8], keep: &Keep) -> Result<Neutral, ConvertFault>
+    requires { length bytes.now ≤ 67108864 }
+    ensures well_formed { OnOk result (reading_refusal built keep.now bytes.now ≡ None) }
+    ensures refused { IfErr result (IsFaultOf (reading_refusal built keep.now bytes.now)) }
+    ensures read { IfOk result (IsRead keep.now bytes.now) }
+{
+    match identify(bytes) {
+        None => Err(header_refusal(Code::UnknownFormat)),
+        Some(Format::Elf32) => read_by(alloc, &ElfReader32, bytes, keep),
+        Some(Format::Elf64) => read_by(alloc, &ElfReader64, bytes, keep),
+        Some(Format::Coff32 | Format::Coff64 | Format::Mac32 | Format::Mac64 | Format::Omf) => Err(
+            header_refusal(Code::NotBuilt),
+        ),
+    }
+}
