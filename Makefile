@@ -12,6 +12,7 @@ check:
 
 install: build/objconv
 	install -D build/objconv $(DESTDIR)$(PREFIX)/bin/objconv
+	install -D -m 644 docs/objconv.1 $(DESTDIR)$(PREFIX)/share/man/man1/objconv.1
 
 clean:
 	rm -rf build

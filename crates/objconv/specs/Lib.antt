@@ -1,8 +1,7 @@
-pub mod Dialects
-pub mod Fields
-pub mod Fitting
-pub mod Jobs
-pub mod Neutral
-pub mod Plain
+pub mod Conversions
+pub mod Listings
 pub mod Refusals
+pub mod Reports
 pub mod Runs
+pub mod States
+pub mod Texts

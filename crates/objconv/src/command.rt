@@ -1,137 +1,86 @@
 //! One run of the command.
-ghost use Rattle.std.specs.Prelude.{◌≡◌, ◌+◌, ◌-◌, ◌^◌, ◌<◌, ◌≤◌, Ok, Err, OnOk, IfOk, IfErr};
-ghost use Rattle.oc_outside.specs.Causes.{Counts};
-ghost use Rattle.objconv.specs.Refusals.{too_long};
-ghost use Rattle.objconv.specs.Runs as runs;
+ghost use Rattle.std.specs.Prelude.{◌≡◌, ◌+◌, ◌-◌, ◌^◌};
+ghost use Rattle.objconv.specs.Runs.{DoesConversion, IsEnd, IsRun};
+ghost use Rattle.objconv.specs.States.{state_of};
+ghost use Rattle.oc_dispatch.specs.Built.{built};
 
-use crate::convert::convert_plain;
-use crate::job::job_of;
-use crate::report::{report, tell, word_words};
-use crate::words::Words;
-use crate::writing::write_plan;
-use oc_base::{Code, Fault, Phase, Spot};
-use oc_coff_write::PlannedFile;
-use oc_convert::ConvertFault;
-use oc_outside::{Console, Files, LIMIT, ReadFault, read_file};
+use crate::conversion::convert_file;
+use crate::listing::list_file;
+use crate::report::{not_built_words, report_memory, report_word, tell};
+use oc_base::Format;
+use oc_dispatch::is_written;
+use oc_names::Edits;
+use oc_outside::{Console, Files};
+use oc_words::{Job, WordFault, Words, read_words};
 use std::alloc::Global;
 
-/// Why a conversion was not done.
-#[derive(Clone, Copy, Debug, PartialEq, Eq)]
-pub enum RunFault {
-    /// The first refusal of the input.
-    Refused(Fault),
-    /// The input was not read.
-    Input,
-    /// The output was not written whole.
-    Output,
-    /// Memory ran out.
-    NoMemory,
-}
-
-// the refusal of an input that is too long
-fn too_long() -> RunFault
-    ensures { result ≡ RunFault.Refused too_long }
-{
-    let header = Spot {
-        phase: Phase::Header,
-        index: 0,
-        place: LIMIT + 1,
-    };
-    RunFault::Refused(header.fault(Code::LimitInput))
-}
-
-// reads and converts the input
-fn plan<F: Files>(alloc: Global, files: &mut F, input: &str) -> Result<PlannedFile, RunFault>
-    ensures planned { IfOk result (λ plan. runs.IsOutput input.now (F.held files.old) plan) }
-    ensures fault { IfErr result
-        (runs.Explains F.held F.read_faults F.write_faults input.now input.now files.old files.new) }
-    ensures same { F.held files.new ≡ F.held files.old }
-    ensures counts { Counts (F.read_faults files.old) (F.read_faults files.new)
-        (F.write_faults files.old) (F.write_faults files.new) }
-    ensures read_failed { F.read_faults files.old < F.read_faults files.new → result ≡ Err RunFault.Input }
-{
-    let bytes = match read_file(alloc, files, input, LIMIT) {
-        Ok(bytes) => bytes,
-        Err(ReadFault::Input) => return Err(RunFault::Input),
-        Err(ReadFault::NoMemory) => return Err(RunFault::NoMemory),
-    };
-    if bytes.len() as u64 > LIMIT {
-        return Err(too_long());
-    }
-    match convert_plain(alloc, bytes.as_slice()) {
-        Ok(plan) => Ok(plan),
-        Err(ConvertFault::Refused(fault)) => Err(RunFault::Refused(fault)),
-        Err(ConvertFault::NoMemory) => Err(RunFault::NoMemory),
-    }
-}
-
-// reads, converts and writes
-fn convert_file<F: Files>(
+// a conversion, where its target is built
+fn convert<F: Files, C: Console>(
     alloc: Global,
     files: &mut F,
+    console: &mut C,
+    to: Format,
+    edits: &Edits,
     input: &str,
     output: &str,
-) -> Result<(), RunFault>
-    ensures done { OnOk result
-        (runs.IsWritten input.now output.now (F.held files.old) (F.held files.new)) }
-    ensures fault { IfErr result
-        (runs.Explains F.held F.read_faults F.write_faults input.now output.now files.old files.new) }
-    ensures reads { F.read_faults files.old ≤ F.read_faults files.new }
-    ensures writes { F.write_faults files.old ≤ F.write_faults files.new }
-    ensures read_failed { F.read_faults files.old < F.read_faults files.new → result ≡ Err RunFault.Input }
-    ensures write_failed { F.write_faults files.old < F.write_faults files.new → result ≡ Err RunFault.Output }
+) -> u8
+    ensures job { DoesConversion (built.writer to) to edits.now input.now output.now
+        (state_of F.held F.read_faults F.write_faults C.shown C.told C.out_faults C.err_faults files.old console.old) result
+        (state_of F.held F.read_faults F.write_faults C.shown C.told C.out_faults C.err_faults files.new console.new) }
+    ensures end { IsEnd
+        (state_of F.held F.read_faults F.write_faults C.shown C.told C.out_faults C.err_faults files.old console.old) result
+        (state_of F.held F.read_faults F.write_faults C.shown C.told C.out_faults C.err_faults files.new console.new) }
 {
-    let plan = match plan(alloc, files, input) {
-        Ok(plan) => plan,
-        Err(fault) => return Err(fault),
-    };
-    match write_plan(files, output, &plan) {
-        Ok(()) => Ok(()),
-        Err(_) => Err(RunFault::Output),
+    if is_written(to) {
+        convert_file(alloc, files, console, to, edits, input, output)
+    } else {
+        tell(console, not_built_words().as_bytes(), 3)
     }
 }
 
 /// Runs the command that `words` give, over these files and this console, and answers its status.
 ///
-/// Today there is one command: `-fcoff32 IN OUT` converts the plain ELF32 object IN to COFF32.
-/// - 0: OUT holds the converted object, and nothing was told.
+/// `-fTARGET [options] IN OUT` converts the object file IN, edited as the options say, and `-ds IN`
+/// lists its symbols; `--make` and some targets are not built yet.
+/// - 0: done. A conversion's OUT holds the converted object, which links as the edited input does, and
+///   nothing was shown; a listing was shown whole, and no file is changed. Nothing was told.
 /// - 1, 2, 8: the input has a first refusal, which is malformed, refused or a limit; its message was
 ///   told.
-/// - 3: exactly where the words are no such command.
+/// - 3: the words are no job, or one that is not built; it was told which word is at fault, and
+///   nothing was read.
 /// - 4: a read failed, or IN is not held. 5: a write failed; OUT is as it was, or holds some front
-///   of the planned file. 7: memory ran out, before anything was written.
+///   of the planned file. 6: standard output took some front of a listing, and then failed. 7: memory
+///   ran out, before anything was written or shown.
 ///
 /// There is no other status, and a read or write that fails ends the run. With every status but 0
 /// and 5 no file is changed. Where telling a text fails, the status stays.
-/// Takes memory for the input, for the object with a copy of its contents and names, for the
-/// output's headers, relocations and symbols, and for tables of symbols and relocations.
+/// Takes memory for the input, for the object with a copy of its contents and names, and for the plan
+/// or the listing; none for the output's bytes.
 pub fn run<F: Files, C: Console>(alloc: Global, words: &Words, files: &mut F, console: &mut C) -> u8
-    ensures { runs.IsRun words.now
-        (record {
-          held = F.held files.old;
-          shown = C.shown console.old;
-          told = C.told console.old;
-          read_faults = F.read_faults files.old;
-          write_faults = F.write_faults files.old;
-          out_faults = C.out_faults console.old;
-          err_faults = C.err_faults console.old;
-        })
-        result
-        (record {
-          held = F.held files.new;
-          shown = C.shown console.new;
-          told = C.told console.new;
-          read_faults = F.read_faults files.new;
-          write_faults = F.write_faults files.new;
-          out_faults = C.out_faults console.new;
-          err_faults = C.err_faults console.new;
-        }) }
+    ensures { IsRun words.now
+        (state_of F.held F.read_faults F.write_faults C.shown C.told C.out_faults C.err_faults files.old console.old) result
+        (state_of F.held F.read_faults F.write_faults C.shown C.told C.out_faults C.err_faults files.new console.new) }
 {
-    match job_of(words) {
-        None => tell(console, word_words().as_bytes(), 3),
-        Some(job) => match convert_file(alloc, files, job.input, job.output) {
-            Ok(()) => 0,
-            Err(fault) => report(alloc, console, fault),
-        },
+    match read_words(alloc, words) {
+        Ok(
+            Job::Convert {
+                to,
+                edits,
+                input,
+                output,
+            },
+        ) => convert(
+            alloc,
+            files,
+            console,
+            to,
+            &edits,
+            input.as_str(),
+            output.as_str(),
+        ),
+        Ok(Job::Symbols { input }) => list_file(alloc, files, console, input.as_str()),
+        Ok(Job::Make { .. }) => tell(console, not_built_words().as_bytes(), 3),
+        Err(WordFault::Bad { index, code }) => report_word(alloc, console, index, code),
+        Err(WordFault::NoMemory) => report_memory(console),
     }
 }

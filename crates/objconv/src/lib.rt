@@ -1,20 +1,14 @@
-//! The conversion of one object file, from the command's words to the files written.
+//! The command, from its words to the files written and the text shown.
 #![tactic(auto)]
 
 mod command;
-mod convert;
-mod fields;
-mod fitter;
-mod headers;
-mod job;
-mod plain;
-mod reader;
+mod conversion;
+mod input;
+mod listing;
 mod report;
-mod symbols;
 #[cfg(test)]
 mod tests;
-mod words;
 mod writing;
 
 pub use command::run;
-pub use words::Words;
+pub use oc_words::Words;

@@ -1,91 +1,15 @@
-//! Whole runs over files and a console in memory. The object and its conversion, and all texts, are
-//! those that the commands' description states, byte for byte.
+//! Whole runs over files and a console in memory that end before a whole object is read. All texts are
+//! those that the command's description states, byte for byte.
 ghost use Rattle.std.specs.Prelude.{◌-◌, ◌^◌, None};
 
 use super::*;
-use crate::reader::PlainReader;
 use oc_base::NoMemory;
-use oc_neutral::{Keep, Reads, Target};
 use oc_outside::{Failed, Files, MemConsole, MemFiles};
 use std::alloc::Global;
 use std::test::Fail;
 
-/// `call foo` in the function `main`, as ELF32.
-const CALL: [u8; 432] = [
-    // the file header
-    0x7F, 0x45, 0x4C, 0x46, 0x01, 0x01, 0x01, 0x00, 0x00, 0x00, 0x00, 0x00, 0x00, 0x00, 0x00, 0x00,
-    0x01, 0x00, 0x03, 0x00, 0x01, 0x00, 0x00, 0x00, 0x00, 0x00, 0x00, 0x00, 0x00, 0x00, 0x00, 0x00,
-    0xC0, 0x00, 0x00, 0x00, 0x00, 0x00, 0x00, 0x00, 0x34, 0x00, 0x00, 0x00, 0x00, 0x00, 0x28, 0x00,
-    0x06, 0x00, 0x05, 0x00,
-    // padding to a multiple of 16
-    0x00, 0x00, 0x00, 0x00, 0x00, 0x00, 0x00, 0x00, 0x00, 0x00, 0x00, 0x00,
-    // .text: call foo; ret
-    0xE8, 0xFC, 0xFF, 0xFF, 0xFF, 0xC3,
-    // padding
-    0x00, 0x00,
-    // R_386_PC32 at 1 to symbol 3
-    0x01, 0x00, 0x00, 0x00, 0x02, 0x03, 0x00, 0x00,
-    // symbols: null, .text, main, foo
-    0x00, 0x00, 0x00, 0x00, 0x00, 0x00, 0x00, 0x00, 0x00, 0x00, 0x00, 0x00, 0x00, 0x00, 0x00, 0x00,
-    0x00, 0x00, 0x00, 0x00, 0x00, 0x00, 0x00, 0x00, 0x00, 0x00, 0x00, 0x00, 0x03, 0x00, 0x01, 0x00,
-    0x01, 0x00, 0x00, 0x00, 0x00, 0x00, 0x00, 0x00, 0x00, 0x00, 0x00, 0x00, 0x12, 0x00, 0x01, 0x00,
-    0x06, 0x00, 0x00, 0x00, 0x00, 0x00, 0x00, 0x00, 0x00, 0x00, 0x00, 0x00, 0x10, 0x00, 0x00, 0x00,
-    // .strtab
-    0x00, 0x6D, 0x61, 0x69, 0x6E, 0x00, 0x66, 0x6F, 0x6F, 0x00,
-    // .shstrtab
-    0x00, 0x2E, 0x72, 0x65, 0x6C, 0x2E, 0x74, 0x65, 0x78, 0x74, 0x00, 0x2E, 0x73, 0x79, 0x6D, 0x74,
-    0x61, 0x62, 0x00, 0x2E, 0x73, 0x74, 0x72, 0x74, 0x61, 0x62, 0x00, 0x2E, 0x73, 0x68, 0x73, 0x74,
-    0x72, 0x74, 0x61, 0x62, 0x00,
-    // padding
-    0x00,
-    // six section headers
-    0x00, 0x00, 0x00, 0x00, 0x00, 0x00, 0x00, 0x00, 0x00, 0x00, 0x00, 0x00, 0x00, 0x00, 0x00, 0x00,
-    0x00, 0x00, 0x00, 0x00, 0x00, 0x00, 0x00, 0x00, 0x00, 0x00, 0x00, 0x00, 0x00, 0x00, 0x00, 0x00,
-    0x00, 0x00, 0x00, 0x00, 0x00, 0x00, 0x00, 0x00, 0x05, 0x00, 0x00, 0x00, 0x01, 0x00, 0x00, 0x00,
-    0x06, 0x00, 0x00, 0x00, 0x00, 0x00, 0x00, 0x00, 0x40, 0x00, 0x00, 0x00, 0x06, 0x00, 0x00, 0x00,
-    0x00, 0x00, 0x00, 0x00, 0x00, 0x00, 0x00, 0x00, 0x10, 0x00, 0x00, 0x00, 0x00, 0x00, 0x00, 0x00,
-    0x01, 0x00, 0x00, 0x00, 0x09, 0x00, 0x00, 0x00, 0x40, 0x00, 0x00, 0x00, 0x00, 0x00, 0x00, 0x00,
-    0x48, 0x00, 0x00, 0x00, 0x08, 0x00, 0x00, 0x00, 0x03, 0x00, 0x00, 0x00, 0x01, 0x00, 0x00, 0x00,
-    0x04, 0x00, 0x00, 0x00, 0x08, 0x00, 0x00, 0x00, 0x0B, 0x00, 0x00, 0x00, 0x02, 0x00, 0x00, 0x00,
-    0x00, 0x00, 0x00, 0x00, 0x00, 0x00, 0x00, 0x00, 0x50, 0x00, 0x00, 0x00, 0x40, 0x00, 0x00, 0x00,
-    0x04, 0x00, 0x00, 0x00, 0x02, 0x00, 0x00, 0x00, 0x04, 0x00, 0x00, 0x00, 0x10, 0x00, 0x00, 0x00,
-    0x13, 0x00, 0x00, 0x00, 0x03, 0x00, 0x00, 0x00, 0x00, 0x00, 0x00, 0x00, 0x00, 0x00, 0x00, 0x00,
-    0x90, 0x00, 0x00, 0x00, 0x0A, 0x00, 0x00, 0x00, 0x00, 0x00, 0x00, 0x00, 0x00, 0x00, 0x00, 0x00,
-    0x01, 0x00, 0x00, 0x00, 0x00, 0x00, 0x00, 0x00, 0x1B, 0x00, 0x00, 0x00, 0x03, 0x00, 0x00, 0x00,
-    0x00, 0x00, 0x00, 0x00, 0x00, 0x00, 0x00, 0x00, 0x9A, 0x00, 0x00, 0x00, 0x25, 0x00, 0x00, 0x00,
-    0x00, 0x00, 0x00, 0x00, 0x00, 0x00, 0x00, 0x00, 0x01, 0x00, 0x00, 0x00, 0x00, 0x00, 0x00, 0x00,
-];
-
-/// The same object as COFF32.
-const CALL_COFF: [u8; 152] = [
-    // the file header
-    0x4C, 0x01, 0x01, 0x00, 0x00, 0x00, 0x00, 0x00, 0x4C, 0x00, 0x00, 0x00, 0x04, 0x00, 0x00, 0x00,
-    0x00, 0x00, 0x00, 0x00,
-    // the section header
-    0x2E, 0x74, 0x65, 0x78, 0x74, 0x00, 0x00, 0x00, 0x00, 0x00, 0x00, 0x00, 0x00, 0x00, 0x00, 0x00,
-    0x06, 0x00, 0x00, 0x00, 0x3C, 0x00, 0x00, 0x00, 0x42, 0x00, 0x00, 0x00, 0x00, 0x00, 0x00, 0x00,
-    0x01, 0x00, 0x00, 0x00, 0x20, 0x00, 0x50, 0x60,
-    // call foo; ret, with the field 4 more
-    0xE8, 0x00, 0x00, 0x00, 0x00, 0xC3,
-    // REL32 at 1 to symbol 3
-    0x01, 0x00, 0x00, 0x00, 0x03, 0x00, 0x00, 0x00, 0x14, 0x00,
-    // the symbol of .text
-    0x2E, 0x74, 0x65, 0x78, 0x74, 0x00, 0x00, 0x00, 0x00, 0x00, 0x00, 0x00, 0x01, 0x00, 0x00, 0x00,
-    0x03, 0x01,
-    // its auxiliary entry
-    0x06, 0x00, 0x00, 0x00, 0x01, 0x00, 0x00, 0x00, 0x00, 0x00, 0x00, 0x00, 0x00, 0x00, 0x00, 0x00,
-    0x00, 0x00,
-    // main
-    0x6D, 0x61, 0x69, 0x6E, 0x00, 0x00, 0x00, 0x00, 0x00, 0x00, 0x00, 0x00, 0x01, 0x00, 0x20, 0x00,
-    0x02, 0x00,
-    // foo
-    0x66, 0x6F, 0x6F, 0x00, 0x00, 0x00, 0x00, 0x00, 0x00, 0x00, 0x00, 0x00, 0x00, 0x00, 0x00, 0x00,
-    0x02, 0x00,
-    // the string table, which is empty
-    0x04, 0x00, 0x00, 0x00,
-];
-
-/// A run over a file `a` and room for a file `b`, and what it leaves.
+/// A run over a file `a` and room for a file `b`, after which no file has changed and nothing was
+/// shown.
 #[derive(Clone, Copy)]
 struct Case {
     words: &'static [&'static str],
@@ -97,101 +21,152 @@ struct Case {
     room: u64,
     status: u8,
     told: &'static str,
-    /// The bytes of `b` after the run; nothing where it is not there.
-    b: Option<&'static [u8]>,
 }
 
 /// The words of a conversion.
 const JOB: &[&str] = &["-fcoff32", "a", "b"];
 
-/// The conversion of `call foo`.
-const DONE: Case = Case {
-    words: JOB,
-    a: Some(&CALL),
-    failing: 0,
-    room: 100,
-    status: 0,
-    told: "",
-    b: Some(&CALL_COFF),
-};
+/// The first bytes of an ELF object for i386.
+const ELF32: &[u8] = &[0x7F, 0x45, 0x4C, 0x46, 0x01];
 
-/// Words that are no job.
+/// The first bytes of a COFF object for i386.
+const COFF32: &[u8] = &[0x4C, 0x01];
+
+/// Words that are no job, or one that is not built: nothing is read, so that no call is there to fail.
 const NO_JOB: Case = Case {
-    words: &[],
+    words: JOB,
+    a: Some(ELF32),
+    failing: 1,
+    room: 100,
     status: 3,
     told: "objconv: word 0: NotBuilt\n",
-    b: None,
-    ..DONE
 };
 
 /// An input that was not read: call 1 is the first read.
 const UNREAD: Case = Case {
-    failing: 1,
     status: 4,
     told: "objconv: input fault\n",
-    b: None,
-    ..DONE
+    ..NO_JOB
 };
 
-/// An input that is refused.
-const REFUSED: Case = Case {
+/// An input of no known format.
+const UNKNOWN: Case = Case {
     a: Some(&[0]),
+    failing: 0,
+    status: 1,
+    told: "objconv: malformed: header 0: UnknownFormat at 0\n",
+    ..NO_JOB
+};
+
+/// An input of a format that is not read yet.
+const UNBUILT: Case = Case {
+    a: Some(COFF32),
     status: 2,
     told: "objconv: refused: header 0: NotBuilt at 0\n",
-    b: None,
-    ..DONE
+    ..UNKNOWN
 };
 
-/// An output that was not written: call 2 reads the end, call 3 creates, call 4 appends.
-const UNWRITTEN: Case = Case {
-    failing: 3,
-    status: 5,
-    told: "objconv: output fault\n",
-    b: None,
-    ..DONE
-};
-
-const CASES: [Case; 13] = [
-    DONE,
-    NO_JOB,
+const CASES: [Case; 23] = [
+    Case {
+        words: &[],
+        told: "objconv: word 0: MissingTarget\n",
+        ..NO_JOB
+    },
     Case {
         words: &["-fcoff32", "a", "a"],
+        told: "objconv: word 2: SameFile\n",
         ..NO_JOB
     },
     Case {
-        words: &["-fcoff32", "-zz", "b"],
+        words: &["-fcoff32", "-zz", "a", "b"],
+        told: "objconv: word 1: UnknownOption\n",
         ..NO_JOB
     },
     Case {
-        words: &["-fcoff32", "a", "-b"],
+        words: &["-ds", "a", "b"],
+        told: "objconv: word 2: ExtraName\n",
         ..NO_JOB
     },
     Case {
-        words: &["-fcoff64", "a", "b"],
+        words: &["--make=0", "coff32", "b"],
+        told: "objconv: word 0: BadNumber\n",
+        ..NO_JOB
+    },
+    // the text finds no room, and the status stays
+    Case {
+        words: &["-fcoff32", "a"],
+        room: 0,
+        told: "",
+        ..NO_JOB
+    },
+    // targets that are not built, and what is made
+    Case {
+        words: &["-felf64", "a", "b"],
         ..NO_JOB
     },
     Case {
-        words: &["-fcoff32", "a", "b", "c"],
+        words: &["a", "b", "-fomf", "-nu"],
         ..NO_JOB
     },
+    Case {
+        words: &["--make=2", "coff32", "b"],
+        ..NO_JOB
+    },
+    // the first read fails, the one that tells the end, and there is no file
     UNREAD,
+    Case {
+        failing: 2,
+        ..UNREAD
+    },
     Case {
         a: None,
         failing: 0,
         ..UNREAD
     },
-    REFUSED,
-    // the text finds no room, and the status stays
+    Case {
+        words: &["-ds", "a"],
+        ..UNREAD
+    },
+    Case {
+        words: &["-ds", "b"],
+        failing: 0,
+        ..UNREAD
+    },
+    // first bytes that are those of no format
+    UNKNOWN,
+    Case {
+        a: Some(&[]),
+        ..UNKNOWN
+    },
+    Case {
+        a: Some(&[0x7F, 0x45, 0x4C, 0x46]),
+        ..UNKNOWN
+    },
+    Case {
+        words: &["-ds", "a"],
+        ..UNKNOWN
+    },
     Case {
         room: 0,
         told: "",
-        ..REFUSED
+        ..UNKNOWN
     },
-    UNWRITTEN,
+    // a format that is not read yet; words that differ come first, but not where a file is listed
+    UNBUILT,
     Case {
-        failing: 4,
-        b: Some(&[]),
-        ..UNWRITTEN
+        words: &["-ds", "a"],
+        ..UNBUILT
+    },
+    Case {
+        words: &["-fcoff64", "a", "b"],
+        told: "objconv: refused: header 0: WordSize at 0\n",
+        ..UNBUILT
+    },
+    Case {
+        words: &["a", "-fcoff64", "-nu", "b", "--strip-debug"],
+        a: Some(ELF32),
+        told: "objconv: refused: header 0: WordSize at 0\n",
+        ..UNBUILT
     },
 ];
 
@@ -199,14 +174,14 @@ const CASES: [Case; 13] = [
 fn words_of(alloc: Global, list: &[&str]) -> Result<Words, NoMemory> {
     let mut words = Words::new(alloc);
     for word in list {
-        if words.count() < 4 {
+        if words.count() < 5 {
             words.push(word)?;
         }
     }
     Ok(words)
 }
 
-/// Whether the run of a case ends with its status and leaves what it says.
+/// Whether the run of a case ends with its status, tells what it says, and leaves the rest.
 fn is_met(alloc: Global, case: &Case) -> Result<bool, NoMemory> {
     let words = words_of(alloc, case.words)?;
     let mut files = MemFiles::new(alloc);
@@ -221,7 +196,7 @@ fn is_met(alloc: Global, case: &Case) -> Result<bool, NoMemory> {
     console.room(100, case.room)?;
     let status = run(alloc, &words, &mut files, &mut console);
     let told = status == case.status && console.told() == case.told.as_bytes();
-    Ok(told && console.shown().is_empty() && files.file("a") == case.a && files.file("b") == case.b)
+    Ok(told && console.shown().is_empty() && files.file("a") == case.a && files.file("b").is_none())
 }
 
 #[test]
@@ -284,28 +259,6 @@ fn input_limit(rt: HostRuntime) -> Result<(), Fail> {
     assert_eq!(rt;
         console.told(),
         b"objconv: limit: header 0: LimitInput at 67108865\n".as_slice()
-    );
-    Ok(())
-}
-
-/// The object of `call foo`, from the file by hand: zeros under the field, whose addend is -4.
-#[test]
-fn elf32_call_is_read(rt: HostRuntime) -> Result<(), Fail> {
-    let keep = Keep {
-        debug: true,
-        exceptions: true,
-        notes: true,
-    };
-    let object = PlainReader.read(rt.alloc(), &CALL, &keep)?;
-    assert_eq!(rt; object.section_count(), 1);
-    assert_eq!(rt;
-        object.section(0).bytes.as_slice(),
-        [0xE8, 0, 0, 0, 0, 0xC3].as_slice()
-    );
-    let call = object.relocs(0).next().ok_or("one relocation")?;
-    assert_eq!(rt;
-        (call.at, call.item.target, call.item.addend),
-        (1, Target::Symbol(1), -4)
     );
     Ok(())
 }

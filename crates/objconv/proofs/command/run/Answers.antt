@@ -1,32 +1,50 @@
--- The record of a run that did not succeed.
-use Rattle.std.proofs.Common.{rules, Err}
-use Rattle.objconv.proofs.RunLemmas.{reported_status, reported_input, reported_output}
+-- The job of the words is done.
+use Rattle.std.proofs.Common.{rules, ◌≡◌, Ok}
+use Rattle.oc_words.specs.declared.job.Job.TheVariants.{Symbols, Make}
+use Rattle.oc_words.specs.Faults.{bad}
+use Rattle.oc_words.specs.Jobs.{job_of}
+use Rattle.objconv.proofs.Did.{does_same, memory_does}
 use Rattle.objconv.proofs.command.run.Goals as goal
 
-pub returns-in-Err : goal.returns-in-Err
-returns-in-Err g c = record {
-  named = reported_status (g.C.Console.told c.args.console.now) (g.C.Console.told c.report.new.console) (g.C.Console.err_faults c.args.console.now) (g.C.Console.err_faults c.report.new.console) c.report.result c.in-Err.fault c.report.ensures.reported;
-  words = search rules;
-  input = search rules;
-  absent = search rules;
-  output = search rules;
-  listing = search rules;
-  exact = search rules;
-  read_failed = λ rose. reported_input (g.C.Console.told c.args.console.now) (g.C.Console.told c.report.new.console) (g.C.Console.err_faults c.args.console.now) (g.C.Console.err_faults c.report.new.console) c.report.result (Err c.in-Err.fault) (c.in-Err.ensures.read_failed rose) c.report.ensures.reported;
-  write_failed = λ rose. reported_output (g.C.Console.told c.args.console.now) (g.C.Console.told c.report.new.console) (g.C.Console.err_faults c.args.console.now) (g.C.Console.err_faults c.report.new.console) c.report.result (Err c.in-Err.fault) (c.in-Err.ensures.write_failed rose) c.report.ensures.reported;
-  written = search rules;
-  partly = search rules;
-  kept = search rules;
-  unwritten = search rules;
-  quiet = search rules;
-  told_refusal = search rules;
-  told_words = search rules;
-  told_input = search rules;
-  told_output = search rules;
-  told_memory = search rules;
-  shown = search rules;
-  reads = search rules;
-  writes = search rules;
-  outs = search rules;
-  errs = search rules;
+pub returns-in-Ok-Symbols : goal.returns-in-Ok-Symbols
+returns-in-Ok-Symbols g c =
+    let asked : job_of c.args.words.now ≡ Ok (Symbols c.as_str-in-Ok-Symbols.result.now) = search rules in
+    record { job = does_same _ _ c.list_file.result (job_of c.args.words.now) (Ok (Symbols c.as_str-in-Ok-Symbols.result.now)) asked c.list_file.ensures.job; end = c.list_file.ensures.end }
+
+pub returns-in-Ok-Make : goal.returns-in-Ok-Make
+returns-in-Ok-Make g c =
+    let asked : job_of c.args.words.now ≡ Ok (Make c.in-Ok-Make.field-0-0 c.in-Ok-Make.field-0-1 c.in-Ok-Make.field-0-2) = search rules in
+    record {
+      job = does_same _ _ c.tell.result (job_of c.args.words.now) (Ok (Make c.in-Ok-Make.field-0-0 c.in-Ok-Make.field-0-1 c.in-Ok-Make.field-0-2)) asked (record {
+        named = search rules;
+        told = search rules;
+        held = search rules;
+        reads = search rules;
+        writes = search rules;
+        shown = search rules;
+        outs = search rules;
+      });
+      end = search rules;
+    }
+
+pub returns-in-Err-Bad : goal.returns-in-Err-Bad
+returns-in-Err-Bad g c =
+    let asked : job_of c.args.words.now ≡ bad c.in-Err-Bad.index c.in-Err-Bad.code = rw c.in-Err-Bad.field-0-is at c.in-Err-Bad.ensures.fault in
+    record {
+      job = does_same _ _ c.report_word.result (job_of c.args.words.now) (bad c.in-Err-Bad.index c.in-Err-Bad.code) asked (record {
+        named = search rules;
+        told = search rules;
+        held = search rules;
+        reads = search rules;
+        writes = search rules;
+        shown = search rules;
+        outs = search rules;
+      });
+      end = search rules;
+    }
+
+pub returns : goal.returns
+returns g c = record {
+  job = memory_does _ _ c.report_memory.result c.report_memory.ensures.status (search rules) (search rules) (search rules) (search rules) (search rules) (job_of c.args.words.now);
+  end = search rules;
 }
