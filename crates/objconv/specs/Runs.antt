@@ -55,9 +55,10 @@ pub record IsEnd (before : State) (status : ℕ) (after : State) : Type 0 where
   pub named : IsStatus status
   pub output : status ≡ 5 → Rose before.write_faults after.write_faults
   pub listing : status ≡ 6 → Rose before.out_faults after.out_faults
-  -- a failed call on a file ends the run
+  -- a failed call on a file, or on standard output, ends the run
   pub read_failed : before.read_faults < after.read_faults → status ≡ 4
   pub write_failed : before.write_faults < after.write_faults → status ≡ 5
+  pub out_failed : before.out_faults < after.out_faults → status ≡ 6
   -- what becomes of the files and of standard output
   pub kept : LeavesFiles status → after.held ≡ before.held
   pub unwritten : LeavesFiles status → after.write_faults ≡ before.write_faults

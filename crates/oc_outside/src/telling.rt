@@ -14,6 +14,7 @@ pub fn tell_all<C: Console>(console: &mut C, text: &[u8]) -> Result<(), Failed>
     ensures ok { OnOk result (C.told console.new ≡ grown text.now (C.told console.old)) }
     ensures err { OnErr result (TakesPrefix text.now (C.told console.old) (C.told console.new)) }
     ensures counts { C.err_faults console.old ≤ C.err_faults console.new }
+    ensures steady { OnOk result (C.err_faults console.new ≡ C.err_faults console.old) }
     ensures cause { OnErr result (Rose (C.err_faults console.old) (C.err_faults console.new)) }
     ensures other { LeavesOther (C.shown console.old) (C.shown console.new)
         (C.out_faults console.old) (C.out_faults console.new) }
@@ -28,6 +29,7 @@ pub fn show_all<C: Console>(console: &mut C, text: &[u8]) -> Result<(), Failed>
     ensures ok { OnOk result (C.shown console.new ≡ grown text.now (C.shown console.old)) }
     ensures err { OnErr result (TakesPrefix text.now (C.shown console.old) (C.shown console.new)) }
     ensures counts { C.out_faults console.old ≤ C.out_faults console.new }
+    ensures steady { OnOk result (C.out_faults console.new ≡ C.out_faults console.old) }
     ensures cause { OnErr result (Rose (C.out_faults console.old) (C.out_faults console.new)) }
     ensures other { LeavesOther (C.told console.old) (C.told console.new)
         (C.err_faults console.old) (C.err_faults console.new) }
