@@ -19,7 +19,7 @@ use Rattle.oc_linking.specs.declared.terms.Binding.TheVariants.{Local, Global, U
 use Rattle.oc_linking.specs.Parts.{is_local}
 use Rattle.oc_neutral.specs.declared.section.Section.{Section}
 use Rattle.oc_neutral.specs.declared.symbol.Symbol.{Symbol}
-use Rattle.oc_neutral.specs.declared.coff.TheConstants.{IMAGE_SCN_CNT_UNINITIALIZED_DATA}
+use Rattle.oc_neutral.specs.declared.coff.TheConstants.{IMAGE_SCN_CNT_UNINITIALIZED_DATA, MOST_NAME_OFFSET}
 use Rattle.oc_neutral.specs.Objects.{Object}
 use Rattle.oc_neutral.specs.Building.{is_zero}
 use Rattle.oc_neutral.specs.Invariants.{IsObject, IsBinding, IsFallback, IsSymbol, HasItsBytes, is_strong}
@@ -64,7 +64,7 @@ seen_kind s = coff_manner.kind s
 pub record IsCodedSection (w : Word) (n : Object) (s : Section) : Type 0 where
   pub name : has_nul s.name ≡ false
   pub tabled : is_tabled s.name ≡ true → is_given (strings_of (coff_format w) n) s.name ≡ true
-  pub near : is_tabled s.name ≡ true → offset_of (coff_format w) n s.name ≤ 9999999
+  pub near : is_tabled s.name ≡ true → offset_of (coff_format w) n s.name ≤ MOST_NAME_OFFSET
   pub kind : coff_kind s.name s.tag ≡ Some (seen_kind s)
   pub tag : coff_tag s.tag ≡ s.tag
   pub small : s.tag < 2 ^ 32

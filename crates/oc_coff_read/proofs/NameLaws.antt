@@ -13,6 +13,7 @@ use Rattle.oc_base.specs.declared.format.Word.{Word}
 use Rattle.oc_base.specs.Numbers.{number_at, bytes_of_number}
 use Rattle.oc_base.specs.Strings.{is_given, table_place, table_text}
 use Rattle.oc_base.proofs.NumberLaws.{length-bytes_of_number, number_at-shift, number_at-bytes}
+use Rattle.oc_neutral.specs.declared.coff.TheConstants.{MOST_NAME_OFFSET}
 use Rattle.oc_neutral.specs.Objects.{Object}
 use Rattle.oc_neutral.specs.KindRules.{begins, has_nul}
 use Rattle.oc_neutral.specs.Coff.Strings.{is_long, is_tabled, string_offset}
@@ -143,7 +144,7 @@ module _ (w : Word) (n : Object) (small : length (string_table w n) < 2 ^ 32) wh
   symbol_named (c ∷ rest) none long = some_named (c ∷ rest) (omega arith) none long
 
   -- the name of a section
-  pub section_named : (name : List ℕ) → has_nul name ≡ false → (is_tabled name ≡ true → is_given given name ≡ true) → (is_tabled name ≡ true → offset name ≤ 9999999)
+  pub section_named : (name : List ℕ) → has_nul name ≡ false → (is_tabled name ≡ true → is_given given name ≡ true) → (is_tabled name ≡ true → offset name ≤ MOST_NAME_OFFSET)
       → section_name (string_table w n) (section_field w n name) ≡ Some name
   unfolding section_name section_field
   section_named name none tabled near = by (is_tabled name) refl
@@ -156,7 +157,7 @@ module _ (w : Word) (n : Object) (small : length (string_table w n) < 2 ^ 32) wh
       by true e =
           let p = name_placed name (tabled e) none in
           let off : ℕ = offset name in
-          let short : off ≤ 9999999 = near e in
+          let short : off ≤ MOST_NAME_OFFSET = near e in
           let d = decimal_digits off (omega (arith, short)) in
           let long : length (decimal off) ≤ 7 = length-decimal-le 7 off (omega arith) (omega (arith, short)) (omega (arith, short)) in
           let field : until_nul (padded (47 ∷ decimal off)) ≡ 47 ∷ decimal off

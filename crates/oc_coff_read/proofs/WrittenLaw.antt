@@ -50,7 +50,7 @@ module _ (w : Word) (n : Object) (is : IsForCoff w n) (numbers : HasNumbers w n)
 pub coff_is_written : CoffIsWritten
 coff_is_written w = record {
   dialect = coff_is_dialect w;
-  written = λ n fits can.
+  written = λ n fits.
       let is = for_coff w n fits in
       let numbers = has_numbers w n is in
       record { well_formed = well_formed w n is numbers; shows = coff_shows w n is numbers fits };

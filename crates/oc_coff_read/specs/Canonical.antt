@@ -21,9 +21,9 @@ use Rattle.oc_neutral.specs.Normal.{Place}
 use Rattle.oc_neutral.specs.KeySymbols.{global_place, is_key_at, is_key_name, lies_in}
 use Rattle.oc_neutral.specs.Coff.Strings.{is_long, is_tabled, default_name}
 use Rattle.oc_neutral.specs.CoffMeets.{offset_of}
-use Rattle.oc_neutral.specs.declared.coff.TheConstants.{IMAGE_SCN_ALIGN_1BYTES, IMAGE_SCN_LNK_COMDAT, IMAGE_SCN_LNK_NRELOC_OVFL}
+use Rattle.oc_neutral.specs.declared.coff.TheConstants.{IMAGE_SCN_ALIGN_1BYTES, IMAGE_SCN_LNK_COMDAT, IMAGE_SCN_LNK_NRELOC_OVFL, ALIGN_BITS, STRINGS_HEAD}
 use Rattle.oc_shelf.specs.Writing.Parts.{Laid, joined, place_where}
-use Rattle.oc_coff_read.specs.declared.constants.TheConstants.{IMAGE_FILE_MACHINE_I386, IMAGE_FILE_MACHINE_AMD64, IMAGE_SYM_UNDEFINED, IMAGE_SYM_ABSOLUTE, IMAGE_SYM_TYPE_FUNCTION, IMAGE_SYM_CLASS_EXTERNAL, IMAGE_SYM_CLASS_STATIC, IMAGE_SYM_CLASS_WEAK_EXTERNAL, IMAGE_COMDAT_SELECT_ANY, IMAGE_COMDAT_SELECT_ASSOCIATIVE, IMAGE_WEAK_EXTERN_SEARCH_ALIAS, OVERFLOWED_COUNT, STRINGS_HEAD}
+use Rattle.oc_coff_read.specs.declared.constants.TheConstants.{IMAGE_FILE_MACHINE_I386, IMAGE_FILE_MACHINE_AMD64, IMAGE_SYM_UNDEFINED, IMAGE_SYM_ABSOLUTE, IMAGE_SYM_TYPE_FUNCTION, IMAGE_SYM_CLASS_EXTERNAL, IMAGE_SYM_CLASS_STATIC, IMAGE_SYM_CLASS_WEAK_EXTERNAL, IMAGE_COMDAT_SELECT_ANY, IMAGE_COMDAT_SELECT_ASSOCIATIVE, IMAGE_WEAK_EXTERN_SEARCH_ALIAS, OVERFLOWED_COUNT}
 use Rattle.oc_coff_read.specs.declared.file_header.FileHeader.{FileHeader}
 use Rattle.oc_coff_read.specs.declared.section_header.SectionHeader.{SectionHeader}
 use Rattle.oc_coff_read.specs.declared.symbol.SymbolEntry.{SymbolEntry}
@@ -75,7 +75,7 @@ kept_with n k group = option_map_or (λ g. if leads n k then 0 else leader_numbe
 
 -- the alignment in the flags: n + 1 for 2^n
 unfoldable pub align_field : ℕ → ℕ
-align_field align = unwrap_or (first_from (λ k. nat_eq align (2 ^ k)) 0 14) 0 + 1
+align_field align = unwrap_or (first_from (λ k. nat_eq align (2 ^ k)) 0 (ALIGN_BITS + 1)) 0 + 1
 
 -- the characteristics of a section
 abbrev pub section_flags : Section → List Relocation → ℕ

@@ -2,7 +2,7 @@
 use Rattle.std.specs.Prelude.{ℕ, zero, suc, ◌+◌, Bool, ◌&&◌, nat_eq, nat_le, if◌then◌else◌, List, [], ◌∷◌, find, Option, Some, None}
 use Rattle.std.specs.Option.{unwrap_or}
 use Rattle.oc_coff_read.specs.declared.symbol.SymbolEntry.{SymbolEntry}
-use Rattle.oc_coff_read.specs.declared.constants.TheConstants.{IMAGE_SYM_SECTION_MAX}
+use Rattle.oc_neutral.specs.declared.coff.TheConstants.{IMAGE_SYM_SECTION_MAX}
 use Rattle.oc_coff_read.specs.Tables.{Slot, Tables}
 use Rattle.oc_coff_read.specs.Names.{symbol_name}
 

@@ -5,7 +5,7 @@ use Rattle.oc_base.specs.declared.code.Code.TheVariants.{Short, NotRelocatable, 
 use Rattle.oc_base.specs.declared.fault.Phase.TheVariants.{Header}
 use Rattle.oc_base.specs.declared.fault.Fault.{Fault}
 use Rattle.oc_linking.specs.FirstFault.{Condition, Stage}
-use Rattle.oc_coff_read.specs.declared.constants.TheConstants.{STRINGS_HEAD}
+use Rattle.oc_neutral.specs.declared.coff.TheConstants.{STRINGS_HEAD}
 use Rattle.oc_coff_read.specs.declared.file_header.TheConstants.{FILE_HEADER_SIZE}
 use Rattle.oc_coff_read.specs.declared.section_header.TheConstants.{SECTION_HEADER_SIZE}
 use Rattle.oc_coff_read.specs.declared.symbol.TheConstants.{SYMBOL_SIZE}

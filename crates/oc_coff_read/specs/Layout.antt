@@ -7,7 +7,7 @@ use Rattle.oc_neutral.specs.declared.section.Section.{Section}
 use Rattle.oc_neutral.specs.Objects.{Object}
 use Rattle.oc_neutral.specs.CoffMeets.{strings_of}
 use Rattle.oc_shelf.specs.Writing.Parts.{Laid, laid, laid_end, behind}
-use Rattle.oc_coff_read.specs.declared.constants.TheConstants.{STRINGS_HEAD}
+use Rattle.oc_neutral.specs.declared.coff.TheConstants.{STRINGS_HEAD}
 use Rattle.oc_coff_read.specs.declared.section_header.TheConstants.{SECTION_HEADER_SIZE}
 use Rattle.oc_coff_read.specs.declared.relocation.TheConstants.{RELOCATION_SIZE}
 use Rattle.oc_coff_read.specs.Tables.{usual_sizes}

@@ -11,7 +11,8 @@ use Rattle.oc_linking.specs.Parts as parts
 use Rattle.oc_linking.specs.FirstFault.{Condition, Stage}
 use Rattle.oc_neutral.specs.TargetSections.{each_of}
 use Rattle.oc_coff_read.specs.declared.symbol.SymbolEntry.{SymbolEntry}
-use Rattle.oc_coff_read.specs.declared.constants.TheConstants.{IMAGE_SYM_UNDEFINED, IMAGE_SYM_ABSOLUTE, IMAGE_SYM_DEBUG, IMAGE_SYM_SECTION_MAX, IMAGE_SYM_CLASS_EXTERNAL, IMAGE_SYM_CLASS_STATIC, IMAGE_SYM_CLASS_LABEL, IMAGE_SYM_CLASS_FUNCTION, IMAGE_SYM_CLASS_FILE, IMAGE_SYM_CLASS_WEAK_EXTERNAL}
+use Rattle.oc_neutral.specs.declared.coff.TheConstants.{IMAGE_SYM_SECTION_MAX}
+use Rattle.oc_coff_read.specs.declared.constants.TheConstants.{IMAGE_SYM_UNDEFINED, IMAGE_SYM_ABSOLUTE, IMAGE_SYM_DEBUG, IMAGE_SYM_CLASS_EXTERNAL, IMAGE_SYM_CLASS_STATIC, IMAGE_SYM_CLASS_LABEL, IMAGE_SYM_CLASS_FUNCTION, IMAGE_SYM_CLASS_FILE, IMAGE_SYM_CLASS_WEAK_EXTERNAL}
 use Rattle.oc_coff_read.specs.Tables.{SectionTable, Tables}
 use Rattle.oc_coff_read.specs.Names.{is_nothing, symbol_name}
 use Rattle.oc_coff_read.specs.Comdat.{section_numbered}

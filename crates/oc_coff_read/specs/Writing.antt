@@ -6,4 +6,4 @@ use Rattle.oc_coff_read.specs.Canonical.{coff_file}
 
 -- every object that is ready for COFF has its canonical file: well formed, and it shows the object that is seen
 abbrev pub CoffIsWritten : Type 0
-CoffIsWritten = (w : Word) → WritesCanonical (coff_dialect w) (λ n. Unit {0}) (coff_file w)
+CoffIsWritten = (w : Word) → WritesCanonical (coff_dialect w) (coff_file w)

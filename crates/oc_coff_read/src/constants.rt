@@ -11,8 +11,6 @@ pub const IMAGE_SYM_UNDEFINED: u16 = 0;
 pub const IMAGE_SYM_ABSOLUTE: u16 = 0xFFFF;
 /// The section number -2 of a symbol for debuggers (PE/COFF, "Section Number Values").
 pub const IMAGE_SYM_DEBUG: u16 = 0xFFFE;
-/// The greatest section number that a symbol can have (PE/COFF, "Section Number Values").
-pub const IMAGE_SYM_SECTION_MAX: u16 = 0xFEFF;
 /// The type of a function (PE/COFF, "Type Representation").
 pub const IMAGE_SYM_TYPE_FUNCTION: u16 = 0x20;
 /// A symbol that is seen by all files (PE/COFF, "Storage Class").
@@ -44,6 +42,3 @@ pub const IMAGE_REL_I386_ABSOLUTE: u16 = 0;
 
 /// The count of relocations in the header of a section that has more (PE/COFF, "Section Flags").
 pub const OVERFLOWED_COUNT: u16 = 0xFFFF;
-
-/// How many bytes of a string table hold its size (PE/COFF, "COFF String Table").
-pub const STRINGS_HEAD: usize = 4;

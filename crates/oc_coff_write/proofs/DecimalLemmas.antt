@@ -2,9 +2,10 @@
 use Rattle.std.proofs.Common.{◌≡◌, ℕ, ◌+◌, ◌/◌, ◌%◌, ◌^◌, ◌<◌, ◌≤◌, List, [], ◌∷◌, ◌++◌, length, sym, ◌∙◌, ap, arith, append_assoc, length-append}
 use Rattle.std.specs.Prelude.{decimal}
 use Rattle.std.proofs.lemmas.Fmt.{decimal_step, decimal_digit, length-decimal-le}
+use Rattle.oc_neutral.specs.declared.coff.TheConstants.{MOST_NAME_OFFSET}
 
 -- an offset of the string table has up to seven digits
-pub offset_long : (n : ℕ) → n ≤ 9999999 → length (decimal n) ≤ 7
+pub offset_long : (n : ℕ) → n ≤ MOST_NAME_OFFSET → length (decimal n) ≤ 7
 offset_long n le = length-decimal-le 7 n (omega arith) (omega (arith, le)) (omega (arith, le))
 
 -- one digit

@@ -5,7 +5,7 @@ use Rattle.std.specs.List.{enumerate_from}
 use Rattle.oc_base.specs.declared.format.Word.{Word}
 use Rattle.oc_strings.specs.Tables.{StringTable}
 use Rattle.oc_neutral.specs.declared.section.Section.{Section}
-use Rattle.oc_neutral.specs.declared.coff.TheConstants.{IMAGE_SCN_ALIGN_1BYTES}
+use Rattle.oc_neutral.specs.declared.coff.TheConstants.{IMAGE_SCN_ALIGN_1BYTES, MOST_NAME_OFFSET}
 use Rattle.oc_neutral.specs.Coff.Strings.{is_tabled, string_offset}
 use Rattle.oc_neutral.specs.CoffMeets.{offset_of}
 use Rattle.oc_neutral.specs.Objects.{Object}
@@ -73,7 +73,7 @@ place_for w n name = refl
 
 module _ (w : Word) (n : Object) (is : IsForCoff w n) (k : ℕ) (s : Section) (here : slice_get n.sections k ≡ Some s) where
   -- its name stands near the front of the string table
-  pub name_near : (t : StringTable) → t ≡ table_for w n → is_tabled s.name ≡ true → place_in t s.name ≤ 9999999
+  pub name_near : (t : StringTable) → t ≡ table_for w n → is_tabled s.name ≡ true → place_in t s.name ≤ MOST_NAME_OFFSET
   name_near t e tabled =
       let near = (coded_section w n is k s here).near tabled in
       let same : place_in t s.name ≡ offset_of (coff_format w) n s.name = ap (λ u. place_in u s.name) e ∙ place_for w n s.name in

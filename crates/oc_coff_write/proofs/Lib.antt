@@ -12,5 +12,6 @@ pub mod PlanLemmas
 pub mod PlannedLemmas
 pub mod Ready
 pub mod RelocationLemmas
+pub mod SectionAlone
 pub mod StringLemmas
 pub mod TableRows

@@ -6,7 +6,7 @@ use Rattle.oc_base.specs.Strings.{table_text}
 use Rattle.oc_neutral.specs.Objects.{Object}
 use Rattle.oc_shelf.specs.Writing.Parts.{Laid, laid, laid_end, behind, Pieces, file_of, table_of, HaveSize}
 use Rattle.oc_strings.specs.Tables.{StringTable}
-use Rattle.oc_coff_read.specs.declared.constants.TheConstants.{STRINGS_HEAD}
+use Rattle.oc_neutral.specs.declared.coff.TheConstants.{STRINGS_HEAD}
 use Rattle.oc_coff_read.specs.declared.file_header.FileHeader.{FileHeader}
 use Rattle.oc_coff_read.specs.declared.section_header.TheConstants.{SECTION_HEADER_SIZE}
 use Rattle.oc_coff_read.specs.declared.symbol.TheConstants.{SYMBOL_SIZE}

@@ -7,7 +7,7 @@ use Rattle.oc_neutral.specs.Coff.Strings.{is_long, is_tabled, default_name}
 use Rattle.oc_neutral.specs.Objects.{Object}
 use Rattle.oc_neutral.specs.CoffMeets.{strings_of}
 use Rattle.oc_strings.specs.Tables.{StringTable}
-use Rattle.oc_coff_read.specs.declared.constants.TheConstants.{STRINGS_HEAD}
+use Rattle.oc_neutral.specs.declared.coff.TheConstants.{STRINGS_HEAD}
 use Rattle.oc_coff_read.specs.Fields.{coff_format}
 use Rattle.oc_coff_read.specs.Lines.{Line, SectionLine, LocalLine, DefaultLine, OuterLine}
 

@@ -10,9 +10,7 @@ use oc_coff_read::IMAGE_REL_I386_ABSOLUTE;
 use oc_express::{Spelling, lookup};
 use oc_linking::Less;
 use oc_neutral::Reloc;
-
-/// A distance is taken from so many bytes behind the front of its field (PE/COFF, "Type Indicators").
-const BEHIND: i64 = 4;
+use oc_neutral::coff::REL32_BEHIND;
 
 // the format of a word
 fn format_of(word: Word) -> Format
@@ -40,7 +38,7 @@ fn shift_of(less: Less) -> i64
     ensures { result ≡ shift_by less }
 {
     match less {
-        Less::Place => -BEHIND,
+        Less::Place => -i64::from(REL32_BEHIND),
         Less::Zero | Less::GotBase | Less::ImageBase | Less::Home | Less::Section(_) => 0,
     }
 }

@@ -1,6 +1,7 @@
 //! The file header and the section headers.
 ghost use Rattle.std.specs.Prelude.{◌≡◌, ◌+◌, ◌*◌, ◌<◌, ◌≤◌, ◌^◌, true, IfOk, List, length, map};
 ghost use Rattle.oc_base.specs.declared.format.Word.{Word as Width};
+ghost use Rattle.oc_neutral.specs.declared.coff.TheConstants.{MOST_NAME_OFFSET};
 ghost use Rattle.oc_neutral.specs.Coff.Strings.{is_tabled};
 ghost use Rattle.oc_neutral.specs.Fitted.{IsFitted};
 ghost use Rattle.oc_neutral.specs.Objects.{Object};
@@ -68,7 +69,7 @@ fn section_header(
     raw_place: u64,
     relocs_place: u64,
 ) -> SectionHeader
-    requires near { is_tabled section.now.name ≡ true → place_in names.now section.now.name ≤ 9999999 }
+    requires near { is_tabled section.now.name ≡ true → place_in names.now section.now.name ≤ MOST_NAME_OFFSET }
     requires flags { section.now.tag + canonical.align_field section.now.align * IMAGE_SCN_ALIGN_1BYTES + 2 ^ 12 + 2 ^ 24 < 2 ^ 32 }
     requires raw { raw_place < 2 ^ 32 }
     requires table { relocs_place < 2 ^ 32 }

@@ -15,6 +15,9 @@ use oc_shelf::{Layout, Parts, copy_window, window_of};
 use oc_strings::Table;
 use std::marker::Model;
 
+#[cfg(test)]
+mod tests;
+
 /// A planned file: its headers, the bytes and the relocations of its sections, the entries of its
 /// symbol table, and its string table. Contracts see the bytes of its parts, in their order.
 #[derive(Debug, Drop)]

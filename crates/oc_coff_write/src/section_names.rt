@@ -1,6 +1,7 @@
 //! The names of sections where they stand in their headers (PE/COFF, "Section Table").
 ghost use Rattle.std.specs.Prelude.{◌≡◌, ◌+◌, ◌<◌, ◌≤◌, [], ◌++◌, ◌∷◌, true, decimal, length};
 ghost use Rattle.oc_base.specs.declared.format.Word.{Word};
+ghost use Rattle.oc_neutral.specs.declared.coff.TheConstants.{MOST_NAME_OFFSET};
 ghost use Rattle.oc_neutral.specs.Coff.Strings as strings;
 ghost use Rattle.oc_neutral.specs.Objects.{Object};
 ghost use Rattle.oc_shelf.specs.declared.writing.rows.TheConstants.{ROW};
@@ -39,7 +40,7 @@ fn put_decimal(out: &mut Packed, number: u32)
 // a slash, and an offset of up to seven decimal digits
 #[tactic(auto, using(crate::proofs::DecimalLemmas::offset_long))]
 fn slash_field(offset: u32) -> [u8; NAME_SIZE]
-    requires { offset ≤ 9999999 }
+    requires { offset ≤ MOST_NAME_OFFSET }
     ensures { result ≡ padded (47 ∷ decimal offset) }
 {
     let mut out = Packed::new();
@@ -51,7 +52,7 @@ fn slash_field(offset: u32) -> [u8; NAME_SIZE]
 /// The eight bytes of a section's name: the name, or a slash and its offset in decimal digits. Time as
 /// for `Table::offset`.
 pub(crate) fn section_field(names: &Table, name: &[u8]) -> [u8; NAME_SIZE]
-    requires { strings.is_tabled name.now ≡ true → places.place_in names.now name.now ≤ 9999999 }
+    requires { strings.is_tabled name.now ≡ true → places.place_in names.now name.now ≤ MOST_NAME_OFFSET }
     ensures { (w : Word) (n : Object) → names.now ≡ table_for w n → result ≡ canonical.section_field w n name.now }
 {
     if is_tabled(name) {

@@ -4,7 +4,7 @@ ghost use Rattle.oc_base.specs.Numbers.{bytes_of_number};
 ghost use Rattle.oc_base.specs.Strings.{table_text};
 ghost use Rattle.oc_outside.specs.Windows.{IsFilled};
 ghost use Rattle.oc_shelf.specs.Writing.Parts.{table_of, HaveSize};
-ghost use Rattle.oc_coff_read.specs.declared.constants.TheConstants.{STRINGS_HEAD as HEAD};
+ghost use Rattle.oc_neutral.specs.declared.coff.TheConstants.{STRINGS_HEAD as HEAD};
 ghost use Rattle.oc_coff_read.specs.declared.section_header.TheConstants.{SECTION_HEADER_SIZE as HEADER};
 ghost use Rattle.oc_coff_read.specs.declared.symbol.TheConstants.{SYMBOL_SIZE as SYMBOL};
 ghost use Rattle.oc_coff_read.specs.SectionHeader.{section_header_bytes};

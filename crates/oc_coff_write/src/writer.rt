@@ -24,8 +24,6 @@ impl Writes for CoffWriter32 {
 
     ghost dialect = { coff_dialect W32 };
 
-    ghost accepts = { λ n. Unit {0} };
-
     ghost canonical = { coff_file W32 };
 
     fn plan(&self, alloc: Global, fitted: Fitted) -> Result<Plan, NoMemory> {
@@ -40,8 +38,6 @@ impl Writes for CoffWriter64 {
     type Plan = Plan;
 
     ghost dialect = { coff_dialect W64 };
-
-    ghost accepts = { λ n. Unit {0} };
 
     ghost canonical = { coff_file W64 };
 

@@ -21,7 +21,7 @@ use Rattle.oc_names.specs.EditedShows.{is_folded_after, HasEdited}
 use Rattle.oc_names.proofs.EditedParts.{edited_parts}
 use Rattle.oc_names.proofs.EditedShown.{edited_shows_law}
 use Rattle.oc_convert.specs.declared.fault.ConvertFault.{ConvertFault}
-use Rattle.oc_convert.specs.Converted.{IsFaithful, IsReady, TakesFitted, edited_file, on_ok}
+use Rattle.oc_convert.specs.Converted.{IsFaithful, IsReady, edited_file, on_ok}
 use Rattle.oc_convert.specs.Refusals.{kept_of_file}
 use Rattle.oc_convert.proofs.Firsts.{has_object, refused_by_edited}
 use Rattle.oc_convert.proofs.Notes.{notes_kept}
@@ -66,10 +66,10 @@ module _ (wishes : Wishes) (f : Dialect) (to : Format) (b : List ℕ) (n : Objec
   if_ready word good object (Err e) computed fitted fit expressible = tt
 
 -- the file of an object that is ready links as the edited input does
-pub ready_faithful : (wishes : Wishes) (f g : Dialect) (accepts : Object → Type 0) (canonical : Object → List ℕ) (b : List ℕ) (x : Object) → WritesCanonical g accepts canonical
-    → TakesFitted g.format accepts → word_for g.format ≡ word_for f.format → IsReady wishes f g.format b x → IsFaithful wishes f g b (canonical x)
-ready_faithful wishes f g accepts canonical b x law takes word ready =
+pub ready_faithful : (wishes : Wishes) (f g : Dialect) (canonical : Object → List ℕ) (b : List ℕ) (x : Object) → WritesCanonical g canonical
+    → word_for g.format ≡ word_for f.format → IsReady wishes f g.format b x → IsFaithful wishes f g b (canonical x)
+ready_faithful wishes f g canonical b x law word ready =
     let keep : Keep = kept_of_file wishes f g.format in
     let by : parts.Edited = edited_file wishes f g.format b in
     faithful f g b (canonical x) keep by (is_folded_after f b keep by.symbols) ready.edited x law.dialect ready.is_object word
-    (law.written x ready.fitted (takes x ready.fitted)) (seen_looks_alike_law g.format x ready.fitted) ready.parts ready.shows ready.fit
+    (law.written x ready.fitted) (seen_looks_alike_law g.format x ready.fitted) ready.parts ready.shows ready.fit

@@ -20,10 +20,6 @@ use Rattle.oc_names.specs.EditedFile.{edited_in}
 use Rattle.oc_names.specs.EditedShows.{is_folded_after, HasEdited}
 use Rattle.oc_convert.specs.Refusals.{kept_of_file, first_refusal}
 
--- a writer writes all objects that are ready for its format
-abbrev pub TakesFitted : Format → (Object → Type 0) → Type 0
-TakesFitted to accepts = (n : Object) → IsFitted to n → accepts n
-
 -- the object of the file is one, and shows the file as it is kept
 pub record HasObject (f : Dialect) (b : List ℕ) (keep : Keep) : Type 0 where
   pub is_object : IsObject (object_in f b keep)

@@ -21,7 +21,8 @@ use Rattle.oc_neutral.specs.RowFields.{place_target}
 use Rattle.oc_shelf.specs.Reading.Collected.{collected}
 use Rattle.oc_shelf.proofs.ReadingLaws.CollectedLemmas.{length-step}
 use Rattle.oc_shelf.proofs.ReadingLaws.StageLemmas.{both_hold, implied}
-use Rattle.oc_elf_read.specs.declared.constants.TheConstants.{SHN_LORESERVE, SHN_ABS}
+use Rattle.oc_neutral.specs.declared.elf.TheConstants.{SHN_LORESERVE}
+use Rattle.oc_elf_read.specs.declared.constants.TheConstants.{SHN_ABS}
 use Rattle.oc_elf_read.specs.declared.rel.Rel.{Rel}
 use Rattle.oc_elf_read.specs.declared.sym.Sym.{Sym}
 use Rattle.oc_elf_read.specs.CarriedSections.{position_of, section_of, sections_of}

@@ -2,7 +2,8 @@
 use Rattle.std.specs.Prelude.{◌≡◌, ℕ, ◌+◌, ◌^◌, ◌<◌, ◌≤◌, false, List, [], ◌∷◌, ◌++◌, bytes_eq, length, map, if◌then◌else◌, slice_index_or, Option, Some, None}
 use Rattle.oc_base.specs.Strings.{is_given}
 use Rattle.oc_linking.specs.Parts as parts
-use Rattle.oc_neutral.specs.declared.elf.TheConstants.{SHT_NOBITS}
+use Rattle.oc_neutral.specs.declared.elf.TheConstants.{SHT_NOBITS, ALIGN_BITS}
+use Rattle.oc_elf_read.specs.declared.constants.TheConstants.{MOST_SIZE}
 use Rattle.oc_neutral.specs.declared.symbol.Symbol.{Symbol}
 use Rattle.oc_neutral.specs.Building.{Draft}
 use Rattle.oc_neutral.specs.Computed.{computed_symbol, keys_after}
@@ -21,8 +22,8 @@ use Rattle.oc_elf_read.specs.CarriedSymbols.{symbol_of, symbols_of}
 -- a carried section lies in the file, where it takes bytes of it, and its numbers are small
 pub record IsPlaced (f : Framed) (s : Shdr) : Type 0 where
   pub lies : is_type SHT_NOBITS s ≡ false → s.sh_offset + s.sh_size ≤ length f.file
-  pub size : s.sh_size ≤ 2147483647
-  pub align : s.sh_addralign ≤ 2 ^ 20
+  pub size : s.sh_size ≤ MOST_SIZE
+  pub align : s.sh_addralign ≤ 2 ^ ALIGN_BITS
   pub small : length f.file ≤ 67108864
 
 -- the one-definition group of section k, by its header

@@ -36,6 +36,11 @@ mod symbols;
 mod tests;
 
 pub use class::ElfClass;
+pub use constants::{
+    ELFDATA2LSB, ET_REL, EV_CURRENT, GRP_COMDAT, GRP_ENTRY_SIZE, R_NONE, SHN_ABS, SHN_COMMON,
+    SHN_UNDEF, SHT_GROUP, SHT_STRTAB, SHT_SYMTAB, STB_LOCAL, STB_WEAK, STT_FUNC, STT_OBJECT,
+    STT_SECTION,
+};
 pub use ehdr::{Ehdr, ehdr_of, ehdr_size};
 pub use judging::judge;
 pub use laws::clean_is_shown;

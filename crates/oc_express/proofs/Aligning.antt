@@ -15,8 +15,8 @@ use Rattle.oc_neutral.specs.Fitted.{fitted_binding}
 use Rattle.oc_neutral.specs.Invariants.{IsAlign}
 use Rattle.oc_neutral.specs.Omf.Family.{omf_aligns}
 use Rattle.oc_neutral.specs.Powers.{power_upto}
-use Rattle.oc_neutral.specs.Coff.Family.{coff_align_bits}
-use Rattle.oc_neutral.specs.Elf.Family.{elf_align_bits}
+use Rattle.oc_neutral.specs.declared.coff.TheConstants as coff
+use Rattle.oc_neutral.specs.declared.elf.TheConstants as elf
 
 -- the number that a search finds is not above its end, which stands for none
 found_low : (test : ℕ → Bool) (start n end : ℕ) → start + n ≤ end → unwrap_or (first_from test start n) end ≤ end
@@ -73,30 +73,30 @@ omf_each P one two four sixteen most align = omf_picked P one two four sixteen m
 -- the alignment of a section in a target
 pub align_is : (target : Format) (align : ℕ) → IsAlign (output_align target align)
 unfolding output_align
-align_is Elf32 align = power_is elf_align_bits align (omega arith)
-align_is Elf64 align = power_is elf_align_bits align (omega arith)
-align_is Coff32 align = power_is coff_align_bits align (omega arith)
-align_is Coff64 align = power_is coff_align_bits align (omega arith)
+align_is Elf32 align = power_is elf.ALIGN_BITS align (omega arith)
+align_is Elf64 align = power_is elf.ALIGN_BITS align (omega arith)
+align_is Coff32 align = power_is coff.ALIGN_BITS align (omega arith)
+align_is Coff64 align = power_is coff.ALIGN_BITS align (omega arith)
 align_is Mac32 align = power_is 15 align (omega arith)
 align_is Mac64 align = power_is 15 align (omega arith)
 align_is Omf align = omf_each IsAlign (0, omega arith, refl) (1, omega arith, refl) (2, omega arith, refl) (4, omega arith, refl) (8, omega arith, refl) align
 
 pub align_low : (target : Format) (align : ℕ) → output_align target align ≤ most_align target
 unfolding output_align
-align_low Elf32 align = power_low elf_align_bits align
-align_low Elf64 align = power_low elf_align_bits align
-align_low Coff32 align = power_low coff_align_bits align
-align_low Coff64 align = power_low coff_align_bits align
+align_low Elf32 align = power_low elf.ALIGN_BITS align
+align_low Elf64 align = power_low elf.ALIGN_BITS align
+align_low Coff32 align = power_low coff.ALIGN_BITS align
+align_low Coff64 align = power_low coff.ALIGN_BITS align
 align_low Mac32 align = power_low 15 align
 align_low Mac64 align = power_low 15 align
 align_low Omf align = omf_each (λ a. a ≤ 256) (omega arith) (omega arith) (omega arith) (omega arith) (omega arith) align
 
 pub align_twice : (target : Format) (align : ℕ) → output_align target (output_align target align) ≡ output_align target align
 unfolding output_align
-align_twice Elf32 align = power_twice elf_align_bits align
-align_twice Elf64 align = power_twice elf_align_bits align
-align_twice Coff32 align = power_twice coff_align_bits align
-align_twice Coff64 align = power_twice coff_align_bits align
+align_twice Elf32 align = power_twice elf.ALIGN_BITS align
+align_twice Elf64 align = power_twice elf.ALIGN_BITS align
+align_twice Coff32 align = power_twice coff.ALIGN_BITS align
+align_twice Coff64 align = power_twice coff.ALIGN_BITS align
 align_twice Mac32 align = power_twice 15 align
 align_twice Mac64 align = power_twice 15 align
 align_twice Omf align = omf_each (λ a. omf_of a ≡ a) refl refl refl refl refl align

@@ -9,20 +9,15 @@ ghost use Rattle.oc_express.specs.Far.{lies_far, lies_far_in};
 use crate::strings::{default_names, given_names};
 use oc_base::{Bytes, Format, NoMemory};
 use oc_neutral::Neutral;
+use oc_neutral::coff::{MOST_NAME_OFFSET, STRINGS_HEAD};
 use oc_strings::offsets;
 use std::alloc::Global;
-
-/// The greatest offset for which a section header has room: its name is `/` and seven digits.
-const MOST_OFFSET: u64 = 9_999_999;
-
-/// How many bytes stand before the first name of a string table: its size.
-const TABLE_HEAD: u32 = 4;
 
 // whether an offset has more digits than a section header has room for
 fn is_far(offset: u64) -> bool
     ensures { result ≡ coff.is_far offset }
 {
-    offset > MOST_OFFSET
+    offset > MOST_NAME_OFFSET
 }
 
 // whether the name at a place among those with these offsets lies too far
@@ -65,7 +60,7 @@ fn far_in_table(
 {
     let defaults = default_names(alloc, neutral)?;
     let given = given_names(alloc, target, neutral, names, &defaults)?;
-    let offsets = offsets(alloc, TABLE_HEAD, &given.names)?;
+    let offsets = offsets(alloc, STRINGS_HEAD as u32, &given.names)?;
     far_places(alloc, &offsets, &given.places)
 }
 

@@ -4,7 +4,7 @@ use Rattle.std.specs.Prelude.{sum_by}
 use Rattle.std.proofs.lemmas.Result.{IfOk-weaker}
 use Rattle.oc_base.specs.Formats.{word_for}
 use Rattle.oc_strings.specs.Tables.{StringTable}
-use Rattle.oc_coff_read.specs.declared.constants.TheConstants.{STRINGS_HEAD}
+use Rattle.oc_neutral.specs.declared.coff.TheConstants.{STRINGS_HEAD}
 use Rattle.oc_coff_write.specs.Strings.{table_for}
 use Rattle.oc_coff_write.proofs.Ready.{ready}
 use Rattle.oc_coff_write.proofs.StringLemmas.{all_given_names}
