@@ -202,7 +202,10 @@ fn measure<R: Clock + Print + Eprint>(
         )?,
         Err(fault) => println!(rt; "{what:?}: {symbols} symbols, {count} edits, {fault:?}")?,
     }
-    eprintln!(rt; "names of sum {sum} walked in {walked} us, edited in {edited} us")?;
+    let walks = edited / walked.max(1);
+    eprintln!(rt;
+        "names of sum {sum} walked in {walked} us, edited in {edited} us, as {walks} walks"
+    )?;
     Ok(())
 }
 

@@ -2,9 +2,11 @@ mod BindingRows
 mod DroppingRows
 mod EditedRows
 mod NameRows
+pub mod AliasLaws
 pub mod Behind
 pub mod DroppedShows
 pub mod DroppedSymbols
+pub mod EditPlaceLaws
 pub mod EditSteps
 pub mod EditedParts
 pub mod EditedReadable

@@ -22,7 +22,7 @@ use Rattle.oc_names.specs.Matching.{after_word, is_word}
 use Rattle.oc_names.specs.Places.{ArePlaces, IsPlace, IsRight}
 use Rattle.oc_names.specs.Rebinding.{after_words, is_global, made_local, pinned_fault, rebound, rebound_by, weakened}
 use Rattle.oc_names.specs.Steps.{first_in, symbol_fault, then_by, unless}
-use Rattle.oc_names.specs.WordPlaces.{AreWordPlaces, IsWordPlace, word_name}
+use Rattle.oc_names.specs.EditPlaces.{AreEditPlaces, IsEditPlace, whole_name}
 use Rattle.oc_neutral.proofs.FieldLists.{drop_here}
 use Rattle.oc_names.proofs.RenameTables.{or_none}
 use denote.Ref.{Bor}
@@ -101,7 +101,7 @@ module _ (name : List ℕ) (s : Symbol) (off : is_named name s ≡ false) where
   local_stays = ap (with_binding s) (binding_stays made_local made_stays (bytes_eq s.name name) refl)
 
 -- an edit leaves a symbol that has not its name
-untouched : (edit : Edit) (s : Symbol) → ((name : List ℕ) → word_name edit ≡ Some name → is_named name s ≡ false) → (pinned_fault edit s ≡ None) × (rebound edit s ≡ s)
+untouched : (edit : Edit) (s : Symbol) → ((name : List ℕ) → whole_name edit ≡ Some name → is_named name s ≡ false) → (pinned_fault edit s ≡ None) × (rebound edit s ≡ s)
 untouched (Weaken name) s off = (weak_none name s (off name refl), weak_stays name s (off name refl))
 untouched (MakeLocal name) s off = (refl, local_stays name s (off name refl))
 untouched (Rename from to) s off = (refl, refl)
@@ -115,29 +115,29 @@ untouched Underscore s off = (refl, refl)
 -- ... an edit among symbols
 
 -- the place is right of the name that there is
-right_of : (symbols : List Symbol) (o : Option (List ℕ)) (place : Place) (name : List ℕ) → IsWordPlace symbols o place → o ≡ Some name → IsRight name symbols place
+right_of : (symbols : List Symbol) (o : Option (List ℕ)) (place : Place) (name : List ℕ) → IsEditPlace symbols o place → o ≡ Some name → IsRight name symbols place
 right_of symbols None place name is e = absurd (none-some name e)
 right_of symbols (Some own) place name is e = subst (λ x. IsRight x symbols place) (same_Some own name e) is
 
 module _ (edit : Edit) (symbols : List Symbol) where
   -- no symbol has its name
-  pub word_nowhere : IsWordPlace symbols (word_name edit) Nowhere → after_word edit symbols ≡ Ok symbols
+  pub word_nowhere : IsEditPlace symbols (whole_name edit) Nowhere → after_word edit symbols ≡ Ok symbols
   word_nowhere is =
-      let each = λ (j : ℕ) (s : Symbol) (at : slice_get symbols j ≡ Some s). untouched edit s (λ name e. right_of symbols (word_name edit) Nowhere name is e j s at) in
+      let each = λ (j : ℕ) (s : Symbol) (at : slice_get symbols j ≡ Some s). untouched edit s (λ name e. right_of symbols (whole_name edit) Nowhere name is e j s at) in
       ap (λ o. unless o (map (rebound edit) symbols)) (first_else (pinned_fault edit) symbols (λ j s at. (each j s at).0)) ∙ ap Ok (map_else (rebound edit) symbols (λ j s at. (each j s at).1))
 
   -- one has
-  pub word_here : (k : ℕ) (s : Symbol) → slice_get symbols k ≡ Some s → IsWordPlace symbols (word_name edit) (At k) → after_word edit symbols ≡ unless (pinned_fault edit s) (set symbols k (rebound edit s))
+  pub word_here : (k : ℕ) (s : Symbol) → slice_get symbols k ≡ Some s → IsEditPlace symbols (whole_name edit) (At k) → after_word edit symbols ≡ unless (pinned_fault edit s) (set symbols k (rebound edit s))
   word_here k s here is =
-      let each = λ (j : ℕ) (t : Symbol) (at : slice_get symbols j ≡ Some t) (apart : j ≢ k). untouched edit t (λ name e. (right_of symbols (word_name edit) (At k) name is e).1 j t at apart) in
+      let each = λ (j : ℕ) (t : Symbol) (at : slice_get symbols j ≡ Some t) (apart : j ≢ k). untouched edit t (λ name e. (right_of symbols (whole_name edit) (At k) name is e).1 j t at apart) in
       ap (λ o. unless o (map (rebound edit) symbols)) (first_at (pinned_fault edit) symbols k s here (λ j t at apart. (each j t at apart).0))
       ∙ ap (unless (pinned_fault edit s)) (map_at (rebound edit) symbols k s here (λ j t at apart. (each j t at apart).1))
 
   -- it stands in the list
-  pub word_low : (k : ℕ) → is_word edit ≡ true → IsWordPlace symbols (word_name edit) (At k) → k < length symbols
+  pub word_low : (k : ℕ) → is_word edit ≡ true → IsEditPlace symbols (whole_name edit) (At k) → k < length symbols
   word_low k word is = by edit word is
     where
-      by : (e : Edit) → is_word e ≡ true → IsWordPlace symbols (word_name e) (At k) → k < length symbols
+      by : (e : Edit) → is_word e ≡ true → IsEditPlace symbols (whole_name e) (At k) → k < length symbols
       by (Weaken name) word is = is.0
       by (MakeLocal name) word is = is.0
       by (Rename from to) word is = absurd (true≢false (sym word))
@@ -198,35 +198,15 @@ module _ (edit : Edit) (name : List ℕ) where
   right_still symbols (At k) is = (omega (arith, is.0, length-map symbols (rebound edit)), still (λ i. i ≢ k) symbols is.1)
   right_still symbols Several is = tt
 
-pub places_still : (edit : Edit) (symbols : List Symbol) (edits : List Edit) (places : List Place) → AreWordPlaces symbols edits places → AreWordPlaces (map (rebound edit) symbols) edits places
+pub places_still : (edit : Edit) (symbols : List Symbol) (edits : List Edit) (places : List Place) → AreEditPlaces symbols edits places → AreEditPlaces (map (rebound edit) symbols) edits places
 places_still edit symbols [] [] are = tt
-places_still edit symbols (e ∷ edits) (p ∷ places) are = (by (word_name e) are.0, places_still edit symbols edits places are.1)
+places_still edit symbols (e ∷ edits) (p ∷ places) are = (by (whole_name e) are.0, places_still edit symbols edits places are.1)
   where
-    by : (o : Option (List ℕ)) → IsWordPlace symbols o p → IsWordPlace (map (rebound edit) symbols) o p
-    by None is = tt
+    by : (o : Option (List ℕ)) → IsEditPlace symbols o p → IsEditPlace (map (rebound edit) symbols) o p
+    by None is = is
     by (Some name) is = right_still edit name symbols p is
 places_still edit symbols [] (p ∷ places) are = absurd are
 places_still edit symbols (e ∷ edits) [] are = absurd are
-
--- places of names are places of edits that have these names
-pub word_places : (symbols : List Symbol) (names : List (Option (Bor (List ℕ)))) (edits : List Edit) (places : List Place) → names_of names ≡ map word_name edits → ArePlaces symbols names places → AreWordPlaces symbols edits places
-word_places symbols [] [] [] e are = tt
-word_places symbols [] [] (p ∷ places) e are = absurd are
-word_places symbols [] (x ∷ edits) places e are = absurd (cc e)
-word_places symbols (n ∷ names) [] places e are = absurd (cc e)
-word_places symbols (n ∷ names) (x ∷ edits) [] e are = absurd are
-word_places symbols (n ∷ names) (x ∷ edits) (p ∷ places) e are = (by n (cc e) are.0, word_places symbols names edits places (cc e) are.1)
-  where
-    by : (n : Option (Bor (List ℕ))) → option_map (λ x. x.now) n ≡ word_name x → IsPlace symbols n p → IsWordPlace symbols (word_name x) p
-    by None e is = subst (λ o. IsWordPlace symbols o p) e tt
-    by (Some name) e is = subst (λ o. IsWordPlace symbols o p) e is
-
--- as many places as edits
-pub places_counted : (symbols : List Symbol) (edits : List Edit) (places : List Place) → AreWordPlaces symbols edits places → length edits ≡ length places
-places_counted symbols [] [] are = refl
-places_counted symbols (e ∷ edits) (p ∷ places) are = omega (arith, places_counted symbols edits places are.1)
-places_counted symbols [] (p ∷ places) are = absurd are
-places_counted symbols (e ∷ edits) [] are = absurd are
 
 unless_ok : (o : Option Fault) (xs ys : List Symbol) → unless o xs ≡ Ok ys → xs ≡ ys
 unless_ok None xs ys e = cc e
@@ -234,16 +214,16 @@ unless_ok (Some fault) xs ys e = absurd (cc e)
 
 -- the next edit, and what it leaves
 module _ (symbols : List Symbol) (edits : List Edit) (places : List Place) (at : ℕ) (e : Edit) (p : Place) (here : slice_get edits at ≡ Some e) (there : slice_get places at ≡ Some p)
-    (are : AreWordPlaces symbols (drop at edits) (drop at places)) where
-  left : AreWordPlaces symbols (e ∷ drop (at + 1) edits) (p ∷ drop (at + 1) places)
-  left = subst (λ es. AreWordPlaces symbols es (p ∷ drop (at + 1) places)) (drop_here edits at e here) (subst (λ ps. AreWordPlaces symbols (drop at edits) ps) (drop_here places at p there) are)
+    (are : AreEditPlaces symbols (drop at edits) (drop at places)) where
+  left : AreEditPlaces symbols (e ∷ drop (at + 1) edits) (p ∷ drop (at + 1) places)
+  left = subst (λ es. AreEditPlaces symbols es (p ∷ drop (at + 1) places)) (drop_here edits at e here) (subst (λ ps. AreEditPlaces symbols (drop at edits) ps) (drop_here places at p there) are)
 
-  pub word_now : IsWordPlace symbols (word_name e) p
+  pub word_now : IsEditPlace symbols (whole_name e) p
   word_now = left.0
 
-  pub word_step : (new : List Symbol) → after_word e symbols ≡ Ok new → AreWordPlaces new (drop (at + 1) edits) (drop (at + 1) places)
+  pub word_step : (new : List Symbol) → after_word e symbols ≡ Ok new → AreEditPlaces new (drop (at + 1) edits) (drop (at + 1) places)
   word_step new made =
-      subst (λ ns. AreWordPlaces ns (drop (at + 1) edits) (drop (at + 1) places)) (unless_ok (first_in (pinned_fault e) symbols) (map (rebound e) symbols) new made)
+      subst (λ ns. AreEditPlaces ns (drop (at + 1) edits) (drop (at + 1) places)) (unless_ok (first_in (pinned_fault e) symbols) (map (rebound e) symbols) new made)
       (places_still e symbols (drop (at + 1) edits) (drop (at + 1) places) left.1)
 
   pub word_answer : (new : List Symbol) {w : Result (List Symbol) Fault} → after_word e symbols ≡ Ok new → after_words (drop at edits) symbols ≡ w → after_words (drop (at + 1) edits) new ≡ w

@@ -63,7 +63,7 @@ fn named(alloc: Global, edits: &[Edit], to: Format, neutral: Neutral) -> Result<
 ///
 /// `NoMemory` where memory ran out. A refusal gives nothing back. Time is that of a sort of the names
 /// and of looking up each among those of the edits, of a comparison for each symbol and edit of a
-/// front, an end or a further name, and else linear in the object.
+/// front or an end, and else linear in the object.
 pub fn apply(
     alloc: Global,
     neutral: Neutral,

@@ -7,8 +7,8 @@ ghost use Rattle.oc_names.specs.Rebinding as rebinding;
 use crate::edit::Edit;
 use crate::fallbacks::after_fallbacks;
 use crate::fault::EditFault;
-use crate::places::places_of;
-use crate::rebinding::{after_words, word_names};
+use crate::places::edit_places;
+use crate::rebinding::after_words;
 use crate::reloc_step::relocs_left;
 use oc_base::word_of;
 use oc_neutral::{Neutral, Symbol};
@@ -24,8 +24,7 @@ pub(crate) fn symbols_after(
     ensures refused { IfErr result (IsStepRefusal (then_by rebinding.after_fallbacks (rebinding.after_words edits.now symbols.items))) }
 {
     let mut symbols = symbols;
-    let names = word_names(alloc, edits)?;
-    let places = places_of(alloc, names.as_slice(), symbols.as_slice())?;
+    let places = edit_places(alloc, edits, symbols.as_slice())?;
     if let Err(fault) = after_words(edits, places.as_slice(), symbols.as_mut_slice()) {
         return Err(EditFault::Refused(fault));
     }

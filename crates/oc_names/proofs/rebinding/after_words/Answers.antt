@@ -1,7 +1,8 @@
 use Rattle.std.proofs.Common.{◌∙◌, Some, ap, arith, sym}
 use Rattle.std.proofs.lemmas.Option.{slice_get-get_or}
 use Rattle.oc_names.specs.declared.places.Place.TheVariants.{Nowhere}
-use Rattle.oc_names.proofs.WordLaws.{places_counted, word_answer, word_now, word_step}
+use Rattle.oc_names.proofs.EditPlaceLaws.{places_counted}
+use Rattle.oc_names.proofs.WordLaws.{word_answer, word_now, word_step}
 use Rattle.oc_names.proofs.rebinding.after_words.Goals as goal
 
 pub loop-at-preserved : goal.loop-at-preserved
