@@ -1,0 +1,107 @@
+-- A file without faults shows what is built of it, which can be finished and read.
+use Rattle.std.proofs.Common.{◌≡◌, ℕ, ◌<◌, List, length, Option, None, Some, refl, sym, ◌∙◌, ap, subst}
+use Rattle.std.specs.Prelude.{slice_get}
+use Rattle.std.proofs.lemmas.Bool.{true≢false}
+use Rattle.std.proofs.lemmas.Option.{none-some}
+use Rattle.oc_base.specs.declared.format.Word.{Word}
+use Rattle.oc_linking.specs.declared.terms.Keep.{Keep}
+use Rattle.oc_linking.specs.FirstFault.{first_fault, stage_fault}
+use Rattle.oc_linking.specs.Numbers.{or_else}
+use Rattle.oc_base.specs.declared.fault.Fault.{Fault}
+use Rattle.oc_neutral.specs.declared.reloc.Reloc.{Reloc}
+use Rattle.oc_neutral.specs.declared.reloc.Target.{Target}
+use Rattle.oc_neutral.specs.declared.reloc.Target.TheVariants as target
+use Rattle.oc_neutral.specs.Building.{Draft}
+use Rattle.oc_neutral.specs.Built.{HasAdded, IsStarted}
+use Rattle.oc_neutral.specs.Finished.{AreFinal}
+use Rattle.oc_neutral.specs.Invariants.{AreBytes, IsComplete, IsDraft, NamesOriginal}
+use Rattle.oc_neutral.specs.Readable.{IsReadable}
+use Rattle.oc_neutral.specs.Shows.{Shows}
+use Rattle.oc_neutral.proofs.BuiltWhole.{built_is_complete, built_is_readable}
+use Rattle.oc_coff_read.specs.Tables.{tables_of}
+use Rattle.oc_coff_read.specs.HeaderFaults.{header_stage}
+use Rattle.oc_coff_read.specs.RelocationFaults.{relocation_stage}
+use Rattle.oc_coff_read.specs.Rules.{coff_dialect, fault_of, stages_of}
+use Rattle.oc_coff_read.specs.SectionFaults.{section_stage}
+use Rattle.oc_coff_read.specs.SymbolFaults.{symbol_stage}
+use Rattle.oc_coff_read.specs.Symbols.{symbols_in}
+use Rattle.oc_coff_reader.specs.Adding.{started}
+use Rattle.oc_coff_reader.specs.Given.{given_at}
+use Rattle.oc_coff_reader.specs.Head.{IsHeaded}
+use Rattle.oc_coff_reader.specs.Relocs.{rest_stages}
+use Rattle.oc_coff_reader.specs.Shown.{CleanIsShown}
+use Rattle.oc_coff_reader.proofs.AddedSymbols.{narrow}
+use Rattle.oc_coff_reader.proofs.CompleteLemmas.{complete}
+use Rattle.oc_coff_reader.proofs.NamedDefaults.{are_named}
+use Rattle.oc_coff_reader.proofs.NumberedSymbols.{symbol_stands}
+use Rattle.oc_coff_reader.proofs.ReadableLemmas.{blank_is, readable}
+use Rattle.oc_coff_reader.proofs.RowLemmas.{is_row, no_call}
+use Rattle.oc_coff_reader.proofs.StandingFields.{IsStanding, form_of, given_standing}
+use Rattle.oc_coff_reader.proofs.StartedFile.{built_is_shown, is_started}
+use Rattle.oc_coff_reader.proofs.WholeSymbols.{original_there}
+
+-- ... stages
+
+-- the stages behind the header have no fault
+pub record IsClean (w : Word) (file : List ℕ) (keep : Keep) : Type 0 where
+  pub sections : stage_fault (section_stage file (tables_of file)) ≡ None
+  pub symbols : stage_fault (symbol_stage (tables_of file)) ≡ None
+  pub relocs : stage_fault (relocation_stage w (tables_of file) keep) ≡ None
+
+none_of : (a b : Option Fault) → or_else a b ≡ None → (a ≡ None) × (b ≡ None)
+none_of None b e = (refl, e)
+none_of (Some f) b e = absurd (none-some f (sym e))
+
+pub stages_clean : (w : Word) (file : List ℕ) (keep : Keep) → first_fault (rest_stages w file keep) ≡ None → IsClean w file keep
+stages_clean w file keep none =
+    let a = none_of (stage_fault (section_stage file (tables_of file))) _ none in
+    let b = none_of (stage_fault (symbol_stage (tables_of file))) _ a.1 in
+    let c = none_of (stage_fault (relocation_stage w (tables_of file) keep)) _ b.1 in
+    record { sections = a.0; symbols = b.0; relocs = c.0 }
+
+-- those of a file are its header's and the rest
+pub fault_is : (w : Word) (file : List ℕ) (keep : Keep) → fault_of w file keep ≡ or_else (stage_fault (header_stage file)) (first_fault (rest_stages w file keep))
+unfolding fault_of stages_of
+fault_is w file keep = refl
+
+pub clean_is_shown : CleanIsShown
+clean_is_shown w file keep d small none start has =
+    let head = (none_of (stage_fault (header_stage file)) _ (sym (fault_is w file keep) ∙ none)).0 in
+    built_is_shown w file (record { clean = head; small = small }) keep d start has
+
+-- ... what is given
+
+module _ (w : Word) (file : List ℕ) (head : IsHeaded file) (bytes : AreBytes file) (keep : Keep) (clean : IsClean w file keep) (draft : IsDraft (started w file)) where
+  pub start : IsStarted (coff_dialect w) file keep (started w file)
+  start = is_started w file head keep (are_named (tables_of file) clean.symbols (narrow file head clean.symbols bytes)) draft
+
+  standing : (s at : ℕ) (r : Reloc) → given_at w (tables_of file) keep s at ≡ Some r → IsStanding w file head keep (started w file).object start.symbols clean.relocs s at r
+  standing = given_standing w file head keep (started w file).object start.symbols clean.relocs
+
+  original : (s at : ℕ) (r : Reloc) (m : IsStanding w file head keep (started w file).object start.symbols clean.relocs s at r) (u : Target) → m.made.against.at ≡ u → NamesOriginal (started w file).object.symbols u
+  original s at r m (target.Section k) same = tt
+  original s at r m (target.Symbol p) same =
+      let x = m.made.against.symbol p same in
+      original_there w file head bytes clean.symbols p x.0 (ap (slice_get (symbols_in (tables_of file))) (sym x.2) ∙ symbol_stands file head m.made.place m.made.symbol x.0 m.made.there x.1)
+
+  are_final : AreFinal (started w file).object (given_at w (tables_of file) keep)
+  are_final = record {
+    hints = λ s at r e call.
+        let m = standing s at r e in
+        absurd (no_call m.good.row (is_row w m.entry.Type m.good.row m.good.listed) (sym (form_of w file head keep (started w file).object start.symbols clean.relocs s at r m).2 ∙ call));
+    originals = λ s at r e.
+        let m = standing s at r e in
+        subst (λ (q : Reloc). NamesOriginal (started w file).object.symbols q.target) m.made.against.is (original s at r m m.made.against.at refl);
+  }
+
+  module _ (d : Draft) (has : HasAdded (started w file) d (given_at w (tables_of file) keep)) where
+    pub read_complete : length (tables_of file).entries < 4294967296 → IsComplete d.object
+    read_complete few =
+        built_is_complete (coff_dialect w) file keep (started w file) d (given_at w (tables_of file) keep) start has (complete w file head bytes clean.symbols few) are_final
+
+    pub read_readable : IsReadable d.object
+    read_readable =
+        built_is_readable (coff_dialect w) file keep (started w file) d (given_at w (tables_of file) keep) start has (readable w file bytes) (λ s x there blank at. absurd (true≢false (sym blank ∙ blank_is w x.tag)))
+
+    pub read_shows : Shows (coff_dialect w) file keep d.object
+    read_shows = built_is_shown w file head keep d start has

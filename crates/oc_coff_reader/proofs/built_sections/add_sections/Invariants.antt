@@ -1,0 +1,8 @@
+-- The carried sections so far are added.
+use Rattle.std.proofs.Common.{◌≡◌}
+use Rattle.oc_coff_read.specs.Tables.{tables_of}
+use Rattle.oc_coff_reader.specs.Built.{sectioned}
+use Rattle.oc_coff_reader.proofs.built_sections.add_sections.Given as goal
+
+abbrev pub invariant-loop-i : goal.invariant-loop-i
+invariant-loop-i l = l.builder ≡ sectioned l.word (tables_of l.coff) l.i

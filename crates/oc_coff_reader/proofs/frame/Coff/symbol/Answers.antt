@@ -1,0 +1,19 @@
+-- The entry lies in the file.
+use Rattle.std.proofs.Common.{ℕ, ◌+◌, ◌*◌, List, length, ◌∙◌, ap, subst, arith}
+use Rattle.oc_coff_read.specs.SymbolEntry.{symbol_at}
+use Rattle.oc_coff_read.specs.Tables.{tables_of, slot_at}
+use Rattle.oc_coff_reader.specs.Head.{IsHeaded}
+use Rattle.oc_coff_reader.proofs.HeadLemmas.{entry_lies}
+use Rattle.oc_coff_reader.proofs.frame.Coff.symbol.Goals as goal
+
+pub symbol_at-requires : goal.symbol_at-requires
+symbol_at-requires c =
+    let lies = entry_lies c.args.self.now (subst IsHeaded c.self.view_is c.self.invariant.0) c.args.j c.requires in
+    let same = ap length c.self.view_is in
+    omega (arith, lies, same, c.entry_place.ensures)
+
+pub returns : goal.returns
+unfolding slot_at
+returns c =
+    c.symbol_at.ensures ∙ ap (symbol_at c.self.inside.file.now) c.entry_place.ensures
+    ∙ ap (λ (f : List ℕ). symbol_at f ((tables_of c.args.self.now).entries_at + 18 * c.args.j)) c.self.view_is

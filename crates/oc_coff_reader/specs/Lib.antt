@@ -1,0 +1,13 @@
+pub mod Adding
+pub mod Aimed
+pub mod Built
+pub mod Classed
+pub mod Found
+pub mod Given
+pub mod Head
+pub mod Judged
+pub mod Meanings
+pub mod Numbered
+pub mod Relocs
+pub mod Shown
+pub mod Tagged

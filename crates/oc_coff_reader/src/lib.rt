@@ -1,0 +1,37 @@
+//! The readers of COFF objects for both words.
+#![tactic(auto)]
+
+mod added_relocs;
+mod aims;
+mod bindings;
+mod built_groups;
+mod built_relocs;
+mod built_sections;
+mod built_symbols;
+mod copies;
+mod found;
+mod frame;
+mod headers;
+mod judging;
+mod keys;
+mod kind;
+mod laws;
+mod meaning;
+mod names;
+mod numbers;
+mod owners;
+mod positions;
+mod reader;
+mod relocs;
+mod section_stage;
+mod sections;
+mod started;
+mod symbol_stage;
+mod symbols;
+mod tagged;
+#[cfg(test)]
+mod tests;
+
+pub use laws::clean_is_shown;
+pub use meaning::Meaning;
+pub use reader::{CoffReader32, CoffReader64};

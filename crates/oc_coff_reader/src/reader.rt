@@ -1,0 +1,137 @@
+//! The readers of both words.
+ghost use Rattle.std.specs.Prelude.{◌≡◌, ◌≤◌, length, None, Some, IfErr, IfOk, OnOk};
+ghost use Rattle.oc_linking.specs.FirstFault.{first_fault};
+ghost use Rattle.oc_neutral.specs.Readable.{IsReadable, IsReadFault};
+ghost use Rattle.oc_neutral.specs.Shows.{Shows};
+ghost use Rattle.oc_shelf.specs.Reading.Stops.{IsStop};
+ghost use Rattle.oc_coff_read.specs.Rules.{coff_dialect, fault_of};
+ghost use Rattle.oc_coff_reader.specs.Found.{IsFound};
+ghost use Rattle.oc_coff_reader.specs.Relocs.{rest_stages};
+
+use crate::added_relocs::add_relocations;
+use crate::built_symbols::Positions;
+use crate::found::Found;
+use crate::frame::{Coff, read_coff};
+use crate::judging::check_rest;
+use crate::positions::symbol_positions;
+use crate::started::start;
+use oc_base::{Class, Fault, NoMemory, Word, class};
+use oc_neutral::{Keep, Neutral, ReadFault, Reads, are_bytes};
+use oc_shelf::Stop;
+use std::alloc::Global;
+
+// the object of a file without faults, by what was found in it
+fn object_of(
+    alloc: Global,
+    word: Word,
+    coff: &Coff,
+    keep: &Keep,
+    found: &Found,
+) -> Result<Neutral, NoMemory>
+    requires clean { first_fault (rest_stages word coff.now keep.now) ≡ None }
+    requires found { IsFound coff.now found.now }
+    ensures shows { IfOk result (Shows (coff_dialect word) coff.now keep.now) }
+    ensures readable { IfOk result IsReadable }
+{
+    coff.is_headed();
+    are_bytes(coff.file());
+    let numbers = found.numbers.as_slice();
+    let symbols = symbol_positions(alloc, coff, numbers, &found.sections, &found.tagged)?;
+    let mut builder = start(alloc, word, coff, found, &symbols)?;
+    builder.is_draft();
+    let positions = Positions {
+        sections: &found.sections,
+        tagged: &found.tagged,
+        symbols: &symbols,
+    };
+    add_relocations(alloc, word, coff, keep, &positions, &mut builder)?;
+    Ok(builder.finish())
+}
+
+// reads a file
+fn read_file(alloc: Global, word: Word, file: &[u8], keep: &Keep) -> Result<Neutral, Stop>
+    requires { length file.now ≤ 67108864 }
+    ensures clean { OnOk result (fault_of word file.now keep.now ≡ None) }
+    ensures stop { IfErr result (IsStop (fault_of word file.now keep.now)) }
+    ensures shows { IfOk result (Shows (coff_dialect word) file.now keep.now) }
+    ensures readable { IfOk result IsReadable }
+{
+    let coff = match read_coff(file) {
+        Err(fault) => return Err(Stop::Fault(fault)),
+        Ok(coff) => coff,
+    };
+    let found = match check_rest(alloc, word, &coff, keep) {
+        Err(stop) => return Err(stop),
+        Ok(found) => found,
+    };
+    match object_of(alloc, word, &coff, keep, &found) {
+        Err(NoMemory) => Err(Stop::NoMemory),
+        Ok(object) => Ok(object),
+    }
+}
+
+// a fault of reading, in the variant of its class
+fn by_class(fault: Fault) -> ReadFault
+    ensures { IsReadFault (Some fault) result }
+{
+    match class(fault.code) {
+        Class::Malformed => ReadFault::Malformed(fault),
+        Class::Refused => ReadFault::Outside(fault),
+        Class::Limit => ReadFault::Limit(fault),
+    }
+}
+
+// reads a file, and tells its fault in the variant of its class
+fn read_bytes(alloc: Global, word: Word, bytes: &[u8], keep: &Keep) -> Result<Neutral, ReadFault>
+    requires { length bytes.now ≤ 67108864 }
+    ensures well_formed { OnOk result (fault_of word bytes.now keep.now ≡ None) }
+    ensures shows { IfOk result (Shows (coff_dialect word) bytes.now keep.now) }
+    ensures readable { IfOk result IsReadable }
+    ensures fault { IfErr result (IsReadFault (fault_of word bytes.now keep.now)) }
+{
+    match read_file(alloc, word, bytes, keep) {
+        Ok(object) => Ok(object),
+        Err(Stop::NoMemory) => Err(ReadFault::NoMemory),
+        Err(Stop::Fault(fault)) => Err(by_class(fault)),
+    }
+}
+
+/// The reader of COFF objects of 32 bits, for i386.
+///
+/// The time is that of `judge`, and linear in the bytes of the file.
+#[derive(Clone, Copy, Debug)]
+pub struct CoffReader32;
+
+impl Reads for CoffReader32 {
+    ghost use Rattle.oc_base.specs.declared.format.Word.TheVariants.{W32};
+    ghost use Rattle.oc_coff_read.specs.Rules.{coff_dialect};
+    ghost use Rattle.oc_coff_reader.specs.Shown.{coff_is_dialect};
+
+    ghost dialect = { coff_dialect W32 };
+
+    fn read(&self, alloc: Global, bytes: &[u8], keep: &Keep) -> Result<Neutral, ReadFault> {
+        read_bytes(alloc, Word::W32, bytes, keep)
+    }
+
+    ghost law = { coff_is_dialect W32 };
+}
+
+/// The reader of COFF objects of 64 bits, for x64.
+///
+/// The time is that of `judge`, and linear in the bytes of the file.
+#[derive(Clone, Copy, Debug)]
+pub struct CoffReader64;
+
+impl Reads for CoffReader64 {
+    ghost use Rattle.oc_base.specs.declared.format.Word.TheVariants.{W64};
+    ghost use Rattle.oc_coff_read.specs.Rules.{coff_dialect};
+    ghost use Rattle.oc_coff_reader.specs.Shown.{coff_is_dialect};
+
+    ghost dialect = { coff_dialect W64 };
+
+    fn read(&self, alloc: Global, bytes: &[u8], keep: &Keep) -> Result<Neutral, ReadFault> {
+        read_bytes(alloc, Word::W64, bytes, keep)
+    }
+
+    ghost law = { coff_is_dialect W64 };
+}
