@@ -1,0 +1,85 @@
+-- The header of a canonical file is well formed.
+use Rattle.oc_elf_read.specs.declared.shdr.Shdr.{Shdr}
+use Rattle.std.proofs.Common.{◌≡◌, ℕ, ◌+◌, ◌*◌, ◌≤◌, Bool, true, false, not, ◌&&◌, eqb, List, length, refl, ◌∙◌, ap, arith}
+use Rattle.std.specs.Prelude.{flat_map, nat_lt}
+use Rattle.std.proofs.lemmas.Bool.{ne_eqb}
+use Rattle.std.proofs.lemmas.Bool.Decides.{nat_tests}
+use Rattle.std.proofs.lemmas.Option.{slice_get_within}
+use Rattle.oc_base.proofs.NumberLaws.{length-table}
+use Rattle.oc_neutral.specs.Objects.{Object}
+use Rattle.oc_shelf.specs.Writing.Parts.{place_where}
+use Rattle.oc_shelf.proofs.ReadingLaws.StageLemmas.{Unbroken}
+use Rattle.oc_shelf.proofs.WritingLaws.StandingLemmas.{stands_inside}
+use Rattle.oc_elf_read.specs.declared.class.ElfClass.{ElfClass}
+use Rattle.oc_elf_read.specs.declared.class.ElfClass.TheVariants.{Class32, Class64}
+use Rattle.oc_elf_read.specs.Classes.{machine_of}
+use Rattle.oc_elf_read.specs.Ehdr.{ehdr_size}
+use Rattle.oc_elf_read.specs.Shdr.{shdr_size}
+use Rattle.oc_elf_read.specs.Headers.{header_conditions, names_conditions}
+use Rattle.oc_elf_file.specs.Structures.{ehdr_bytes, shdr_bytes}
+use Rattle.oc_elf_file.specs.Heads.{ShstrtabHead, heads_of, head_where, is_shstrtab_head}
+use Rattle.oc_elf_file.specs.Layout.{laid_parts, is_head_table}
+use Rattle.oc_elf_file.specs.Headers.{shdr_of, made_headers}
+use Rattle.oc_elf_file.specs.Canonical.{file_header, elf_file}
+use Rattle.oc_elf_file.proofs.StructureLaws.{length-ehdr_bytes, length-shdr_bytes}
+use Rattle.oc_elf_file.proofs.HeadLaws.{shstrtab_at}
+use Rattle.oc_elf_file.proofs.PartLaws.{length-made_headers, stands_file_header, table_stands}
+use Rattle.oc_elf_file.proofs.FrameLaws.{IsCodable, made_frame}
+use Rattle.oc_elf_file.proofs.CodedLaws.{IsForElf}
+use Rattle.oc_elf_file.proofs.TableLaws.{header_is}
+use Rattle.oc_elf_file.proofs.FileSize.{few_heads}
+
+-- a range that lies in the file
+pub within_file : (size end : ℕ) → end ≤ size → nat_lt size end ≡ false
+within_file size end l = grind (arith, nat_tests)
+
+module _ (class : ElfClass) (n : Object) (is : IsForElf class n) (fits : IsCodable class n) where
+  abbrev file : List ℕ
+  file = elf_file class n
+
+  -- the number of headers
+  some_heads : eqb (length (heads_of n)) 0 ≡ false
+  some_heads = let low = slice_get_within (heads_of n) (head_where n is_shstrtab_head) ShstrtabHead (shstrtab_at n) in ne_eqb (length (heads_of n)) 0 (λ e. omega (arith, e, low))
+
+  -- no number stands elsewhere
+  not_extended : eqb (head_where n is_shstrtab_head) 0xFFFF ≡ false
+  not_extended =
+      let low = slice_get_within (heads_of n) (head_where n is_shstrtab_head) ShstrtabHead (shstrtab_at n) in
+      let few = few_heads class n is in
+      ne_eqb (head_where n is_shstrtab_head) 0xFFFF (λ e. omega (arith, e, low, few))
+
+  table_inside : place_where is_head_table (laid_parts class n) + shdr_size class * length (heads_of n) ≤ length file
+  table_inside =
+      let inside = stands_inside file (flat_map (shdr_bytes class) (made_headers class n)) (place_where is_head_table (laid_parts class n)) (table_stands class n) in
+      let size : length (flat_map (shdr_bytes class) (made_headers class n)) ≡ shdr_size class * length (heads_of n)
+      = length-table (shdr_bytes class) (shdr_size class) (made_headers class n) (length-shdr_bytes class) ∙ ap (λ m. shdr_size class * m) (length-made_headers class n) in
+      omega (arith, inside, size)
+
+  header_inside : ehdr_size class ≤ length file
+  header_inside =
+      let inside = stands_inside file (ehdr_bytes class (file_header class n)) 0 (stands_file_header class n) in
+      let size = length-ehdr_bytes class (file_header class n) in
+      omega (arith, inside, size)
+
+  same : (class : ElfClass) → (eqb (ehdr_size class) (ehdr_size class) ≡ true) × (eqb (machine_of class) (machine_of class) ≡ true) × (eqb (shdr_size class) (shdr_size class) ≡ true)
+  same Class32 = (refl, refl, refl)
+  same Class64 = (refl, refl, refl)
+
+  pub header_clean : Unbroken (header_conditions class (length file) (file_header class n))
+  unfolding header_conditions file_header
+  header_clean =
+      let s = same class in
+      rw (s.0, s.1, s.2, some_heads, not_extended) (
+        within_file (length file) (ehdr_size class) header_inside,
+        (refl, (refl, (refl, (refl, (within_file (length file) (place_where is_head_table (laid_parts class n) + shdr_size class * length (heads_of n)) table_inside, tt))))),
+      )
+
+  pub names_clean : Unbroken (names_conditions (file_header class n) (made_frame class n).names)
+  unfolding file_header made_frame shdr_of
+  names_clean =
+      let b = header_is class n is fits (head_where n is_shstrtab_head) ShstrtabHead (shstrtab_at n) in
+      (ap (λ (x : Shdr). not (eqb (length (heads_of n)) 0) && not (eqb x.sh_type 3)) b.1 ∙ and_no (not (eqb (length (heads_of n)) 0)), tt)
+    where
+      and_no : (b : Bool) → (b && false) ≡ false
+      and_no true = refl
+      and_no false = refl

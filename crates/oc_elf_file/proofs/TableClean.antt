@@ -1,0 +1,302 @@
+-- The tables of a canonical file are well formed, and no header is of a kind that is not read.
+use Rattle.oc_elf_read.specs.Shdr.{null_shdr}
+use Rattle.oc_neutral.proofs.Positions.{there_at}
+use Rattle.std.proofs.Common.{◌≡◌, ℕ, zero, suc, ◌+◌, ◌*◌, ◌%◌, ◌<◌, inl, inr, Bool, true, false, not, ◌&&◌, ◌||◌, cond, eqb, List, [], ◌∷◌, length, Option, Some, None, refl, sym, ◌∙◌, ap, arith}
+use Rattle.std.specs.Prelude.{slice_get, nat_lt}
+use Rattle.std.specs.List.{list_any, enumerate_from, AllByRecursion}
+use Rattle.std.specs.Option.{is_some}
+use Rattle.std.proofs.lemmas.Bool.{true≢false, eq-eqb, eqb-true, lt-ltb}
+use Rattle.std.proofs.lemmas.Option.{none-some, same_Some, slice_get_within}
+use Rattle.oc_chains.specs.Lists.{list_of}
+use Rattle.oc_neutral.specs.declared.section.Section.{Section}
+use Rattle.oc_neutral.specs.Objects.{Object}
+use Rattle.oc_neutral.specs.Elf.Kinds.{carried_types, is_carried_type, elf_tag_type, is_nobits_tag, elf_tag_flags}
+use Rattle.oc_neutral.specs.KindRules.{has}
+use Rattle.oc_shelf.proofs.ReadingLaws.FirstsLemmas.{keyed_from}
+use Rattle.oc_shelf.proofs.ReadingLaws.StageLemmas.{Unbroken, upto_none}
+use Rattle.oc_shelf.proofs.WritingLaws.MemberLemmas.{keyed_once, of_append, of_filter_map}
+use Rattle.oc_elf_read.specs.declared.class.ElfClass.{ElfClass}
+use Rattle.oc_elf_read.specs.declared.class.ElfClass.TheVariants.{Class32, Class64}
+use Rattle.oc_elf_read.specs.declared.constants.TheConstants.{SHT_SYMTAB, SHT_STRTAB}
+use Rattle.oc_elf_read.specs.declared.shdr.Shdr.{Shdr}
+use Rattle.oc_elf_read.specs.Classes.{reloc_type, foreign_type}
+use Rattle.oc_elf_read.specs.Frames.{Framed, header_at}
+use Rattle.oc_elf_read.specs.Rel.{rel_size}
+use Rattle.oc_elf_read.specs.Sections.{is_type, symtab_among, table_among, relocated_by}
+use Rattle.oc_elf_read.specs.Sym.{sym_size}
+use Rattle.oc_elf_read.specs.SectionRules.{known_types, has_entries, is_left_out, is_good_symtab, is_good_table, table_conditions}
+use Rattle.oc_elf_file.specs.Heads.{Head, NullHead, GroupHead, SectionHead, RelocHead, SymtabHead, StrtabHead, ShstrtabHead, reloc_head, reloc_heads, table_heads, heads_of, head_where, section_number, is_symtab_head, is_strtab_head, is_shstrtab_head}
+use Rattle.oc_elf_file.specs.Lines.{lines_of}
+use Rattle.oc_elf_file.specs.Headers.{shdr_of}
+use Rattle.oc_elf_file.proofs.HeadLaws.{IsHeadAt, head_at, head_behind, symtab_at, strtab_at, section_at, symtab_only}
+use Rattle.oc_elf_file.proofs.FrameLaws.{IsCodable, made_frame}
+use Rattle.oc_elf_file.proofs.CodedLaws.{IsForElf, meets_section}
+use Rattle.oc_elf_file.proofs.FlagLaws.{flags_of, alloc, no_link_order, no_tls, no_compressed, table_no_alloc, table_no_link_order, table_no_tls, table_no_compressed, table_flags}
+use Rattle.oc_elf_file.proofs.TableLaws.{carried_not, header_is, length-headers, symtab_test}
+use Rattle.oc_elf_file.proofs.RelocTableLaws.{table_head}
+
+pub none_right : (a : Bool) → (a && false) ≡ false
+none_right true = refl
+none_right false = refl
+
+-- a carried type is known
+known_carried : (t : ℕ) → is_carried_type t ≡ true → list_any (eqb t) known_types ≡ true
+known_carried t is = among carried_types is (refl, (refl, (refl, (refl, (refl, (refl, tt))))))
+  where
+    among : (xs : List ℕ) → list_any (eqb t) xs ≡ true → AllByRecursion (λ x. list_any (eqb x) known_types ≡ true) xs → list_any (eqb t) known_types ≡ true
+    among [] e all_known = absurd (true≢false (sym e))
+    among (x ∷ xs) e all_known = elim (eqb t x) as (λ b. eqb t x ≡ b → (b || list_any (eqb t) xs) ≡ true → list_any (eqb t) known_types ≡ true) [
+      | true ↦ λ h g. ap (λ y. list_any (eqb y) known_types) (eqb-true t x h) ∙ all_known.0
+      | false ↦ λ h g. among xs g all_known.1
+    ] refl e
+
+-- the section whose relocations a header has
+abbrev reloc_key : Head → ℕ
+reloc_key NullHead = 0
+reloc_key (GroupHead k g) = 0
+reloc_key (SectionHead k s) = 0
+reloc_key (RelocHead k s) = k
+reloc_key SymtabHead = 0
+reloc_key StrtabHead = 0
+reloc_key ShstrtabHead = 0
+
+abbrev is_reloc : Head → Bool
+is_reloc NullHead = false
+is_reloc (GroupHead k g) = false
+is_reloc (SectionHead k s) = false
+is_reloc (RelocHead k s) = true
+is_reloc SymtabHead = false
+is_reloc StrtabHead = false
+is_reloc ShstrtabHead = false
+
+module _ (class : ElfClass) (n : Object) (is : IsForElf class n) (fits : IsCodable class n) where
+  abbrev f : Framed
+  f = made_frame class n
+
+  -- ... each table stands once
+
+  no_reloc_table : (i : ℕ) (h : Head) → slice_get table_heads i ≡ Some h → is_reloc h ≡ false
+  no_reloc_table zero h here = ap is_reloc (sym (same_Some SymtabHead h here))
+  no_reloc_table (suc zero) h here = ap is_reloc (sym (same_Some StrtabHead h here))
+  no_reloc_table (suc (suc zero)) h here = ap is_reloc (sym (same_Some ShstrtabHead h here))
+  no_reloc_table (suc (suc (suc i))) h here = absurd (none-some h here)
+
+  one_symtab_table : (i : ℕ) → slice_get table_heads i ≡ Some SymtabHead → i ≡ 0
+  one_symtab_table zero here = refl
+  one_symtab_table (suc zero) here = absurd (true≢false (ap is_strtab_head (same_Some StrtabHead SymtabHead here)))
+  one_symtab_table (suc (suc zero)) here = absurd (true≢false (ap is_shstrtab_head (same_Some ShstrtabHead SymtabHead here)))
+  one_symtab_table (suc (suc (suc i))) here = absurd (none-some SymtabHead here)
+
+  no_symtab_reloc : (i : ℕ) → slice_get (reloc_heads n) i ≡ Some SymtabHead → ⊥
+  no_symtab_reloc i here =
+      let m = of_filter_map (reloc_head n) (enumerate_from 0 n.sections) i SymtabHead here in
+      by m.1 (eqb (length (list_of n.relocs m.1.0)) 0) m.3
+    where
+      by : (x : ℕ × Section) (b : Bool) → cond b None (Some (RelocHead x.0 x.1)) ≡ Some SymtabHead → ⊥
+      by x true e = none-some SymtabHead e
+      by x false e = true≢false (ap is_reloc (same_Some (RelocHead x.0 x.1) SymtabHead e))
+
+  -- the number of the symbol table's header
+  symtab_place : (i : ℕ) → slice_get (heads_of n) i ≡ Some SymtabHead → i ≡ length n.groups + 1 + length n.sections + length (reloc_heads n)
+  symtab_place i here =
+      let past = head_at n i SymtabHead here in
+      let b = head_behind n i SymtabHead here past in
+      elim (of_append (reloc_heads n) table_heads b.0 SymtabHead b.2) [
+        | inl h ↦ absurd (no_symtab_reloc b.0 h)
+        | inr r ↦ let z = one_symtab_table r.0 r.2 in let e = r.1 in let at = b.1 in omega (arith, z, e, at)
+      ]
+
+  no_symtab_before : (i : ℕ) → slice_get (heads_of n) i ≡ Some SymtabHead → symtab_among f i ≡ None
+  no_symtab_before i here = upto_none (λ j. cond (is_type 2 (header_at f.headers j)) (Some j) None) i each
+    where
+      each : (j : ℕ) → j < i → cond (is_type 2 (header_at f.headers j)) (Some j) None ≡ None
+      each j low =
+          let inside = slice_get_within (heads_of n) i SymtabHead here in
+          let h = there_at (heads_of n) j (omega (arith, low, inside)) in
+          ap (λ b. cond b (Some j) None) (symtab_test class n is fits j h.0 h.1) ∙ by (is_symtab_head h.0) h.0 h.1 refl
+        where
+          by : (b : Bool) (h : Head) → slice_get (heads_of n) j ≡ Some h → is_symtab_head h ≡ b → cond b (Some j) None ≡ None
+          by true h at e =
+              let own = symtab_place j (at ∙ ap (λ (y : Head). Some y) (symtab_only n h e)) in
+              let other = symtab_place i here in
+              absurd (omega (arith, own, other, low))
+          by false h at e = refl
+
+  -- the number of the header of a section's relocation table
+  reloc_place : (i k : ℕ) (s : Section) → slice_get (heads_of n) i ≡ Some (RelocHead k s) → (j : ℕ) × (i ≡ length n.groups + 1 + length n.sections + j) × (slice_get (reloc_heads n) j ≡ Some (RelocHead k s))
+  reloc_place i k s here =
+      let past = (head_at n i (RelocHead k s) here).2 in
+      let b = head_behind n i (RelocHead k s) here past in
+      elim (of_append (reloc_heads n) table_heads b.0 (RelocHead k s) b.2) [
+        | inl h ↦ (b.0, b.1, h)
+        | inr r ↦ absurd (true≢false (no_reloc_table r.0 (RelocHead k s) r.2))
+      ]
+
+  one_reloc : (i j k : ℕ) (s t : Section) → slice_get (heads_of n) i ≡ Some (RelocHead k s) → slice_get (heads_of n) j ≡ Some (RelocHead k t) → i ≡ j
+  one_reloc i j k s t here there =
+      let a = reloc_place i k s here in
+      let b = reloc_place j k t there in
+      let same : a.0 ≡ b.0 = keyed_once (reloc_head n) reloc_key keyed 0 n.sections a.0 b.0 (RelocHead k s) (RelocHead k t) a.2 b.2 refl in
+      let first = a.1 in
+      let second = b.1 in
+      omega (arith, same, first, second)
+    where
+      keyed : (j : ℕ) (x : Section) (y : Head) → reloc_head n (j, x) ≡ Some y → reloc_key y ≡ j
+      keyed j x y e = by (eqb (length (list_of n.relocs j)) 0) e
+        where
+          by : (b : Bool) → cond b None (Some (RelocHead j x)) ≡ Some y → reloc_key y ≡ j
+          by true e = absurd (none-some y e)
+          by false e = ap reloc_key (sym (same_Some (RelocHead j x) y e))
+
+  no_table_before : (i k : ℕ) (s : Section) → slice_get (heads_of n) i ≡ Some (RelocHead k s) → table_among f i (section_number n k) ≡ None
+  no_table_before i k s here = by (table_among f i (section_number n k)) refl
+    where
+      by : (o : Option ℕ) → table_among f i (section_number n k) ≡ o → table_among f i (section_number n k) ≡ None
+      by None e = e
+      by (Some m) e =
+          let key = keyed_from (relocated_by f) i (section_number n k) m e in
+          let there = (head_at n i (RelocHead k s) here).0 in
+          let inside = slice_get_within (heads_of n) i (RelocHead k s) here in
+          let long = length-headers class n is fits in
+          let low = key.below in
+          let t = table_head class n is fits k s there m (omega (arith, low, inside, long)) key.is in
+          absurd (omega (arith, low, one_reloc m i k s s t here))
+
+  -- ... kinds
+
+  abbrev left_by : Bool → Bool → Bool → Bool → Bool → Bool → Bool → Bool
+  left_by tls compressed ordered nobits allocated foreign known = tls || compressed || ordered || nobits && not allocated || foreign || not known && allocated
+
+  judge : (tls compressed ordered nobits allocated foreign known : Bool) → tls ≡ false → compressed ≡ false → ordered ≡ false → (nobits && not allocated) ≡ false → foreign ≡ false → known ≡ true
+      → left_by tls compressed ordered nobits allocated foreign known ≡ false
+  judge tls compressed ordered nobits allocated foreign known a b c d e g = rw (a, b, c, d, e, g) refl
+
+  foreign_not : (t : ℕ) → is_carried_type t ≡ true → eqb t (foreign_type class) ≡ false
+  foreign_not t is = by class
+    where
+      by : (class : ElfClass) → eqb t (foreign_type class) ≡ false
+      by Class32 = carried_not t 4 is refl
+      by Class64 = carried_not t 9 is refl
+
+  kept : (i : ℕ) (h : Head) → slice_get (heads_of n) i ≡ Some h → is_left_out f (header_at f.headers i) ≡ false
+  unfolding shdr_of is_left_out made_frame
+  kept i h here = let b = header_is class n is fits i h here in ap (is_left_out f) b.1 ∙ by h b.0.at (head_at n i h here)
+    where
+      plain : (t : ℕ) → eqb t 8 ≡ false → eqb t 4 ≡ false → eqb t 9 ≡ false → list_any (eqb t) known_types ≡ true → left_by false false false (eqb t 8) false (eqb t (foreign_type class)) (list_any (eqb t) known_types) ≡ false
+      plain t a b c known = judge false false false (eqb t 8) false (eqb t (foreign_type class)) (list_any (eqb t) known_types) refl refl refl (ap (λ b. b && true) a) (foreign class) known
+        where
+          foreign : (class : ElfClass) → eqb t (foreign_type class) ≡ false
+          foreign Class32 = b
+          foreign Class64 = c
+
+      table : (class : ElfClass) → ((eqb (reloc_type class) 8 && true) ≡ false) × (eqb (reloc_type class) (foreign_type class) ≡ false) × (list_any (eqb (reloc_type class)) known_types ≡ true)
+      table Class32 = (refl, refl, refl)
+      table Class64 = (refl, refl, refl)
+
+      by : (h : Head) (at : ℕ) → IsHeadAt n i h → is_left_out f (shdr_of class n at h) ≡ false
+      by NullHead at own = plain 0 refl refl refl refl
+      by (GroupHead k g) at own = plain 17 refl refl refl refl
+      by (SectionHead k s) at own =
+          let m = meets_section class n is k s own.0 in
+          judge (has (flags_of s) 0x400) (has (flags_of s) 0x800) (has (flags_of s) 0x80) (is_nobits_tag s.tag) (has (flags_of s) 2) (eqb (elf_tag_type s.tag) (foreign_type class)) (list_any (eqb (elf_tag_type s.tag)) known_types)
+          (no_tls s) (no_compressed s) (no_link_order s) (ap (λ b. is_nobits_tag s.tag && not b) (alloc s) ∙ zeros (is_nobits_tag s.tag) (has (elf_tag_flags s.tag) 2) refl m.allocated)
+          (foreign_not (elf_tag_type s.tag) m.carried) (known_carried (elf_tag_type s.tag) m.carried)
+        where
+          zeros : (z a : Bool) → is_nobits_tag s.tag ≡ z → (is_nobits_tag s.tag ≡ true → a ≡ true) → (z && not a) ≡ false
+          zeros false a e allocated = refl
+          zeros true true e allocated = refl
+          zeros true false e allocated = absurd (true≢false (sym (allocated e)))
+      by (RelocHead k s) at own =
+          judge (has (table_flags s) 0x400) (has (table_flags s) 0x800) (has (table_flags s) 0x80) (eqb (reloc_type class) 8) (has (table_flags s) 2) (eqb (reloc_type class) (foreign_type class)) (list_any (eqb (reloc_type class)) known_types)
+          (table_no_tls s) (table_no_compressed s) (table_no_link_order s) (ap (λ b. eqb (reloc_type class) 8 && not b) (table_no_alloc s) ∙ (table class).0) (table class).1 (table class).2
+      by SymtabHead at own = plain 2 refl refl refl refl
+      by StrtabHead at own = plain 3 refl refl refl refl
+      by ShstrtabHead at own = plain 3 refl refl refl refl
+
+  -- ... tables
+
+  whole_syms : (m : ℕ) → has_entries (sym_size class) (record null_shdr { sh_entsize = sym_size class; sh_size = sym_size class * m }) ≡ true
+  whole_syms m = by class
+    where
+      by : (class : ElfClass) → (eqb (sym_size class) (sym_size class) && eqb (sym_size class * m % sym_size class) 0) ≡ true
+      by Class32 = let e : 16 * m % 16 ≡ 0 = omega arith in eq-eqb (16 * m % 16) 0 e
+      by Class64 = let e : 24 * m % 24 ≡ 0 = omega arith in eq-eqb (24 * m % 24) 0 e
+
+  whole_rels : (m : ℕ) → (eqb (rel_size class) (rel_size class) && eqb (rel_size class * m % rel_size class) 0) ≡ true
+  whole_rels m = by class
+    where
+      by : (class : ElfClass) → (eqb (rel_size class) (rel_size class) && eqb (rel_size class * m % rel_size class) 0) ≡ true
+      by Class32 = let e : 8 * m % 8 ≡ 0 = omega arith in eq-eqb (8 * m % 8) 0 e
+      by Class64 = let e : 24 * m % 24 ≡ 0 = omega arith in eq-eqb (24 * m % 24) 0 e
+
+  strings_type : is_type SHT_STRTAB (header_at f.headers (head_where n is_strtab_head)) ≡ true
+  unfolding shdr_of
+  strings_type = ap (is_type SHT_STRTAB) (header_is class n is fits (head_where n is_strtab_head) StrtabHead (strtab_at n)).1
+
+  symbols_type : is_type SHT_SYMTAB (header_at f.headers (head_where n is_symtab_head)) ≡ true
+  symbols_type = symtab_test class n is fits (head_where n is_symtab_head) SymtabHead (symtab_at n)
+
+  symtab_good : (i at : ℕ) → slice_get (heads_of n) i ≡ Some SymtabHead → is_good_symtab f i (shdr_of class n at SymtabHead) ≡ true
+  unfolding shdr_of is_good_symtab made_frame
+  symtab_good i at here =
+      ap (λ b. b && is_type SHT_STRTAB (header_at f.headers (head_where n is_strtab_head)) && not (is_some (symtab_among f i))) (whole_syms (length (lines_of n)))
+      ∙ ap (λ b. b && not (is_some (symtab_among f i))) strings_type
+      ∙ ap (λ o. not (is_some o)) (no_symtab_before i here)
+
+  table_good : (i at k : ℕ) (s : Section) → slice_get (heads_of n) i ≡ Some (RelocHead k s) → is_good_table f i (shdr_of class n at (RelocHead k s)) ≡ true
+  unfolding shdr_of is_good_table made_frame
+  table_good i at k s here =
+      let there = (head_at n i (RelocHead k s) here).0 in
+      let inside = slice_get_within (heads_of n) (section_number n k) (SectionHead k s) (section_at n k s there) in
+      let long = length-headers class n is fits in
+      ap (λ b. b && is_type SHT_SYMTAB (header_at f.headers (head_where n is_symtab_head)) && nat_lt (section_number n k) (length f.headers) && not (is_some (table_among f i (section_number n k)))) (whole_rels (length (list_of n.relocs k)))
+      ∙ ap (λ b. b && nat_lt (section_number n k) (length f.headers) && not (is_some (table_among f i (section_number n k)))) symbols_type
+      ∙ ap (λ b. b && not (is_some (table_among f i (section_number n k)))) (lt-ltb (section_number n k) (length f.headers) (omega (arith, inside, long)))
+      ∙ ap (λ o. not (is_some o)) (no_table_before i k s here)
+
+  -- a type that is not that of the class's relocation tables
+  other_type : (t : ℕ) → eqb t 9 ≡ false → eqb t 4 ≡ false → eqb t (reloc_type class) ≡ false
+  other_type t a b = by class
+    where
+      by : (class : ElfClass) → eqb t (reloc_type class) ≡ false
+      by Class32 = a
+      by Class64 = b
+
+  pub table_clean : (i place : ℕ) (h : Head) → slice_get (heads_of n) i ≡ Some h → Unbroken (table_conditions f i place (header_at f.headers i))
+  unfolding shdr_of table_conditions made_frame
+  table_clean i place h here =
+      let b = header_is class n is fits i h here in
+      let own = by h b.0.at here (head_at n i h here) in (
+        kept i h here,
+        (
+          ap (λ (s : Shdr). is_type SHT_SYMTAB s && not (is_good_symtab f i s)) b.1 ∙ own.0,
+          (ap (λ (s : Shdr). is_type (reloc_type class) s && not (is_good_table f i s)) b.1 ∙ own.1, tt),
+        ),
+      )
+    where
+      Fine : Head → ℕ → Type 0
+      Fine h at = ((is_type SHT_SYMTAB (shdr_of class n at h) && not (is_good_symtab f i (shdr_of class n at h))) ≡ false)
+          × ((is_type (reloc_type class) (shdr_of class n at h) && not (is_good_table f i (shdr_of class n at h))) ≡ false)
+
+      neither : (s : Shdr) → eqb s.sh_type 2 ≡ false → eqb s.sh_type 9 ≡ false → eqb s.sh_type 4 ≡ false
+          → ((is_type SHT_SYMTAB s && not (is_good_symtab f i s)) ≡ false) × ((is_type (reloc_type class) s && not (is_good_table f i s)) ≡ false)
+      neither s a b c = (ap (λ t. t && not (is_good_symtab f i s)) a, ap (λ t. t && not (is_good_table f i s)) (other_type s.sh_type b c))
+
+      by : (h : Head) (at : ℕ) → slice_get (heads_of n) i ≡ Some h → IsHeadAt n i h → Fine h at
+      by NullHead at here own = neither (shdr_of class n at NullHead) refl refl refl
+      by (GroupHead k g) at here own = neither (shdr_of class n at (GroupHead k g)) refl refl refl
+      by (SectionHead k s) at here own =
+          let carried = (meets_section class n is k s own.0).carried in
+          neither (shdr_of class n at (SectionHead k s)) (carried_not (elf_tag_type s.tag) 2 carried refl) (carried_not (elf_tag_type s.tag) 9 carried refl) (carried_not (elf_tag_type s.tag) 4 carried refl)
+      by (RelocHead k s) at here own = (
+        ap (λ t. t && not (is_good_symtab f i (shdr_of class n at (RelocHead k s)))) (no_symtab class),
+        ap (λ b. eqb (reloc_type class) (reloc_type class) && not b) (table_good i at k s here) ∙ none_right (eqb (reloc_type class) (reloc_type class)),
+      )
+        where
+          no_symtab : (class : ElfClass) → eqb (reloc_type class) 2 ≡ false
+          no_symtab Class32 = refl
+          no_symtab Class64 = refl
+      by SymtabHead at here own =
+          (ap not (symtab_good i at here), ap (λ t. t && not (is_good_table f i (shdr_of class n at SymtabHead))) (other_type 2 refl refl))
+      by StrtabHead at here own = neither (shdr_of class n at StrtabHead) refl refl refl
+      by ShstrtabHead at here own = neither (shdr_of class n at ShstrtabHead) refl refl refl

@@ -1,0 +1,53 @@
+-- The canonical file of an object that is ready for ELF (gABI; i386 and x86-64 psABI; our profile).
+use Rattle.std.specs.Prelude.{ℕ, List, [], length, flat_map}
+use Rattle.oc_neutral.specs.Objects.{Object}
+use Rattle.oc_elf_read.specs.declared.class.ElfClass.{ElfClass}
+use Rattle.oc_elf_read.specs.declared.constants.TheConstants.{ELFDATA2LSB, EV_CURRENT, ET_REL}
+use Rattle.oc_elf_read.specs.declared.ehdr.Ehdr.{Ehdr}
+use Rattle.oc_elf_read.specs.Classes.{machine_of}
+use Rattle.oc_elf_read.specs.Ehdr.{ehdr_size}
+use Rattle.oc_elf_read.specs.Shdr.{shdr_size}
+use Rattle.oc_shelf.specs.Writing.Parts.{joined, place_where}
+use Rattle.oc_elf_file.specs.Structures.{ehdr_bytes, shdr_bytes, sym_bytes, rel_bytes}
+use Rattle.oc_elf_file.specs.Heads.{Head, NullHead, GroupHead, SectionHead, RelocHead, SymtabHead, StrtabHead, ShstrtabHead, heads_of, head_where, is_shstrtab_head}
+use Rattle.oc_elf_file.specs.Lines.{Line, lines_of, numbered_lines}
+use Rattle.oc_elf_file.specs.Groups.{group_words, group_bytes}
+use Rattle.oc_elf_file.specs.Bodies.{raw_of, rels_of}
+use Rattle.oc_elf_file.specs.Layout.{Part, FileHead, Body, HeadTable, head_names, line_names, strings_of, laid_parts, is_head_table}
+use Rattle.oc_elf_file.specs.Headers.{made_headers}
+use Rattle.oc_elf_file.specs.Symbols.{line_entry}
+
+-- the file header
+unfoldable pub file_header : ElfClass → Object → Ehdr
+file_header class n = record {
+  ei_data = ELFDATA2LSB;
+  ei_version = EV_CURRENT;
+  e_type = ET_REL;
+  e_machine = machine_of class;
+  e_version = EV_CURRENT;
+  e_shoff = place_where is_head_table (laid_parts class n);
+  e_ehsize = ehdr_size class;
+  e_shentsize = shdr_size class;
+  e_shnum = length (heads_of n);
+  e_shstrndx = head_where n is_shstrtab_head;
+}
+
+-- what a header is of
+abbrev pub body_bytes : ElfClass → Object → Head → List ℕ
+body_bytes class n NullHead = []
+body_bytes class n (GroupHead k g) = group_bytes (group_words n k)
+body_bytes class n (SectionHead k s) = raw_of class n k s
+body_bytes class n (RelocHead k s) = flat_map (rel_bytes class) (rels_of class (numbered_lines n) n k)
+body_bytes class n SymtabHead = flat_map (λ (line : Line). sym_bytes class (line_entry n line)) (lines_of n)
+body_bytes class n StrtabHead = strings_of (line_names n)
+body_bytes class n ShstrtabHead = strings_of (head_names class n)
+
+-- the bytes of a part
+unfoldable pub part_bytes : ElfClass → Object → Part → List ℕ
+part_bytes class n FileHead = ehdr_bytes class (file_header class n)
+part_bytes class n (Body h) = body_bytes class n h
+part_bytes class n HeadTable = flat_map (shdr_bytes class) (made_headers class n)
+
+-- the canonical file
+unfoldable pub elf_file : ElfClass → Object → List ℕ
+elf_file class n = joined (part_bytes class n) 0 (laid_parts class n)

@@ -1,0 +1,75 @@
+-- The section headers of an output (gABI, "Section Header" and "Section Groups"; our profile).
+use Rattle.std.specs.Prelude.{ℕ, ◌+◌, List, length, filter_map, Option, Some, None}
+use Rattle.oc_neutral.specs.Objects.{Object}
+use Rattle.oc_neutral.specs.Elf.Kinds.{elf_tag_type, elf_tag_flags}
+use Rattle.oc_elf_read.specs.declared.class.ElfClass.{ElfClass}
+use Rattle.oc_elf_read.specs.declared.constants.TheConstants.{SHT_SYMTAB, SHT_STRTAB, SHT_GROUP, GRP_ENTRY_SIZE}
+use Rattle.oc_elf_read.specs.declared.shdr.Shdr.{Shdr}
+use Rattle.oc_elf_read.specs.Classes.{reloc_type}
+use Rattle.oc_elf_read.specs.Shdr.{null_shdr}
+use Rattle.oc_elf_read.specs.Sym.{sym_size}
+use Rattle.oc_elf_read.specs.Rel.{rel_size}
+use Rattle.oc_shelf.specs.Writing.Parts.{Laid}
+use Rattle.oc_elf_file.specs.declared.constants.TheConstants.{SHF_INFO_LINK}
+use Rattle.oc_elf_file.specs.Structures.{word_bytes}
+use Rattle.oc_elf_file.specs.Heads.{Head, NullHead, GroupHead, SectionHead, RelocHead, SymtabHead, StrtabHead, ShstrtabHead, head_where, section_number, is_symtab_head, is_strtab_head, head_name}
+use Rattle.oc_elf_file.specs.Lines.{inner_lines, numbered_lines, signature_number}
+use Rattle.oc_elf_file.specs.Groups.{member_flag}
+use Rattle.oc_elf_file.specs.Layout.{Part, FileHead, Body, HeadTable, body_size, head_names, laid_parts}
+use Rattle.oc_elf_file.specs.Symbols.{offset_in}
+
+-- the section header of a string table that stands at a place; others differ from it
+abbrev pub plain_header : ElfClass → Object → ℕ → Head → Shdr
+plain_header class n at h = record {
+  sh_name = offset_in (head_names class n) (head_name class h);
+  sh_type = SHT_STRTAB;
+  sh_flags = 0;
+  sh_offset = at;
+  sh_size = body_size class n h;
+  sh_link = 0;
+  sh_info = 0;
+  sh_addralign = 1;
+  sh_entsize = 0;
+}
+
+-- the section header of what stands at a place
+unfoldable pub shdr_of : ElfClass → Object → ℕ → Head → Shdr
+shdr_of class n at NullHead = null_shdr
+shdr_of class n at (GroupHead k g) = record (plain_header class n at (GroupHead k g)) {
+  sh_type = SHT_GROUP;
+  sh_link = head_where n is_symtab_head;
+  sh_info = signature_number (numbered_lines n) k g;
+  sh_addralign = GRP_ENTRY_SIZE;
+  sh_entsize = GRP_ENTRY_SIZE;
+}
+shdr_of class n at (SectionHead k s) = record (plain_header class n at (SectionHead k s)) {
+  sh_type = elf_tag_type s.tag;
+  sh_flags = elf_tag_flags s.tag + member_flag s;
+  sh_size = s.size;
+  sh_addralign = s.align;
+}
+shdr_of class n at (RelocHead k s) = record (plain_header class n at (RelocHead k s)) {
+  sh_type = reloc_type class;
+  sh_flags = SHF_INFO_LINK + member_flag s;
+  sh_link = head_where n is_symtab_head;
+  sh_info = section_number n k;
+  sh_addralign = word_bytes class;
+  sh_entsize = rel_size class;
+}
+shdr_of class n at SymtabHead = record (plain_header class n at SymtabHead) {
+  sh_type = SHT_SYMTAB;
+  sh_link = head_where n is_strtab_head;
+  sh_info = length (inner_lines n);
+  sh_addralign = word_bytes class;
+  sh_entsize = sym_size class;
+}
+shdr_of class n at StrtabHead = plain_header class n at StrtabHead
+shdr_of class n at ShstrtabHead = plain_header class n at ShstrtabHead
+
+-- the section header of a part that has one
+abbrev pub part_header : ElfClass → Object → Laid Part → Option Shdr
+part_header class n l = elim l.part [ FileHead ↦ None | Body h ↦ Some (shdr_of class n l.at h) | HeadTable ↦ None ]
+
+-- the section headers, in the order of the parts
+unfoldable pub made_headers : ElfClass → Object → List Shdr
+made_headers class n = filter_map (part_header class n) (laid_parts class n)

@@ -1,0 +1,16 @@
+pub mod BodyLemmas
+pub mod FieldBytes
+pub mod FormLemmas
+pub mod HeadLemmas
+pub mod KeyLemmas
+pub mod LaidLemmas
+pub mod LineLemmas
+pub mod NumberLemmas
+pub mod PlanLemmas
+pub mod RelocationLemmas
+pub mod StringLemmas
+pub mod HeaderLemmas
+pub mod SymbolLemmas
+pub mod PlannedLemmas
+pub mod Turns
+pub mod WordLemmas

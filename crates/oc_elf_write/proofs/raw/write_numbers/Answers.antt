@@ -1,0 +1,29 @@
+-- Each turn writes the number of the next field.
+use Rattle.std.proofs.Common.{◌≡◌, List, [], ◌∷◌, rules, refl, subst}
+use Rattle.oc_chains.specs.declared.field.Field.{Field}
+use Rattle.oc_neutral.specs.declared.reloc.Reloc.{Reloc}
+use Rattle.oc_elf_write.proofs.FieldBytes.{IsWriting, writing_room, writing_more, writing_done}
+use Rattle.oc_elf_file.specs.Bodies.{field_number}
+use Rattle.oc_elf_write.proofs.raw.write_numbers.Goals as goal
+
+pub loop-field-init : goal.loop-field-init
+loop-field-init c =
+    let same : c.args.relocs ≡ c.into_iter-field-iterator.result = search rules in
+    subst (λ (xs : List (Field Reloc)). IsWriting field_number c.args.relocs c.args.section.now xs c.args.section.now) same
+    (record { same = refl; place = 0; apart = c.requires.apart; wide = c.requires.wide; inside = c.requires.inside })
+
+pub put-requires : goal.put-requires
+put-requires c =
+    let step : c.loop-field.field-iterator ≡ c.in-Some.field ∷ c.next.new.self = search rules in
+    writing_room field_number c.args.relocs c.args.section.now c.loop-field.field-iterator c.in-Some.field c.next.new.self c.loop-field.section step c.loop-field.invariant
+
+pub loop-field-preserved : goal.loop-field-preserved
+loop-field-preserved c =
+    let step : c.loop-field.field-iterator ≡ c.in-Some.field ∷ c.next.new.self = search rules in
+    writing_more field_number c.args.relocs c.args.section.now c.loop-field.field-iterator c.in-Some.field c.next.new.self c.loop-field.section step c.loop-field.invariant
+    c.field_number-number.result c.field_number-number.ensures c.put.new.self c.put.ensures
+
+pub returns : goal.returns
+returns c =
+    let none : c.loop-field.field-iterator ≡ [] = search rules in
+    writing_done field_number c.args.relocs c.args.section.now c.loop-field.field-iterator c.loop-field.section none c.loop-field.invariant

@@ -1,0 +1,40 @@
+//! How the form and the addend of a relocation are written (i386 and x86-64 psABI, "Relocation Types").
+ghost use Rattle.std.specs.Prelude.{◌≡◌};
+ghost use Rattle.oc_elf_file.specs.Bodies as bodies;
+
+use oc_algebra::{residue, to_field};
+use oc_base::{Format, Word};
+use oc_elf_read::{ElfClass, R_NONE};
+use oc_express::{Spelling, lookup};
+use oc_neutral::Reloc;
+
+/// The type of a relocation. Constant time.
+#[tactic(auto, unfolding(oc_elf_file::specs::Bodies::type_of))]
+pub(crate) fn type_of(class: ElfClass, reloc: Reloc) -> u32
+    ensures { result ≡ bodies.type_of class reloc }
+{
+    match lookup(class.format(), reloc.form, reloc.hint) {
+        Ok(Spelling::One(number) | Spelling::Pair(number, _)) => u32::from(number),
+        Err(_) => R_NONE,
+    }
+}
+
+/// The number in the field of a relocation of ELF32, 0 where that has no such form. Constant time.
+pub(crate) fn field_number(reloc: Reloc) -> u64
+    ensures { result ≡ bodies.field_number reloc }
+{
+    match lookup(Format::Elf32, reloc.form, reloc.hint) {
+        Ok(_) => to_field(Word::W32, reloc.form.width, 0, reloc.addend).unwrap_or(0),
+        Err(_) => 0,
+    }
+}
+
+/// The addend in the entry of a relocation: ELF32 has none. Constant time.
+pub(crate) fn addend_of(class: ElfClass, reloc: Reloc) -> u64
+    ensures { result ≡ bodies.addend_of class reloc }
+{
+    match class {
+        ElfClass::Class32 => 0,
+        ElfClass::Class64 => residue(Word::W64, i128::from(reloc.addend)),
+    }
+}

@@ -1,0 +1,237 @@
+//! The file header and the section headers (gABI, "ELF Header", "Section Header" and "Section Groups").
+ghost use Rattle.std.specs.Prelude.{◌≡◌, ◌+◌, ◌/◌, ◌<◌, ◌≤◌, ◌^◌, ℕ, length, slice_get, Some, IsSome, IfOk};
+ghost use Rattle.oc_neutral.specs.Fitted.{IsFitted};
+ghost use Rattle.oc_neutral.specs.Objects.{Object};
+ghost use Rattle.oc_shelf.specs.Writing.Parts.{place_where};
+ghost use Rattle.oc_neutral.specs.Elf.Kinds.{elf_tag_flags, elf_tag_type};
+ghost use Rattle.oc_elf_read.specs.Classes.{format_of, reloc_type};
+ghost use Rattle.oc_elf_read.specs.Rel as sizes;
+ghost use Rattle.oc_elf_read.specs.Sym as sym_sizes;
+ghost use Rattle.oc_elf_file.specs.Structures as structures;
+ghost use Rattle.oc_elf_read.specs.declared.shdr.Shdr.{Shdr as Header};
+ghost use Rattle.oc_elf_file.specs.Canonical as canonical;
+ghost use Rattle.oc_elf_file.specs.Groups as groups;
+ghost use Rattle.oc_elf_file.specs.Headers as headers;
+ghost use Rattle.oc_elf_file.specs.Heads as elf_heads;
+ghost use Rattle.oc_elf_file.specs.Layout as layout;
+ghost use Rattle.oc_elf_file.specs.Lines as elf_lines;
+ghost use Rattle.oc_elf_write.specs.Heads.{AreHeads, head_in, IsListed};
+ghost use Rattle.oc_elf_write.specs.LaidParts.{begins_by};
+ghost use Rattle.oc_elf_write.specs.Keys.{AreKeys};
+ghost use Rattle.oc_elf_write.specs.Made.{IsMadeOf};
+ghost use Rattle.oc_elf_write.specs.Numbers.{IsNumbered};
+ghost use Rattle.oc_elf_write.specs.Ready.{IsReady};
+ghost use Rattle.oc_neutral.specs.declared.group.Group.{Group as Keyed};
+
+use crate::bodies::{Bodies, body_size};
+use crate::heads::{Head, section_number};
+use crate::names::{head_name, offset_in};
+use crate::numbers::Numbers;
+use crate::structures::word_bytes;
+use oc_base::NoMemory;
+use oc_elf_file::{SHF_GROUP, SHF_INFO_LINK};
+use oc_elf_read::{
+    ELFDATA2LSB, ET_REL, EV_CURRENT, Ehdr, ElfClass, GRP_ENTRY_SIZE, SHT_GROUP, SHT_STRTAB,
+    SHT_SYMTAB, Shdr, ehdr_size, null_shdr, rel_size, shdr_size, sym_size,
+};
+use oc_neutral::{Neutral, Section};
+use std::alloc::Global;
+
+/// The header of a file with so many section headers, which begin at that place. Constant time.
+pub(crate) fn file_header(class: ElfClass, heads: usize, place: u64) -> Ehdr
+    requires some { 1 ≤ heads }
+    requires few { heads < 2 ^ 16 }
+    ensures { (n : Object) → length (elf_heads.heads_of n) ≡ heads → place_where layout.is_head_table (layout.laid_parts class n) ≡ place → result ≡ canonical.file_header class n }
+{
+    Ehdr {
+        ei_data: ELFDATA2LSB,
+        ei_version: EV_CURRENT,
+        e_type: ET_REL,
+        e_machine: class.machine(),
+        e_version: u32::from(EV_CURRENT),
+        e_shoff: place,
+        e_ehsize: ehdr_size(class),
+        e_shentsize: shdr_size(class),
+        e_shnum: heads as u16,
+        e_shstrndx: (heads - 1) as u16,
+    }
+}
+
+/// What is made of an object before its section headers.
+#[derive(Clone, Copy)]
+pub(crate) struct Made<'a> {
+    /// For each group the position of the symbol that has its key for its name.
+    pub(crate) keys: &'a [Option<u32>],
+    /// The numbers of symbols.
+    pub(crate) numbers: &'a Numbers,
+    /// How many lines of the symbol table are LOCAL.
+    pub(crate) inner: u32,
+    /// The tables.
+    pub(crate) bodies: &'a Bodies,
+    /// How many section headers there are.
+    pub(crate) heads: u32,
+}
+
+// the header of a string table with that name, of so many bytes at a place; others differ from it
+fn plain_header(sh_name: u32, sh_offset: u64, sh_size: u64) -> Shdr
+    ensures { result ≡ record { sh_name = sh_name; sh_type = SHT_STRTAB; sh_flags = 0; sh_offset = sh_offset; sh_size = sh_size; sh_link = 0; sh_info = 0; sh_addralign = 1; sh_entsize = 0 } }
+{
+    Shdr {
+        sh_name,
+        sh_type: SHT_STRTAB,
+        sh_flags: 0,
+        sh_offset,
+        sh_size,
+        sh_link: 0,
+        sh_info: 0,
+        sh_addralign: 1,
+        sh_entsize: 0,
+    }
+}
+
+// the flag of a member of a group, and of its relocation table
+fn member_flag(section: &Section) -> u64
+    ensures flag { result ≡ groups.member_flag section.now }
+    ensures low { result ≤ 0x200 }
+{
+    match section.group {
+        Some(_) => SHF_GROUP,
+        None => 0,
+    }
+}
+
+// the header of a group
+fn group_header(plain: Shdr, link: u32, signature: u32) -> Shdr
+    ensures { result ≡ record plain { sh_type = SHT_GROUP; sh_link = link; sh_info = signature; sh_addralign = GRP_ENTRY_SIZE; sh_entsize = GRP_ENTRY_SIZE } }
+{
+    Shdr {
+        sh_type: SHT_GROUP,
+        sh_link: link,
+        sh_info: signature,
+        sh_addralign: GRP_ENTRY_SIZE,
+        sh_entsize: GRP_ENTRY_SIZE,
+        ..plain
+    }
+}
+
+// the header of a section
+fn section_header(plain: Shdr, section: &Section) -> Shdr
+    requires { section.now.tag / 8 < 2 ^ 32 }
+    ensures { result ≡ record plain { sh_type = elf_tag_type section.now.tag; sh_flags = elf_tag_flags section.now.tag + groups.member_flag section.now; sh_size = section.now.size; sh_addralign = section.now.align } }
+{
+    Shdr {
+        sh_type: (section.tag / 8) as u32,
+        sh_flags: section.tag % 8 + member_flag(section),
+        sh_size: u64::from(section.size),
+        sh_addralign: u64::from(section.align),
+        ..plain
+    }
+}
+
+// the header of the relocation table of a section, whose own header has that number
+fn table_header(plain: Shdr, class: ElfClass, link: u32, section: &Section, number: u32) -> Shdr
+    ensures { result ≡ record plain { sh_type = reloc_type class; sh_flags = SHF_INFO_LINK + groups.member_flag section.now; sh_link = link; sh_info = number; sh_addralign = structures.word_bytes class; sh_entsize = sizes.rel_size class } }
+{
+    Shdr {
+        sh_type: class.reloc_type(),
+        sh_flags: SHF_INFO_LINK + member_flag(section),
+        sh_link: link,
+        sh_info: number,
+        sh_addralign: word_bytes(class),
+        sh_entsize: rel_size(class),
+        ..plain
+    }
+}
+
+// the header of the symbol table, whose first entries are LOCAL
+fn symtab_header(plain: Shdr, class: ElfClass, link: u32, inner: u32) -> Shdr
+    ensures { result ≡ record plain { sh_type = SHT_SYMTAB; sh_link = link; sh_info = inner; sh_addralign = structures.word_bytes class; sh_entsize = sym_sizes.sym_size class } }
+{
+    Shdr {
+        sh_type: SHT_SYMTAB,
+        sh_link: link,
+        sh_info: inner,
+        sh_addralign: word_bytes(class),
+        sh_entsize: sym_size(class),
+        ..plain
+    }
+}
+
+// the number of the signature of the group at a position
+fn signature_of(neutral: &Neutral, made: Made<'_>, group: u32) -> u32
+    requires ready { IsReady neutral.now }
+    requires keys { AreKeys neutral.now made.keys.now }
+    requires numbers { IsNumbered neutral.now made.numbers.now }
+    requires there { group < length neutral.now.groups }
+    ensures { (x : Keyed) → slice_get neutral.now.groups group ≡ Some x → result ≡ elf_lines.signature_number (elf_lines.numbered_lines neutral.now) group x }
+{
+    made.numbers.of_signature(group, made.keys[group as usize])
+}
+
+// the section header of what stands at a place, with its name and its size
+fn header_by(class: ElfClass, neutral: &Neutral, made: Made<'_>, head: Head, plain: Shdr) -> Shdr
+    requires fitted { IsFitted (format_of class) neutral.now }
+    requires made { IsMadeOf class neutral.now made }
+    requires there { IsSome (head_in neutral.now head) }
+    ensures { (is : elf_heads.Head) (at : ℕ) → head_in neutral.now head ≡ Some is → plain ≡ headers.plain_header class neutral.now at is → result ≡ headers.shdr_of class neutral.now at is }
+{
+    match head {
+        Head::Null => null_shdr(),
+        Head::Group(g) => {
+            let signature = signature_of(neutral, made, g);
+            group_header(plain, made.heads - 3, signature)
+        }
+        Head::Section(k) => section_header(plain, neutral.section(k)),
+        Head::Relocs(k) => {
+            let number = section_number(neutral, k);
+            table_header(plain, class, made.heads - 3, neutral.section(k), number)
+        }
+        Head::Symtab => symtab_header(plain, class, made.heads - 2, made.inner),
+        Head::Strtab => plain,
+        Head::Shstrtab => plain,
+    }
+}
+
+// the section header of what stands at a place
+fn header_of(
+    alloc: Global,
+    class: ElfClass,
+    neutral: &Neutral,
+    made: Made<'_>,
+    head: Head,
+    place: u64,
+) -> Result<Shdr, NoMemory>
+    requires fitted { IsFitted (format_of class) neutral.now }
+    requires made { IsMadeOf class neutral.now made }
+    requires listed { IsListed neutral.now head }
+    ensures { IfOk result (λ shdr. (is : elf_heads.Head) → head_in neutral.now head ≡ Some is → shdr ≡ headers.shdr_of class neutral.now place is) }
+{
+    let name = head_name(alloc, class, neutral, head)?;
+    let sh_name = offset_in(&made.bodies.shstrtab, name.as_slice());
+    let size = body_size(class, neutral.sections(), made.bodies, head);
+    let plain = plain_header(sh_name, place, size);
+    Ok(header_by(class, neutral, made, head, plain))
+}
+
+/// The section headers of a file whose parts begin at these places. `NoMemory` where memory ran out.
+/// Linear in the headers, but for looking up names in the string table.
+pub(crate) fn shdrs_of(
+    alloc: Global,
+    class: ElfClass,
+    neutral: &Neutral,
+    made: Made<'_>,
+    heads: &[Head],
+    places: &[u64],
+) -> Result<Vec<Shdr>, NoMemory>
+    requires fitted { IsFitted (format_of class) neutral.now }
+    requires made { IsMadeOf class neutral.now made }
+    requires heads { AreHeads neutral.now heads.now }
+    requires places { places.now ≡ begins_by class neutral.now (layout.parts_of neutral.now) }
+    ensures { IfOk result (λ shdrs. shdrs.items ≡ headers.made_headers class neutral.now) }
+{
+    let mut shdrs = Vec::with_capacity(alloc, heads.len())?;
+    for k in 0..heads.len() {
+        shdrs.push(header_of(alloc, class, neutral, made, heads[k], places[k + 1])?)?;
+    }
+    Ok(shdrs)
+}

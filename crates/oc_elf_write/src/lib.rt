@@ -1,0 +1,27 @@
+//! The writers of ELF: the symbol table and the string tables of an object, the layout of its file, and
+//! the plan, which gives any window of the file.
+#![tactic(auto)]
+
+mod bodies;
+mod forms;
+mod groups;
+mod headers;
+mod heads;
+mod keys;
+mod layout;
+mod lines;
+mod names;
+mod numbers;
+mod plan;
+mod planning;
+mod raw;
+mod relocations;
+mod strings;
+mod structures;
+mod symbols;
+mod tables;
+mod values;
+mod writer;
+
+pub use plan::Plan;
+pub use writer::{ElfWriter32, ElfWriter64};

@@ -1,0 +1,57 @@
+//! Planning the canonical ELF file of an object that is ready to be written.
+ghost use Rattle.std.specs.Prelude.{◌≡◌, IfOk, map};
+ghost use Rattle.oc_elf_read.specs.Classes.{format_of};
+ghost use Rattle.oc_elf_write.specs.Plans.{elf_pieces};
+ghost use Rattle.oc_elf_write.specs.Raws.{all_raws};
+
+use crate::bodies::bodies_of;
+use crate::headers::{Made, file_header, shdrs_of};
+use crate::heads::heads_of;
+use crate::keys::keys_of;
+use crate::layout::layout_of;
+use crate::lines::lines_of;
+use crate::numbers::Numbers;
+use crate::plan::Plan;
+use crate::raw::write_addends;
+use oc_base::NoMemory;
+use oc_elf_read::ElfClass;
+use oc_neutral::{Fitted, Neutral, Section};
+use std::alloc::Global;
+
+// the sections of an object, with the addends in their fields where the entries have none
+fn sections_of(class: ElfClass, neutral: Neutral) -> Vec<Section>
+    ensures { map (λ s. s.bytes) result.items ≡ all_raws class neutral }
+{
+    neutral.is_object();
+    let (_groups, mut sections, _symbols, relocs) = neutral.into_parts();
+    write_addends(class, &relocs, sections.as_mut_slice());
+    sections
+}
+
+/// The plan of the canonical ELF file of an object that is ready to be written. `NoMemory` where memory
+/// ran out. Linear in the object, but for looking up names in the string tables; what the plan does not
+/// need of the object is given back.
+pub(crate) fn plan_object(alloc: Global, class: ElfClass, fitted: Fitted) -> Result<Plan, NoMemory>
+    requires { fitted.format ≡ format_of class }
+    ensures { IfOk result (λ plan. plan ≡ elf_pieces class fitted) }
+{
+    fitted.is_fitted();
+    let neutral = fitted.neutral();
+    let heads = heads_of(alloc, neutral)?;
+    let keys = keys_of(alloc, neutral)?;
+    let lines = lines_of(alloc, neutral, &keys)?;
+    let numbers = Numbers::of(alloc, neutral, &lines.all)?;
+    let bodies = bodies_of(alloc, class, neutral, &heads, &lines.all, &numbers)?;
+    let extents = layout_of(alloc, class, neutral, &bodies, &heads)?;
+    let made = Made {
+        keys: &keys,
+        numbers: &numbers,
+        inner: lines.inner as u32,
+        bodies: &bodies,
+        heads: heads.len() as u32,
+    };
+    let shdrs = shdrs_of(alloc, class, neutral, made, &heads, &extents.layout.places)?;
+    let ehdr = file_header(class, heads.len(), extents.layout.places[1 + heads.len()]);
+    let sections = sections_of(class, fitted.into_neutral());
+    Ok(Plan::new(class, ehdr, heads, shdrs, sections, bodies, extents))
+}
