@@ -9,7 +9,7 @@ ghost use Rattle.objconv.specs.States.{state_of};
 
 use crate::input::{InputFault, read_input};
 use crate::report::{output_words, report, tell};
-use crate::writing::write_plan;
+use crate::writing::write_output;
 use oc_base::Format;
 use oc_convert::ConvertFault;
 use oc_dispatch::{AnyPlan, dispatch};
@@ -67,7 +67,7 @@ pub fn convert_file<F: Files, C: Console>(
         Ok(plan) => plan,
         Err(fault) => return report(alloc, console, fault),
     };
-    match write_plan(files, output, &plan) {
+    match write_output(files, output, plan) {
         Ok(()) => 0,
         Err(_) => tell(console, output_words().as_bytes(), 5),
     }

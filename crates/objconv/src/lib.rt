@@ -8,6 +8,8 @@ mod listing;
 mod report;
 #[cfg(test)]
 mod tests;
+#[cfg(test)]
+mod windows;
 mod writing;
 
 pub use command::run;

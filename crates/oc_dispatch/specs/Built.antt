@@ -10,8 +10,10 @@ use Rattle.oc_neutral.specs.Dialects.{Dialect}
 use Rattle.oc_neutral.specs.Computed.{object_in}
 use Rattle.oc_neutral.specs.Readable.{IsReadable}
 use Rattle.oc_neutral.specs.Shows.{Shows}
+use Rattle.oc_elf_read.specs.declared.class.ElfClass.{ElfClass}
 use Rattle.oc_elf_read.specs.declared.class.ElfClass.TheVariants.{Class32, Class64}
 use Rattle.oc_elf_read.specs.Elf.{elf_dialect}
+use Rattle.oc_elf_file.specs.Canonical.{elf_file}
 use Rattle.oc_coff_read.specs.Canonical.{coff_file}
 use Rattle.oc_coff_read.specs.Rules.{coff_dialect}
 use Rattle.oc_names.specs.Wishes.{Wishes}
@@ -19,32 +21,36 @@ use Rattle.oc_convert.specs.Converted.{IsFaithful, planned_file}
 use Rattle.oc_convert.specs.Dispatched.{Built, Writer}
 use Rattle.oc_convert.specs.Identified.{identified}
 
--- the readers: those of ELF
+-- the readers: those of ELF and of COFF
 abbrev pub reader_of : Format → Option Dialect
 reader_of Elf32 = Some (elf_dialect Class32)
 reader_of Elf64 = Some (elf_dialect Class64)
-reader_of Coff32 = None
-reader_of Coff64 = None
+reader_of Coff32 = Some (coff_dialect W32)
+reader_of Coff64 = Some (coff_dialect W64)
 reader_of Mac32 = None
 reader_of Mac64 = None
 reader_of Omf = None
+
+-- the writer of ELF of a class
+abbrev pub elf_writer : ElfClass → Writer
+elf_writer class = record { dialect = elf_dialect class; canonical = elf_file class }
 
 -- the writer of COFF for a word
 abbrev pub coff_writer : Word → Writer
 coff_writer w = record { dialect = coff_dialect w; canonical = coff_file w }
 
--- the writers: those of COFF
+-- the writers: those of ELF and COFF
 abbrev pub writer_of : Format → Option Writer
+writer_of Elf32 = Some (elf_writer Class32)
+writer_of Elf64 = Some (elf_writer Class64)
 writer_of Coff32 = Some (coff_writer W32)
 writer_of Coff64 = Some (coff_writer W64)
-writer_of Elf32 = None
-writer_of Elf64 = None
 writer_of Mac32 = None
 writer_of Mac64 = None
 writer_of Omf = None
 
 -- both
-abbrev pub built : Built
+unfoldable pub built : Built
 built = record { reader = reader_of; writer = writer_of }
 
 -- c is the file that the writer of the target has for the file b of the dialect f, and it links as the edited b does

@@ -2,11 +2,16 @@
 ghost use Rattle.std.specs.Prelude.{ℕ, List};
 
 use oc_coff_write::{CoffWriter32, CoffWriter64};
+use oc_elf_write::{ElfWriter32, ElfWriter64};
 use oc_neutral::{Emits, Writes};
 
 /// The planned file of any format that is written.
 #[derive(Debug, Drop)]
 pub enum AnyPlan {
+    /// A file of ELF for i386.
+    Elf32(<ElfWriter32 as Writes>::Plan),
+    /// A file of ELF for x86-64.
+    Elf64(<ElfWriter64 as Writes>::Plan),
     /// A file of COFF for i386.
     Coff32(<CoffWriter32 as Writes>::Plan),
     /// A file of COFF for x64.
@@ -17,12 +22,16 @@ impl Emits for AnyPlan {
     ghost use Rattle.oc_dispatch.specs.declared.any_plan.AnyPlan.TheVariants as any;
 
     ghost file = { elim [
+      | any.Elf32 plan ↦ ⟦<<ElfWriter32 as Writes>::Plan as Emits>⟧.file plan
+      | any.Elf64 plan ↦ ⟦<<ElfWriter64 as Writes>::Plan as Emits>⟧.file plan
       | any.Coff32 plan ↦ ⟦<<CoffWriter32 as Writes>::Plan as Emits>⟧.file plan
       | any.Coff64 plan ↦ ⟦<<CoffWriter64 as Writes>::Plan as Emits>⟧.file plan
     ] };
 
     fn len(&self) -> u64 {
         match self {
+            AnyPlan::Elf32(plan) => plan.len(),
+            AnyPlan::Elf64(plan) => plan.len(),
             AnyPlan::Coff32(plan) => plan.len(),
             AnyPlan::Coff64(plan) => plan.len(),
         }
@@ -30,6 +39,8 @@ impl Emits for AnyPlan {
 
     fn window(&self, at: u64, to: &mut [u8]) -> usize {
         match self {
+            AnyPlan::Elf32(plan) => plan.window(at, to),
+            AnyPlan::Elf64(plan) => plan.window(at, to),
             AnyPlan::Coff32(plan) => plan.window(at, to),
             AnyPlan::Coff64(plan) => plan.window(at, to),
         }

@@ -11,24 +11,28 @@ ghost use Rattle.oc_dispatch.specs.Built.{IsPlanned, built};
 use crate::any_plan::AnyPlan;
 use crate::header::header_refusal;
 use oc_base::{Code, Format, Word, word_of};
+use oc_coff_reader::{CoffReader32, CoffReader64};
 use oc_coff_write::{CoffWriter32, CoffWriter64};
 use oc_convert::{ConvertFault, convert, identify};
 use oc_elf_read::{ElfReader32, ElfReader64};
+use oc_elf_write::{ElfWriter32, ElfWriter64};
 use oc_names::Edits;
 use oc_neutral::{Emits, Reads};
 use std::alloc::Global;
 
-/// Whether files of the format can be written: those of COFF can. Constant time, no memory.
+/// Whether files of the format can be written: those of ELF and COFF can. Constant time, no memory.
+#[tactic(auto, unfolding(crate::specs::Built::built))]
 pub fn is_written(to: Format) -> bool
     ensures { result ≡ is_some (built.writer to) }
 {
     match to {
-        Format::Coff32 | Format::Coff64 => true,
-        Format::Elf32 | Format::Elf64 | Format::Mac32 | Format::Mac64 | Format::Omf => false,
+        Format::Elf32 | Format::Elf64 | Format::Coff32 | Format::Coff64 => true,
+        Format::Mac32 | Format::Mac64 | Format::Omf => false,
     }
 }
 
 // the conversion of a file that this reader reads
+#[tactic(auto, unfolding(crate::specs::Built::built))]
 fn dispatch_from<R: Reads>(
     alloc: Global,
     reader: &R,
@@ -45,6 +49,18 @@ fn dispatch_from<R: Reads>(
     ensures planned { IfOk result (λ plan. IsPlanned edits.now to R.dialect bytes.now (⟦<AnyPlan as Emits>⟧.file plan)) }
 {
     match to {
+        Format::Elf32 => {
+            match convert(alloc, reader, &ElfWriter32, from, to, bytes, edits) {
+                Ok(plan) => Ok(AnyPlan::Elf32(plan)),
+                Err(fault) => Err(fault),
+            }
+        }
+        Format::Elf64 => {
+            match convert(alloc, reader, &ElfWriter64, from, to, bytes, edits) {
+                Ok(plan) => Ok(AnyPlan::Elf64(plan)),
+                Err(fault) => Err(fault),
+            }
+        }
         Format::Coff32 => {
             match convert(alloc, reader, &CoffWriter32, from, to, bytes, edits) {
                 Ok(plan) => Ok(AnyPlan::Coff32(plan)),
@@ -57,9 +73,7 @@ fn dispatch_from<R: Reads>(
                 Err(fault) => Err(fault),
             }
         }
-        Format::Elf32 | Format::Elf64 | Format::Mac32 | Format::Mac64 | Format::Omf => {
-            Err(header_refusal(Code::NotBuilt))
-        }
+        Format::Mac32 | Format::Mac64 | Format::Omf => Err(header_refusal(Code::NotBuilt)),
     }
 }
 
@@ -74,6 +88,7 @@ fn have_one_word(from: Format, to: Format) -> bool
 }
 
 // the conversion of a file of this format
+#[tactic(auto, unfolding(crate::specs::Built::built))]
 fn dispatch_identified(
     alloc: Global,
     from: Format,
@@ -91,9 +106,9 @@ fn dispatch_identified(
     match from {
         Format::Elf32 => dispatch_from(alloc, &ElfReader32, from, to, bytes, edits),
         Format::Elf64 => dispatch_from(alloc, &ElfReader64, from, to, bytes, edits),
-        Format::Coff32 | Format::Coff64 | Format::Mac32 | Format::Mac64 | Format::Omf => {
-            Err(header_refusal(Code::NotBuilt))
-        }
+        Format::Coff32 => dispatch_from(alloc, &CoffReader32, from, to, bytes, edits),
+        Format::Coff64 => dispatch_from(alloc, &CoffReader64, from, to, bytes, edits),
+        Format::Mac32 | Format::Mac64 | Format::Omf => Err(header_refusal(Code::NotBuilt)),
     }
 }
 

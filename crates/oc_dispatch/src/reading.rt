@@ -9,6 +9,7 @@ ghost use Rattle.oc_dispatch.specs.Built.{IsRead, built};
 
 use crate::header::header_refusal;
 use oc_base::{Code, Format};
+use oc_coff_reader::{CoffReader32, CoffReader64};
 use oc_convert::{ConvertFault, identify};
 use oc_elf_read::{ElfReader32, ElfReader64};
 use oc_neutral::{Keep, Neutral, ReadFault, Reads, shown_object_is_computed};
@@ -48,6 +49,7 @@ fn read_by<R: Reads>(
 /// first bytes are those of no format; else `NotBuilt`, where the format is not read yet; else the
 /// first fault of the file, of any class. Where there is none, it is the one object that shows the
 /// file. `NoMemory` where memory ran out. Takes the memory and time of reading.
+#[tactic(auto, unfolding(crate::specs::Built::built))]
 pub fn read_any(alloc: Global, bytes: &[u8], keep: &Keep) -> Result<Neutral, ConvertFault>
     requires { length bytes.now ≤ 67108864 }
     ensures well_formed { OnOk result (reading_refusal built keep.now bytes.now ≡ None) }
@@ -58,8 +60,8 @@ pub fn read_any(alloc: Global, bytes: &[u8], keep: &Keep) -> Result<Neutral, Con
         None => Err(header_refusal(Code::UnknownFormat)),
         Some(Format::Elf32) => read_by(alloc, &ElfReader32, bytes, keep),
         Some(Format::Elf64) => read_by(alloc, &ElfReader64, bytes, keep),
-        Some(Format::Coff32 | Format::Coff64 | Format::Mac32 | Format::Mac64 | Format::Omf) => Err(
-            header_refusal(Code::NotBuilt),
-        ),
+        Some(Format::Coff32) => read_by(alloc, &CoffReader32, bytes, keep),
+        Some(Format::Coff64) => read_by(alloc, &CoffReader64, bytes, keep),
+        Some(Format::Mac32 | Format::Mac64 | Format::Omf) => Err(header_refusal(Code::NotBuilt)),
     }
 }

@@ -1,5 +1,5 @@
-//! Converts worked objects, and compares each output with the bytes that an independent model of the
-//! conversion gives.
+//! Converts worked objects, and compares each output with stored bytes: what an independent model of
+//! the conversion gives, or, for objects of real tools, what other tools confirmed (`data/README`).
 //!
 //! `worked_conversions TARGET IN WANT ..` prints a line for each three words: TARGET is an option, as
 //! `-fcoff32`, IN and WANT are files. The output stands in `out.obj`.
