@@ -19,4 +19,4 @@ pub use faults::{BlockFault, CopyFault};
 pub use indexes::{BadIndex, index};
 pub use laws::{copies_are_copies, reading_is_written, sizes_are_lengths, written_is_read};
 pub use places::Places;
-pub use records::{Entry, RecordFault, Records};
+pub use records::{Entry, RecordFault, Records, entry_at};

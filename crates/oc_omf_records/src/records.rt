@@ -83,19 +83,21 @@ impl<'a> Records<'a> {
         if self.at == self.view.len() {
             return Ok(None);
         }
-        let entry = read_entry(&self.view, self.at)?;
+        let entry = entry_at(&self.view, self.at)?;
         self.at += entry.contents.len() + 4;
         Ok(Some(entry))
     }
 }
 
-/// The entry at `at`, an offset in bytes.
-fn read_entry<'a>(view: &View<'a>, at: u64) -> Result<Entry<'a>, RecordFault>
-    requires { at < length view.now }
+/// The entry at `at`, an offset in bytes. `Truncated` comes exactly where it passes the end or has the
+/// length 0, and else `BadChecksum` exactly where its last byte is not 0 and its bytes do not sum to
+/// 0 modulo 256. Linear in the bytes of the entry, no memory.
+pub fn entry_at<'a>(view: &View<'a>, at: u64) -> Result<Entry<'a>, RecordFault>
     ensures answer { result ≡ entry_at view.now at }
     ensures size { IfOk result (λ entry. at + length entry.contents + 4 ≡ end_of_entry view.now at) }
     ensures inside { OnOk result (end_of_entry view.now at ≤ length view.now) }
 {
+    let _head = view.sub(at, 3)?;
     let end = view.len();
     prove!(at < end);
     let kind = view.u8_at(at)?;

@@ -1,0 +1,15 @@
+pub mod Cursor
+pub mod Structures
+pub mod Entries
+pub mod Tables
+pub mod Sections
+pub mod Symbols
+pub mod Fixups
+pub mod Targets
+pub mod Fields
+pub mod HeaderFaults
+pub mod SectionFaults
+pub mod SymbolFaults
+pub mod RelocationFaults
+pub mod Rules
+pub mod Known
