@@ -1,4 +1,5 @@
 # make: proves and builds the program; make check: the whole gate; make install PREFIX=/usr/local
+# make examples: runs the examples of docs/; make compare: times the program beside objcopy
 
 PREFIX ?= /usr/local
 
@@ -6,9 +7,15 @@ build/objconv: $(shell find crates -path '*/out' -prune -o -type f -print) crate
 	cd crates/objconv_main && rt run -- -fcoff32 data/a /dev/null
 	mkdir -p build && cp crates/objconv_main/out/objconv_main build/objconv
 
-.PHONY: check install clean
+.PHONY: check examples compare install clean
 check:
 	rt ci
+
+examples: build/objconv
+	docs/check-examples build/objconv
+
+compare: build/objconv
+	bench/compare build/objconv
 
 install: build/objconv
 	install -D build/objconv $(DESTDIR)$(PREFIX)/bin/objconv

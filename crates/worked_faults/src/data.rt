@@ -1,0 +1,12 @@
+//! The files that lie where the program runs.
+use anyhow::{Result, anyhow};
+use oc_outside::{LIMIT, RealFiles, read_file};
+
+/// The bytes of the file `name`.
+pub fn bytes_of(rt: &HostRuntime, name: &str) -> Result<Vec<u8>> {
+    let mut files = RealFiles::new(rt.alloc(), rt);
+    match read_file(rt.alloc(), &mut files, name, LIMIT) {
+        Ok(bytes) => Ok(bytes),
+        Err(fault) => Err(anyhow!("{name}: {fault}")),
+    }
+}

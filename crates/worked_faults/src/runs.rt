@@ -1,0 +1,138 @@
+//! One run of the command over a file `a` in memory, with room for a file `b`.
+use anyhow::Result;
+use objconv::{Words, run};
+use oc_base::NoMemory;
+use oc_outside::{MemConsole, MemFiles};
+use std::alloc::Global;
+use std::fmt;
+use std::fmt::{Display, Formatter, Write};
+
+/// The input.
+const IN: &str = "a";
+
+/// The output.
+const OUT: &str = "b";
+
+/// How many bytes the output, and each text on the console, may grow to.
+const ROOM: u64 = 1_000_000;
+
+/// A call of a device, by its number, counted from 1.
+#[derive(Clone, Copy)]
+pub enum Call {
+    File(u64),
+    Console(u64),
+}
+
+/// What is run.
+#[derive(Clone, Copy)]
+pub struct Run<'a> {
+    pub words: &'a Words,
+    /// The bytes of IN.
+    pub input: &'a [u8],
+    /// The call that fails.
+    pub failing: Option<Call>,
+    /// The bytes with which OUT is compared.
+    pub want: &'a [u8],
+}
+
+impl<'a> Run<'a> {
+    /// A run where no call fails and nothing is to be written.
+    pub fn of(words: &'a Words, input: &'a [u8]) -> Run<'a> {
+        Run {
+            words,
+            input,
+            failing: None,
+            want: &[],
+        }
+    }
+
+    /// Runs the command, and says what came of it.
+    pub fn outcome(&self, alloc: Global) -> Result<Outcome> {
+        let mut files = MemFiles::new(alloc);
+        files.set(IN, self.input)?;
+        files.room(OUT, ROOM)?;
+        let mut console = MemConsole::new(alloc);
+        console.room(ROOM, ROOM)?;
+        match self.failing {
+            Some(Call::File(call)) => files.fail_at(call)?,
+            Some(Call::Console(call)) => console.fail_at(call)?,
+            None => {}
+        }
+        let status = run(alloc, self.words, &mut files, &mut console);
+        Ok(Outcome {
+            status,
+            told: String::from_utf8(console.told().to_vec(alloc)?)?,
+            out: output_of(&files, self.want),
+            calm: files.file(IN) == Some(self.input) && console.shown().is_empty(),
+        })
+    }
+}
+
+/// What OUT holds after a run.
+#[derive(Clone, Copy, Debug, PartialEq, Eq)]
+enum Output {
+    Absent,
+    Empty,
+    Wanted,
+    Other,
+}
+
+impl Display for Output {
+    fn fmt<W: Write>(&self, f: &mut Formatter<W>) -> fmt::Result {
+        let text = match self {
+            Output::Absent => "no OUT",
+            Output::Empty => "OUT empty",
+            Output::Wanted => "OUT as wanted",
+            Output::Other => "OUT is another",
+        };
+        write!(f, "{text}")
+    }
+}
+
+/// What came of a run.
+#[derive(Debug, PartialEq, Eq, Drop)]
+pub struct Outcome {
+    status: u8,
+    told: String,
+    out: Output,
+    /// Whether IN is as it was, and nothing was shown.
+    calm: bool,
+}
+
+impl Display for Outcome {
+    fn fmt<W: Write>(&self, f: &mut Formatter<W>) -> fmt::Result {
+        let (status, told, out) = (self.status, self.told.as_str().trim_end(), self.out);
+        write!(f, "status {status}, \"{told}\", {out}")?;
+        if !self.calm {
+            write!(f, ", and more changed")?;
+        }
+        Ok(())
+    }
+}
+
+/// Adds a word.
+pub fn add_word(words: &mut Words, word: &str) -> Result<(), NoMemory> {
+    if words.count() == u32::MAX {
+        return Err(NoMemory);
+    }
+    words.push(word)
+}
+
+/// These words.
+pub fn words_of(alloc: Global, list: &[&str]) -> Result<Words, NoMemory> {
+    let mut words = Words::new(alloc);
+    for word in list {
+        add_word(&mut words, word)?;
+    }
+    Ok(words)
+}
+
+// what the files hold under OUT
+fn output_of(files: &MemFiles, want: &[u8]) -> Output {
+    match files.file(OUT) {
+        None => Output::Absent,
+        Some([]) => Output::Empty,
+        Some(out) if out == want => Output::Wanted,
+        Some(_) => Output::Other,
+    }
+}
