@@ -38,7 +38,7 @@ use Rattle.oc_neutral.specs.Powers.{natural_align}
 use Rattle.oc_neutral.specs.Relocated.{stays}
 use Rattle.oc_neutral.specs.Spelling.{spelling_of}
 use Rattle.oc_neutral.specs.Stored.{is_stored}
-use Rattle.oc_neutral.specs.TargetRelocations.{Standing, ends_in_nothing, has_no_form, is_homeless, is_local_number, is_nonlocal, is_target, is_wrong_target, needs_home, needs_slot, reloc_conditions, relocation_stages, spot_of, standing, standing_conditions, standing_from, standing_in, taken_end}
+use Rattle.oc_neutral.specs.TargetRelocations.{Standing, ends_in_nothing, has_no_form, is_homeless, is_local_number, is_nonlocal, is_target, is_wrong_target, lacks_difference, needs_home, needs_slot, reloc_conditions, relocation_stages, spot_of, standing, standing_conditions, standing_from, standing_in, taken_end}
 use Rattle.oc_neutral.specs.TargetSections as sections
 use Rattle.oc_neutral.specs.TargetSections.{conditions_at, each_of, is_debug_kept, is_exception_kept, is_group_form, is_name_form, section_conditions, section_count, section_stages}
 use Rattle.oc_neutral.specs.TargetSymbols as symbols
@@ -241,7 +241,7 @@ module _ (t : Format) (n : Object) where
       ∙ ap (λ b. is_target n is_local_number r.target || (needs_slot r.form && not (is_target n is_nonlocal r.target)) || (needs_home r.form && b)) (target_fit t n is_homeless (homeless_fit t) r.target)
 
   form_same : (r : Reloc) → has_no_form t (fit_of t n) r ≡ has_no_form t n r
-  form_same r = ap (λ o. is_none (spelling_of t r.form r.hint) || option_map_or (λ (k : ℕ). is_none o) (taken_end t r.form.less) false) (end_fit t n r.target)
+  form_same r = ap (λ o. is_none (spelling_of t r.form r.hint) || option_map_or (lacks_difference r.target o) (taken_end t r.form.less) false) (end_fit t n r.target)
 
   ends_same : (r : Reloc) → ends_in_nothing t (fit_of t n) r ≡ ends_in_nothing t n r
   ends_same r = ap (λ (f : ℕ → Bool). option_map_or f (taken_end t r.form.less) false) (fun_ext (empty_end_fit t n r.target))
