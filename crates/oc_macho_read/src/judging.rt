@@ -1,0 +1,153 @@
+//! Judging a file: the first of its faults.
+ghost use Rattle.std.specs.Prelude.{◌≡◌, ◌<◌, ◌≤◌, length, None, Some, IfErr, IfOk, OnOk};
+ghost use Rattle.oc_linking.specs.FirstFault.{first_fault, stage_fault};
+ghost use Rattle.oc_linking.specs.Keeping.{keeps};
+ghost use Rattle.oc_neutral.specs.Readable.{IsReadFault};
+ghost use Rattle.oc_shelf.specs.Reading.Stops.{IsStop};
+ghost use Rattle.oc_macho_read.specs.Framed as framed;
+ghost use Rattle.oc_macho_read.specs.Holders.{AreHolders};
+ghost use Rattle.oc_macho_read.specs.RelocationFaults as rules;
+ghost use Rattle.oc_macho_read.specs.Rules.{fault_of, rest_stages};
+ghost use Rattle.oc_macho_read.specs.SectionFaults.{section_stage};
+ghost use Rattle.oc_macho_read.specs.Tables.{tables_of};
+
+use crate::frame::Frame;
+use crate::header::read_frame;
+use crate::holders::Holders;
+use crate::kind::kind_of;
+use crate::relocs::check_table;
+use crate::section_stage::check_sections;
+use crate::symbol_stage::check_symbols;
+use oc_base::{Class, Fault, Word, class};
+use oc_neutral::{Keep, Kind, ReadFault};
+use oc_shelf::Stop;
+use std::alloc::Global;
+
+/// Whether a kind is kept. Constant time.
+pub fn keeps(keep: &Keep, kind: Kind) -> bool
+    ensures { result ≡ keeps keep.now kind }
+{
+    match kind {
+        Kind::Debug => keep.debug,
+        Kind::Exception => keep.exceptions,
+        Kind::Note => keep.notes,
+        Kind::Code | Kind::ReadOnly | Kind::Data | Kind::Zero | Kind::Init | Kind::Fini => true,
+    }
+}
+
+// judges the relocations of section `i`, counted from 0, where it is kept
+fn check_relocs_of(
+    alloc: Global,
+    frame: &Frame,
+    holders: &Holders,
+    keep: &Keep,
+    i: u32,
+) -> Result<(), Stop>
+    requires holders { AreHolders frame.now holders.now }
+    requires sections { stage_fault (section_stage frame.now) ≡ None }
+    requires there { i < length frame.now.sections }
+    ensures clean { OnOk result (stage_fault (rules.relocation_stage frame.now keep.now i) ≡ None) }
+    ensures stop { IfErr result (IsStop (stage_fault (rules.relocation_stage frame.now keep.now i))) }
+{
+    let h = frame.section(i);
+    if !keeps(keep, kind_of(&h)) {
+        return Ok(());
+    }
+    frame.has_entries(i, &h);
+    match check_table(alloc, frame, holders, i, &h) {
+        Err(stop) => Err(stop),
+        Ok(()) => Ok(()),
+    }
+}
+
+// judges the relocations of all sections that are kept
+fn check_relocs(alloc: Global, frame: &Frame, keep: &Keep) -> Result<(), Stop>
+    requires sections { stage_fault (section_stage frame.now) ≡ None }
+    ensures clean { OnOk result (first_fault (rules.relocation_stages frame.now keep.now) ≡ None) }
+    ensures stop { IfErr result (IsStop (first_fault (rules.relocation_stages frame.now keep.now))) }
+{
+    let holders = Holders::of(alloc, frame)?;
+    let count = frame.section_count();
+    for i in 0..count {
+        match check_relocs_of(alloc, frame, &holders, keep, i) {
+            Err(stop) => return Err(stop),
+            Ok(()) => (),
+        }
+    }
+    Ok(())
+}
+
+// judges what stands behind the header
+fn check_rest(alloc: Global, frame: &Frame, keep: &Keep) -> Result<(), Stop>
+    ensures clean { OnOk result (first_fault (rest_stages frame.now keep.now) ≡ None) }
+    ensures stop { IfErr result (IsStop (first_fault (rest_stages frame.now keep.now))) }
+{
+    match check_sections(frame) {
+        Err(fault) => return Err(Stop::Fault(fault)),
+        Ok(()) => (),
+    }
+    match check_symbols(alloc, frame) {
+        Err(stop) => return Err(stop),
+        Ok(()) => (),
+    }
+    match check_relocs(alloc, frame, keep) {
+        Err(stop) => Err(stop),
+        Ok(()) => Ok(()),
+    }
+}
+
+// the tables of a file, where it has no fault
+fn check_file<'a>(alloc: Global, word: Word, file: &'a [u8], keep: &Keep) -> Result<Frame<'a>, Stop>
+    requires { length file.now ≤ 67108864 }
+    ensures clean { OnOk result (fault_of word file.now keep.now ≡ None) }
+    ensures frame { IfOk result (λ f. f ≡ tables_of word file.now) }
+    ensures rest { IfOk result (λ f. first_fault (rest_stages f keep.now) ≡ None) }
+    ensures stop { IfErr result (IsStop (fault_of word file.now keep.now)) }
+{
+    let frame = match read_frame(word, file) {
+        Err(fault) => return Err(Stop::Fault(fault)),
+        Ok(frame) => frame,
+    };
+    match check_rest(alloc, &frame, keep) {
+        Err(stop) => Err(stop),
+        Ok(()) => Ok(frame),
+    }
+}
+
+// a fault of reading, in the variant of its class
+fn by_class(fault: Fault) -> ReadFault
+    ensures { IsReadFault (Some fault) result }
+{
+    match class(fault.code) {
+        Class::Malformed => ReadFault::Malformed(fault),
+        Class::Refused => ReadFault::Outside(fault),
+        Class::Limit => ReadFault::Limit(fault),
+    }
+}
+
+/// The tables of a file of at most 67,108,864 bytes, where it is a well formed object of the word when
+/// it is read under `keep`: an error exactly where it is not, with its first fault; `NoMemory` where
+/// memory ran out.
+///
+/// The time is that of n log2(n) steps for n sections, symbols or relocations, in any order of names,
+/// addresses and offsets. Each name is read a few times for each symbol that has it, and compared as
+/// `first_repeat` says: a file whose names are the ends of one long text costs the square of that text.
+/// Strings behind the last NUL are read once.
+pub fn judged<'a>(
+    alloc: Global,
+    word: Word,
+    bytes: &'a [u8],
+    keep: &Keep,
+) -> Result<Frame<'a>, ReadFault>
+    requires { length bytes.now ≤ 67108864 }
+    ensures well_formed { OnOk result (fault_of word bytes.now keep.now ≡ None) }
+    ensures frame { IfOk result (λ f. f ≡ tables_of word bytes.now) }
+    ensures rest { IfOk result (λ f. first_fault (rest_stages f keep.now) ≡ None) }
+    ensures fault { IfErr result (IsReadFault (fault_of word bytes.now keep.now)) }
+{
+    match check_file(alloc, word, bytes, keep) {
+        Ok(frame) => Ok(frame),
+        Err(Stop::NoMemory) => Err(ReadFault::NoMemory),
+        Err(Stop::Fault(fault)) => Err(by_class(fault)),
+    }
+}
