@@ -1,0 +1,5 @@
+pub mod Pins
+pub mod Built
+pub mod Given
+pub mod Adding
+pub mod Shown
