@@ -1,0 +1,104 @@
+-- A canonical file has as many symbols as are counted.
+use Rattle.std.proofs.Common.{◌≡◌, ℕ, ◌+◌, ◌^◌, ◌<◌, Bool, true, false, ◌&&◌, cond, List, [], ◌∷◌, ◌++◌, length, refl, sym, ◌∙◌, ap, subst, arith, length-append}
+use Rattle.std.specs.List.{count_by, sum_by, enumerate_from, filter}
+use Rattle.std.proofs.lemmas.Bool.{true≢false}
+use Rattle.std.proofs.lemmas.List.{length-map}
+use Rattle.std.proofs.lemmas.List.Sums.{sum_by-cons, length-filter}
+use Rattle.oc_base.specs.declared.format.Word.{Word}
+use Rattle.oc_base.specs.declared.format.Word.TheVariants.{W32, W64}
+use Rattle.oc_linking.specs.declared.terms.Binding.{Binding}
+use Rattle.oc_linking.specs.declared.terms.Binding.TheVariants.{Local, Global, Undefined, Common, Weak}
+use Rattle.oc_linking.specs.declared.terms.Fallback.TheVariants as fallback
+use Rattle.oc_linking.specs.Parts.{is_local}
+use Rattle.oc_neutral.specs.declared.symbol.Symbol.{Symbol}
+use Rattle.oc_neutral.specs.Bindings.{is_zero, is_written_by}
+use Rattle.oc_neutral.specs.Mach.Family.{mach_writes, mach_needed, mach_symbol_count}
+use Rattle.oc_neutral.specs.Mach.SectionSymbols.{needed_sections}
+use Rattle.oc_neutral.specs.Objects.{Object}
+use Rattle.oc_neutral.specs.SymbolLines.{is_defined, is_undefined, is_weak_with}
+use Rattle.oc_neutral.specs.Dressing.{is_common}
+use Rattle.oc_neutral.specs.WrittenSymbols.{is_written}
+use Rattle.oc_macho_read.specs.MachHeader.{mach_format}
+use Rattle.oc_macho_file.specs.Lines.{Line, OwnLine, LocalLine, OuterLine, lines_of, lines_where, own_lines, local_lines, inner_lines, defined_lines, undefined_lines}
+use Rattle.oc_macho_file.proofs.CodedLaws.{IsForMach}
+
+pub sum_enumerated : {X : Type 0} (size : X → ℕ) (i : ℕ) (xs : List X) → sum_by (λ (x : ℕ × X). size x.1) (enumerate_from i xs) ≡ sum_by size xs
+sum_enumerated size i [] = refl
+sum_enumerated {X} size i (x ∷ xs) = let a = sum_by-cons (λ (x : ℕ × X). size x.1) (i, x) (enumerate_from (i + 1) xs) in let b = sum_by-cons size x xs in let c = sum_enumerated size (i + 1) xs in omega (arith, a, b, c)
+
+-- a symbol is counted once
+five_tests : (writes : Bool) (b : Binding) (written : Bool) → (is_local b ≡ true → writes ≡ written) → (is_local b ≡ false → written ≡ true)
+    → cond (is_local b && writes) 1 0 + (cond (is_defined b) 1 0 + (cond (is_undefined b) 1 0 + (cond (is_common b) 1 0 + cond (is_weak_with is_zero b) 1 0))) ≡ cond written 1 0
+five_tests writes (Local v) written own outer = let e : cond {A = ℕ} writes 1 0 ≡ cond written 1 0 = ap (λ c. cond {A = ℕ} c 1 0) (own refl) in omega (arith, e)
+five_tests writes (Global v) written own outer = let e : cond {A = ℕ} written 1 0 ≡ 1 = ap (λ c. cond {A = ℕ} c 1 0) (outer refl) in omega (arith, e)
+five_tests writes Undefined written own outer = let e : cond {A = ℕ} written 1 0 ≡ 1 = ap (λ c. cond {A = ℕ} c 1 0) (outer refl) in omega (arith, e)
+five_tests writes (Common size align) written own outer = let e : cond {A = ℕ} written 1 0 ≡ 1 = ap (λ c. cond {A = ℕ} c 1 0) (outer refl) in omega (arith, e)
+five_tests writes (Weak (fallback.Place k o)) written own outer = let e : cond {A = ℕ} written 1 0 ≡ 1 = ap (λ c. cond {A = ℕ} c 1 0) (outer refl) in omega (arith, e)
+five_tests writes (Weak fallback.Zero) written own outer = let e : cond {A = ℕ} written 1 0 ≡ 1 = ap (λ c. cond {A = ℕ} c 1 0) (outer refl) in omega (arith, e)
+five_tests writes (Weak (fallback.Name k)) written own outer = let e : cond {A = ℕ} written 1 0 ≡ 1 = ap (λ c. cond {A = ℕ} c 1 0) (outer refl) in omega (arith, e)
+
+five_counts : (a b c d e f : Symbol → Bool) (xs : List Symbol)
+    → ((s : Symbol) → cond {A = ℕ} (a s) 1 0 + (cond (b s) 1 0 + (cond (c s) 1 0 + (cond (d s) 1 0 + cond (e s) 1 0))) ≡ cond (f s) 1 0)
+    → count_by a xs + (count_by b xs + (count_by c xs + (count_by d xs + count_by e xs))) ≡ count_by f xs
+five_counts a b c d e f [] each = refl
+five_counts a b c d e f (s ∷ xs) each =
+    let rest = five_counts a b c d e f xs each in
+    let own = each s in
+    let ha = sum_by-cons (λ s. cond {A = ℕ} (a s) 1 0) s xs in
+    let hb = sum_by-cons (λ s. cond {A = ℕ} (b s) 1 0) s xs in
+    let hc = sum_by-cons (λ s. cond {A = ℕ} (c s) 1 0) s xs in
+    let hd = sum_by-cons (λ s. cond {A = ℕ} (d s) 1 0) s xs in
+    let he = sum_by-cons (λ s. cond {A = ℕ} (e s) 1 0) s xs in
+    let hf = sum_by-cons (λ s. cond {A = ℕ} (f s) 1 0) s xs in
+    omega (arith, rest, own, ha, hb, hc, hd, he, hf)
+
+module _ (w : Word) (n : Object) (is : IsForMach w n) where
+  pub length-where : (line : ℕ → Symbol → Line) (test : Symbol → Bool) → length (lines_where line test n) ≡ count_by test n.symbols
+  length-where line test =
+      length-map (filter (λ (x : ℕ × Symbol). test x.1) (enumerate_from 0 n.symbols)) (λ (x : ℕ × Symbol). line x.0 x.1)
+      ∙ length-filter (λ (x : ℕ × Symbol). test x.1) (enumerate_from 0 n.symbols)
+      ∙ sum_enumerated (λ (s : Symbol). cond (test s) 1 0) 0 n.symbols
+
+  written_as : (s : Symbol) → is_written n.format s ≡ is_written_by (mach_writes w) s.name s.binding
+  written_as s = ap (λ f. is_written f s) is.format ∙ by w
+    where
+      by : (v : Word) → is_written (mach_format v) s ≡ is_written_by (mach_writes v) s.name s.binding
+      by W32 = refl
+      by W64 = refl
+
+  outer_written : (name : List ℕ) (b : Binding) → is_local b ≡ false → is_written_by (mach_writes w) name b ≡ true
+  outer_written name (Local v) e = absurd (true≢false e)
+  outer_written name (Global v) e = refl
+  outer_written name Undefined e = refl
+  outer_written name (Common size align) e = refl
+  outer_written name (Weak f) e = refl
+
+  length-own : (v : Word) → length (own_lines v n) ≡ length (mach_needed v n)
+  length-own W32 = refl
+  length-own W64 = length-map (needed_sections n) OwnLine
+
+  pub length-lines : length (lines_of w n) ≡ mach_symbol_count w n
+  unfolding lines_of
+  length-lines =
+      let a = length-append (inner_lines w n) (defined_lines n ++ undefined_lines n) in
+      let b = length-append (own_lines w n) (local_lines n) in
+      let c = length-append (defined_lines n) (undefined_lines n) in
+      let d = length-append (lines_where OuterLine (λ s. is_undefined s.binding) n) (lines_where OuterLine (λ s. is_common s.binding) n ++ lines_where OuterLine (λ s. is_weak_with is_zero s.binding) n) in
+      let e = length-append (lines_where OuterLine (λ s. is_common s.binding) n) (lines_where OuterLine (λ s. is_weak_with is_zero s.binding) n) in
+      let own = length-own w in
+      let locals = length-where LocalLine (λ s. is_local s.binding && is_written n.format s) in
+      let defined = length-where OuterLine (λ s. is_defined s.binding) in
+      let undefined = length-where OuterLine (λ s. is_undefined s.binding) in
+      let commons = length-where OuterLine (λ s. is_common s.binding) in
+      let weaks = length-where OuterLine (λ s. is_weak_with is_zero s.binding) in
+      let all = five_counts (λ s. is_local s.binding && is_written n.format s) (λ s. is_defined s.binding) (λ s. is_undefined s.binding) (λ s. is_common s.binding) (λ s. is_weak_with is_zero s.binding)
+      (λ s. is_written_by (mach_writes w) s.name s.binding) n.symbols
+      (λ s. five_tests (is_written n.format s) s.binding (is_written_by (mach_writes w) s.name s.binding) (λ local. written_as s) (λ outer. outer_written s.name s.binding outer)) in
+      omega (arith, a, b, c, d, e, own, locals, defined, undefined, commons, weaks, all)
+
+  pub few_lines : length (lines_of w n) < 2 ^ 24
+  few_lines = let long = length-lines in let few = by w refl in omega (arith, long, few)
+    where
+      by : (v : Word) → w ≡ v → mach_symbol_count w n < 2 ^ 24
+      by W32 e = subst (λ u. mach_symbol_count u n < 2 ^ 24) (sym e) (is.meets.table_32 (ap mach_format e))
+      by W64 e = subst (λ u. mach_symbol_count u n < 2 ^ 24) (sym e) (is.meets.table_64 (ap mach_format e))

@@ -1,0 +1,177 @@
+-- The fields of a canonical file: what numbers stand in them, and which entries they are read by.
+use Rattle.std.proofs.Common.{◌≡◌, ℕ, ◌%◌, ◌<◌, ◌≤◌, cond, ℤ, List, length, replicate, Option, Some, None, Ok, refl, sym, ◌∙◌, ap, subst, arith, MatchResult}
+use Rattle.std.specs.Prelude.{◌+ℤ◌, slice_get}
+use Rattle.std.specs.Option.{option_map, option_map_or, option_and_then}
+use Rattle.oc_base.specs.declared.format.Word.{Word}
+use Rattle.oc_base.specs.declared.format.Word.TheVariants.{W32, W64}
+use Rattle.oc_base.specs.Numbers.{number_at}
+use Rattle.oc_linking.specs.declared.terms.Width.{Width}
+use Rattle.oc_linking.specs.declared.terms.Width.TheVariants.{One, Two, Four, Eight}
+use Rattle.oc_linking.specs.Fits.{bytes_of, span}
+use Rattle.oc_linking.proofs.Storing.{field_holds}
+use Rattle.oc_algebra.specs.Promises.{Holds}
+use Rattle.oc_algebra.specs.Residues.{reduced_number}
+use Rattle.oc_algebra.specs.Fields.{extended, to_field_of, from_field_of}
+use Rattle.oc_algebra.proofs.FieldLaws.{written_law}
+use Rattle.oc_neutral.specs.declared.section.Section.{Section}
+use Rattle.oc_neutral.specs.declared.reloc.Reloc.{Reloc}
+use Rattle.oc_neutral.specs.Mach.Relocs.{MachRow}
+use Rattle.oc_neutral.specs.Meets.{HoldsAddend}
+use Rattle.oc_neutral.specs.Objects.{Object, reloc_at}
+use Rattle.oc_neutral.specs.RowFields.{number_in}
+use Rattle.oc_shelf.specs.Writing.Parts.{Laid}
+use Rattle.oc_macho_read.specs.declared.relocation_info.Reference.TheVariants as reference
+use Rattle.oc_macho_read.specs.declared.entries.Item.{Item}
+use Rattle.oc_macho_read.specs.MachHeader.{mach_format}
+use Rattle.oc_macho_read.specs.Tables.{SectionTable, Tables}
+use Rattle.oc_macho_read.specs.Entries.{row_for, target_entry, taken_entry}
+use Rattle.oc_macho_read.specs.Aims.{Aim, aim_in, target_in}
+use Rattle.oc_macho_read.specs.Fields.{Found, found_by, found_in, item_for, field_of, fields_in}
+use Rattle.oc_macho_file.specs.Addresses.{address_of}
+use Rattle.oc_macho_file.specs.Lines.{Line, numbered_lines, own_number}
+use Rattle.oc_macho_file.specs.Bodies.{Standing, taken_section, end_section_address, field_shift, number_or, field_number, field_patch, field_patches, raw_of, reference_to, plain_entry, scattered_entry}
+use Rattle.oc_macho_file.proofs.TableLaws.{made_table, made_sections, made_tables}
+use Rattle.oc_macho_file.proofs.CodedLaws.{IsForMach, word_back}
+use Rattle.oc_macho_file.proofs.ItemLaws.{item_of}
+use Rattle.oc_macho_file.proofs.EntryLaws.{written_pair, written_by, written_standing, mach_reloc, meets, row, entry, row_is, standing, standing_is, first_row, inside, is_stored, apart_patches, item_found, none_found, no_member}
+use Rattle.oc_macho_file.proofs.SectionLaws.{made_contents, table_at, length-tables}
+
+-- what a field holds is the addend
+holds_addend : (w : Word) (k : Width) (shift a : ℤ) (F : ℕ) → to_field_of w k shift a ≡ Ok F → (F % span k ≡ F) × (from_field_of w k shift F ≡ reduced_number w a)
+holds_addend w k shift a F e =
+    let law = subst (λ o. MatchResult o (Holds w k shift a) (λ x. (g : ℕ) → Holds w k shift a g → ⊥)) e (written_law w k shift a) in
+    (small k F law.0, law.1)
+  where
+    small : (k : Width) (F : ℕ) → F < span k → F % span k ≡ F
+    small One F low = omega (arith, low)
+    small Two F low = omega (arith, low)
+    small Four F low = omega (arith, low)
+    small Eight F low = omega (arith, low)
+
+module _ (w : Word) (n : Object) (is : IsForMach w n) where
+  abbrev t : Tables
+  t = made_tables w n
+
+  abbrev lines : List (Laid Line)
+  lines = numbered_lines w n
+
+  module _ (k : ℕ) (s : Section) (here : slice_get n.sections k ≡ Some s) where
+    -- the table of the section
+    abbrev c : SectionTable
+    c = made_table w n (k, s)
+
+    fields_by : (at : ℕ) → fields_in t k at ≡ option_map (field_of t k at c) (found_in t c at)
+    unfolding fields_in made_tables
+    fields_by at = ap (option_and_then (λ c. option_map (field_of t k at c) (found_in t c at))) (table_at w n k s here)
+
+    -- where no relocation stands, no field does
+    pub no_field : (at : ℕ) → reloc_at n k at ≡ None → fields_in t k at ≡ None
+    unfolding item_for made_tables
+    no_field at none = fields_by at ∙ ap (λ o. option_map (field_of t k at c) (option_and_then (found_by t) o)) (none_found w n is lines k at none)
+
+    module _ (at : ℕ) (r : Reloc) (there : reloc_at n k at ≡ Some r) where
+      abbrev x : Standing
+      x = standing w n is k at r there
+
+      abbrev e : MachRow
+      e = entry w n is k at r there
+
+      -- the entries of the field
+      abbrev pub own_item : Item
+      own_item = item_of (written_standing w n lines x)
+
+      pub field_there : (f : Found) → found_by t own_item ≡ Some f → fields_in t k at ≡ Some (field_of t k at c f)
+      unfolding item_for made_tables
+      field_there f found =
+          fields_by at ∙ ap (λ o. option_map (field_of t k at c) (option_and_then (found_by t) o)) (item_found w n is lines k at r there)
+          ∙ ap (option_map (field_of t k at c)) found
+
+      -- ... the number in the field
+
+      abbrev shift : ℤ
+      shift = field_shift w n x
+
+      holds : HoldsAddend (mach_format w) r shift
+      holds = by w refl
+        where
+          by : (v : Word) → w ≡ v → HoldsAddend (mach_format w) r shift
+          by W32 e = (mach_reloc w n is k at r there).holds shift (ap mach_format e)
+          by W64 e = subst (HoldsAddend (mach_format w) r) (sym (ap (λ v. field_shift v n x) e)) ((mach_reloc w n is k at r there).held (ap mach_format e))
+
+      written : to_field_of w r.form.width shift r.addend ≡ Ok holds.0
+      written = ap (λ v. to_field_of v r.form.width shift r.addend) (sym (word_back w)) ∙ holds.1
+
+      -- as it is read
+      abbrev pub number : ℤ
+      number = number_in e.row (made_contents w n (k, s)) at
+
+      pub held : reduced_number w (number +ℤ shift) ≡ reduced_number w r.addend
+      unfolding raw_of field_number from_field_of
+      held =
+          let F : ℕ = holds.0 in
+          let contents : List ℕ = made_contents w n (k, s) in
+          let own = holds_addend w r.form.width shift r.addend F written in
+          let stored : (field_patch w n k at r).residue ≡ F = ap (λ o. option_map_or (field_number w n) o 0) (standing_is w n is k at r there) ∙ ap number_or written in
+          let read : number_at contents at (bytes_of r.form.width) ≡ F
+          = ap (λ b. number_at (cond b (replicate s.size 0) (raw_of w n k s)) at (bytes_of r.form.width)) (is_stored w n is k at r there s here)
+          ∙ field_holds (field_patches w n k) (apart_patches w n is k) s.bytes at (field_patch w n k at r) (ap (option_map (field_patch w n k at)) there) (inside w n is k at r there s here)
+          ∙ ap (λ f. f % span r.form.width) stored ∙ own.0 in
+          let width : e.row.width ≡ r.form.width = row_is w n is k at r there (λ y. y.width) ∙ (meets w n is k at r there).is.width in
+          ap (λ k. reduced_number w (extended k (number_at contents at (bytes_of k)) +ℤ shift)) width
+          ∙ ap (λ f. reduced_number w (extended r.form.width f +ℤ shift)) read ∙ own.1
+
+      -- ... the field by its entries
+
+      abbrev with_aims : Option Aim → Option Aim → Option Found
+      with_aims target taken = option_map (λ target. record { row = e; target = target; taken = taken }) target
+
+      found_as : (i : Item) → row_for w i.first ≡ Some e → found_by t i ≡ with_aims (target_in t (target_entry w i)) (option_and_then (target_in t) (taken_entry w i))
+      unfolding found_by made_tables
+      found_as i row = ap (option_and_then (λ m. option_map (λ target. record { row = m; target = target; taken = option_and_then (target_in t) (taken_entry w i) }) (target_in t (target_entry w i)))) row
+
+      -- of an entry that stands alone
+      pub found_alone : x.row.second ≡ None → (aim : Aim) → aim_in t (reference_to w lines r.target) ≡ Some (Some aim) → found_by t own_item ≡ Some (record { row = e; target = aim; taken = None })
+      found_alone second aim aimed =
+          found_as own_item (first_row w n is k at r there lines)
+          ∙ ap (λ o. with_aims (target_in t (target_entry w (item_of (written_by w n lines x o)))) (option_and_then (target_in t) (taken_entry w (item_of (written_by w n lines x o))))) second
+          ∙ by w
+        where
+          by : (v : Word) → with_aims (target_in t (target_entry v (record { first = plain_entry x x.row.number (reference_to w lines r.target); second = None })))
+              (option_and_then (target_in t) (taken_entry v (record { first = plain_entry x x.row.number (reference_to w lines r.target); second = None }))) ≡ Some (record { row = e; target = aim; taken = None })
+          by W32 = ap (λ o. with_aims (option_and_then (λ a. a) o) None) aimed
+          by W64 = ap (λ o. with_aims (option_and_then (λ a. a) o) None) aimed
+
+      -- it takes nothing
+      pub taken_alone : x.row.second ≡ None → taken_entry w own_item ≡ None
+      taken_alone second = ap (λ o. taken_entry w (item_of (written_by w n lines x o))) second ∙ by w
+        where
+          by : (v : Word) → taken_entry v (record { first = plain_entry x x.row.number (reference_to w lines r.target); second = None }) ≡ None
+          by W32 = refl
+          by W64 = refl
+
+      -- of a pair of x86-64
+      pub found_long : w ≡ W64 → (second : ℕ) → x.row.second ≡ Some second → (aim taken : Aim) → aim_in t (reference_to W64 lines r.target) ≡ Some (Some aim)
+          → aim_in t (reference.Symbol (own_number lines (taken_section x))) ≡ Some (Some taken) → found_by t own_item ≡ Some (record { row = e; target = aim; taken = Some taken })
+      found_long long second is_second aim taken aimed takes =
+          found_as own_item (first_row w n is k at r there lines)
+          ∙ ap (λ o. with_aims (target_in t (target_entry w (item_of (written_by w n lines x o)))) (option_and_then (target_in t) (taken_entry w (item_of (written_by w n lines x o))))) is_second
+          ∙ ap (λ v. with_aims (target_in t (target_entry v (item_of (written_pair v n lines x second)))) (option_and_then (target_in t) (taken_entry v (item_of (written_pair v n lines x second))))) long
+          ∙ ap (λ o. with_aims (option_and_then (λ a. a) o) (target_in t (plain_entry x x.row.number (reference.Symbol (own_number lines (taken_section x)))))) aimed
+          ∙ ap (λ o. with_aims (Some aim) (option_and_then (λ a. a) o)) takes
+
+      -- of one of i386
+      pub found_short : w ≡ W32 → (second : ℕ) → x.row.second ≡ Some second → (aim taken : Aim) → aim_in t (reference.Address (end_section_address n r.target)) ≡ Some (Some aim)
+          → aim_in t (reference.Address (address_of n (taken_section x))) ≡ Some (Some taken) → found_by t own_item ≡ Some (record { row = e; target = aim; taken = Some taken })
+      found_short short second is_second aim taken aimed takes =
+          found_as own_item (first_row w n is k at r there lines)
+          ∙ ap (λ o. with_aims (target_in t (target_entry w (item_of (written_by w n lines x o)))) (option_and_then (target_in t) (taken_entry w (item_of (written_by w n lines x o))))) is_second
+          ∙ ap (λ v. with_aims (target_in t (target_entry v (item_of (written_pair v n lines x second)))) (option_and_then (target_in t) (taken_entry v (item_of (written_pair v n lines x second))))) short
+          ∙ ap (λ o. with_aims (option_and_then (λ a. a) o) (target_in t (scattered_entry 0 second (address_of n (taken_section x))))) aimed
+          ∙ ap (λ o. with_aims (Some aim) (option_and_then (λ a. a) o)) takes
+
+  -- no field stands in a section that is not there
+  pub fields_past : (k at : ℕ) → length n.sections ≤ k → fields_in t k at ≡ None
+  unfolding fields_in made_tables
+  fields_past k at high =
+      let long = length-tables w n in
+      ap (option_and_then (λ c. option_map (field_of t k at c) (found_in t c at))) (no_member (made_sections w n) k (omega (arith, high, long)))

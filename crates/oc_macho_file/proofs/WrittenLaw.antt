@@ -1,0 +1,49 @@
+-- The canonical file of an object that is ready for Mach-O is well formed and shows the object that is seen.
+use Rattle.std.proofs.Common.{◌≡◌, List, ◌∷◌, ℕ, None, refl, sym, subst}
+use Rattle.std.specs.List.{AllByRecursion}
+use Rattle.oc_base.specs.declared.format.Word.{Word}
+use Rattle.oc_base.specs.declared.format.Word.TheVariants.{W32, W64}
+use Rattle.oc_linking.specs.Keeping.{all}
+use Rattle.oc_neutral.specs.Objects.{Object}
+use Rattle.oc_neutral.specs.Targets.{IsDialect}
+use Rattle.oc_shelf.proofs.ReadingLaws.StageLemmas.{IsUnbroken, no_first_fault}
+use Rattle.oc_macho_read.specs.HeaderFaults.{header_stage}
+use Rattle.oc_macho_read.specs.Rules.{rest_stages, fault_of, mach_dialect}
+use Rattle.oc_macho_read.specs.Tables.{Tables, tables_of}
+use Rattle.oc_macho_file.specs.Canonical.{mach_file}
+use Rattle.oc_macho_file.specs.Writing.{MachIsWritten}
+use Rattle.oc_macho_file.proofs.TableLaws.{IsCodable, made_tables, tables_read}
+use Rattle.oc_macho_file.proofs.CodedLaws.{IsForMach, for_mach}
+use Rattle.oc_macho_file.proofs.CountLaws.{few_lines}
+use Rattle.oc_macho_file.proofs.FileSize.{small_file}
+use Rattle.oc_macho_file.proofs.CodableLaws.{has_numbers}
+use Rattle.oc_macho_file.proofs.ShowsLaw.{mach_shows}
+use Rattle.oc_macho_file.proofs.HeaderClean.{header_clean}
+use Rattle.oc_macho_file.proofs.SectionClean.{sections_clean}
+use Rattle.oc_macho_file.proofs.SymbolClean.{symbols_clean}
+use Rattle.oc_macho_file.proofs.RelocationClean.{relocations_clean}
+
+-- the rules of Mach-O have the word and the alignments of its format
+pub mach_is_dialect : (w : Word) → IsDialect (mach_dialect w)
+mach_is_dialect W32 = record { word = refl; output_align = λ align. refl; common_align = λ size align. refl }
+mach_is_dialect W64 = record { word = refl; output_align = λ align. refl; common_align = λ size align. refl }
+
+module _ (w : Word) (n : Object) (is : IsForMach w n) (fits : IsCodable w n) where
+  abbrev file : List ℕ
+  file = mach_file w n
+
+  rest_clean : AllByRecursion IsUnbroken (rest_stages (made_tables w n) all)
+  rest_clean = (sections_clean w n is, (symbols_clean w n is, relocations_clean w n is fits))
+
+  pub well_formed : fault_of w file all ≡ None
+  unfolding fault_of
+  well_formed = no_first_fault (header_stage w file ∷ rest_stages (tables_of w file) all) (header_clean w n fits, subst (λ (t : Tables). AllByRecursion IsUnbroken (rest_stages t all)) (sym (tables_read w n fits)) rest_clean)
+
+pub mach_is_written : MachIsWritten
+mach_is_written w = record {
+  dialect = mach_is_dialect w;
+  written = λ n fitted.
+      let is = for_mach w n fitted in
+      let fits = has_numbers w n is (small_file w n is) (few_lines w n is) in
+      record { well_formed = well_formed w n is fits; shows = mach_shows w n is fits fitted };
+}
