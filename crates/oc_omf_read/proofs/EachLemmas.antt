@@ -90,3 +90,8 @@ member_goes b at x q e =
     let second = index_goes b mark.1 segment.0 segment.1 segment.2 in
     let last : segment.1 ≡ q = ap (λ (r : Reading (ℕ × ℕ)). elim r as (λ _. ℕ) [ Ok s ↦ s.1 | Err _ ↦ 0 ]) segment.3 in
     (omega (arith, first.0, second.0, last), omega (arith, second.1, last))
+
+-- a number of any size ends in the contents
+pub number_goes : (k : ℕ) (b : List ℕ) (at x q : ℕ) → number_read k b at ≡ Ok (x, q) → (at ≤ q) × (q ≤ length b)
+unfolding number_read
+number_goes k b at x q e = grind (arith, nat_tests)

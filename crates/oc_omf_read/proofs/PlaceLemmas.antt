@@ -1,9 +1,11 @@
 -- The places of entries, one behind another.
-use Rattle.std.proofs.Common.{◌≡◌, ℕ, zero, suc, ◌+◌, ◌-◌, ◌<◌, ◌≤◌, Bool, true, List, [], ◌∷◌, ◌++◌, length, Some, None, refl, sym, ◌∙◌, ap, arith, append_assoc}
-use Rattle.std.specs.Prelude.{get_or, slice_get, take}
+use Rattle.std.proofs.Common.{◌≡◌, ℕ, zero, suc, ◌+◌, ◌-◌, ◌<◌, ◌≤◌, Bool, true, List, [], ◌∷◌, ◌++◌, length, Some, None, refl, sym, ◌∙◌, ap, subst, arith, append_assoc}
+use Rattle.std.specs.Prelude.{get_or, slice_get, slice_range, take}
 use Rattle.std.specs.Option.{option_map_or}
 use Rattle.std.proofs.lemmas.Bool.Decides.{nat_tests}
-use Rattle.oc_omf_records.specs.NextEntry.{end_of_entry, is_whole}
+use Rattle.std.proofs.lemmas.Grind.{common_steps}
+use Rattle.oc_omf_records.specs.declared.records.Entry.{Entry as Record}
+use Rattle.oc_omf_records.specs.NextEntry.{end_of_entry, entry_of, is_whole}
 use Rattle.std.proofs.lemmas.Option.{slice_get-get_or, slice_get_within}
 use Rattle.oc_linking.specs.FirstFault.{fault_of, first_broken, stage_fault}
 use Rattle.oc_shelf.proofs.ReadingLaws.StageLemmas.{all_hold, clean_at, not_false}
@@ -80,3 +82,13 @@ whole_at file i at clean here =
 pub place_among : (file places : List ℕ) (i at : ℕ) → places ≡ places_in file → i < length (places_in file) → at ≡ get_or places i at → slice_get (places_in file) i ≡ Some at
 place_among file places i at all low is =
     slice_get-get_or (places_in file) i at low ∙ ap (λ xs. Some (get_or xs i at)) (sym all) ∙ ap (λ x. Some x) (sym is)
+
+-- an entry that stands whole ends in the file
+pub entry_small : (file : List ℕ) (at : ℕ) (r : Record) → is_whole file at ≡ true → length file ≤ 67108864 → r ≡ entry_of file at → r.place + length r.contents ≤ 67108864
+entry_small file at r whole few is =
+    let inside = whole_inside file at whole in
+    let long : length (entry_of file at).contents ≤ end_of_entry file at - 1 - (at + 3) = slice_long file (at + 3) (end_of_entry file at - 1) in
+    subst (λ (x : Record). x.place + length x.contents ≤ 67108864) (sym is) (omega (arith, inside.0, inside.1, long, few))
+  where
+    slice_long : (xs : List ℕ) (i j : ℕ) → length (slice_range xs i j) ≤ j - i
+    slice_long xs i j = grind (arith, common_steps)

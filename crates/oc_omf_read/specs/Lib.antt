@@ -13,3 +13,8 @@ pub mod SymbolFaults
 pub mod RelocationFaults
 pub mod Rules
 pub mod Known
+pub mod Topics
+pub mod Defined
+pub mod Held
+pub mod Seen
+pub mod Judged

@@ -67,9 +67,13 @@ size_conditions sizes x s =
     ∷ (nat_lt 2147483648 (sizes + segment_size s), limit_fault x (sizes + segment_size s) LimitSum)
     ∷ []
 
--- the conditions on a segment, where that is defined before
+-- the conditions on a segment, behind so many names and segments of so many bytes
+abbrev pub segment_conditions_by : ℕ → ℕ → ℕ × ℕ → Segment → List Condition
+segment_conditions_by names sizes x s = form_conditions names x s ++ size_conditions sizes x s
+
+-- the same, where that is defined before
 abbrev pub segment_conditions : Tables → ℕ × ℕ → Segment → List Condition
-segment_conditions before x s = form_conditions (length before.names) x s ++ size_conditions (sum_by segment_size before.segments) x s
+segment_conditions before x s = segment_conditions_by (length before.names) (sum_by segment_size before.segments) x s
 
 -- ... groups
 

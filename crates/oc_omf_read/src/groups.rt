@@ -1,18 +1,23 @@
 //! The groups that entries define.
-ghost use Rattle.std.specs.Prelude.{◌≡◌, ◌||◌, not, nat_eq, nat_lt};
+ghost use Rattle.std.specs.Prelude.{◌≡◌, ◌||◌, not, nat_eq, nat_lt, OnOk, IfErr};
 ghost use Rattle.oc_base.specs.declared.code.Code.TheVariants.{BadTable};
 ghost use Rattle.oc_linking.specs.FirstFault.{first_broken};
 ghost use Rattle.oc_omf_read.specs.declared.constants.TheConstants.{SEGMENT_INDEX};
 ghost use Rattle.oc_omf_read.specs.Cursor.{each_read};
+ghost use Rattle.oc_omf_read.specs.Defined.{IsStoppedAt, IsTakenUp};
 ghost use Rattle.oc_omf_read.specs.Known.{members_in};
 ghost use Rattle.oc_omf_read.specs.Structures.{group_read, member_read};
 ghost use Rattle.oc_omf_read.specs.SectionFaults as rules;
+ghost use Rattle.oc_omf_read.specs.Topics.{said_on};
+ghost use Rattle.oc_omf_read.specs.declared.topics.Topic.TheVariants as topic;
 
 use crate::constants::SEGMENT_INDEX;
 use crate::cursor::read_index;
+use crate::defined::Defined;
 use crate::reading::read_member;
 use crate::section_stage::{Spot, own_fault};
 use oc_base::{Code, Fault, View};
+use oc_shelf::Stop;
 
 /// What is wrong with the members of a group.
 #[derive(Clone, Copy, Drop)]
@@ -92,4 +97,31 @@ pub(crate) fn group_fault(
         return Some(own_fault(spot, Code::BadIndex));
     }
     None
+}
+
+/// Judges the group in the contents of an entry, of the odd type where `wide`, and takes it up.
+///
+/// Stops exactly where it has a fault, with the first; or where memory ran out. Linear in the
+/// contents.
+pub(crate) fn take_group(
+    defined: &mut Defined<'_>,
+    spot: Spot,
+    wide: bool,
+    contents: &View<'_>,
+) -> Result<(), Stop>
+    ensures taken { OnOk result (IsTakenUp defined.old (spot.index, spot.place) (said_on topic.Group spot.place wide contents.now) defined.new) }
+    ensures stop { IfErr result (IsStoppedAt defined.old (spot.index, spot.place) (said_on topic.Group spot.place wide contents.now)) }
+{
+    let _ = wide;
+    let names = defined.names.len() as u64;
+    let segments = defined.segments.len() as u64;
+    match group_fault(names, segments, spot, contents) {
+        Some(fault) => return Err(Stop::Fault(fault)),
+        None => (),
+    }
+    let Ok((name, _at)) = read_index(contents, 0) else {
+        return Err(Stop::Fault(own_fault(spot, Code::BadTable)));
+    };
+    defined.groups.push(name)?;
+    Ok(())
 }

@@ -6,20 +6,35 @@ mod constants;
 mod cursor;
 mod cut;
 mod data;
+mod defined;
 mod entries;
+mod externals;
 mod groups;
 mod header_stage;
+mod held;
+#[cfg(test)]
+mod judged_tests;
+mod judging;
+mod kind;
+mod known;
 mod laws;
 mod module;
 mod names;
+mod pieces;
+mod publics;
 mod reading;
 mod section_stage;
+mod sections;
+mod seen;
+mod segments;
 mod structures;
+mod symbol_loop;
 mod symbol_stage;
 mod symbols;
 #[cfg(test)]
 mod tests;
 mod threads;
+mod topics;
 
 pub use cut::Cut;
 pub use laws::omf_is_dialect;

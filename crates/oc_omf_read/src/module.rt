@@ -1,5 +1,5 @@
 //! A module whose entries have no fault by themselves, with their places.
-ghost use Rattle.std.specs.Prelude.{◌≡◌, ◌<◌, ◌≤◌, length, true, Some, slice_get, OnOk, IfOk, IfErr, None};
+ghost use Rattle.std.specs.Prelude.{◌≡◌, ◌+◌, ◌<◌, ◌≤◌, length, true, Some, slice_get, OnOk, IfOk, IfErr, None};
 ghost use Rattle.oc_linking.specs.FirstFault.{stage_fault};
 ghost use Rattle.oc_omf_records.specs.NextEntry.{entry_of, is_whole};
 ghost use Rattle.oc_shelf.specs.Reading.Stops.{IsStop};
@@ -46,6 +46,7 @@ impl<'a> Module<'a> {
         requires { i < length (places_in self.now) }
         ensures place { slice_get (places_in self.now) i ≡ Some result.place }
         ensures entry { result ≡ entry_of self.now result.place }
+        ensures small { result.place + length result.contents ≤ 67108864 }
     {
         let at = self.places[i as usize];
         entry_in(self.file, at as usize)

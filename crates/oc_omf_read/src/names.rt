@@ -3,11 +3,15 @@ ghost use Rattle.std.specs.Prelude.{◌≡◌, ◌++◌, OnOk, IfErr, None};
 ghost use Rattle.oc_linking.specs.FirstFault.{first_broken};
 ghost use Rattle.oc_shelf.specs.Reading.Stops.{IsStop};
 ghost use Rattle.oc_omf_read.specs.Cursor.{each_read, name_read};
+ghost use Rattle.oc_omf_read.specs.Defined.{IsStoppedAt, IsTakenUp};
 ghost use Rattle.oc_omf_read.specs.Entries.{all_read};
 ghost use Rattle.oc_omf_read.specs.Known.{names_of};
 ghost use Rattle.oc_omf_read.specs.SectionFaults.{name_conditions};
+ghost use Rattle.oc_omf_read.specs.Topics.{said_on};
+ghost use Rattle.oc_omf_read.specs.declared.topics.Topic.TheVariants as topic;
 
 use crate::cursor::read_name;
+use crate::defined::Defined;
 use crate::section_stage::{Spot, own_fault};
 use oc_base::{Code, View};
 use oc_shelf::Stop;
@@ -36,4 +40,24 @@ pub(crate) fn take_names<'a>(
         }
     }
     Ok(())
+}
+
+/// Judges the names in the contents of an entry, of the odd type where `wide`, and takes them up.
+///
+/// Stops exactly where the end of the contents cuts one; or where memory ran out. Linear in the
+/// contents.
+pub(crate) fn take_name_entry<'a>(
+    defined: &mut Defined<'a>,
+    spot: Spot,
+    wide: bool,
+    contents: &View<'a>,
+) -> Result<(), Stop>
+    ensures taken { OnOk result (IsTakenUp defined.old (spot.index, spot.place) (said_on topic.Names spot.place wide contents.now) defined.new) }
+    ensures stop { IfErr result (IsStoppedAt defined.old (spot.index, spot.place) (said_on topic.Names spot.place wide contents.now)) }
+{
+    let _ = wide;
+    match take_names(&mut defined.names, spot, contents) {
+        Ok(()) => Ok(()),
+        Err(stop) => Err(stop),
+    }
 }

@@ -6,6 +6,7 @@ ghost use Rattle.oc_omf_read.specs.SectionFaults as rules;
 
 use crate::structures::Segment;
 use oc_base::{Code, Fault, Phase};
+use oc_shelf::earlier;
 
 /// The most bytes that a section may have.
 const MOST_SIZE: u64 = 2_147_483_647;
@@ -104,4 +105,12 @@ fn size_fault(sizes: u64, spot: Spot, s: &Segment) -> Option<Fault>
         return Some(limit_fault(spot, sizes + size, Code::LimitSum));
     }
     None
+}
+
+/// The fault of a segment behind so many names, and segments of so many bytes. Constant time.
+pub(crate) fn segment_fault(names: u64, sizes: u64, spot: Spot, s: &Segment) -> Option<Fault>
+    requires { sizes ≤ 2147483648 }
+    ensures { result ≡ first_broken (rules.segment_conditions_by names sizes (spot.index, spot.place) s.now) }
+{
+    earlier(form_fault(names, spot, s), size_fault(sizes, spot, s))
 }

@@ -1,0 +1,56 @@
+-- One definition after another.
+use Rattle.std.proofs.Common.{◌≡◌, ℕ, ◌<◌, ◌≤◌, Bool, true, List, [], ◌++◌, length, Ok, Err, refl, sym, ◌∙◌, ap, subst, arith}
+use Rattle.oc_omf_read.specs.Structures.{Public, public_read}
+use Rattle.oc_omf_read.specs.Entries.{all_read, in_file}
+use Rattle.oc_omf_read.specs.Held.{Held}
+use Rattle.oc_omf_read.specs.Seen.{AreNamed, public_with}
+use Rattle.oc_omf_read.proofs.EachLemmas.{each_behind, each_from}
+use Rattle.oc_omf_read.proofs.GoesLemmas.{public_goes}
+use Rattle.oc_omf_read.proofs.StageLaws.{read_in_file}
+use Rattle.oc_omf_read.proofs.WalkLemmas.{walk_begin, walk_end, walk_more, walk_over}
+use Rattle.oc_omf_read.proofs.known.know_publics.Goals as goal
+
+pub loop-at-init : goal.loop-at-init
+loop-at-init c = λ publics are.
+    walk_begin (λ (ps : List Public) (h : Held). AreNamed true ps h) (λ ps x p. []) 0 0 (public_read c.args.wide c.args.local c.args.segment) c.args.contents.now publics c.args.at c.args.known.now are
+
+pub loop-at-smaller : goal.loop-at-smaller
+loop-at-smaller c =
+    let low : c.loop-at.at < length c.args.contents.now = omega arith in
+    let p = public_goes c.args.wide c.args.local c.args.segment c.args.contents.now c.loop-at.at _ c.in-Ok.after (c.in-Ok.ensures c.args.local c.args.segment) in
+    omega (arith, low, p.0, p.1)
+
+pub loop-at-preserved : goal.loop-at-preserved
+loop-at-preserved c = λ publics are.
+    let low : c.loop-at.at < length c.args.contents.now = omega arith in
+    let w = c.loop-at.invariant publics are in
+    let p = public_with c.args.local c.in-Ok.public.name.now c.args.segment c.in-Ok.public.offset in
+    walk_more (λ (ps : List Public) (h : Held). AreNamed true ps h) (λ ps x p. []) 0 0 (public_read c.args.wide c.args.local c.args.segment) c.args.contents.now publics
+    (public_goes c.args.wide c.args.local c.args.segment c.args.contents.now) c.args.at c.loop-at.at c.loop-at.known w
+    c.know.new.known 0 _ p c.in-Ok.after low (c.in-Ok.ensures c.args.local c.args.segment) refl refl refl (c.in_ok-know-in-Ok.ensures w.0 p w.1 refl refl)
+
+-- the names from a place on, without their places
+same : (wide local : Bool) (segment : ℕ) (b : List ℕ) (at : ℕ) (publics : List Public) (h : Held) → AreNamed true (publics ++ all_read (in_file 0 (each_from (public_read wide local segment) b at))) h
+    → AreNamed true (publics ++ all_read (each_from (public_read wide local segment) b at)) h
+same wide local segment b at publics h are = subst (λ xs. AreNamed true (publics ++ xs) h) (read_in_file 0 (each_from (public_read wide local segment) b at)) are
+
+pub returns-in-Err : goal.returns-in-Err
+returns-in-Err c = λ publics are.
+    let b = c.args.contents.now in
+    let low : c.loop-at.at < length b = omega arith in
+    let w = c.loop-at.invariant publics are in
+    let read = public_read c.args.wide c.args.local c.args.segment in
+    subst (λ rs. AreNamed true (publics ++ all_read rs) c.loop-at.known) (sym (each_behind read b c.args.at (public_goes c.args.wide c.args.local c.args.segment b)))
+    (same c.args.wide c.args.local c.args.segment b c.args.at publics c.loop-at.known
+    (walk_over (λ (ps : List Public) (h : Held). AreNamed true ps h) (λ ps x p. []) 0 0 read b publics (public_goes c.args.wide c.args.local c.args.segment b) c.args.at c.loop-at.at c.loop-at.known w
+    c.in-Err.field-0 low (c.in-Err.ensures c.args.local c.args.segment)))
+
+pub returns : goal.returns
+returns c = λ publics are.
+    let b = c.args.contents.now in
+    let high : length b ≤ c.loop-at.at = omega arith in
+    let w = c.loop-at.invariant publics are in
+    let read = public_read c.args.wide c.args.local c.args.segment in
+    subst (λ rs. AreNamed true (publics ++ all_read rs) c.loop-at.known) (sym (each_behind read b c.args.at (public_goes c.args.wide c.args.local c.args.segment b)))
+    (same c.args.wide c.args.local c.args.segment b c.args.at publics c.loop-at.known
+    (walk_end (λ (ps : List Public) (h : Held). AreNamed true ps h) (λ ps x p. []) 0 0 read b publics (public_goes c.args.wide c.args.local c.args.segment b) c.args.at c.loop-at.at c.loop-at.known w high).1)

@@ -1,0 +1,14 @@
+-- Names that stood before, each with a number (our profile).
+use Rattle.std.specs.Prelude.{ℕ, List, Option}
+use Rattle.std.specs.BTreeMap.{BTreeMap, get_by}
+use Rattle.std.specs.Cmp.Lexicographic.{slice_cmp}
+use Rattle.std.specs.Ordering.{nat_cmp}
+use denote.Ref.{Bor}
+
+-- names with their numbers
+abbrev pub Held : Type 0
+Held = BTreeMap (Bor (List ℕ)) ℕ
+
+-- the number of a name, if it is held
+abbrev pub value_at : Held → List ℕ → Option ℕ
+value_at held name = get_by (λ k. slice_cmp nat_cmp name k.now) held
