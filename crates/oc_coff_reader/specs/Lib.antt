@@ -10,4 +10,5 @@ pub mod Meanings
 pub mod Numbered
 pub mod Relocs
 pub mod Shown
+pub mod Strings
 pub mod Tagged

@@ -1,5 +1,5 @@
 //! The sections of the object.
-ghost use Rattle.std.specs.Prelude.{◌≡◌, ◌+◌, ◌<◌, ◌≤◌, ◌^◌, true, is_some, bytes_eq, None, Some, [], length, take, drop, replicate, if◌then◌else◌, IfOk, OnOk};
+ghost use Rattle.std.specs.Prelude.{◌≡◌, ◌+◌, ◌*◌, ◌<◌, ◌≤◌, ◌^◌, true, is_some, bytes_eq, None, Some, [], length, take, drop, replicate, if◌then◌else◌, IfOk, OnOk};
 ghost use Rattle.std.specs.Option.{option_map, unwrap_or};
 ghost use Rattle.std.specs.List.{position_or_len};
 ghost use Rattle.oc_linking.specs.FirstFault.{stage_fault};
@@ -28,35 +28,25 @@ use oc_neutral::{BuildFault, Builder, Kind, Section};
 use oc_shelf::Slots;
 use std::alloc::Global;
 
+/// The alignment of a section whose flags say none (PE/COFF, "Section Flags").
+const DEFAULT_ALIGN: u32 = 16;
+
 // the alignment of a section with these flags
 fn align_of(flags: u32) -> u32
     ensures { result ≡ sections.align_of flags }
 {
-    match align_bits(flags) {
-        0 => 16,
-        1 => 1,
-        2 => 2,
-        3 => 4,
-        4 => 8,
-        5 => 16,
-        6 => 32,
-        7 => 64,
-        8 => 128,
-        9 => 256,
-        10 => 512,
-        11 => 1024,
-        12 => 2048,
-        13 => 4096,
-        14 => 8192,
-        _ => 16384,
+    let bits = align_bits(flags);
+    if bits == 0 {
+        return DEFAULT_ALIGN;
     }
+    1 << (bits - 1)
 }
 
 // flags without IMAGE_SCN_LNK_COMDAT
 fn without_comdat(flags: u64) -> u64
     requires { flags < 2 ^ 40 }
-    ensures value { result ≡ without 4096 2 flags }
-    ensures few { result < flags + 33554432 }
+    ensures value { result ≡ without IMAGE_SCN_LNK_COMDAT 2 flags }
+    ensures few { result < flags + 2 * IMAGE_SCN_LNK_NRELOC_OVFL }
 {
     let unit = IMAGE_SCN_LNK_COMDAT as u64;
     flags / (unit * 2) * (unit * 2) + flags % unit
@@ -65,8 +55,8 @@ fn without_comdat(flags: u64) -> u64
 // flags without IMAGE_SCN_LNK_NRELOC_OVFL
 fn without_overflow(flags: u64) -> u64
     requires { flags < 2 ^ 40 }
-    ensures value { result ≡ without 16777216 2 flags }
-    ensures few { result < flags + 33554432 }
+    ensures value { result ≡ without IMAGE_SCN_LNK_NRELOC_OVFL 2 flags }
+    ensures few { result < flags + 2 * IMAGE_SCN_LNK_NRELOC_OVFL }
 {
     let unit = IMAGE_SCN_LNK_NRELOC_OVFL as u64;
     flags / (unit * 2) * (unit * 2) + flags % unit
@@ -75,7 +65,7 @@ fn without_overflow(flags: u64) -> u64
 // flags without the alignment
 fn without_align(flags: u64) -> u64
     requires { flags < 2 ^ 40 }
-    ensures { result ≡ without 1048576 16 flags }
+    ensures { result ≡ without IMAGE_SCN_ALIGN_1BYTES 16 flags }
 {
     let unit = IMAGE_SCN_ALIGN_1BYTES as u64;
     flags / (unit * 16) * (unit * 16) + flags % unit

@@ -9,6 +9,7 @@ ghost use Rattle.oc_coff_read.specs.Tables as tables;
 ghost use Rattle.oc_coff_reader.specs.Head.{IsHeaded};
 
 use crate::headers::{has_strings, header_fault, strings_place};
+use crate::strings::Strings;
 use oc_base::{Fault, u32_in};
 use oc_coff_read::{
     FILE_HEADER_SIZE, FileHeader, SECTION_HEADER_SIZE, SYMBOL_SIZE, SectionAux, SectionHeader,
@@ -22,7 +23,7 @@ use std::marker::Model;
 pub(crate) struct Coff<'a> {
     file: &'a [u8],
     header: FileHeader,
-    strings: &'a [u8],
+    strings: Strings<'a>,
 }
 
 impl<'a> Model for Coff<'a> {
@@ -35,7 +36,7 @@ impl<'a> Model for Coff<'a> {
 
     ghost view = { λ c. c.file.now };
 
-    ghost invariant = { λ c. IsHeaded c.file.now × ((c.header ≡ file_header_of c.file.now) × (c.strings.now ≡ strings_of c.file.now (file_header_of c.file.now))) };
+    ghost invariant = { λ c. IsHeaded c.file.now × ((c.header ≡ file_header_of c.file.now) × (c.strings ≡ strings_of c.file.now (file_header_of c.file.now))) };
 }
 
 // so many bytes of the file from a place on
@@ -61,8 +62,8 @@ fn strings_of<'a>(file: &'a [u8], h: &FileHeader) -> &'a [u8]
     bytes_at(file, place, size)
 }
 
-/// The file with its header. An error exactly where the header has a fault, with the first. Constant
-/// time.
+/// The file with its header. An error exactly where the header has a fault, with the first. Linear in
+/// what stands behind the last NUL of the string table.
 pub(crate) fn read_coff<'a>(file: &'a [u8]) -> Result<Coff<'a>, Fault>
     requires { length file.now ≤ 67108864 }
     ensures file { IfOk result (λ c. c ≡ file.now) }
@@ -74,7 +75,7 @@ pub(crate) fn read_coff<'a>(file: &'a [u8]) -> Result<Coff<'a>, Fault>
         None => (),
     }
     let header = file_header_of(file);
-    let strings = strings_of(file, &header);
+    let strings = Strings::new(strings_of(file, &header));
     Ok(Coff {
         file,
         header,
@@ -92,10 +93,10 @@ impl<'a> Coff<'a> {
 
     /// The string table. Constant time.
     #[tactic(auto, unfolding(oc_coff_read::specs::Tables::tables_of))]
-    pub(crate) fn strings(&self) -> &'a [u8]
+    pub(crate) fn strings(&self) -> &Strings<'a>
         ensures { result.now ≡ (tables.tables_of self.now).strings }
     {
-        self.strings
+        &self.strings
     }
 
     /// How many sections there are. Constant time.

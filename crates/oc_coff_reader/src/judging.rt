@@ -167,7 +167,8 @@ pub(crate) fn check_rest(alloc: Global, word: Word, coff: &Coff, keep: &Keep) ->
 /// Stops exactly where there is a fault, with the first; or where memory ran out. The time is that of
 /// n log2(n) steps for n symbols or relocations, in any order of names and offsets. Each name is read
 /// a few times for each section and symbol that has it, and compared as `first_repeat` says: a file
-/// whose names are the ends of one long text costs the square of that text.
+/// whose names are the ends of one long text costs the square of that text. Where no NUL ends a name,
+/// that is known in constant time.
 pub(crate) fn judge(alloc: Global, word: Word, file: &[u8], keep: &Keep) -> Result<(), Stop>
     requires { length file.now ≤ 67108864 }
     ensures clean { OnOk result (fault_of word file.now keep.now ≡ None) }

@@ -26,6 +26,7 @@ mod relocs;
 mod section_stage;
 mod sections;
 mod started;
+mod strings;
 mod symbol_stage;
 mod symbols;
 mod tagged;

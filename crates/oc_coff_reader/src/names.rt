@@ -3,9 +3,8 @@ ghost use Rattle.std.specs.Prelude.{◌≡◌, ◌-◌, ◌≤◌, true, nat_eq,
 ghost use Rattle.std.specs.List.{list_all, position};
 ghost use Rattle.oc_coff_read.specs.Names as names;
 
+use crate::strings::Strings;
 use oc_base::u32_in;
-use oc_coff_read::STRINGS_HEAD;
-use oc_shelf::text_at;
 
 // where the first NUL stands
 fn nul_place(bytes: &[u8]) -> Option<usize>
@@ -22,17 +21,6 @@ fn until_nul(bytes: &[u8]) -> &[u8]
         Some(end) => &bytes[..end],
         None => bytes,
     }
-}
-
-// the text at an offset of a string table, if a NUL ends it; linear in the text
-#[tactic(auto, unfolding(oc_coff_read::specs::Names::string_at))]
-fn string_at(strings: &[u8], offset: u32) -> Option<&[u8]>
-    ensures { MatchOption result (names.string_at strings.now offset ≡ None) (λ text. names.string_at strings.now offset ≡ Some text.now) }
-{
-    if offset < STRINGS_HEAD as u32 {
-        return None;
-    }
-    text_at(strings, offset as usize, strings.len())
 }
 
 // whether all bytes are decimal digits
@@ -66,7 +54,7 @@ fn decimal_of(digits: &[u8]) -> u32
 }
 
 // the name that a text in a section header stands for
-fn name_for<'a>(strings: &'a [u8], text: &'a [u8]) -> Option<&'a [u8]>
+fn name_for<'a>(strings: &Strings<'a>, text: &'a [u8]) -> Option<&'a [u8]>
     requires { length text.now ≤ 8 }
     ensures { MatchOption result (names.name_for strings.now text.now ≡ None) (λ name. names.name_for strings.now text.now ≡ Some name.now) }
 {
@@ -77,13 +65,13 @@ fn name_for<'a>(strings: &'a [u8], text: &'a [u8]) -> Option<&'a [u8]>
     if digits.is_empty() || !are_digits(digits) {
         return None;
     }
-    string_at(strings, decimal_of(digits))
+    strings.text(decimal_of(digits))
 }
 
 /// The name of a section by the eight bytes in its header; `None` exactly where they say no name of
 /// the string table. Linear in the name.
 #[tactic(auto, unfolding(oc_coff_read::specs::Names::section_name))]
-pub(crate) fn section_name<'a>(strings: &'a [u8], field: &'a [u8]) -> Option<&'a [u8]>
+pub(crate) fn section_name<'a>(strings: &Strings<'a>, field: &'a [u8]) -> Option<&'a [u8]>
     requires { length field.now ≡ 8 }
     ensures { MatchOption result (names.section_name strings.now field.now ≡ None) (λ name. names.section_name strings.now field.now ≡ Some name.now) }
 {
@@ -93,7 +81,7 @@ pub(crate) fn section_name<'a>(strings: &'a [u8], field: &'a [u8]) -> Option<&'a
 /// The name of a symbol by the eight bytes in its entry; `None` exactly where they say no name of the
 /// string table. Linear in the name.
 #[tactic(auto, unfolding(oc_coff_read::specs::Names::symbol_name))]
-pub(crate) fn symbol_name<'a>(strings: &'a [u8], field: &'a [u8]) -> Option<&'a [u8]>
+pub(crate) fn symbol_name<'a>(strings: &Strings<'a>, field: &'a [u8]) -> Option<&'a [u8]>
     requires { length field.now ≡ 8 }
     ensures { MatchOption result (names.symbol_name strings.now field.now ≡ None) (λ name. names.symbol_name strings.now field.now ≡ Some name.now) }
 {
@@ -104,5 +92,5 @@ pub(crate) fn symbol_name<'a>(strings: &'a [u8], field: &'a [u8]) -> Option<&'a 
     if offset == 0 {
         return Some(&[]);
     }
-    string_at(strings, offset)
+    strings.text(offset)
 }
