@@ -8,6 +8,7 @@ pub mod LineLemmas
 pub mod NumberLemmas
 pub mod PlanLemmas
 pub mod RelocationLemmas
+pub mod SectionAlone
 pub mod StringLemmas
 pub mod HeaderLemmas
 pub mod SymbolLemmas

@@ -13,6 +13,9 @@ use oc_neutral::{Emits, Section};
 use oc_shelf::{Parts, copy_window, window_of};
 use std::marker::Model;
 
+#[cfg(test)]
+mod tests;
+
 /// A planned file: its headers, the bytes of its sections, its tables, and where they stand. Contracts
 /// see its parts, each with its place.
 #[derive(Debug, Drop)]
