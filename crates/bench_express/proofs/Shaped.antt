@@ -5,8 +5,8 @@ use Rattle.std.specs.List.{AllByRecursion}
 use Rattle.std.proofs.lemmas.List.{get_or_past}
 use Rattle.std.proofs.lemmas.Option.{none-some, same_Some}
 use Rattle.oc_base.specs.declared.format.Format.{Format}
-use Rattle.oc_base.specs.declared.format.Format.TheVariants.{Elf64}
-use Rattle.oc_base.specs.declared.format.Word.TheVariants.{W64}
+use Rattle.oc_base.specs.declared.format.Word.{Word}
+use Rattle.oc_base.specs.declared.format.Word.TheVariants.{W32, W64}
 use Rattle.oc_base.specs.Formats.{word_for}
 use Rattle.oc_linking.specs.declared.terms.Kind.{Kind}
 use Rattle.oc_linking.specs.declared.terms.Kind.TheVariants.{Code, Note}
@@ -36,7 +36,7 @@ use Rattle.oc_neutral.proofs.MoreRelocs.{all_placed, by_list}
 use Rattle.oc_neutral.proofs.MoreSections.{sectioned}
 use Rattle.oc_neutral.proofs.MoreSymbols.{symboled}
 use Rattle.oc_neutral.proofs.NormalLemmas.{kept_hinted}
-use Rattle.bench_express.specs.Shape.{AreNumbered, IsCode, IsElf, IsPlain}
+use Rattle.bench_express.specs.Shape.{AreNumbered, IsCode, IsElf, IsPlain, elf_of}
 
 -- ... lists
 
@@ -90,8 +90,9 @@ none_at zero = refl
 none_at (suc s) = refl
 
 -- a section makes the object
-pub begun_elf : (start d : Draft) (x : Section) → start ≡ empty_draft Elf64 → section_added start x ≡ Ok d → IsCode x → IsElf d.object
-begun_elf start d x begun added code = subst (λ (z : Draft). IsElf z.object) (sym (section_got start d x added ∙ ap (λ z. sectioned z x) begun)) (record {
+pub begun_elf : (w : Word) (start d : Draft) (x : Section) → start ≡ empty_draft (elf_of w) → section_added start x ≡ Ok d → IsCode x → IsElf d.object
+begun_elf w start d x begun added code = subst (λ (z : Draft). IsElf z.object) (sym (section_got start d x added ∙ ap (λ z. sectioned z x) begun)) (record {
+  word = w;
   format = refl;
   groups = refl;
   section = x;
@@ -105,6 +106,7 @@ begun_elf start d x begun added code = subst (λ (z : Draft). IsElf z.object) (s
 -- a symbol more
 pub symbol_elf : (d e : Draft) (y : Symbol) → IsElf d.object → symbol_added d y ≡ Ok e → IsPlain y → y.number ≡ length d.object.symbols → IsElf e.object
 symbol_elf d e y elf added plain number = subst (λ (z : Draft). IsElf z.object) (sym (symbol_got d e y added)) (record {
+  word = elf.word;
   format = elf.format;
   groups = elf.groups;
   section = elf.section;
@@ -132,6 +134,7 @@ module _ (d e : Draft) (at : ℕ) (r : Reloc) (elf : IsElf d.object) (draft : Is
 
   by : IsOne d 0 at r e → IsElf e.object
   by (kept q is same) = subst (λ (z : Draft). IsElf z.object) (sym same) (record {
+    word = elf.word;
     format = elf.format;
     groups = elf.groups;
     section = numbered (bytes_of q.form.width) 0;
@@ -143,6 +146,7 @@ module _ (d e : Draft) (at : ℕ) (r : Reloc) (elf : IsElf d.object) (draft : Is
         (all_placed (λ (y : Field Reloc). IsHinted y.item) (field at (bytes_of q.form.width) q) (list_of d.object.relocs 0) (kept_hinted (word_for d.object.format) d.object.symbols 0 at r q hinted is) (elf.hints 0));
   })
   by (constant number same) = subst (λ (z : Draft). IsElf z.object) (sym same) (record {
+    word = elf.word;
     format = elf.format;
     groups = elf.groups;
     section = numbered (bytes_of r.form.width) number;
@@ -158,6 +162,11 @@ module _ (d e : Draft) (at : ℕ) (r : Reloc) (elf : IsElf d.object) (draft : Is
 
 -- ... the whole
 
+-- each word has numbers
+some : (w : Word) → 0 < modulus (word_for (elf_of w))
+some W32 = omega arith
+some W64 = omega arith
+
 module _ (n : Object) (elf : IsElf n) (fine : IsBuilt n) where
   here : slice_get n.sections 0 ≡ Some elf.section
   here = ap (λ ss. slice_get ss 0) elf.only
@@ -167,7 +176,7 @@ module _ (n : Object) (elf : IsElf n) (fine : IsBuilt n) where
     named = λ e. absurd (omega (arith, is.named, ap length e));
     name = is.name;
     binding = subst (IsBinding n) (sym is.binding) (elf.section, here, omega arith);
-    size = subst (λ k. k < modulus (word_for n.format)) (sym is.size) (subst (λ f. 0 < modulus (word_for f)) (sym elf.format) (omega arith));
+    size = subst (λ k. k < modulus (word_for n.format)) (sym is.size) (subst (λ f. 0 < modulus (word_for f)) (sym elf.format) (some elf.word));
     number = is.number;
   }
 
@@ -193,12 +202,14 @@ module _ (n : Object) (elf : IsElf n) (fine : IsBuilt n) where
   }
 
   -- such a section has bytes, and its name and tag are those of code
-  blank : is_blank_type Elf64 14 ≡ false
-  blank = refl
+  blank : (w : Word) → is_blank_type (elf_of w) 14 ≡ false
+  blank W32 = refl
+  blank W64 = refl
 
-  tagged : can_have Elf64 Code (codes ".text") 14 ≡ true
+  tagged : (w : Word) → can_have (elf_of w) Code (codes ".text") 14 ≡ true
   unfolding elf_gives elf_kind
-  tagged = refl
+  tagged W32 = refl
+  tagged W64 = refl
 
   alone_at : (k : ℕ) (s : Section) → slice_get n.sections k ≡ Some s → s ≡ elf.section
   alone_at k s at = by k (sym (ap (λ ss. slice_get ss k) elf.only) ∙ at)
@@ -211,22 +222,22 @@ module _ (n : Object) (elf : IsElf n) (fine : IsBuilt n) where
   readable = record {
     tags = subst (λ ss. AllByRecursion (λ (s : Section). can_have n.format s.kind s.name s.tag ≡ true) ss) (sym elf.only) (
       ap (λ f. can_have f elf.section.kind elf.section.name elf.section.tag) elf.format
-          ∙ ap (λ k. can_have Elf64 k elf.section.name elf.section.tag) elf.code.kind
-          ∙ ap (λ name. can_have Elf64 Code name elf.section.tag) elf.code.name
-          ∙ ap (can_have Elf64 Code (codes ".text")) elf.code.tag
-          ∙ tagged,
+          ∙ ap (λ k. can_have (elf_of elf.word) k elf.section.name elf.section.tag) elf.code.kind
+          ∙ ap (λ name. can_have (elf_of elf.word) Code name elf.section.tag) elf.code.name
+          ∙ ap (can_have (elf_of elf.word) Code (codes ".text")) elf.code.tag
+          ∙ tagged elf.word,
       tt,
     );
-    blanks = λ k s at typed. absurd (true≢false (sym typed ∙ ap (λ f. is_blank_type f s.tag) elf.format ∙ ap (is_blank_type Elf64) (ap (λ (x : Section). x.tag) (alone_at k s at) ∙ elf.code.tag) ∙ blank));
+    blanks = λ k s at typed. absurd (true≢false (sym typed ∙ ap (λ f. is_blank_type f s.tag) elf.format ∙ ap (is_blank_type (elf_of elf.word)) (ap (λ (x : Section). x.tag) (alone_at k s at) ∙ elf.code.tag) ∙ blank elf.word));
   }
 
   not_note : (k : Kind) → k ≡ Code → k ≢ Note
   not_note k is e = absurd (cc (is, e))
 
-  -- it can be fitted to a target of 64 bits
-  pub can_fit : (to : Format) → word_for to ≡ W64 → length n.symbols ≤ 16000000 → CanFit to n
+  -- it can be fitted to a target of its word
+  pub can_fit : (to : Format) → word_for to ≡ word_for n.format → length n.symbols ≤ 16000000 → CanFit to n
   can_fit to word few = record {
-    word = word ∙ ap word_for (sym elf.format);
+    word = word;
     few_symbols = omega (arith, few);
     notes = λ k s at note. absurd (not_note s.kind (ap (λ (x : Section). x.kind) (alone_at k s at) ∙ elf.code.kind) note);
     readable = readable;

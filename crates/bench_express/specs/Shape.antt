@@ -1,7 +1,10 @@
 -- The object of which the fitting is timed.
 use Rattle.std.specs.Prelude.{◌≡◌, ℕ, ◌+◌, ◌<◌, ◌^◌, List, [], ◌∷◌, codes, length, None}
 use Rattle.std.specs.List.{AllByRecursion}
-use Rattle.oc_base.specs.declared.format.Format.TheVariants.{Elf64}
+use Rattle.oc_base.specs.declared.format.Format.{Format}
+use Rattle.oc_base.specs.declared.format.Format.TheVariants.{Elf32, Elf64}
+use Rattle.oc_base.specs.declared.format.Word.{Word}
+use Rattle.oc_base.specs.declared.format.Word.TheVariants.{W32, W64}
 use Rattle.oc_linking.specs.declared.terms.Binding.TheVariants.{Global}
 use Rattle.oc_linking.specs.declared.terms.Kind.TheVariants.{Code}
 use Rattle.oc_linking.specs.declared.terms.Value.TheVariants.{Place}
@@ -34,9 +37,15 @@ abbrev pub AreNumbered : ℕ → List Symbol → Type 0
 AreNumbered k [] = Unit {0}
 AreNumbered k (s ∷ symbols) = (s.number ≡ k) × AreNumbered (k + 1) symbols
 
--- an object of one section of code, whose symbols have the numbers of their positions
+-- ELF of a word
+abbrev pub elf_of : Word → Format
+elf_of W32 = Elf32
+elf_of W64 = Elf64
+
+-- an object of ELF of one section of code, whose symbols have the numbers of their positions
 pub record IsElf (n : Object) : Type 0 where
-  pub format : n.format ≡ Elf64
+  pub word : Word
+  pub format : n.format ≡ elf_of word
   pub groups : n.groups ≡ []
   pub section : Section
   pub only : n.sections ≡ section ∷ []

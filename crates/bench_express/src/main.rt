@@ -1,22 +1,22 @@
-//! Times the fitting of an object of elf64 to a target, against a walk over the same object, and of
-//! coff64 the planning of the file and all its windows.
+//! Times the fitting of an object of ELF to a target, against a walk over the same object, and the
+//! planning of the file and all its windows.
 //!
-//! `bench_express TARGET SYMBOLS RELOCATIONS`, where TARGET is `elf64` or `coff64`. What was fitted
-//! goes to the standard output, times to standard error.
+//! `bench_express TARGET SYMBOLS RELOCATIONS [LAST]`, where TARGET is `elf32`, `elf64` or `coff64`, and
+//! nothing is planned where LAST is `fit`. What was fitted goes to the standard output, times to
+//! standard error.
 #![tactic(auto)]
 
 ghost use Rattle.std.specs.Prelude.{◌≡◌, ◌<◌, ◌≤◌, ◌*◌, ◌^◌, codes, length, IfOk, None, OnOk};
-ghost use Rattle.oc_base.specs.Formats.{word_for};
-ghost use Rattle.oc_base.specs.declared.format.Word.TheVariants.{W64};
 ghost use Rattle.oc_linking.specs.declared.terms.Binding.TheVariants as binding;
 ghost use Rattle.oc_linking.specs.declared.terms.Kind.TheVariants as kind;
 ghost use Rattle.oc_linking.specs.declared.terms.Value.TheVariants as value;
 ghost use Rattle.oc_neutral.specs.Invariants.{HasItsBytes, IsHinted};
-ghost use Rattle.bench_express.specs.Shape.{IsElf};
+ghost use Rattle.bench_express.specs.Shape.{IsElf, elf_of};
 
 use anyhow::{Result, anyhow};
-use oc_base::{Bytes, Format, NoMemory};
+use oc_base::{Bytes, Format, NoMemory, Word, word_of};
 use oc_coff_write::CoffWriter64;
+use oc_elf_write::{ElfWriter32, ElfWriter64};
 use oc_express::fit;
 use oc_neutral::{
     Base, Binding, Builder, Check, Emits, Fitted, Form, Hint, Kind, Less, Mark, Neutral, Reloc,
@@ -95,8 +95,8 @@ fn symbol(alloc: Global, number: u32) -> Result<Symbol, NoMemory>
     })
 }
 
-/// A distance from the field to a symbol, with either hint.
-fn distance(symbol: u32, call: bool) -> Reloc
+/// A distance from the field to a symbol, with either hint, as it is checked in a word.
+fn distance(word: Word, symbol: u32, call: bool) -> Reloc
     ensures { IsHinted result }
 {
     Reloc {
@@ -105,19 +105,32 @@ fn distance(symbol: u32, call: bool) -> Reloc
             base: Base::Address,
             less: Less::Place,
             width: Width::Four,
-            check: Check::Signed,
+            check: match word {
+                Word::W32 => Check::Wrap,
+                Word::W64 => Check::Signed,
+            },
         },
         addend: -4,
         hint: if call { Hint::Call } else { Hint::Plain },
     }
 }
 
+/// ELF of a word.
+fn elf_of(word: Word) -> Format
+    ensures { result ≡ elf_of word }
+{
+    match word {
+        Word::W32 => Format::Elf32,
+        Word::W64 => Format::Elf64,
+    }
+}
+
 /// A section with room for so many relocations.
-fn begun(alloc: Global, relocs: u32) -> Result<Builder>
+fn begun(alloc: Global, word: Word, relocs: u32) -> Result<Builder>
     requires { relocs ≤ 16000000 }
     ensures { IfOk result (λ b. IsElf b.object) }
 {
-    let mut builder = Builder::new(alloc, Format::Elf64);
+    let mut builder = Builder::new(alloc, elf_of(word));
     builder.add_section(code(alloc, 4 * relocs)?)?;
     Ok(builder)
 }
@@ -148,12 +161,16 @@ fn add_symbols(alloc: Global, builder: &mut Builder, count: u32) -> Result<()>
 }
 
 /// Adds a relocation of the four bytes at a place.
-fn add_reloc(builder: &mut Builder, place: u32, symbols: u32) -> Result<()>
+fn add_reloc(builder: &mut Builder, word: Word, place: u32, symbols: u32) -> Result<()>
     requires place { place < 2 ^ 30 }
     requires shape { IsElf builder.old.object }
     ensures { OnOk result (IsElf builder.new.object) }
 {
-    let reloc = distance(place.wrapping_mul(7919) % symbols.max(1), place % 3 == 0);
+    let reloc = distance(
+        word,
+        place.wrapping_mul(7919) % symbols.max(1),
+        place % 3 == 0,
+    );
     builder.is_draft();
     if !builder.can_add(0, 4 * place, reloc) {
         return Err(anyhow!("there is no field {place}"));
@@ -163,25 +180,25 @@ fn add_reloc(builder: &mut Builder, place: u32, symbols: u32) -> Result<()>
 }
 
 /// Adds so many relocations, to so many symbols.
-fn add_relocs(builder: &mut Builder, count: u32, symbols: u32) -> Result<()>
+fn add_relocs(builder: &mut Builder, word: Word, count: u32, symbols: u32) -> Result<()>
     requires count { count ≤ 16000000 }
     requires shape { IsElf builder.old.object }
     ensures { OnOk result (IsElf builder.new.object) }
 {
     for k in 0..count {
-        add_reloc(builder, k, symbols)?;
+        add_reloc(builder, word, k, symbols)?;
     }
     Ok(())
 }
 
 /// An object of so many symbols and relocations.
-fn object(alloc: Global, symbols: u32, relocs: u32) -> Result<Neutral>
+fn object(alloc: Global, word: Word, symbols: u32, relocs: u32) -> Result<Neutral>
     requires { relocs ≤ 16000000 }
     ensures { IfOk result IsElf }
 {
-    let mut builder = begun(alloc, relocs)?;
+    let mut builder = begun(alloc, word, relocs)?;
     add_symbols(alloc, &mut builder, symbols)?;
-    add_relocs(&mut builder, relocs, symbols)?;
+    add_relocs(&mut builder, word, relocs, symbols)?;
     builder.is_draft();
     Ok(builder.finish())
 }
@@ -213,36 +230,52 @@ fn windows<E: Emits>(plan: &E) -> u64 {
     at
 }
 
-/// Plans the file of an object that is ready for coff64, and tells how long that and all its windows took.
-fn emit<R: Clock + Eprint>(rt: &R, alloc: Global, fitted: Fitted) -> Result<()> {
-    if fitted.neutral().format() != Format::Coff64 {
-        return Ok(());
-    }
-    let start = Instant::now(rt)?;
-    let plan = CoffWriter64.plan(alloc, fitted)?;
+/// Gives all windows of a planned file, and tells how long that and the planning took.
+fn give<R: Clock + Eprint, E: Emits>(rt: &R, start: Instant, plan: &E) -> Result<()> {
     let planned = start.elapsed(rt)?.as_micros();
     let start = Instant::now(rt)?;
-    let bytes = windows(&plan);
+    let bytes = windows(plan);
     let given = start.elapsed(rt)?.as_micros();
     eprintln!(rt; "planned in {planned} us, {bytes} bytes given in {given} us")?;
     Ok(())
 }
 
-/// Fits the object, and tells how long that took, and how long a walk.
-fn measure<R: Clock + Print + Eprint>(
-    rt: &R,
-    alloc: Global,
+/// Plans the file of an object that is ready for a target, and gives all its windows.
+fn emit<R: Clock + Eprint>(rt: &R, alloc: Global, fitted: Fitted) -> Result<()> {
+    let format = fitted.neutral().format();
+    let start = Instant::now(rt)?;
+    match format {
+        Format::Elf32 => give(rt, start, &ElfWriter32.plan(alloc, fitted)?),
+        Format::Elf64 => give(rt, start, &ElfWriter64.plan(alloc, fitted)?),
+        Format::Coff64 => give(rt, start, &CoffWriter64.plan(alloc, fitted)?),
+        Format::Coff32 | Format::Mac32 | Format::Mac64 | Format::Omf => Ok(()),
+    }
+}
+
+/// What is measured.
+#[derive(Clone, Copy)]
+struct Work {
     target: Format,
     symbols: u32,
     relocs: u32,
-) -> Result<()>
-    requires target { word_for target ≡ W64 }
-    requires relocs { relocs ≤ 16000000 }
+    /// Whether the file is planned and given.
+    plans: bool,
+}
+
+/// Fits the object, and tells how long that took, and how long a walk.
+fn measure<R: Clock + Print + Eprint>(rt: &R, alloc: Global, work: Work) -> Result<()>
+    requires { work.relocs ≤ 16000000 }
 {
-    let neutral = object(alloc, symbols, relocs)?;
+    let Work {
+        target,
+        symbols,
+        relocs,
+        plans,
+    } = work;
+    let neutral = object(alloc, word_of(target), symbols, relocs)?;
     neutral.is_object();
-    if neutral.symbol_count() > MOST {
-        return Err(anyhow!("there are too many symbols"));
+    if neutral.symbol_count() > MOST || word_of(neutral.format()) != word_of(target) {
+        return Err(anyhow!("the object cannot be fitted"));
     }
     let start = Instant::now(rt)?;
     let sum = walk(&neutral);
@@ -254,7 +287,11 @@ fn measure<R: Clock + Print + Eprint>(
     match fitted {
         Ok(fitted) => {
             println!(rt; "{target:?}: {symbols} symbols, {relocs} relocations, fitted")?;
-            emit(rt, alloc, fitted)
+            if plans {
+                emit(rt, alloc, fitted)
+            } else {
+                Ok(())
+            }
         }
         Err(fault) => {
             println!(rt; "{target:?}: {symbols} symbols, {relocs} relocations, {fault:?}")?;
@@ -279,16 +316,15 @@ fn number(word: Option<String>, default: u32) -> Result<u32>
 }
 
 /// The target of that name, COFF where there is none.
-fn target(word: Option<String>) -> Result<Format>
-    ensures { IfOk result (λ target. word_for target ≡ W64) }
-{
+fn target(word: Option<String>) -> Result<Format> {
     let Some(word) = word else {
         return Ok(Format::Coff64);
     };
     match word.as_str() {
+        "elf32" => Ok(Format::Elf32),
         "elf64" => Ok(Format::Elf64),
         "coff64" => Ok(Format::Coff64),
-        _ => Err(anyhow!("TARGET is elf64 or coff64")),
+        _ => Err(anyhow!("TARGET is elf32, elf64 or coff64")),
     }
 }
 
@@ -299,5 +335,15 @@ fn main(rt: HostRuntime) -> Result<()> {
     let target = target(words.next())?;
     let symbols = number(words.next(), 300)?;
     let relocs = number(words.next(), 900)?;
-    measure(&rt, alloc, target, symbols, relocs)
+    let plans = match words.next() {
+        Some(word) => word.as_str() != "fit",
+        None => true,
+    };
+    let work = Work {
+        target,
+        symbols,
+        relocs,
+        plans,
+    };
+    measure(&rt, alloc, work)
 }
