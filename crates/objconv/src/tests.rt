@@ -29,8 +29,8 @@ const JOB: &[&str] = &["-fcoff32", "a", "b"];
 /// The first bytes of an ELF object for i386.
 const ELF32: &[u8] = &[0x7F, 0x45, 0x4C, 0x46, 0x01];
 
-/// The first bytes of a Mach-O object for i386.
-const MACH32: &[u8] = &[0xCE, 0xFA, 0xED, 0xFE];
+/// The first byte of a module of OMF.
+const OMF: &[u8] = &[0x80];
 
 /// Words that are no job, or one that is not built: nothing is read, so that no call is there to fail.
 const NO_JOB: Case = Case {
@@ -60,7 +60,7 @@ const UNKNOWN: Case = Case {
 
 /// An input of a format that is not read yet.
 const UNBUILT: Case = Case {
-    a: Some(MACH32),
+    a: Some(OMF),
     status: 2,
     told: "objconv: refused: header 0: NotBuilt at 0\n",
     ..UNKNOWN

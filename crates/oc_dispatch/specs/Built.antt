@@ -16,19 +16,20 @@ use Rattle.oc_elf_read.specs.Elf.{elf_dialect}
 use Rattle.oc_elf_file.specs.Canonical.{elf_file}
 use Rattle.oc_coff_read.specs.Canonical.{coff_file}
 use Rattle.oc_coff_read.specs.Rules.{coff_dialect}
+use Rattle.oc_macho_read.specs.Rules.{mach_dialect}
 use Rattle.oc_names.specs.Wishes.{Wishes}
 use Rattle.oc_convert.specs.Converted.{IsFaithful, planned_file}
 use Rattle.oc_convert.specs.Dispatched.{Built, Writer}
 use Rattle.oc_convert.specs.Identified.{identified}
 
--- the readers: those of ELF and of COFF
+-- the readers: those of ELF, COFF and Mach-O
 abbrev pub reader_of : Format → Option Dialect
 reader_of Elf32 = Some (elf_dialect Class32)
 reader_of Elf64 = Some (elf_dialect Class64)
 reader_of Coff32 = Some (coff_dialect W32)
 reader_of Coff64 = Some (coff_dialect W64)
-reader_of Mac32 = None
-reader_of Mac64 = None
+reader_of Mac32 = Some (mach_dialect W32)
+reader_of Mac64 = Some (mach_dialect W64)
 reader_of Omf = None
 
 -- the writer of ELF of a class

@@ -16,6 +16,7 @@ use oc_coff_write::{CoffWriter32, CoffWriter64};
 use oc_convert::{ConvertFault, convert, identify};
 use oc_elf_read::{ElfReader32, ElfReader64};
 use oc_elf_write::{ElfWriter32, ElfWriter64};
+use oc_macho_reader::{MachReader32, MachReader64};
 use oc_names::Edits;
 use oc_neutral::{Emits, Reads};
 use std::alloc::Global;
@@ -108,7 +109,9 @@ fn dispatch_identified(
         Format::Elf64 => dispatch_from(alloc, &ElfReader64, from, to, bytes, edits),
         Format::Coff32 => dispatch_from(alloc, &CoffReader32, from, to, bytes, edits),
         Format::Coff64 => dispatch_from(alloc, &CoffReader64, from, to, bytes, edits),
-        Format::Mac32 | Format::Mac64 | Format::Omf => Err(header_refusal(Code::NotBuilt)),
+        Format::Mac32 => dispatch_from(alloc, &MachReader32, from, to, bytes, edits),
+        Format::Mac64 => dispatch_from(alloc, &MachReader64, from, to, bytes, edits),
+        Format::Omf => Err(header_refusal(Code::NotBuilt)),
     }
 }
 

@@ -12,6 +12,7 @@ use oc_base::{Code, Format};
 use oc_coff_reader::{CoffReader32, CoffReader64};
 use oc_convert::{ConvertFault, identify};
 use oc_elf_read::{ElfReader32, ElfReader64};
+use oc_macho_reader::{MachReader32, MachReader64};
 use oc_neutral::{Keep, Neutral, ReadFault, Reads, shown_object_is_computed};
 use std::alloc::Global;
 
@@ -62,6 +63,8 @@ pub fn read_any(alloc: Global, bytes: &[u8], keep: &Keep) -> Result<Neutral, Con
         Some(Format::Elf64) => read_by(alloc, &ElfReader64, bytes, keep),
         Some(Format::Coff32) => read_by(alloc, &CoffReader32, bytes, keep),
         Some(Format::Coff64) => read_by(alloc, &CoffReader64, bytes, keep),
-        Some(Format::Mac32 | Format::Mac64 | Format::Omf) => Err(header_refusal(Code::NotBuilt)),
+        Some(Format::Mac32) => read_by(alloc, &MachReader32, bytes, keep),
+        Some(Format::Mac64) => read_by(alloc, &MachReader64, bytes, keep),
+        Some(Format::Omf) => Err(header_refusal(Code::NotBuilt)),
     }
 }
