@@ -9,11 +9,11 @@ use crate::cut::Cut;
 use oc_base::View;
 
 /// What is read, and the place after it; or the field that the end of the contents cuts.
-pub(crate) type Reading<T> = Result<(T, u64), Cut>;
+pub type Reading<T> = Result<(T, u64), Cut>;
 
 /// A byte.
 #[tactic(auto, unfolding(crate::specs::Cursor::number_read))]
-pub(crate) fn read_u8(view: &View<'_>, at: u64) -> Reading<u8>
+pub fn read_u8(view: &View<'_>, at: u64) -> Reading<u8>
     ensures { result ≡ cursor.number_read 1 view.now at }
 {
     let byte = view.u8_at(at)?;
@@ -24,7 +24,7 @@ pub(crate) fn read_u8(view: &View<'_>, at: u64) -> Reading<u8>
 
 /// A number of two bytes.
 #[tactic(auto, unfolding(crate::specs::Cursor::number_read))]
-pub(crate) fn read_u16(view: &View<'_>, at: u64) -> Reading<u16>
+pub fn read_u16(view: &View<'_>, at: u64) -> Reading<u16>
     ensures { result ≡ cursor.number_read 2 view.now at }
 {
     let number = view.u16_at(at)?;
@@ -35,7 +35,7 @@ pub(crate) fn read_u16(view: &View<'_>, at: u64) -> Reading<u16>
 
 /// A number of three bytes.
 #[tactic(auto, unfolding(crate::specs::Cursor::number_read, oc_base::specs::Numbers::number_at))]
-pub(crate) fn read_u24(view: &View<'_>, at: u64) -> Reading<u32>
+pub fn read_u24(view: &View<'_>, at: u64) -> Reading<u32>
     ensures { result ≡ cursor.number_read 3 view.now at }
 {
     let _all = view.sub(at, 3)?;
@@ -48,7 +48,7 @@ pub(crate) fn read_u24(view: &View<'_>, at: u64) -> Reading<u32>
 
 /// A number of four bytes.
 #[tactic(auto, unfolding(crate::specs::Cursor::number_read))]
-pub(crate) fn read_u32(view: &View<'_>, at: u64) -> Reading<u32>
+pub fn read_u32(view: &View<'_>, at: u64) -> Reading<u32>
     ensures { result ≡ cursor.number_read 4 view.now at }
 {
     let number = view.u32_at(at)?;
@@ -58,7 +58,7 @@ pub(crate) fn read_u32(view: &View<'_>, at: u64) -> Reading<u32>
 }
 
 /// An offset or a length, of four bytes where `wide` and else of two.
-pub(crate) fn read_long(view: &View<'_>, wide: bool, at: u64) -> Reading<u32>
+pub fn read_long(view: &View<'_>, wide: bool, at: u64) -> Reading<u32>
     ensures { result ≡ cursor.number_read (long_size wide) view.now at }
 {
     if wide {
@@ -70,7 +70,7 @@ pub(crate) fn read_long(view: &View<'_>, wide: bool, at: u64) -> Reading<u32>
 
 /// An index of one or two bytes.
 #[tactic(auto, unfolding(crate::specs::Cursor::index_read))]
-pub(crate) fn read_index(view: &View<'_>, at: u64) -> Reading<u16>
+pub fn read_index(view: &View<'_>, at: u64) -> Reading<u16>
     ensures { result ≡ cursor.index_read view.now at }
 {
     Ok(oc_omf_records::index(view, at)?)
@@ -78,7 +78,7 @@ pub(crate) fn read_index(view: &View<'_>, at: u64) -> Reading<u16>
 
 /// A name: a length byte and so many bytes.
 #[tactic(auto, unfolding(crate::specs::Cursor::name_read))]
-pub(crate) fn read_name<'a>(view: &View<'a>, at: u64) -> Reading<&'a [u8]>
+pub fn read_name<'a>(view: &View<'a>, at: u64) -> Reading<&'a [u8]>
     ensures { MatchResult result (λ r. cursor.name_read view.now at ≡ Ok (r.0.now, r.1)) (λ c. cursor.name_read view.now at ≡ Err c) }
 {
     let Ok(length) = view.u8_at(at) else {

@@ -12,7 +12,7 @@ use std::alloc::Global;
 /// The data of an entry. Contracts see them as blocks, as `row_of` gives them: data as they stand are
 /// one content, once.
 #[derive(Drop)]
-pub(crate) enum Data<'a> {
+pub enum Data<'a> {
     /// They stand there (TIS OMF 1.1, "LEDATA: Logical Enumerated Data Record").
     Plain(View<'a>),
     /// They are repeated (TIS OMF 1.1, "LIDATA: Logical Iterated Data Record").
@@ -22,7 +22,7 @@ pub(crate) enum Data<'a> {
 impl<'a> Data<'a> {
     /// The data in the contents of an entry behind its offset; repeat counts have four bytes where
     /// `wide`. The faults and the cost are those of `Block::read`, and data as they stand have none.
-    pub(crate) fn read(
+    pub fn read(
         alloc: Global,
         view: View<'a>,
         wide: bool,
@@ -42,7 +42,7 @@ impl<'a> Data<'a> {
 
     /// How many bytes they stand for, or 2^32 where there are more. Linear in the encoded data,
     /// whatever the counts; no memory.
-    pub(crate) fn size(&self) -> u64
+    pub fn size(&self) -> u64
         ensures { result ≡ min (size_of (row_of self.now)) (2 ^ 32) }
     {
         match self {
@@ -52,7 +52,7 @@ impl<'a> Data<'a> {
     }
 
     /// The bytes that they stand for. The cost is that of `Block::expand`.
-    pub(crate) fn expand(&self, alloc: Global) -> Result<Bytes, NoMemory>
+    pub fn expand(&self, alloc: Global) -> Result<Bytes, NoMemory>
         requires { size_of (row_of self.now) < 2 ^ 31 }
         ensures { IfOk result (λ bytes. bytes ≡ denotation (row_of self.now)) }
     {
@@ -65,7 +65,7 @@ impl<'a> Data<'a> {
     /// Where the copies of the four bytes at `at` stand in what they stand for, as offsets in
     /// ascending order; `at` counts from the first encoded byte. `NotContent` exactly where the four
     /// do not lie in one content. The cost is that of `Block::copies`.
-    pub(crate) fn copies(&self, alloc: Global, at: u16) -> Result<Vec<u32>, CopyFault>
+    pub fn copies(&self, alloc: Global, at: u16) -> Result<Vec<u32>, CopyFault>
         requires { size_of (row_of self.now) < 2 ^ 31 }
         ensures well { IfOk result (λ places. copies_of (row_of self.now) at ≡ Some places.items) }
         ensures refused { IfErr result (λ fault. RefusesCopies fault (copies_of (row_of self.now) at)) }

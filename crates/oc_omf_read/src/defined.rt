@@ -11,24 +11,24 @@ use std::alloc::Global;
 
 /// What the entries so far define.
 #[derive(Drop)]
-pub(crate) struct Defined<'a> {
+pub struct Defined<'a> {
     /// The names.
-    pub(crate) names: Vec<&'a [u8]>,
+    pub names: Vec<&'a [u8]>,
     /// The segments.
-    pub(crate) segments: Vec<Segment>,
+    pub segments: Vec<Segment>,
     /// Of each segment, whether some byte of it is covered by data.
-    pub(crate) covered: Vec<bool>,
+    pub covered: Vec<bool>,
     /// Of each group, the index of its name.
-    pub(crate) groups: Vec<u16>,
+    pub groups: Vec<u16>,
     /// How many bytes the segments have together.
-    pub(crate) sizes: u64,
+    pub sizes: u64,
     /// Where the data lie, from `segment * 2^32 + offset` on.
-    pub(crate) spans: Spans,
+    pub spans: Spans,
 }
 
 impl<'a> Defined<'a> {
     /// Nothing. No memory.
-    pub(crate) fn new(alloc: Global) -> Defined<'a>
+    pub fn new(alloc: Global) -> Defined<'a>
         ensures { IsDefined (tables_of []) result }
     {
         Defined {
@@ -43,7 +43,7 @@ impl<'a> Defined<'a> {
 }
 
 /// The segment of an index, which counts from 1. Constant time.
-pub(crate) fn segment_at(segments: &[Segment], index: u16) -> Option<Segment>
+pub fn segment_at(segments: &[Segment], index: u16) -> Option<Segment>
     ensures { result ≡ indexed segments.now index }
 {
     if index == 0 {
@@ -56,7 +56,7 @@ pub(crate) fn segment_at(segments: &[Segment], index: u16) -> Option<Segment>
 }
 
 /// The name of an index, which is empty at 0. Constant time.
-pub(crate) fn name_at<'a>(names: &[&'a [u8]], index: u16) -> &'a [u8]
+pub fn name_at<'a>(names: &[&'a [u8]], index: u16) -> &'a [u8]
     ensures { result.now ≡ unwrap_or (indexed (names_of names.now) index) [] }
 {
     if index == 0 {

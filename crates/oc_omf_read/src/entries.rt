@@ -11,14 +11,14 @@ use oc_omf_records::Entry;
 use std::alloc::Global;
 
 /// Whether a type is the odd one of the two that its record has. Constant time.
-pub(crate) fn is_wide(kind: u8) -> bool
+pub fn is_wide(kind: u8) -> bool
     ensures { result ≡ specs.is_wide kind }
 {
     kind % 2 == 1
 }
 
 /// Whether a type is one of the two of a record, which is told by the even one. Constant time.
-pub(crate) fn is_kind(even: u8, kind: u8) -> bool
+pub fn is_kind(even: u8, kind: u8) -> bool
     ensures { result ≡ specs.is_kind even kind }
 {
     kind - kind % 2 == even
@@ -43,7 +43,7 @@ fn next_place(file: &View<'_>, at: u32) -> Option<u32>
 
 /// The places at which an entry is looked for, in bytes from the start of the file; the last is that
 /// of MODEND, or of what is no entry. `NoMemory` where memory ran out. Linear in the entries.
-pub(crate) fn places_of(alloc: Global, file: &View<'_>) -> Result<Vec<u32>, NoMemory>
+pub fn places_of(alloc: Global, file: &View<'_>) -> Result<Vec<u32>, NoMemory>
     requires { length file.now ≤ 67108864 }
     ensures { IfOk result (λ places. places.items ≡ specs.places_in file.now) }
 {

@@ -8,7 +8,7 @@ use std::collections::BTreeMap;
 
 /// Takes up a name with a number, in place of the one that it had, which it gives. `NoMemory` where
 /// memory ran out. The time is that of about log2(n) comparisons of names.
-pub(crate) fn take_up<'a>(
+pub fn take_up<'a>(
     held: &mut BTreeMap<&'a [u8], u32>,
     name: &'a [u8],
     number: u32,
@@ -21,7 +21,7 @@ pub(crate) fn take_up<'a>(
 }
 
 /// The number of a name, if it is held. The time is that of about log2(n) comparisons of names.
-pub(crate) fn value_of(held: &BTreeMap<&[u8], u32>, name: &[u8]) -> Option<u32>
+pub fn value_of(held: &BTreeMap<&[u8], u32>, name: &[u8]) -> Option<u32>
     ensures { result ≡ value_at held.now name.now }
 {
     match held.get(name) {

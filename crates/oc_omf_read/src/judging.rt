@@ -14,13 +14,13 @@ use std::alloc::Global;
 
 /// A module whose entries, sections and symbols have no fault.
 #[derive(Drop)]
-pub(crate) struct Front<'a> {
+pub struct Front<'a> {
     /// Its entries.
-    pub(crate) omf: Module<'a>,
+    pub omf: Module<'a>,
     /// Its names, segments, groups and data.
-    pub(crate) defined: Defined<'a>,
+    pub defined: Defined<'a>,
     /// Its symbols.
-    pub(crate) seen: Seen<'a>,
+    pub seen: Seen<'a>,
 }
 
 /// Judges the entries, the sections and the symbols of a file of at most 67,108,864 bytes.
@@ -28,7 +28,7 @@ pub(crate) struct Front<'a> {
 /// Stops exactly where one has a fault, with the first; or where memory ran out. The time is linear in
 /// the file; for each symbol there are about log2(n) comparisons of names, and for each data about
 /// log2(n) of numbers.
-pub(crate) fn judge_front<'a>(alloc: Global, file: &'a [u8]) -> Result<Front<'a>, Stop>
+pub fn judge_front<'a>(alloc: Global, file: &'a [u8]) -> Result<Front<'a>, Stop>
     requires { length file.now ≤ 67108864 }
     ensures clean { OnOk result (first_fault (front_stages file.now) ≡ None) }
     ensures front { IfOk result (λ f. IsFront file.now f) }

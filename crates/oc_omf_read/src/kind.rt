@@ -8,7 +8,7 @@ use oc_neutral::{Keep, Kind};
 /// The kind of a segment of this class, some byte of which is covered by data or none. Linear in the
 /// class.
 #[tactic(auto, unfolding(oc_neutral::specs::Omf::Kinds::omf_kind))]
-pub(crate) fn kind_of(class: &[u8], covered: bool) -> Kind
+pub fn kind_of(class: &[u8], covered: bool) -> Kind
     ensures { result ≡ omf_kind class.now covered }
 {
     if class.ends_with(b"CODE") {
@@ -27,7 +27,7 @@ pub(crate) fn kind_of(class: &[u8], covered: bool) -> Kind
 }
 
 /// Whether a kind is kept. Constant time.
-pub(crate) fn keeps(keep: &Keep, kind: Kind) -> bool
+pub fn keeps(keep: &Keep, kind: Kind) -> bool
     ensures { result ≡ keeps keep.now kind }
 {
     match kind {

@@ -16,7 +16,7 @@ use std::marker::Model;
 
 /// A module with the places of its entries. Contracts see the bytes of its file.
 #[derive(Drop)]
-pub(crate) struct Module<'a> {
+pub struct Module<'a> {
     file: &'a [u8],
     places: Vec<u32>,
 }
@@ -35,14 +35,14 @@ impl<'a> Model for Module<'a> {
 
 impl<'a> Module<'a> {
     /// How many entries there are. Constant time.
-    pub(crate) fn count(&self) -> u32
+    pub fn count(&self) -> u32
         ensures { result ≡ length (places_in self.now) }
     {
         self.places.len() as u32
     }
 
     /// Entry `i`. Constant time.
-    pub(crate) fn entry(&self, i: u32) -> Entry<'a>
+    pub fn entry(&self, i: u32) -> Entry<'a>
         requires { i < length (places_in self.now) }
         ensures place { slice_get (places_in self.now) i ≡ Some result.place }
         ensures entry { result ≡ entry_of self.now result.place }
@@ -53,7 +53,7 @@ impl<'a> Module<'a> {
     }
 
     /// What is known of it, for callers to cite. It does nothing.
-    pub(crate) fn is_module(&self)
+    pub fn is_module(&self)
         ensures { IsModule self.now }
     {
         let _ = &self.places;
@@ -77,7 +77,7 @@ fn entry_in(file: &[u8], at: usize) -> Entry<'_>
 ///
 /// Stops exactly where an entry has a fault by itself, with the first; or where memory ran out, of
 /// which it takes four bytes an entry. Linear in the file.
-pub(crate) fn read_module<'a>(alloc: Global, file: &'a [u8]) -> Result<Module<'a>, Stop>
+pub fn read_module<'a>(alloc: Global, file: &'a [u8]) -> Result<Module<'a>, Stop>
     requires { length file.now ≤ 67108864 }
     ensures module { IfOk result (λ m. m ≡ file.now) }
     ensures clean { OnOk result (stage_fault (header_stage file.now) ≡ None) }

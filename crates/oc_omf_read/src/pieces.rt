@@ -21,16 +21,16 @@ use std::alloc::Global;
 
 /// Where data lie.
 #[derive(Clone, Copy, Debug, PartialEq, Eq, Drop)]
-pub(crate) struct Head {
+pub struct Head {
     /// The index of their segment.
-    pub(crate) segment: u16,
+    pub segment: u16,
     /// Their offset in it, in bytes.
-    pub(crate) offset: u32,
+    pub offset: u32,
 }
 
 /// Where the data in the contents of an entry lie, of the odd type where `wide`. Constant time.
 #[tactic(auto, unfolding(crate::specs::Defined::head_read))]
-pub(crate) fn read_head(contents: &View<'_>, wide: bool) -> Reading<Head>
+pub fn read_head(contents: &View<'_>, wide: bool) -> Reading<Head>
     ensures { result ≡ specs.head_read wide contents.now 0 }
 {
     let (segment, at) = read_index(contents, 0)?;
@@ -39,7 +39,7 @@ pub(crate) fn read_head(contents: &View<'_>, wide: bool) -> Reading<Head>
 }
 
 /// The data from `at` on, with the faults and the cost of `Data::read`.
-pub(crate) fn read_data<'a>(
+pub fn read_data<'a>(
     alloc: Global,
     contents: &View<'a>,
     wide: bool,

@@ -23,7 +23,7 @@ use oc_base::{Code, Fault, View};
 use oc_shelf::Stop;
 
 /// What stands at a place in an entry, counted from the first byte of its contents. Constant time.
-pub(crate) fn spot_in(spot: Spot, at: u64) -> Spot
+pub fn spot_in(spot: Spot, at: u64) -> Spot
     requires { spot.place + at ≤ 67108864 }
     ensures index { result.index ≡ spot.index }
     ensures place { result.place ≡ spot.place + 3 + at }

@@ -8,7 +8,7 @@ use oc_base::View;
 
 /// The segment in the contents of an entry, of the odd type where `wide`.
 #[tactic(auto, unfolding(crate::specs::Structures::segment_read))]
-pub(crate) fn read_segment(view: &View<'_>, wide: bool) -> Reading<Segment>
+pub fn read_segment(view: &View<'_>, wide: bool) -> Reading<Segment>
     ensures { result ≡ structures.segment_read wide view.now 0 }
 {
     let (attributes, at) = read_u8(view, 0)?;
@@ -29,7 +29,7 @@ pub(crate) fn read_segment(view: &View<'_>, wide: bool) -> Reading<Segment>
 
 /// The member of a group at `at`: its mark and its segment index.
 #[tactic(auto, unfolding(crate::specs::Structures::member_read))]
-pub(crate) fn read_member(view: &View<'_>, at: u64) -> Reading<(u8, u16)>
+pub fn read_member(view: &View<'_>, at: u64) -> Reading<(u8, u16)>
     ensures { result ≡ structures.member_read view.now at }
 {
     let (mark, at) = read_u8(view, at)?;
@@ -39,7 +39,7 @@ pub(crate) fn read_member(view: &View<'_>, at: u64) -> Reading<(u8, u16)>
 
 /// Where the symbols of an entry lie.
 #[tactic(auto, unfolding(crate::specs::Structures::base_read))]
-pub(crate) fn read_base(view: &View<'_>) -> Reading<Base>
+pub fn read_base(view: &View<'_>) -> Reading<Base>
     ensures { result ≡ structures.base_read view.now 0 }
 {
     let (group, at) = read_index(view, 0)?;
@@ -135,7 +135,7 @@ fn read_fixup(view: &View<'_>, wide: bool, first: u8, at: u64) -> Reading<Subrec
 
 /// The thread or the fixup at `at`, in an entry of the odd type where `wide`.
 #[tactic(auto, unfolding(crate::specs::Structures::subrecord_read))]
-pub(crate) fn read_subrecord(view: &View<'_>, wide: bool, at: u64) -> Reading<Subrecord>
+pub fn read_subrecord(view: &View<'_>, wide: bool, at: u64) -> Reading<Subrecord>
     ensures { result ≡ structures.subrecord_read wide view.now at }
 {
     let (first, at) = read_u8(view, at)?;

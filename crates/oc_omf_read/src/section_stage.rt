@@ -15,11 +15,11 @@ const MOST_SIZES: u64 = 2_147_483_648;
 
 /// An entry, by its number and its place.
 #[derive(Clone, Copy)]
-pub(crate) struct Spot {
+pub struct Spot {
     /// Its number among the entries.
-    pub(crate) index: u32,
+    pub index: u32,
     /// Where it begins, in bytes from the start of the file.
-    pub(crate) place: u64,
+    pub place: u64,
 }
 
 // a fault of an entry
@@ -49,7 +49,7 @@ fn align_code(s: &Segment) -> u8
 }
 
 /// How many bytes a segment has. Constant time.
-pub(crate) fn segment_size(s: &Segment) -> u64
+pub fn segment_size(s: &Segment) -> u64
     ensures size { result ≡ sections.segment_size s.now }
     ensures small { result ≤ 2 ^ 32 }
 {

@@ -28,7 +28,7 @@ use std::alloc::Global;
 const MOST_BYTES: u64 = 67_108_864;
 
 /// The kind of segment `k`, counted from 0. Linear in its class.
-pub(crate) fn kind_at(defined: &Defined<'_>, k: usize) -> Kind
+pub fn kind_at(defined: &Defined<'_>, k: usize) -> Kind
     requires segments { k < length defined.now.segments.items }
     requires covered { k < length defined.now.covered.items }
     ensures { (t : Tables) → IsDefined t defined.now → result ≡ kind_in t k }

@@ -11,33 +11,33 @@ use std::collections::BTreeMap;
 
 /// A symbol that is defined elsewhere, or a communal.
 #[derive(Drop)]
-pub(crate) struct External<'a> {
+pub struct External<'a> {
     /// Whether it is of this module alone.
-    pub(crate) local: bool,
+    pub local: bool,
     /// Its name.
-    pub(crate) name: &'a [u8],
+    pub name: &'a [u8],
 }
 
 /// What symbols the entries so far have.
 #[derive(Drop)]
-pub(crate) struct Seen<'a> {
+pub struct Seen<'a> {
     /// The segments.
-    pub(crate) segments: Vec<Segment>,
+    pub segments: Vec<Segment>,
     /// Of each group, the index of its name.
-    pub(crate) groups: Vec<u16>,
+    pub groups: Vec<u16>,
     /// The names of symbols that this module alone sees.
-    pub(crate) locals: BTreeMap<&'a [u8], u32>,
+    pub locals: BTreeMap<&'a [u8], u32>,
     /// The names of symbols that other modules see.
-    pub(crate) globals: BTreeMap<&'a [u8], u32>,
+    pub globals: BTreeMap<&'a [u8], u32>,
     /// The names of communals, each with its length.
-    pub(crate) communals: BTreeMap<&'a [u8], u32>,
+    pub communals: BTreeMap<&'a [u8], u32>,
     /// The externals and communals.
-    pub(crate) externals: Vec<External<'a>>,
+    pub externals: Vec<External<'a>>,
 }
 
 impl<'a> Seen<'a> {
     /// Nothing. No memory.
-    pub(crate) fn new(alloc: Global) -> Seen<'a>
+    pub fn new(alloc: Global) -> Seen<'a>
         ensures { IsSeen (tables_of []) result }
     {
         Seen {
@@ -52,7 +52,7 @@ impl<'a> Seen<'a> {
 
     /// Takes up the name of a definition, and tells whether it was there. `NoMemory` where memory ran
     /// out. The time is that of about log2(n) comparisons of names.
-    pub(crate) fn take_name(&mut self, local: bool, name: &'a [u8]) -> Result<bool, NoMemory>
+    pub fn take_name(&mut self, local: bool, name: &'a [u8]) -> Result<bool, NoMemory>
         ensures { IfOk result (λ again. IsNameTaken self.old local name.now again self.new) }
     {
         if local {

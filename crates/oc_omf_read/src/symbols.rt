@@ -10,16 +10,16 @@ use oc_base::View;
 
 /// A symbol at an offset of a segment.
 #[derive(Drop)]
-pub(crate) struct Public<'a> {
+pub struct Public<'a> {
     /// Its name.
-    pub(crate) name: &'a [u8],
+    pub name: &'a [u8],
     /// The offset, in bytes.
-    pub(crate) offset: u32,
+    pub offset: u32,
 }
 
 /// The symbol at `at`, in an entry of the odd type where `wide`.
 #[tactic(auto, unfolding(crate::specs::Structures::public_read))]
-pub(crate) fn read_public<'a>(view: &View<'a>, wide: bool, at: u64) -> Reading<Public<'a>>
+pub fn read_public<'a>(view: &View<'a>, wide: bool, at: u64) -> Reading<Public<'a>>
     ensures { (local : Bool) (segment : ℕ) → MatchResult result
         (λ r. structures.public_read wide local segment view.now at ≡ Ok (record { local = local; name = r.0.name.now; segment = segment; offset = r.0.offset }, r.1))
         (λ c. structures.public_read wide local segment view.now at ≡ Err c) }
@@ -32,7 +32,7 @@ pub(crate) fn read_public<'a>(view: &View<'a>, wide: bool, at: u64) -> Reading<P
 
 /// The name of the external at `at`.
 #[tactic(auto, unfolding(crate::specs::Structures::external_read))]
-pub(crate) fn read_external<'a>(view: &View<'a>, at: u64) -> Reading<&'a [u8]>
+pub fn read_external<'a>(view: &View<'a>, at: u64) -> Reading<&'a [u8]>
     ensures { (local : Bool) → MatchResult result
         (λ r. structures.external_read local view.now at ≡ Ok (record { local = local; name = r.0.now; communal = None }, r.1))
         (λ c. structures.external_read local view.now at ≡ Err c) }
@@ -62,7 +62,7 @@ fn read_length(view: &View<'_>, at: u64) -> Reading<(u8, u32)>
 
 /// The communal at `at`, with its name.
 #[tactic(auto, unfolding(crate::specs::Structures::communal_read))]
-pub(crate) fn read_communal<'a>(view: &View<'a>, at: u64) -> Reading<(&'a [u8], Communal)>
+pub fn read_communal<'a>(view: &View<'a>, at: u64) -> Reading<(&'a [u8], Communal)>
     ensures { MatchResult result
         (λ r. structures.communal_read view.now at ≡ Ok (record { local = false; name = r.0.0.now; communal = Some r.0.1 }, r.1))
         (λ c. structures.communal_read view.now at ≡ Err c) }

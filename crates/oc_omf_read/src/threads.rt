@@ -10,14 +10,14 @@ const THREADS: usize = 4;
 
 /// The threads in force for frames and for targets, by their numbers.
 #[derive(Clone, Copy, Drop)]
-pub(crate) struct Threads {
+pub struct Threads {
     frames: [Option<Method>; THREADS],
     targets: [Option<Method>; THREADS],
 }
 
 impl Threads {
     /// None in force. Constant time.
-    pub(crate) fn new() -> Threads
+    pub fn new() -> Threads
         ensures { AreInForce [] result }
     {
         Threads {
@@ -27,7 +27,7 @@ impl Threads {
     }
 
     /// The thread of that number for frames, or else for targets, if there is one. Constant time.
-    pub(crate) fn get(&self, frame: bool, number: u8) -> Option<Method>
+    pub fn get(&self, frame: bool, number: u8) -> Option<Method>
         ensures { result ≡ told self.now frame number }
     {
         let threads = if frame { &self.frames } else { &self.targets };
@@ -38,7 +38,7 @@ impl Threads {
     }
 
     /// Takes up a thread, which is in force from here on. Constant time.
-    pub(crate) fn take_up(&mut self, thread: Thread)
+    pub fn take_up(&mut self, thread: Thread)
         requires { thread.number < 4 }
         ensures { (frame : Bool) (number : ℕ) → told self.new frame number ≡ if agree frame thread.frame && nat_eq thread.number number then Some thread.method else told self.old frame number }
     {

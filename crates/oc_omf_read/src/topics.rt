@@ -10,7 +10,7 @@ use crate::entries::is_kind;
 
 /// What an entry is about.
 #[derive(Clone, Copy, Debug, PartialEq, Eq, Drop)]
-pub(crate) enum Topic {
+pub enum Topic {
     /// Names that other entries have the index of.
     Names,
     /// A segment.
@@ -32,7 +32,7 @@ pub(crate) enum Topic {
 }
 
 /// What an entry of a type is about. Constant time.
-pub(crate) fn topic_of(kind: u8) -> Topic
+pub fn topic_of(kind: u8) -> Topic
     ensures { result ≡ topics.topic_of kind }
 {
     if is_kind(LNAMES, kind) {
