@@ -1,0 +1,11 @@
+pub mod EntryLemmas
+pub mod FixedLemmas
+pub mod JudgingLemmas
+pub mod LocalLemmas
+pub mod MentionLemmas
+pub mod NamedLemmas
+pub mod PartLemmas
+pub mod ReachedLemmas
+pub mod RowLemmas
+pub mod StartLemmas
+pub mod SubrecordLemmas

@@ -1,0 +1,28 @@
+-- The front, and then threads and fixups.
+use Rattle.std.proofs.Common.{ℕ, List, sym, ◌∙◌, ap, subst}
+use Rattle.oc_linking.specs.FirstFault.{first_fault}
+use Rattle.oc_shelf.specs.Reading.Stops.{IsStop}
+use Rattle.oc_omf_read.specs.Entries.{entries_in}
+use Rattle.oc_omf_read.specs.Judged.{IsFront}
+use Rattle.oc_omf_read.specs.RelocationFaults.{relocation_stages}
+use Rattle.oc_omf_judge.proofs.JudgingLemmas.{fault_behind, front_stops}
+use Rattle.oc_omf_judge.proofs.judging.check_file.Goals as goal
+
+pub returns-in-Err-clause-stop : goal.returns-in-Err-clause-stop
+returns-in-Err-clause-stop c = front_stops c.args.file.now c.args.keep.now c.in-Err.stop c.in-Err.ensures.stop
+
+pub check_relocations-requires : goal.check_relocations-requires
+check_relocations-requires c = record {
+  front_is = subst (λ (b : List ℕ). IsFront b c.in-Ok.front) (sym c.in-Ok.ensures.front.omf_is) c.in-Ok.ensures.front;
+  locals_are = c.in_ok-locals.ensures;
+}
+
+pub returns-in-Ok-check_relocations-clause-clean : goal.returns-in-Ok-check_relocations-clause-clean
+returns-in-Ok-check_relocations-clause-clean c =
+    fault_behind c.args.file.now c.args.keep.now c.in-Ok.ensures.clean
+    ∙ ap (λ (b : List ℕ). first_fault (relocation_stages (entries_in b) c.args.keep.now)) (sym c.in-Ok.ensures.front.omf_is) ∙ c.in-Ok-check_relocations.ensures.clean
+
+pub returns-clause-stop : goal.returns-clause-stop
+returns-clause-stop c =
+    subst (λ o. IsStop o c.in-Err-check_relocations.stop) (sym (fault_behind c.args.file.now c.args.keep.now c.in-Ok.ensures.clean
+    ∙ ap (λ (b : List ℕ). first_fault (relocation_stages (entries_in b) c.args.keep.now)) (sym c.in-Ok.ensures.front.omf_is))) c.in-Err-check_relocations.ensures.stop

@@ -1,0 +1,11 @@
+pub mod Locals
+pub mod Whole
+pub mod Named
+pub mod Rows
+pub mod Lying
+pub mod LastData
+pub mod Starts
+pub mod Counts
+pub mod Threads
+pub mod Reached
+pub mod Fixups

@@ -1,0 +1,112 @@
+-- What a reader has come to in a module when it judges fixups (our profile).
+use Rattle.std.specs.Prelude.{◌≡◌, ℕ, List, [], ◌∷◌, ◌++◌, map, Option, Some, None, Result}
+use Rattle.std.specs.Option.{option_map, option_map_or}
+use Rattle.oc_base.specs.declared.code.Code.{Code}
+use Rattle.oc_base.specs.declared.fault.Phase.TheVariants as phase
+use Rattle.oc_base.specs.declared.fault.Fault.{Fault}
+use Rattle.oc_linking.specs.Numbers.{or_else}
+use Rattle.oc_linking.specs.FirstFault.{first_broken}
+use Rattle.oc_shelf.specs.declared.reading.stop.Stop.{Stop}
+use Rattle.oc_shelf.specs.Reading.Stops.{IsStop}
+use Rattle.oc_omf_read.specs.declared.cut.Cut.{Cut}
+use Rattle.oc_omf_read.specs.declared.structures.Subrecord.{Subrecord}
+use Rattle.oc_omf_read.specs.Cursor.{Read}
+use Rattle.oc_omf_read.specs.Structures.{External, Piece}
+use Rattle.oc_omf_read.specs.Entries.{Entry, all_read, in_file, says_nothing}
+use Rattle.oc_omf_read.specs.Tables.{Tables}
+use Rattle.oc_omf_read.specs.Fixups.{Placed, fixed_in, last_of}
+use Rattle.oc_omf_read.specs.RelocationFaults.{relocation_conditions}
+use Rattle.oc_omf_read.specs.Known.{AreInForce}
+use Rattle.oc_omf_read.specs.Defined.{IsSmall, and_entry}
+use Rattle.oc_omf_judge.specs.declared.reached.Reached.{Reached}
+use Rattle.oc_omf_judge.specs.declared.whole.Whole.{Whole}
+use Rattle.oc_omf_judge.specs.Counts.{AreCounts}
+use Rattle.oc_omf_judge.specs.LastData.{shown}
+use Rattle.oc_omf_judge.specs.Lying.{Lying, base, lying_of}
+use Rattle.oc_omf_judge.specs.Starts.{AreStarts}
+use Rattle.oc_omf_judge.specs.Whole.{meaning}
+
+-- the last data
+abbrev pub last_in : Reached → Option Lying
+last_in r = option_map shown r.last
+
+-- the place of their first byte, 0 where there are none
+abbrev pub base_in : Reached → ℕ
+base_in r = option_map_or base (last_in r) 0
+
+-- the same is kept
+pub record IsSame (old new : Reached) : Type 0 where
+  pub counts : new.counts ≡ old.counts
+  pub last : last_in new ≡ last_in old
+  pub threads : new.threads ≡ old.threads
+  pub starts : new.starts ≡ old.starts
+
+-- what is kept is what stood before, in entries and among the subrecords of their entry
+pub record IsReached (w : Whole) (before : Tables) (earlier : List Placed) (r : Reached) : Type 0 where
+  pub counts_are : AreCounts before r.counts
+  pub last_is : option_map lying_of (last_of before.pieces) ≡ last_in r
+  pub threads_are : AreInForce earlier r.threads
+  pub starts_are : AreStarts w (fixed_in earlier) r.starts
+
+-- ... a subrecord
+
+-- a fault of one in an entry of a number, at a place
+abbrev pub relocation_fault : ℕ × ℕ → Code → Fault
+relocation_fault at code = record { phase = phase.Relocation; index = at.0; code = code; place = at.1 }
+
+-- one in an entry of a number, at a place
+abbrev pub placed_at : Tables → ℕ × ℕ → Result Subrecord Cut → Placed
+placed_at before at part = record { index = at.0; at = at.1; part = part; before = before }
+
+-- one behind what is kept has no fault, and is taken up
+abbrev pub IsPartTaken : Whole → Reached → ℕ × ℕ → Result Subrecord Cut → Reached → Type 0
+IsPartTaken w old at part new =
+    (before : Tables) (earlier : List Placed) → IsReached w before earlier old
+    → (first_broken (relocation_conditions (meaning w) w.keep earlier (placed_at before at part)) ≡ None) × IsReached w before (earlier ++ placed_at before at part ∷ []) new
+
+-- it has a fault, which is told
+abbrev pub IsPartStopped : Whole → Reached → ℕ × ℕ → Result Subrecord Cut → Stop → Type 0
+IsPartStopped w old at part s =
+    (before : Tables) (earlier : List Placed) → IsReached w before earlier old → IsStop (first_broken (relocation_conditions (meaning w) w.keep earlier (placed_at before at part))) s
+
+-- ... subrecords that follow one another
+
+-- the first fault of these behind others
+abbrev pub judged_behind : Whole → List Placed → List Placed → Option Fault
+judged_behind w earlier [] = None
+judged_behind w earlier (x ∷ xs) = or_else (first_broken (relocation_conditions (meaning w) w.keep earlier x)) (judged_behind w (earlier ++ x ∷ []) xs)
+
+-- those of an entry of a number
+abbrev pub placed_in : ℕ → Tables → List (Read Subrecord) → List Placed
+placed_in index before reads = map (λ (s : Read Subrecord). placed_at before (index, s.at) s.part) reads
+
+-- those of an entry have no fault, and are taken up
+abbrev pub ArePartsTaken : Whole → Reached → ℕ → List (Read Subrecord) → Reached → Type 0
+ArePartsTaken w old index reads new =
+    (before : Tables) (earlier : List Placed) → IsReached w before earlier old
+    → (judged_behind w earlier (placed_in index before reads) ≡ None) × IsReached w before (earlier ++ placed_in index before reads) new
+
+-- one has a fault, which is told
+abbrev pub ArePartsStopped : Whole → Reached → ℕ → List (Read Subrecord) → Stop → Type 0
+ArePartsStopped w old index reads s =
+    (before : Tables) (earlier : List Placed) → IsReached w before earlier old → IsStop (judged_behind w earlier (placed_in index before reads)) s
+
+-- ... an entry
+
+-- its data are small enough
+abbrev pub AreSmall : Entry → Type 0
+AreSmall e = (d : Piece) → last_of (all_read e.pieces) ≡ Some d → IsSmall d
+
+-- an entry whose data are small enough has no fault, and is taken up
+abbrev pub IsEntryTaken : Whole → Reached → ℕ → Entry → Reached → Type 0
+IsEntryTaken w old index e new =
+    (before : Tables) (earlier : List Placed) → AreSmall e → IsReached w before earlier old
+    → (judged_behind w earlier (placed_in index before e.subrecords) ≡ None) × IsReached w (and_entry before e) (earlier ++ placed_in index before e.subrecords) new
+
+-- it has a fault, which is told
+abbrev pub IsEntryStopped : Whole → Reached → ℕ → Entry → Stop → Type 0
+IsEntryStopped w old index e s = ArePartsStopped w old index e.subrecords s
+
+-- the externals of an entry are taken up
+abbrev pub AreExternalsTaken : Whole → Reached → ℕ → ℕ → List (Read External) → Reached → Type 0
+AreExternalsTaken w old index place reads new = IsEntryTaken w old index (record (says_nothing place) { externals = in_file place reads }) new
