@@ -1,0 +1,124 @@
+-- Data of entries, and what they cover.
+use Rattle.std.proofs.Common.{◌≡◌, ℕ, ◌+◌, ◌-◌, ◌<◌, ◌≤◌, Bool, true, false, cond, List, [], ◌∷◌, length, take, drop, replicate, get_or, Some, Ok, Err, refl, sym, ◌∙◌, ap, arith}
+use Rattle.std.specs.Prelude.{◌&&◌, ◌||◌, nat_eq, nat_lt, slice_get, slice_range, filter}
+use Rattle.std.specs.List.{list_any}
+use Rattle.std.proofs.lemmas.Bool.{true≢false}
+use Rattle.std.proofs.lemmas.Bool.Decides.{nat_tests}
+use Rattle.std.proofs.lemmas.List.{get_or-replicate, length-drop, length-replicate}
+use Rattle.std.proofs.lemmas.List.Elements.{filter-append}
+use Rattle.std.proofs.lemmas.List.Folds.{list_any-append}
+use Rattle.std.proofs.Math.Seq.{take-length}
+use Rattle.oc_omf_records.specs.declared.records.Entry.{Entry as Record}
+use Rattle.oc_omf_records.specs.Blocks.{Blocks, size_of}
+use Rattle.oc_omf_read.specs.declared.cut.Cut.{Cut}
+use Rattle.oc_omf_read.specs.Cursor.{Reading, index_read, next, number_read}
+use Rattle.oc_omf_read.specs.Structures as structures
+use Rattle.oc_omf_read.specs.Structures.{blocks_by, long_size, piece_read}
+use Rattle.oc_omf_read.specs.Entries.{Entry, all_read, entries_in, is_wide}
+use Rattle.oc_omf_read.specs.Sections.{blocks_in, is_covered, piece_size, pieces_of}
+use Rattle.oc_omf_read.specs.Tables as all
+use Rattle.oc_omf_read.specs.Tables.{tables_of}
+use Rattle.oc_omf_read.proofs.StateLaws.{tables_more}
+use Rattle.oc_omf_reader.specs.declared.class.Class.{Class}
+use Rattle.oc_omf_reader.specs.declared.class.Class.TheVariants as class
+use Rattle.oc_omf_reader.specs.declared.pieces.Piece.{Piece}
+use Rattle.oc_omf_reader.specs.Classes.{class_of}
+use Rattle.oc_omf_reader.specs.Defined.{read_in, said}
+use Rattle.oc_omf_reader.specs.Pieces.{AreCovered, ArePieces, covers, is_covered_by, row_in}
+use Rattle.oc_omf_reader.proofs.ClassLemmas.{has_no_data, read_whole}
+use Rattle.oc_omf_reader.proofs.DefinedLemmas.{said_by_class, tables_upto}
+
+-- the bytes from a place to the end
+pub all_behind : (b : List ℕ) (at : ℕ) → at ≤ length b → slice_range b at (at + (length b - at)) ≡ drop at b
+all_behind b at low =
+    let many : at + (length b - at) - at ≡ length (drop at b) = omega (arith, length-drop at b) in
+    ap (λ (n : ℕ). take n (drop at b)) many ∙ take-length (drop at b)
+
+-- ... one structure
+
+module _ (wide iterated : Bool) (b : List ℕ) where
+  pub piece_made : (segment at offset behind : ℕ) (p : Piece) → Ok (segment, at) ≡ index_read b 0 → Ok (offset, behind) ≡ number_read (long_size wide) b at → p.segment ≡ segment → p.offset ≡ offset
+      → row_in p.data ≡ blocks_in (blocks_by wide iterated (drop behind b)) → ArePieces (Some p) (read_in (piece_read wide iterated b 0))
+  unfolding piece_read
+  piece_made segment at offset behind p first second segment_is offset_is row = (
+    record { segment = segment; offset = offset; blocks = blocks_by wide iterated (drop behind b) },
+    ap (λ (r : Reading ℕ). read_in (next r (λ segment at. next (number_read (long_size wide) b at) (λ offset at. Ok (record { segment = segment; offset = offset; blocks = blocks_by wide iterated (drop at b) }, length b))))) (sym first)
+        ∙ ap (λ (r : Reading ℕ). read_in (next r (λ offset at. Ok (record { segment = segment; offset = offset; blocks = blocks_by wide iterated (drop at b) }, length b)))) (sym second),
+    record { segment = sym segment_is; offset = sym offset_is; row = sym row },
+  )
+
+  pub piece_cut : (c : Cut) → Err c ≡ index_read b 0 → read_in (piece_read wide iterated b 0) ≡ []
+  unfolding piece_read
+  piece_cut c first =
+      ap (λ (r : Reading ℕ). read_in (next r (λ segment at. next (number_read (long_size wide) b at) (λ offset at. Ok (record { segment = segment; offset = offset; blocks = blocks_by wide iterated (drop at b) }, length b))))) (sym first)
+
+  pub piece_cut_later : (segment at : ℕ) (c : Cut) → Ok (segment, at) ≡ index_read b 0 → Err c ≡ number_read (long_size wide) b at → read_in (piece_read wide iterated b 0) ≡ []
+  unfolding piece_read
+  piece_cut_later segment at c first second =
+      ap (λ (r : Reading ℕ). read_in (next r (λ segment at. next (number_read (long_size wide) b at) (λ offset at. Ok (record { segment = segment; offset = offset; blocks = blocks_by wide iterated (drop at b) }, length b))))) (sym first)
+      ∙ ap (λ (r : Reading ℕ). read_in (next r (λ offset at. Ok (record { segment = segment; offset = offset; blocks = blocks_by wide iterated (drop at b) }, length b)))) (sym second)
+
+-- ... an entry
+
+pub plain_pieces : (r : Record) → class_of r.kind ≡ class.Plain → all_read (said r).pieces ≡ read_in (piece_read (is_wide r.kind) false r.contents 0)
+plain_pieces r is = ap (λ (e : Entry). all_read e.pieces) (said_by_class r class.Plain is) ∙ read_whole r.place (piece_read (is_wide r.kind) false r.contents 0)
+
+pub iterated_pieces : (r : Record) → class_of r.kind ≡ class.Iterated → all_read (said r).pieces ≡ read_in (piece_read (is_wide r.kind) true r.contents 0)
+iterated_pieces r is = ap (λ (e : Entry). all_read e.pieces) (said_by_class r class.Iterated is) ∙ read_whole r.place (piece_read (is_wide r.kind) true r.contents 0)
+
+pub no_pieces : (r : Record) (k : Class) → class_of r.kind ≡ k → has_no_data k ≡ true → all_read (said r).pieces ≡ []
+no_pieces r class.Names is e = ap (λ (e : Entry). all_read e.pieces) (said_by_class r class.Names is)
+no_pieces r class.Segment is e = ap (λ (e : Entry). all_read e.pieces) (said_by_class r class.Segment is)
+no_pieces r class.Group is e = ap (λ (e : Entry). all_read e.pieces) (said_by_class r class.Group is)
+no_pieces r class.Publics is e = ap (λ (e : Entry). all_read e.pieces) (said_by_class r class.Publics is)
+no_pieces r class.LocalPublics is e = ap (λ (e : Entry). all_read e.pieces) (said_by_class r class.LocalPublics is)
+no_pieces r class.Externals is e = ap (λ (e : Entry). all_read e.pieces) (said_by_class r class.Externals is)
+no_pieces r class.LocalExternals is e = ap (λ (e : Entry). all_read e.pieces) (said_by_class r class.LocalExternals is)
+no_pieces r class.Communals is e = ap (λ (e : Entry). all_read e.pieces) (said_by_class r class.Communals is)
+no_pieces r class.Plain is e = absurd (true≢false (sym e))
+no_pieces r class.Iterated is e = absurd (true≢false (sym e))
+no_pieces r class.Fixups is e = ap (λ (e : Entry). all_read e.pieces) (said_by_class r class.Fixups is)
+no_pieces r class.Nothing is e = ap (λ (e : Entry). all_read e.pieces) (said_by_class r class.Nothing is)
+
+-- ... what is covered
+
+-- data cover what they are read to cover
+pub covers_same : (p : Piece) (ds : List structures.Piece) (k : ℕ) → ArePieces (Some p) ds → list_any (λ d. nat_lt 0 (piece_size d)) (filter (λ (d : structures.Piece). nat_eq d.segment (k + 1)) ds) ≡ covers p k
+covers_same p ds k are =
+    ap (λ (ds : List structures.Piece). list_any (λ d. nat_lt 0 (piece_size d)) (filter (λ (d : structures.Piece). nat_eq d.segment (k + 1)) ds)) are.1
+    ∙ ap (λ (n : ℕ). list_any (λ d. nat_lt 0 (piece_size d)) (cond (nat_eq n (k + 1)) (are.0 ∷ []) [])) are.2.segment ∙ one (nat_eq p.segment (k + 1))
+  where
+    last : (a : Bool) → (a || false) ≡ a
+    last true = refl
+    last false = refl
+
+    one : (b : Bool) → list_any (λ d. nat_lt 0 (piece_size d)) (cond b (are.0 ∷ []) []) ≡ (b && nat_lt 0 (size_of (row_in p.data)))
+    one true = last (nat_lt 0 (piece_size are.0)) ∙ ap (λ (r : Blocks). nat_lt 0 (size_of r)) are.2.row
+    one false = refl
+
+pub covered_none : (count : ℕ) (flags : List Bool) → flags ≡ replicate count false → AreCovered (tables_of []) count flags
+unfolding tables_of
+covered_none count flags is = record {
+  long = ap length is ∙ length-replicate count false;
+  each = λ k low. ap (λ (xs : List Bool). get_or xs k false) is ∙ get_or-replicate count k false false low;
+}
+
+covered_with : (file : List ℕ) (i k : ℕ) (e : Entry) → slice_get (entries_in file) i ≡ Some e → is_covered (tables_upto file (i + 1)) (k + 1) ≡ (is_covered (tables_upto file i) (k + 1) || is_covered_by e k)
+covered_with file i k e here =
+    ap (λ (t : all.Tables). is_covered t (k + 1)) (tables_more (entries_in file) i e here)
+    ∙ ap (list_any (λ d. nat_lt 0 (piece_size d))) (filter-append (λ (d : structures.Piece). nat_eq d.segment (k + 1)) (tables_upto file i).pieces (all_read e.pieces))
+    ∙ list_any-append (λ d. nat_lt 0 (piece_size d)) (pieces_of (tables_upto file i) (k + 1)) (filter (λ (d : structures.Piece). nat_eq d.segment (k + 1)) (all_read e.pieces))
+
+pub covered_more : (file : List ℕ) (i count : ℕ) (e : Entry) (old new : List Bool) → slice_get (entries_in file) i ≡ Some e → AreCovered (tables_upto file i) count old → length new ≡ length old
+    → ((k : ℕ) → k < length old → get_or new k false ≡ (get_or old k false || is_covered_by e k)) → AreCovered (tables_upto file (i + 1)) count new
+covered_more file i count e old new here before long each = record {
+  long = long ∙ before.long;
+  each = λ k low.
+      let long = before.long in
+      each k (omega (arith, low, long)) ∙ ap (λ b. b || is_covered_by e k) (before.each k low) ∙ sym (covered_with file i k e here);
+}
+
+-- a number that is read ends in the contents
+pub number_inside : (k : ℕ) (b : List ℕ) (at n q : ℕ) → Ok (n, q) ≡ number_read k b at → q ≤ length b
+unfolding number_read
+number_inside k b at n q e = grind (arith, nat_tests)

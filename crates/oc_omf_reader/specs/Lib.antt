@@ -1,0 +1,16 @@
+pub mod Classes
+pub mod Defined
+pub mod Pieces
+pub mod Sections
+pub mod Contents
+pub mod Built
+pub mod Heard
+pub mod Mentioned
+pub mod Bindings
+pub mod Given
+pub mod Shown
+pub mod Fixing
+pub mod Aims
+pub mod Fields
+pub mod Adding
+pub mod Searched

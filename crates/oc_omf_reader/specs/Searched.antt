@@ -1,0 +1,9 @@
+-- Places of data in which nothing was found (our profile).
+use Rattle.std.specs.Prelude.{◌≡◌, ℕ, [], Some, IsSome}
+use Rattle.std.specs.BTreeMap.{BTreeMap, get}
+use Rattle.std.specs.Ordering.{nat_cmp}
+use Rattle.oc_omf_records.specs.Blocks.{Blocks, copies_of}
+
+-- at each of these encoded places stand bytes that have no copy
+abbrev pub AreFruitless : Blocks → BTreeMap ℕ ℕ → Type 0
+AreFruitless blocks places = (at : ℕ) → IsSome (get nat_cmp places at) → copies_of blocks at ≡ Some []

@@ -1,0 +1,94 @@
+//! The sections of the object.
+ghost use Rattle.std.specs.Prelude.{◌≡◌, ◌+◌, ◌<◌, ◌^◌, None, Some, IfOk, OnOk, length, slice_get};
+ghost use Rattle.oc_linking.specs.FirstFault.{stage_fault};
+ghost use Rattle.oc_omf_read.specs.declared.structures.Segment.{Segment as SegmentRecord};
+ghost use Rattle.oc_omf_read.specs.Entries.{entries_in};
+ghost use Rattle.oc_omf_read.specs.SectionFaults.{section_stage};
+ghost use Rattle.oc_omf_read.specs.Sections as sections;
+ghost use Rattle.oc_omf_read.specs.Tables.{tables_of};
+ghost use Rattle.oc_omf_reader.specs.Built as built;
+ghost use Rattle.oc_omf_reader.specs.Contents.{AreStored};
+ghost use Rattle.oc_omf_reader.specs.Sections.{Knows};
+
+use crate::known::{Known, align_of};
+use oc_base::{Bytes, NoMemory};
+use oc_neutral::{BuildFault, Builder, Section};
+use oc_omf_read::{Module, segment_size};
+use std::alloc::Global;
+
+/// What stands against an addition, where it is want of memory alone. Constant time.
+pub(crate) fn want_of_memory(fault: BuildFault) -> NoMemory
+    requires { fault ≡ BuildFault.NoMemory }
+{
+    let _ = fault;
+    NoMemory
+}
+
+// segment `k`, counted from 0, as a section with these bytes
+fn section_of(alloc: Global, known: &Known, bytes: &[u8], k: usize) -> Result<Section, NoMemory>
+    requires covered { k < length known.now.covered.items }
+    requires there { k < length known.now.tables.segments.items }
+    requires few { k < 2 ^ 31 }
+    requires small { (s : SegmentRecord) → slice_get known.now.tables.segments.items k ≡ Some s → sections.segment_size s < 2 ^ 32 }
+    ensures { IfOk result (λ x. built.section_by known.now k bytes.now ≡ Some x) }
+{
+    let segment = known.tables.segments[k];
+    let kind = known.kind(k);
+    let size = segment_size(&segment) as u32;
+    Ok(Section {
+        name: Bytes::from_slice(alloc, known.name(segment.name))?,
+        kind,
+        align: align_of(&segment),
+        size,
+        bytes: Bytes::from_slice(alloc, bytes)?,
+        tag: 0,
+        number: k as u32 + 1,
+        group: None,
+    })
+}
+
+// adds segment `k`, counted from 0, with these bytes
+fn add_section(
+    alloc: Global,
+    omf: &Module,
+    known: &Known,
+    bytes: &[u8],
+    builder: &mut Builder,
+    k: usize,
+) -> Result<(), NoMemory>
+    requires clean { stage_fault (section_stage (entries_in omf.now)) ≡ None }
+    requires known { Knows (tables_of (entries_in omf.now)) known.now }
+    requires there { k < length (tables_of (entries_in omf.now)).segments }
+    requires bytes { built.AreBytesOf (tables_of (entries_in omf.now)) k bytes.now }
+    requires long { built.HasLength (tables_of (entries_in omf.now)) k bytes.now }
+    requires before { builder.old ≡ built.sectioned (tables_of (entries_in omf.now)) k }
+    ensures { OnOk result (builder.new ≡ built.sectioned (tables_of (entries_in omf.now)) (k + 1)) }
+{
+    omf.is_module();
+    let section = section_of(alloc, known, bytes, k)?;
+    match builder.add_section(section) {
+        Ok(_) => Ok(()),
+        Err(fault) => Err(want_of_memory(fault)),
+    }
+}
+
+/// Adds the sections, which have these bytes. `NoMemory` where memory ran out. Linear in the
+/// sections, their names and their bytes.
+pub(crate) fn add_sections(
+    alloc: Global,
+    omf: &Module,
+    known: &Known,
+    contents: &[Vec<u8>],
+    builder: &mut Builder,
+) -> Result<(), NoMemory>
+    requires clean { stage_fault (section_stage (entries_in omf.now)) ≡ None }
+    requires known { Knows (tables_of (entries_in omf.now)) known.now }
+    requires contents { AreStored (tables_of (entries_in omf.now)) (tables_of (entries_in omf.now)) contents.now }
+    requires before { builder.old ≡ built.sectioned (tables_of (entries_in omf.now)) 0 }
+    ensures { OnOk result (builder.new ≡ built.sectioned (tables_of (entries_in omf.now)) (length (tables_of (entries_in omf.now)).segments)) }
+{
+    for k in 0..contents.len() {
+        add_section(alloc, omf, known, contents[k].as_slice(), builder, k)?;
+    }
+    Ok(())
+}

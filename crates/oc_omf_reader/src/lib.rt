@@ -1,0 +1,30 @@
+//! The reader of OMF objects: what is built of a module that has no fault.
+#![tactic(auto)]
+
+mod added_relocs;
+mod bindings;
+mod built_sections;
+mod built_symbols;
+mod class;
+mod contents;
+mod covered;
+mod fields;
+mod fix;
+mod fixes;
+mod heard;
+mod known;
+mod laws;
+mod mentioned;
+mod pieces;
+mod reader;
+mod searched;
+mod started;
+mod tables;
+#[cfg(test)]
+mod tests;
+
+pub use class::Class;
+pub use fix::{Fix, Framed, reloc_of};
+pub use heard::What;
+pub use laws::{clean_is_shown, starts_are_well};
+pub use reader::OmfReader;
