@@ -1,0 +1,68 @@
+-- The fixups of the sections, one after another.
+use Rattle.std.proofs.Common.{◌≡◌, ℕ, ◌+◌, List, [], ◌∷◌, ◌++◌, map, drop, inl, inr, Some, sym, ◌∙◌, ap, subst, arith}
+use Rattle.std.specs.Prelude.{slice_get}
+use Rattle.std.specs.List.{AllByRecursion, enumerate_from}
+use Rattle.std.proofs.lemmas.Option.{slice_get_within}
+use Rattle.oc_chains.specs.declared.field.Field.{Field}
+use Rattle.oc_chains.specs.Lists.{list_of}
+use Rattle.oc_express.proofs.Giving.{all_given}
+use Rattle.oc_express.proofs.Steps.{drop_step, more_done}
+use Rattle.oc_neutral.specs.declared.reloc.Reloc.{Reloc}
+use Rattle.oc_neutral.specs.Objects.{Object, reloc_at}
+use Rattle.oc_omf_file.specs.Fixups.{written_reloc}
+use Rattle.oc_omf_file.proofs.AimLaws.{aimed}
+use Rattle.oc_omf_file.proofs.CodedLaws.{IsForOmf, field_is}
+use Rattle.oc_omf_file.proofs.LineLaws.{number_low}
+use Rattle.oc_omf_file.proofs.ListLemmas.{all_members}
+use Rattle.oc_omf_write.specs.declared.fixups.Fixup.{Fixup}
+use Rattle.oc_omf_write.specs.Numbers.{AreNumbers}
+use Rattle.oc_omf_write.specs.Written.{HasIndex, fixup_with, fixups_of}
+
+-- what is made of an item and of those behind it
+pub enumerate_step : {X Y : Type 0} (f : ℕ × X → Y) (xs : List X) (k : ℕ) (x : X) → slice_get xs k ≡ Some x → map f (enumerate_from k (drop k xs)) ≡ f (k, x) ∷ map f (enumerate_from (k + 1) (drop (k + 1) xs))
+enumerate_step f xs k x here = ap (λ ys. map f (enumerate_from k ys)) (drop_step xs k x here)
+
+-- the index of a target fits
+pub has_index : (n : Object) → IsForOmf n → (numbers : List ℕ) → AreNumbers n numbers → (k at : ℕ) (r : Reloc) → reloc_at n k at ≡ Some r → HasIndex numbers (written_reloc n r).target
+has_index n is numbers are k at r there = elim (aimed n is k at r there) [
+  | inl a ↦
+      let low = slice_get_within n.sections a.position a.section a.here in
+      let few = is.meets.few in
+      subst (HasIndex numbers) (sym a.aim) (omega (arith, low, few))
+  | inr a ↦
+      let low = slice_get_within n.symbols a.position a.symbol a.here in
+      let counted = are.counted in
+      let own = are.each a.position low in
+      let small = number_low n is a.position a.symbol a.here a.external in
+      subst (HasIndex numbers) (sym a.aim) (omega (arith, low, counted), omega (arith, own, small))
+]
+
+-- the fixups that are made, where those of the fields that are left are still to be
+pub record IsMaking (n : Object) (numbers : List ℕ) (k : ℕ) (now : List Fixup) (left : List (Field Reloc)) : Type 0 where
+  pub all : now ++ map (fixup_with numbers n) left ≡ fixups_of numbers n k
+  pub have : AllByRecursion (λ (y : Field Reloc). HasIndex numbers (written_reloc n y.item).target) left
+
+module _ (n : Object) (numbers : List ℕ) (k : ℕ) where
+  pub making_begun : IsForOmf n → AreNumbers n numbers → (now : List Fixup) (left : List (Field Reloc)) → now ≡ [] → left ≡ list_of n.relocs k → IsMaking n numbers k now left
+  making_begun is are now left none same = record {
+    all = ap (λ rs. rs ++ map (fixup_with numbers n) left) none ∙ ap (map (fixup_with numbers n)) same;
+    have =
+        subst (λ ys. AllByRecursion (λ (y : Field Reloc). HasIndex numbers (written_reloc n y.item).target) ys) (sym same)
+        (all_members (λ (y : Field Reloc). HasIndex numbers (written_reloc n y.item).target) (list_of n.relocs k) (λ j y here. has_index n is numbers are k y.at y.item (field_is n is k j y here)));
+  }
+
+  pub making_has : (now : List Fixup) (left : List (Field Reloc)) (y : Field Reloc) (rest : List (Field Reloc)) → left ≡ y ∷ rest → IsMaking n numbers k now left → HasIndex numbers (written_reloc n y.item).target
+  making_has now left y rest step is = (subst (λ ys. AllByRecursion (λ (z : Field Reloc). HasIndex numbers (written_reloc n z.item).target) ys) step is.have).0
+
+  pub making_more : (now : List Fixup) (left : List (Field Reloc)) (y : Field Reloc) (rest : List (Field Reloc)) → left ≡ y ∷ rest → IsMaking n numbers k now left
+      → (f : Fixup) → f ≡ fixup_with numbers n y → (after : List Fixup) → after ≡ now ++ f ∷ [] → IsMaking n numbers k after rest
+  making_more now left y rest step is f made after pushed = record {
+    all =
+        ap (λ rs. rs ++ map (fixup_with numbers n) rest) (pushed ∙ ap (λ z. now ++ z ∷ []) made)
+        ∙ more_done now (map (fixup_with numbers n) left) (fixups_of numbers n k) (map (fixup_with numbers n) rest) (fixup_with numbers n y)
+        is.all (ap (map (fixup_with numbers n)) step);
+    have = (subst (λ ys. AllByRecursion (λ (z : Field Reloc). HasIndex numbers (written_reloc n z.item).target) ys) step is.have).1;
+  }
+
+  pub making_done : (now : List Fixup) (left : List (Field Reloc)) → left ≡ [] → IsMaking n numbers k now left → now ≡ fixups_of numbers n k
+  making_done now left none is = all_given now (map (fixup_with numbers n) left) (fixups_of numbers n k) (ap (map (fixup_with numbers n)) none) is.all

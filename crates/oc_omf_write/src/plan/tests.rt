@@ -1,0 +1,136 @@
+//! What a plan holds of a file, where data are cut, and windows of a small file.
+ghost use Rattle.std.specs.Prelude.{◌≡◌, codes, None, IfOk};
+ghost use Rattle.oc_base.specs.declared.format.Format.TheVariants.{Omf};
+ghost use Rattle.oc_linking.specs.declared.terms.Kind.TheVariants as kind;
+ghost use Rattle.oc_neutral.specs.Fitted.{CanFit};
+ghost use Rattle.oc_neutral.specs.Invariants.{HasItsBytes};
+
+use super::Plan;
+use crate::tables::Tables;
+use crate::writer::OmfWriter;
+use oc_base::{Bytes, Format, NoMemory};
+use oc_express::fit;
+use oc_neutral::{Builder, Emits, Kind, Neutral, Section, Writes};
+use oc_shelf::{Layout, Parts};
+use std::alloc::Global;
+use std::test::Fail;
+
+/// A section of data of an ELF object, of so many sevens: its tag is SHT_PROGBITS, above the bits for
+/// SHF_WRITE and SHF_ALLOC.
+fn data(alloc: Global, size: u32) -> Result<Section, NoMemory>
+    ensures bytes { IfOk result HasItsBytes }
+    ensures kind { IfOk result (λ s. s.kind ≡ kind.Data) }
+    ensures name { IfOk result (λ s. s.name ≡ codes ".data") }
+    ensures tag { IfOk result (λ s. s.tag ≡ 11) }
+    ensures align { IfOk result (λ s. s.align ≡ 16) }
+    ensures alone { IfOk result (λ s. s.group ≡ None) }
+{
+    Ok(Section {
+        name: Bytes::from_slice(alloc, b".data")?,
+        kind: Kind::Data,
+        align: 16,
+        size,
+        bytes: Bytes::from_vec(vec![in alloc; 7u8; size as usize]?),
+        tag: 11,
+        number: 1,
+        group: None,
+    })
+}
+
+/// An object of that section alone.
+fn object(alloc: Global, size: u32) -> Result<Neutral, Fail>
+    ensures { IfOk result (CanFit Omf) }
+{
+    let mut builder = Builder::new(alloc, Format::Elf32);
+    builder.add_section(data(alloc, size)?)?;
+    Ok(builder.finish())
+}
+
+/// How many bytes the one section has.
+const SIZE: u32 = 100_000;
+
+/// The plan of 100,000 bytes of data has these, one segment, four names, and a place for each entry: 98
+/// of the data, and five others.
+#[test]
+fn a_plan_does_not_keep_the_file(rt: HostRuntime) -> Result<(), Fail> {
+    let fitted = fit(rt.alloc(), Format::Omf, object(rt.alloc(), SIZE)?)?;
+    let Plan {
+        tables: Tables {
+            sections,
+            segments,
+            names,
+            symbols,
+            fixups,
+        },
+        entries,
+        layout: Layout { places, end },
+    } = OmfWriter.plan(rt.alloc(), fitted)?;
+    let counts = (sections.len(), segments.len(), names.len(), symbols.len());
+    assert_eq!(rt; counts, (1, 1, 4, 0));
+    assert_eq!(rt; (entries.len(), places.len(), end), (103, 103, 100_937));
+    for section in &sections {
+        assert_eq!(rt; section.bytes.as_slice().len(), SIZE as usize);
+    }
+    for table in &fixups {
+        assert!(rt; table.is_empty());
+    }
+    Ok(())
+}
+
+/// Sizes of data, how many entries their file has, and how many bytes: five entries of 55 bytes stand beside the
+/// pieces, of which each has up to 1,024 bytes of data and nine others.
+static SIZES: [(u32, usize, u64); 6] = [
+    (0, 5, 55),
+    (1, 6, 65),
+    (1024, 6, 1088),
+    (1025, 7, 1098),
+    (2048, 7, 2121),
+    (2049, 8, 2131),
+];
+
+/// No entry has more than 1,024 bytes of data, and none but the last has fewer.
+#[test]
+fn data_are_cut_at_1024_bytes(rt: HostRuntime) -> Result<(), Fail> {
+    for (size, entries, long) in &SIZES {
+        let fitted = fit(rt.alloc(), Format::Omf, object(rt.alloc(), *size)?)?;
+        let plan = OmfWriter.plan(rt.alloc(), fitted)?;
+        assert_eq!(rt;
+            (plan.count(), plan.len()),
+            (*entries, *long),
+            "{size} bytes"
+        );
+    }
+    Ok(())
+}
+
+/// The module of a segment of three bytes, put together by hand from TIS OMF 1.1.
+static SMALL: [u8; 67] = [
+    0x80, 9, 0, 7, b'o', b'b', b'j', b'c', b'o', b'n', b'v', 0x7F, 0x96, 18, 0, 0, 4, b'F', b'L',
+    b'A', b'T', 5, b'_', b'D', b'A', b'T', b'A', 4, b'D', b'A', b'T', b'A', 0x91, 0x99, 9, 0, 0x69,
+    3, 0, 0, 0, 3, 4, 1, 0xEA, 0x9A, 2, 0, 2, 0x62, 0xA1, 9, 0, 1, 0, 0, 0, 0, 7, 7, 7, 0x40, 0x8A,
+    2, 0, 0, 0x74,
+];
+
+/// A window of every length at every place of a small file is that part of the file.
+#[test]
+fn every_window_of_a_small_file(rt: HostRuntime) -> Result<(), Fail> {
+    let fitted = fit(rt.alloc(), Format::Omf, object(rt.alloc(), 3)?)?;
+    let plan = OmfWriter.plan(rt.alloc(), fitted)?;
+    let size = SMALL.len();
+    assert_eq!(rt; plan.len(), size as u64);
+    for at in 0..size + 2 {
+        for long in 0..size + 3 {
+            let mut out = [0xEE; 80];
+            let count = plan.window(at as u64, &mut out[..long]);
+            let want = SMALL.get(at..).unwrap_or(&[]);
+            let want = want.get(..long).unwrap_or(want);
+            assert_eq!(rt; &out[..count], want, "{long} bytes at {at}");
+            assert_eq!(rt;
+                out[long..],
+                [0xEE; 80][long..],
+                "behind {long} bytes at {at}"
+            );
+        }
+    }
+    Ok(())
+}
