@@ -1,0 +1,114 @@
+-- The relocation entries of the sections, one after another.
+use Rattle.std.proofs.Common.{◌≡◌, ℕ, cond, List, [], ◌∷◌, ◌++◌, flat_map, Option, Some, None, refl, sym, ◌∙◌, ap, subst}
+use Rattle.oc_base.specs.declared.format.Word.{Word}
+use Rattle.oc_base.specs.declared.format.Word.TheVariants.{W32, W64}
+use Rattle.oc_linking.specs.declared.terms.Width.{Width}
+use Rattle.oc_chains.specs.declared.field.Field.{Field}
+use Rattle.oc_chains.specs.Lists.{list_of}
+use Rattle.oc_neutral.specs.declared.reloc.Reloc.{Reloc}
+use Rattle.oc_neutral.specs.Mach.Relocs.{length_of}
+use Rattle.oc_neutral.specs.Objects.{Object}
+use Rattle.oc_neutral.specs.Rows.{TakesPlace, same_taken}
+use Rattle.oc_shelf.specs.Writing.Parts.{Laid}
+use Rattle.oc_express.proofs.Giving.{all_given, more_given}
+use Rattle.oc_macho_read.specs.declared.relocation_info.Reference.{Reference}
+use Rattle.oc_macho_read.specs.declared.relocation_info.Reference.TheVariants as reference
+use Rattle.oc_macho_read.specs.declared.relocation_info.RelocationInfo.{RelocationInfo}
+use Rattle.oc_macho_file.specs.Addresses.{address_of}
+use Rattle.oc_macho_file.specs.Bodies as bodies
+use Rattle.oc_macho_file.specs.Bodies.{end_section_address, entries_at, entries_of, pair_entries, plain_entry, reference_to, scattered_entry, standing_at, standing_entries, taken_section}
+use Rattle.oc_macho_file.specs.Lines.{Line, numbered_lines, own_number}
+use Rattle.oc_macho_write.specs.declared.forms.Scene.{Scene}
+use Rattle.oc_macho_write.specs.declared.forms.Standing.{Standing}
+use Rattle.oc_macho_write.specs.Forms.{IsFor, IsWritten, LeadFrom}
+use Rattle.oc_macho_write.proofs.FormLemmas.{its_row, pair_absolute}
+
+-- ... the entries of a relocation that stands
+
+module _ (w : Word) (n : Object) (lines : List (Laid Line)) (y : Standing) (is : bodies.Standing) (written : IsWritten w y is) where
+  -- an entry, field by field
+  pub plain_same : (pcrel type other : ℕ) (refers to : Reference) → pcrel ≡ cond (same_taken is.row.taken TakesPlace) 1 0 → type ≡ other → refers ≡ to
+      → record { r_address = y.at; r_pcrel = pcrel; r_length = length_of y.reloc.form.width; r_type = type; refers = refers } ≡ plain_entry is other to
+  plain_same pcrel type other refers to p t r =
+      let made : ℕ → ℕ → Width → ℕ → Reference → RelocationInfo = λ a p l t z. record { r_address = a; r_pcrel = p; r_length = length_of l; r_type = t; refers = z } in
+      ap (λ a. made a pcrel y.reloc.form.width type refers) written.at
+      ∙ ap (λ z. made is.at z y.reloc.form.width type refers) p
+      ∙ ap (λ l. made is.at (cond (same_taken is.row.taken TakesPlace) 1 0) l type refers) (sym (its_row w y is written).width)
+      ∙ ap (λ z. made is.at (cond (same_taken is.row.taken TakesPlace) 1 0) is.row.width z refers) t
+      ∙ ap (λ z. made is.at (cond (same_taken is.row.taken TakesPlace) 1 0) is.row.width other z) r
+
+  -- one that stands alone
+  pub alone_entries : (pcrel type : ℕ) (refers : Reference) → is.row.second ≡ None → pcrel ≡ cond (same_taken is.row.taken TakesPlace) 1 0 → is.row.number ≡ type → refers ≡ reference_to w lines y.reloc.target
+      → record { r_address = y.at; r_pcrel = pcrel; r_length = length_of y.reloc.form.width; r_type = type; refers = refers } ∷ [] ≡ standing_entries w n lines is
+  unfolding standing_entries
+  alone_entries pcrel type refers none p t r =
+      ap (λ (e : RelocationInfo). e ∷ []) (plain_same pcrel type is.row.number refers (reference_to w lines is.reloc.target) p (sym t) (r ∙ ap (λ z. reference_to w lines z.target) written.reloc))
+      ∙ ap (λ (o : Option ℕ). elim o [ None ↦ plain_entry is is.row.number (reference_to w lines is.reloc.target) ∷ [] | Some second ↦ pair_entries w n lines is second ]) (sym none)
+
+  -- a pair
+  pub pair_standing : (second : ℕ) → is.row.second ≡ Some second → pair_entries w n lines is second ≡ standing_entries w n lines is
+  unfolding standing_entries
+  pair_standing second some =
+      ap (λ (o : Option ℕ). elim o [ None ↦ plain_entry is is.row.number (reference_to w lines is.reloc.target) ∷ [] | Some second ↦ pair_entries w n lines is second ]) (sym some)
+
+module _ (n : Object) (lines : List (Laid Line)) (y : Standing) (is : bodies.Standing) where
+  pub pair_32 : IsWritten W32 y is → (first second a b : ℕ) → is.row.number ≡ first → a ≡ end_section_address n y.reloc.target → b ≡ address_of n (taken_section is)
+      → scattered_entry y.at first a ∷ scattered_entry 0 second b ∷ [] ≡ pair_entries W32 n lines is second
+  pair_32 written first second a b f ends takes =
+      ap (λ p. scattered_entry p first a ∷ scattered_entry 0 second b ∷ []) written.at
+      ∙ ap (λ t. scattered_entry is.at t a ∷ scattered_entry 0 second b ∷ []) (sym f)
+      ∙ ap (λ z. scattered_entry is.at is.row.number z ∷ scattered_entry 0 second b ∷ []) (ends ∙ ap (λ z. end_section_address n z.target) written.reloc)
+      ∙ ap (λ z. scattered_entry is.at is.row.number (end_section_address n is.reloc.target) ∷ scattered_entry 0 second z ∷ []) takes
+
+  pub pair_64 : (written : IsWritten W64 y is) → (first second : ℕ) (own to : Reference) → is.row.number ≡ first → is.row.second ≡ Some second → own ≡ reference.Symbol (own_number lines (taken_section is)) → to ≡ reference_to W64 lines y.reloc.target
+      → record { r_address = y.at; r_pcrel = 0; r_length = length_of y.reloc.form.width; r_type = first; refers = own }
+      ∷ record { r_address = y.at; r_pcrel = 0; r_length = length_of y.reloc.form.width; r_type = second; refers = to } ∷ [] ≡ pair_entries W64 n lines is second
+  pair_64 written first second own to f some owns refers =
+      let flat : 0 ≡ cond (same_taken is.row.taken TakesPlace) 1 0 = ap (λ b. cond b 1 0) (sym (pair_absolute W64 y is second written some)) in
+      let behind : RelocationInfo = record { r_address = y.at; r_pcrel = 0; r_length = length_of y.reloc.form.width; r_type = second; refers = to } in
+      ap (λ (e : RelocationInfo). e ∷ behind ∷ []) (plain_same W64 n lines y is written 0 first is.row.number own (reference.Symbol (own_number lines (taken_section is))) flat (sym f) owns)
+      ∙ ap (λ (e : RelocationInfo). plain_entry is is.row.number (reference.Symbol (own_number lines (taken_section is))) ∷ e ∷ []) (plain_same W64 n lines y is written 0 second second to (reference_to W64 lines is.reloc.target) flat refl (refers ∙ ap (λ z. reference_to W64 lines z.target) written.reloc))
+
+-- in x86-64, whatever the word is called
+pub pair_by : (w : Word) → w ≡ W64 → (n : Object) (lines : List (Laid Line)) (y : Standing) (is : bodies.Standing) → IsWritten w y is → (first second : ℕ) (own to : Reference) (one two : RelocationInfo) → is.row.number ≡ first → is.row.second ≡ Some second
+    → own ≡ reference.Symbol (own_number lines (taken_section is)) → to ≡ reference_to w lines y.reloc.target
+    → one ≡ record { r_address = y.at; r_pcrel = 0; r_length = length_of y.reloc.form.width; r_type = first; refers = own }
+    → two ≡ record { r_address = y.at; r_pcrel = 0; r_length = length_of y.reloc.form.width; r_type = second; refers = to } → one ∷ two ∷ [] ≡ pair_entries w n lines is second
+pair_by W32 e n lines y is written first second own to one two f some owns refers a b = absurd (cc e)
+pair_by W64 e n lines y is written first second own to one two f some owns refers a b =
+    ap (λ (z : RelocationInfo). z ∷ two ∷ []) a ∙ ap (λ (z : RelocationInfo). record { r_address = y.at; r_pcrel = 0; r_length = length_of y.reloc.form.width; r_type = first; refers = own } ∷ z ∷ []) b
+    ∙ pair_64 n lines y is written first second own to f some owns refers
+
+-- ... those of a section
+
+-- the entries that are made, where those of the fields that are left are still to be
+pub record IsMaking (x : Scene) (n : Object) (k : ℕ) (now : List RelocationInfo) (left : List (Field Reloc)) : Type 0 where
+  pub all : now ++ flat_map (entries_at x.word n (numbered_lines x.word n) k) left ≡ entries_of x.word n (numbered_lines x.word n) k
+  pub have : LeadFrom x k left
+
+module _ (x : Scene) (n : Object) (k : ℕ) where
+  abbrev make : Field Reloc → List RelocationInfo
+  make = entries_at x.word n (numbered_lines x.word n) k
+
+  abbrev whole : List RelocationInfo
+  whole = entries_of x.word n (numbered_lines x.word n) k
+
+  pub making_begun : LeadFrom x k (list_of n.relocs k) → (now : List RelocationInfo) (left : List (Field Reloc)) → now ≡ [] → left ≡ list_of n.relocs k → IsMaking x n k now left
+  unfolding entries_of
+  making_begun leads now left none same = record {
+    all = ap (λ es. es ++ flat_map make left) none ∙ ap (flat_map make) same;
+    have = subst (LeadFrom x k) (sym same) leads;
+  }
+
+  pub making_has : (now : List RelocationInfo) (left : List (Field Reloc)) (y : Field Reloc) (rest : List (Field Reloc)) → left ≡ y ∷ rest → IsMaking x n k now left → IsFor x k y.item
+  making_has now left y rest step is = (subst (LeadFrom x k) step is.have).0
+
+  pub making_more : (now : List RelocationInfo) (left : List (Field Reloc)) (y : Field Reloc) (rest : List (Field Reloc)) → left ≡ y ∷ rest → IsMaking x n k now left
+      → (after : List RelocationInfo) → after ≡ now ++ make y → IsMaking x n k after rest
+  making_more now left y rest step is after added = record {
+    all = more_given now after (flat_map make left) (flat_map make rest) (make y) whole added (ap (flat_map make) step) is.all;
+    have = (subst (LeadFrom x k) step is.have).1;
+  }
+
+  pub making_done : (now : List RelocationInfo) (left : List (Field Reloc)) → left ≡ [] → IsMaking x n k now left → now ≡ whole
+  making_done now left none is = all_given now (flat_map make left) whole (ap (flat_map make) none) is.all

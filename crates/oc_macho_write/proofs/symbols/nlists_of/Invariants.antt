@@ -1,0 +1,8 @@
+use Rattle.std.proofs.Common.{◌≡◌, ◌++◌, map, drop}
+use Rattle.oc_macho_file.specs.Lines.{lines_of}
+use Rattle.oc_macho_file.specs.Symbols.{line_entry}
+use Rattle.oc_macho_write.proofs.symbols.nlists_of.Given as goal
+
+-- the entries so far, and those that are left
+abbrev pub invariant-loop-line : goal.invariant-loop-line
+invariant-loop-line l = l.nlists.items ++ map (line_entry l.fn.word l.neutral) (drop l.line-index (lines_of l.fn.word l.neutral)) ≡ map (line_entry l.fn.word l.neutral) (lines_of l.fn.word l.neutral)

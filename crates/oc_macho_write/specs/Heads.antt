@@ -1,0 +1,40 @@
+-- The headers and commands of a file together (Mach-O reference, "Mach-O Data Structures"; our profile).
+use Rattle.std.specs.Prelude.{◌≡◌, length, replicate}
+use Rattle.oc_base.specs.declared.format.Word.{Word}
+use Rattle.oc_neutral.specs.Objects.{Object}
+use Rattle.oc_macho_read.specs.declared.name.TheConstants.{NAME_SIZE}
+use Rattle.oc_macho_read.specs.declared.segment_command.SegmentCommand.{SegmentCommand}
+use Rattle.oc_macho_file.specs.declared.constants.TheConstants.{VM_PROT_ALL}
+use Rattle.oc_macho_file.specs.Addresses.{memory_end, stored_end}
+use Rattle.oc_macho_file.specs.Canonical.{file_header, section_headers, symtab_command}
+use Rattle.oc_macho_file.specs.Layout.{segment_length, contents_begin}
+use Rattle.oc_macho_file.specs.Lines.{inner_lines, defined_lines, undefined_lines}
+use Rattle.oc_macho_write.specs.declared.structures.Dysymtab.{Dysymtab}
+use Rattle.oc_macho_write.specs.declared.heads.Heads.{Heads}
+
+-- the command for the segment
+abbrev pub segment_of : Word → Object → SegmentCommand
+segment_of w n = record {
+  segname = replicate NAME_SIZE 0;
+  vmaddr = 0;
+  vmsize = memory_end n;
+  fileoff = contents_begin w n;
+  filesize = stored_end n;
+  maxprot = VM_PROT_ALL;
+  initprot = VM_PROT_ALL;
+  nsects = length n.sections;
+  flags = 0;
+}
+
+-- how many symbols are in each group
+abbrev pub dysymtab_of : Word → Object → Dysymtab
+dysymtab_of w n = record { nlocalsym = length (inner_lines w n); nextdefsym = length (defined_lines n); nundefsym = length (undefined_lines n) }
+
+-- these are the headers of the object's file
+pub record AreHeads (w : Word) (n : Object) (h : Heads) : Type 0 where
+  pub file : h.file ≡ file_header w n
+  pub cmdsize : h.cmdsize ≡ segment_length w n
+  pub segment : h.segment ≡ segment_of w n
+  pub sections : h.sections.items ≡ section_headers w n
+  pub symtab : h.symtab ≡ symtab_command w n
+  pub dysymtab : h.dysymtab ≡ dysymtab_of w n

@@ -1,0 +1,16 @@
+pub mod Addresses
+pub mod Bodies
+pub mod Forms
+pub mod Heads
+pub mod LaidParts
+pub mod Lines
+pub mod Numbers
+pub mod Parts
+pub mod Places
+pub mod Plans
+pub mod Relocations
+pub mod Strings
+pub mod Structures
+pub mod Values
+pub mod Words
+pub mod Writing

@@ -1,0 +1,40 @@
+-- Where headers point to (our profile).
+use Rattle.std.specs.Prelude.{◌≡◌, ℕ, ◌<◌, length, slice_index_or}
+use Rattle.oc_base.specs.declared.format.Word.{Word}
+use Rattle.oc_neutral.specs.Objects.{Object}
+use Rattle.oc_macho_file.specs.Layout.{part_where, is_raw, is_relocs, is_symbol_table, is_string_table}
+use Rattle.oc_macho_write.specs.declared.parts.Part.{Part}
+use Rattle.oc_macho_write.specs.declared.parts.Part.TheVariants as part
+use Rattle.oc_macho_write.specs.declared.places.Places.{Places}
+
+-- as many places as the object has sections
+pub record HasRoom (n : Object) (x : Places) : Type 0 where
+  pub raws : length x.raws.items ≡ length n.sections
+  pub relocs : length x.relocs.items ≡ length n.sections
+
+-- nothing has a place yet
+pub record IsBlank (x : Places) : Type 0 where
+  pub raws : (k : ℕ) → k < length x.raws.items → slice_index_or x.raws.items k 0 ≡ 0
+  pub relocs : (k : ℕ) → k < length x.relocs.items → slice_index_or x.relocs.items k 0 ≡ 0
+  pub symbols : x.symbols ≡ 0
+  pub strings : x.strings ≡ 0
+
+-- there is a place for a part
+abbrev pub CanGive : Places → Part → Type 0
+CanGive x part.FileHead = Unit {0}
+CanGive x part.SegmentHead = Unit {0}
+CanGive x part.SectionHeads = Unit {0}
+CanGive x part.SymtabHead = Unit {0}
+CanGive x part.DysymtabHead = Unit {0}
+CanGive x (part.Raw k) = k < length x.raws.items
+CanGive x (part.Relocs k) = k < length x.relocs.items
+CanGive x part.SymbolTable = Unit {0}
+CanGive x part.StringTable = Unit {0}
+
+-- these are the places of the parts of the object's file
+pub record ArePlaces (w : Word) (n : Object) (x : Places) : Type 0 where
+  pub room : HasRoom n x
+  pub raws : (k : ℕ) → k < length n.sections → slice_index_or x.raws.items k 0 ≡ part_where w n (is_raw k)
+  pub relocs : (k : ℕ) → k < length n.sections → slice_index_or x.relocs.items k 0 ≡ part_where w n (is_relocs k)
+  pub symbols : x.symbols ≡ part_where w n is_symbol_table
+  pub strings : x.strings ≡ part_where w n is_string_table

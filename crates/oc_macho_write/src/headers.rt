@@ -1,0 +1,170 @@
+//! The file header, the commands and the section headers (Mach-O reference, "mach_header",
+//! "segment_command", "section" and "symtab_command").
+ghost use Rattle.std.specs.Prelude.{◌≡◌, ◌<◌, ◌^◌, ℕ, length, slice_get, Some, IfOk, if◌then◌else◌, nat_eq};
+ghost use Rattle.oc_neutral.specs.Fitted.{IsFitted};
+ghost use Rattle.oc_neutral.specs.Objects.{Object};
+ghost use Rattle.oc_neutral.specs.declared.section.Section.{Section as Held};
+ghost use Rattle.oc_macho_read.specs.MachHeader as header;
+ghost use Rattle.oc_macho_read.specs.MachHeader.{mach_format};
+ghost use Rattle.oc_macho_file.specs.Canonical as canonical;
+ghost use Rattle.oc_macho_file.specs.Structures as structures;
+ghost use Rattle.oc_macho_write.specs.Addresses.{AreAllAddresses};
+ghost use Rattle.oc_macho_write.specs.Bodies.{AreBodies};
+ghost use Rattle.oc_macho_write.specs.Heads as heads;
+ghost use Rattle.oc_macho_write.specs.Places.{ArePlaces};
+
+use crate::addresses::Addresses;
+use crate::bodies::Bodies;
+use crate::layout::{commands_length, contents_begin};
+use crate::names::{padded, section_of, segment_of};
+use crate::places::Places;
+use crate::strings::strings_size;
+use crate::values::exponent_of;
+use oc_base::{NoMemory, Word};
+use oc_macho_file::{COMMAND_COUNT, CPU_SUBTYPE_ALL, VM_PROT_ALL};
+use oc_macho_read::{
+    CPU_TYPE_X86, CPU_TYPE_X86_64, MH_MAGIC, MH_MAGIC_64, MH_OBJECT, MachHeader, NAME_SIZE,
+    SectionHeader, SegmentCommand, SymtabCommand,
+};
+use oc_neutral::Neutral;
+use std::alloc::Global;
+
+// the first bytes of a file
+fn magic_of(word: Word) -> u32
+    ensures { result ≡ structures.magic_of word }
+{
+    match word {
+        Word::W32 => MH_MAGIC,
+        Word::W64 => MH_MAGIC_64,
+    }
+}
+
+// the processor
+fn cpu_type(word: Word) -> u32
+    ensures { result ≡ header.cpu_type word }
+{
+    match word {
+        Word::W32 => CPU_TYPE_X86,
+        Word::W64 => CPU_TYPE_X86_64,
+    }
+}
+
+/// The header of a file with so many sections, without flags. Constant time.
+pub(crate) fn file_header(word: Word, sections: usize) -> MachHeader
+    requires { sections < 2 ^ 8 }
+    ensures { (n : Object) → length n.sections ≡ sections → result ≡ canonical.file_header word n }
+{
+    MachHeader {
+        magic: magic_of(word),
+        cputype: cpu_type(word),
+        cpusubtype: CPU_SUBTYPE_ALL,
+        filetype: MH_OBJECT,
+        ncmds: COMMAND_COUNT,
+        sizeofcmds: commands_length(word, sections) as u32,
+        flags: 0,
+    }
+}
+
+/// The command for the segment, which has no name and begins at address 0. Constant time.
+pub(crate) fn segment_of_file(word: Word, sections: usize, addresses: &Addresses) -> SegmentCommand
+    requires { sections < 2 ^ 8 }
+    ensures { (n : Object) → length n.sections ≡ sections → AreAllAddresses n addresses.now → result ≡ heads.segment_of word n }
+{
+    SegmentCommand {
+        segname: [0; NAME_SIZE],
+        vmaddr: 0,
+        vmsize: addresses.memory_end,
+        fileoff: contents_begin(word, sections),
+        filesize: addresses.stored_end,
+        maxprot: VM_PROT_ALL,
+        initprot: VM_PROT_ALL,
+        nsects: sections as u32,
+        flags: 0,
+    }
+}
+
+// a pointer to entries: 0 where there are none
+fn pointer_to(place: u64, count: usize) -> u32
+    requires { place < 2 ^ 32 }
+    ensures { result ≡ canonical.pointer_to place count }
+{
+    if count == 0 { 0 } else { place as u32 }
+}
+
+// the header of the section at a position
+fn section_header(
+    word: Word,
+    neutral: &Neutral,
+    addresses: &Addresses,
+    bodies: &Bodies,
+    places: &Places,
+    position: u32,
+) -> SectionHeader
+    requires fitted { IsFitted (mach_format word) neutral.now }
+    requires addresses { AreAllAddresses neutral.now addresses.now }
+    requires bodies { AreBodies word neutral.now bodies.now }
+    requires places { ArePlaces word neutral.now places.now }
+    requires there { position < length neutral.now.sections }
+    ensures { (s : Held) → slice_get neutral.now.sections position ≡ Some s → result ≡ canonical.section_header word neutral.now (position, s) }
+{
+    let _ = word;
+    let section = neutral.section(position);
+    let name = section.name.as_slice();
+    let k = position as usize;
+    let count = bodies.relocs[k].len();
+    SectionHeader {
+        sectname: padded(section_of(name)),
+        segname: padded(segment_of(name)),
+        addr: addresses.sections[k],
+        size: u64::from(section.size),
+        offset: places.raws[k] as u32,
+        align: exponent_of(section.align),
+        reloff: pointer_to(places.relocs[k], count),
+        nreloc: count as u32,
+        flags: section.tag as u32,
+    }
+}
+
+/// The section headers of a file whose parts stand at these places. `NoMemory` where memory ran out.
+/// Linear in the sections.
+pub(crate) fn section_headers(
+    alloc: Global,
+    word: Word,
+    neutral: &Neutral,
+    addresses: &Addresses,
+    bodies: &Bodies,
+    places: &Places,
+) -> Result<Vec<SectionHeader>, NoMemory>
+    requires fitted { IsFitted (mach_format word) neutral.now }
+    requires addresses { AreAllAddresses neutral.now addresses.now }
+    requires bodies { AreBodies word neutral.now bodies.now }
+    requires places { ArePlaces word neutral.now places.now }
+    ensures { IfOk result (λ headers. headers.items ≡ canonical.section_headers word neutral.now) }
+{
+    let mut headers = Vec::with_capacity(alloc, neutral.section_count() as usize)?;
+    for k in 0..neutral.section_count() {
+        headers.push(section_header(word, neutral, addresses, bodies, places, k))?;
+    }
+    Ok(headers)
+}
+
+/// The command that places symbols and strings. Constant time.
+pub(crate) fn symtab_command(
+    word: Word,
+    neutral: &Neutral,
+    bodies: &Bodies,
+    places: &Places,
+) -> SymtabCommand
+    requires fitted { IsFitted (mach_format word) neutral.now }
+    requires bodies { AreBodies word neutral.now bodies.now }
+    requires places { ArePlaces word neutral.now places.now }
+    ensures { result ≡ canonical.symtab_command word neutral.now }
+{
+    let _ = neutral;
+    SymtabCommand {
+        symoff: places.symbols as u32,
+        nsyms: bodies.nlists.len() as u32,
+        stroff: places.strings as u32,
+        strsize: strings_size(word, &bodies.strings) as u32,
+    }
+}

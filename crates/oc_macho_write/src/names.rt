@@ -1,0 +1,66 @@
+//! The names of sections in their headers, and of the symbols that stand for them.
+ghost use Rattle.std.specs.Prelude.{◌≡◌, ◌++◌, ◌+◌, ◌≤◌, ℕ, List, IfOk, length};
+ghost use Rattle.oc_neutral.specs.Mach.Kinds as kinds;
+ghost use Rattle.oc_neutral.specs.Mach.SectionSymbols.{section_symbol_name};
+ghost use Rattle.oc_macho_file.specs.Layout as layout;
+ghost use Rattle.oc_macho_file.specs.Structures as structures;
+ghost use Rattle.oc_express.specs.Commas.{comma_place};
+ghost use Rattle.oc_macho_write.specs.Strings.{table_with};
+
+use oc_base::{Bytes, NoMemory};
+use oc_macho_read::NAME_SIZE;
+use oc_strings::Table;
+use std::alloc::Global;
+
+/// The name of the symbol of section k, counted from 1. `NoMemory` where memory ran out. Constant time.
+pub(crate) fn section_symbol_name(alloc: Global, k: u64) -> Result<Bytes, NoMemory>
+    ensures { IfOk result (λ name. name ≡ section_symbol_name k) }
+{
+    let text = format!(in alloc; "l_section_{k}")?;
+    Bytes::from_slice(alloc, text.as_bytes())
+}
+
+// where the first comma stands
+fn comma_at(name: &[u8]) -> Option<usize>
+    ensures { result ≡ comma_place name.now }
+{
+    name.iter().position(|byte| *byte == 44)
+}
+
+/// The segment in the name of a section: what stands before the first comma. Linear in the name.
+pub(crate) fn segment_of(name: &[u8]) -> &[u8]
+    ensures { result.now ≡ kinds.segment_of name.now }
+{
+    match comma_at(name) {
+        Some(at) => &name[..at],
+        None => name,
+    }
+}
+
+/// The section in it: what stands behind that comma. Linear in the name.
+pub(crate) fn section_of(name: &[u8]) -> &[u8]
+    ensures { result.now ≡ kinds.section_of name.now }
+{
+    match comma_at(name) {
+        Some(at) => &name[at + 1..],
+        None => &[],
+    }
+}
+
+/// A name of up to 16 bytes, with NULs behind it. Constant time.
+pub(crate) fn padded(name: &[u8]) -> [u8; NAME_SIZE]
+    requires { length name.now ≤ 16 }
+    ensures { result ≡ structures.padded name.now }
+{
+    let mut padded = [0; NAME_SIZE];
+    padded[..name.len()].copy_from_slice(name);
+    padded
+}
+
+/// The offset of a name in a string table; 0, where the empty name stands, if it was not given. Time as
+/// for `Table::offset`.
+pub(crate) fn offset_in(names: &Table, name: &[u8]) -> u32
+    ensures { (given : List (List ℕ)) → names.now ≡ table_with given → result ≡ layout.offset_in given name.now }
+{
+    names.offset(name).unwrap_or(0)
+}

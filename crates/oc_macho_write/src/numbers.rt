@@ -1,0 +1,105 @@
+//! The numbers of the symbols in the symbol table (Mach-O reference, "nlist").
+ghost use Rattle.std.specs.Prelude.{◌≡◌, ◌+◌, ◌^◌, ◌<◌, ℕ, if◌then◌else◌, IfOk, Some, slice_index_or, length};
+ghost use Rattle.oc_base.specs.declared.format.Word.{Word};
+ghost use Rattle.oc_neutral.specs.Fitted.{IsFitted};
+ghost use Rattle.oc_neutral.specs.declared.reloc.Target.TheVariants as to;
+ghost use Rattle.oc_neutral.specs.Objects.{Object};
+ghost use Rattle.oc_macho_read.specs.MachHeader.{mach_format};
+ghost use Rattle.oc_macho_file.specs.Bodies.{reference_to};
+ghost use Rattle.oc_macho_file.specs.Lines as mach_lines;
+ghost use Rattle.oc_macho_write.specs.Lines.{AreLines, line_in};
+ghost use Rattle.oc_macho_write.specs.Numbers.{AreSized, CanGive, HasNumber, IsBlank, IsNumbered};
+
+use crate::lines::Line;
+use oc_base::{NoMemory, Word};
+use oc_macho_read::Reference;
+use oc_neutral::{Neutral, Target};
+use std::alloc::Global;
+
+/// The numbers of lines, by the positions of their sections and symbols in the object; 0 where there is
+/// no line.
+#[derive(Debug, Drop)]
+pub(crate) struct Numbers {
+    /// Of the symbols of sections.
+    owns: Vec<u32>,
+    /// Of the symbols that are not Local.
+    outers: Vec<u32>,
+}
+
+impl Numbers {
+    // numbers of nothing yet
+    fn new(alloc: Global, neutral: &Neutral) -> Result<Numbers, NoMemory>
+        ensures sized { IfOk result (λ numbers. AreSized neutral.now numbers) }
+        ensures zero { IfOk result IsBlank }
+    {
+        Ok(Numbers {
+            owns: vec![in alloc; 0; neutral.section_count() as usize]?,
+            outers: vec![in alloc; 0; neutral.symbol_count() as usize]?,
+        })
+    }
+
+    // gives a number to a line
+    fn give(&mut self, line: Line, number: u32)
+        requires { CanGive self.old line }
+        ensures sized { (n : Object) → AreSized n self.old → AreSized n self.new }
+        ensures owns { (n : Object) (is : mach_lines.Line) → line_in n line ≡ Some is → (k : ℕ) → k < length self.old.owns.items → slice_index_or self.new.owns.items k 0 ≡ (if mach_lines.is_own_line k is then number else slice_index_or self.old.owns.items k 0) }
+        ensures outers { (n : Object) (is : mach_lines.Line) → line_in n line ≡ Some is → (k : ℕ) → k < length self.old.outers.items → slice_index_or self.new.outers.items k 0 ≡ (if mach_lines.is_symbol_line k is then number else slice_index_or self.old.outers.items k 0) }
+    {
+        match line {
+            Line::Own(k) => self.owns[k as usize] = number,
+            Line::Local(_) => {}
+            Line::Outer(k) => self.outers[k as usize] = number,
+        }
+    }
+
+    /// The numbers of these lines. `NoMemory` where memory ran out. Linear in the lines.
+    pub(crate) fn of(
+        alloc: Global,
+        word: Word,
+        neutral: &Neutral,
+        lines: &[Line],
+    ) -> Result<Numbers, NoMemory>
+        requires fitted { IsFitted (mach_format word) neutral.now }
+        requires lines { AreLines word neutral.now lines.now }
+        ensures { IfOk result (λ numbers. IsNumbered word neutral.now numbers) }
+    {
+        let _ = word;
+        let mut numbers = Numbers::new(alloc, neutral)?;
+        for at in 0..lines.len() {
+            numbers.give(lines[at], at as u32);
+        }
+        Ok(numbers)
+    }
+
+    /// The number of the symbol of a section. Constant time.
+    pub(crate) fn of_section(&self, section: u32) -> u32
+        requires { section < length self.now.owns.items }
+        ensures { (w : Word) (n : Object) → IsNumbered w n self.now → result ≡ mach_lines.own_number (mach_lines.numbered_lines w n) section }
+    {
+        self.owns[section as usize]
+    }
+
+    // what an entry refers to for a section: its number, or in x86-64 its symbol
+    fn to_section(&self, word: Word, section: u32) -> Reference
+        requires there { section < length self.now.owns.items }
+        requires small { section + 1 < 2 ^ 32 }
+        ensures { (n : Object) → IsNumbered word n self.now → result ≡ reference_to word (mach_lines.numbered_lines word n) (to.Section section) }
+    {
+        match word {
+            Word::W32 => Reference::Section(section + 1),
+            Word::W64 => Reference::Symbol(self.of_section(section)),
+        }
+    }
+
+    /// What an entry refers to for a target: a section by its number, or in x86-64 by its symbol.
+    /// Constant time.
+    pub(crate) fn of_target(&self, word: Word, target: Target) -> Reference
+        requires { HasNumber self.now target }
+        ensures { (n : Object) → IsNumbered word n self.now → result ≡ reference_to word (mach_lines.numbered_lines word n) target }
+    {
+        match target {
+            Target::Section(section) => self.to_section(word, section),
+            Target::Symbol(symbol) => Reference::Symbol(self.outers[symbol as usize]),
+        }
+    }
+}

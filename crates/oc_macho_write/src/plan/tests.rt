@@ -1,0 +1,114 @@
+//! What a plan holds of a file: the bytes of sections, and the numbers of its structures; and its windows.
+ghost use Rattle.std.specs.Prelude.{◌≡◌, ◌≤◌, codes, None, IfOk};
+ghost use Rattle.oc_base.specs.declared.format.Format.TheVariants.{Mac64};
+ghost use Rattle.oc_linking.specs.declared.terms.Kind.TheVariants as kind;
+ghost use Rattle.oc_neutral.specs.Fitted.{CanFit};
+ghost use Rattle.oc_neutral.specs.Invariants.{HasItsBytes};
+
+use super::Plan;
+use crate::bodies::Bodies;
+use crate::heads::Heads;
+use crate::layout::Extents;
+use crate::writer::MachWriter64;
+use oc_base::{Bytes, Format, NoMemory};
+use oc_express::fit;
+use oc_neutral::{Builder, Emits, Kind, Neutral, Section, Writes};
+use std::alloc::Global;
+use std::test::Fail;
+
+/// A section of data of an ELF object: its tag is SHT_PROGBITS, above the bits for SHF_WRITE and SHF_ALLOC.
+fn data(alloc: Global, size: u32) -> Result<Section, NoMemory>
+    requires { size ≤ 100000 }
+    ensures bytes { IfOk result HasItsBytes }
+    ensures kind { IfOk result (λ s. s.kind ≡ kind.Data) }
+    ensures name { IfOk result (λ s. s.name ≡ codes ".data") }
+    ensures tag { IfOk result (λ s. s.tag ≡ 11) }
+    ensures align { IfOk result (λ s. s.align ≡ 16) }
+    ensures alone { IfOk result (λ s. s.group ≡ None) }
+{
+    Ok(Section {
+        name: Bytes::from_slice(alloc, b".data")?,
+        kind: Kind::Data,
+        align: 16,
+        size,
+        bytes: Bytes::from_vec(vec![in alloc; 7u8; size as usize]?),
+        tag: 11,
+        number: 1,
+        group: None,
+    })
+}
+
+/// An object of that section alone.
+fn object(alloc: Global, size: u32) -> Result<Neutral, Fail>
+    requires { size ≤ 100000 }
+    ensures { IfOk result (CanFit Mac64) }
+{
+    let mut builder = Builder::new(alloc, Format::Elf64);
+    builder.add_section(data(alloc, size)?)?;
+    Ok(builder.finish())
+}
+
+/// The plan of 100,000 bytes of data has these, one section header, and a place for each part: the header
+/// of 32 bytes, commands of 256, the data, and a string table of eight bytes.
+#[test]
+fn a_plan_does_not_keep_the_file(rt: HostRuntime) -> Result<(), Fail> {
+    let fitted = fit(rt.alloc(), Format::Mac64, object(rt.alloc(), 100_000)?)?;
+    let Plan {
+        word: _,
+        heads: Heads {
+            file: _,
+            cmdsize: _,
+            segment: _,
+            sections: headers,
+            symtab: _,
+            dysymtab: _,
+        },
+        parts,
+        sections,
+        bodies: Bodies {
+            relocs,
+            nlists,
+            strings,
+        },
+        extents: Extents { begins, ends, end },
+    } = MachWriter64.plan(rt.alloc(), fitted)?;
+    let counts = (headers.len(), parts.len(), sections.len(), nlists.len());
+    assert_eq!(rt; counts, (1, 9, 1, 0));
+    assert_eq!(rt; (begins.len(), ends.len(), end), (9, 9, 100_296));
+    for section in &sections {
+        assert_eq!(rt; section.bytes.as_slice().len(), 100_000);
+    }
+    for table in &relocs {
+        assert!(rt; table.is_empty());
+    }
+    assert_eq!(rt; strings.bytes().len(), 0);
+    Ok(())
+}
+
+/// Every window of up to nine bytes, at every place of a file of 301 bytes and past its end, has the
+/// bytes that the whole has there, and the rest of the buffer stays.
+#[test]
+fn windows_are_those_of_the_whole(rt: HostRuntime) -> Result<(), Fail> {
+    let fitted = fit(rt.alloc(), Format::Mac64, object(rt.alloc(), 5)?)?;
+    let plan = MachWriter64.plan(rt.alloc(), fitted)?;
+    let mut whole = [0; 400];
+    let size = plan.window(0, &mut whole);
+    assert_eq!(rt; (size, plan.len()), (301, 301));
+    for at in 0..310 {
+        for count in 1..10 {
+            let mut piece = [9; 10];
+            let got = plan.window(at as u64, &mut piece[..count]);
+            assert_eq!(rt;
+                got,
+                size.saturating_sub(at).min(count),
+                "{count} bytes at {at}"
+            );
+            assert!(rt;
+                piece[..got] == whole[at..at + got],
+                "{count} bytes at {at}"
+            );
+            assert_eq!(rt; piece[got], 9, "{count} bytes at {at}");
+        }
+    }
+    Ok(())
+}

@@ -1,0 +1,108 @@
+//! The entries of the symbol table (Mach-O reference, "nlist").
+ghost use Rattle.std.specs.Prelude.{◌≡◌, ◌<◌, ℕ, length, map, Some, IsSome, IfOk};
+ghost use Rattle.oc_base.specs.declared.format.Word.{Word};
+ghost use Rattle.oc_neutral.specs.Fitted.{IsFitted};
+ghost use Rattle.oc_neutral.specs.Invariants.{IsBinding};
+ghost use Rattle.oc_macho_read.specs.MachHeader.{mach_format};
+ghost use Rattle.oc_macho_file.specs.Layout as layout;
+ghost use Rattle.oc_macho_file.specs.Lines as mach_lines;
+ghost use Rattle.oc_macho_file.specs.Symbols as symbols;
+ghost use Rattle.oc_macho_write.specs.Lines.{AreLines, IsNamed, line_in};
+ghost use Rattle.oc_macho_write.specs.Strings.{table_with};
+ghost use Rattle.oc_macho_write.specs.Values.{AreAddresses};
+
+use crate::lines::Line;
+use crate::names::{offset_in, section_symbol_name};
+use crate::values;
+use oc_base::{NoMemory, Word};
+use oc_macho_read::Nlist;
+use oc_neutral::{Neutral, Symbol};
+use oc_strings::Table;
+use std::alloc::Global;
+
+// the entry of the symbol of a section, which stands at its start
+fn own_nlist(
+    alloc: Global,
+    neutral: &Neutral,
+    names: &Table,
+    addresses: &[u64],
+    section: u32,
+) -> Result<Nlist, NoMemory>
+    requires addresses { AreAddresses neutral.now addresses.now }
+    requires there { section < length neutral.now.sections }
+    ensures { IfOk result (λ nlist. (w : Word) → names.now ≡ table_with (layout.line_names w neutral.now) → nlist ≡ symbols.own_entry w neutral.now section) }
+{
+    let name = section_symbol_name(alloc, u64::from(section) + 1)?;
+    let stood = values::at_place(neutral, addresses, section, 0);
+    Ok(Nlist {
+        n_strx: offset_in(names, name.as_slice()),
+        n_type: stood.n_type,
+        n_sect: stood.n_sect,
+        n_desc: 0,
+        n_value: stood.n_value,
+    })
+}
+
+// the entry of a symbol
+fn symbol_nlist(names: &Table, addresses: &[u64], neutral: &Neutral, symbol: &Symbol) -> Nlist
+    requires addresses { AreAddresses neutral.now addresses.now }
+    requires there { IsBinding neutral.now symbol.now.binding }
+    ensures { (w : Word) → names.now ≡ table_with (layout.line_names w neutral.now) → result ≡ symbols.symbol_entry w neutral.now symbol.now }
+{
+    let stood = values::of_binding(neutral, addresses, symbol.binding);
+    Nlist {
+        n_strx: offset_in(names, symbol.name.as_slice()),
+        n_type: values::type_by(stood, symbol.binding, symbol.vis),
+        n_sect: stood.n_sect,
+        n_desc: values::desc_by(symbol.binding),
+        n_value: stood.n_value,
+    }
+}
+
+// the entry of a line
+#[tactic(auto, unfolding(oc_macho_file::specs::Symbols::line_entry))]
+fn line_nlist(
+    alloc: Global,
+    names: &Table,
+    addresses: &[u64],
+    neutral: &Neutral,
+    line: Line,
+) -> Result<Nlist, NoMemory>
+    requires addresses { AreAddresses neutral.now addresses.now }
+    requires there { IsSome (line_in neutral.now line) }
+    requires section { IsNamed neutral.now line }
+    ensures { IfOk result (λ nlist. (w : Word) (is : mach_lines.Line) → names.now ≡ table_with (layout.line_names w neutral.now) → line_in neutral.now line ≡ Some is → nlist ≡ symbols.line_entry w neutral.now is) }
+{
+    neutral.is_object();
+    match line {
+        Line::Own(k) => own_nlist(alloc, neutral, names, addresses, k),
+        Line::Local(k) | Line::Outer(k) => {
+            Ok(symbol_nlist(names, addresses, neutral, neutral.symbol(k)))
+        }
+    }
+}
+
+/// The entries of these lines, whose names stand in this table, of an object whose sections have these
+/// addresses. `NoMemory` where memory ran out. Linear in the lines, but for looking up names in the
+/// string table.
+pub(crate) fn nlists_of(
+    alloc: Global,
+    word: Word,
+    neutral: &Neutral,
+    names: &Table,
+    addresses: &[u64],
+    lines: &[Line],
+) -> Result<Vec<Nlist>, NoMemory>
+    requires fitted { IsFitted (mach_format word) neutral.now }
+    requires names { names.now ≡ table_with (layout.line_names word neutral.now) }
+    requires addresses { AreAddresses neutral.now addresses.now }
+    requires lines { AreLines word neutral.now lines.now }
+    ensures { IfOk result (λ nlists. nlists.items ≡ map (symbols.line_entry word neutral.now) (mach_lines.lines_of word neutral.now)) }
+{
+    let _ = word;
+    let mut nlists = Vec::with_capacity(alloc, lines.len())?;
+    for line in lines {
+        nlists.push(line_nlist(alloc, names, addresses, neutral, *line)?)?;
+    }
+    Ok(nlists)
+}
