@@ -1,0 +1,9 @@
+pub mod Behind
+pub mod CallLemmas
+pub mod CodeLemmas
+pub mod Lists
+pub mod NameLemmas
+pub mod ReadyElf
+pub mod Rows
+pub mod SymbolLemmas
+pub mod WholeObject
