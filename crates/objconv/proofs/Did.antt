@@ -1,36 +1,20 @@
--- What is done of a job, by what is built, and where memory ran out.
-use Rattle.std.proofs.Common.{◌≡◌, ℕ, true, false, inl, inr, List, Option, Some, None, Result, Ok, Err, sym, subst, arith}
-use Rattle.std.specs.Option.{is_some}
+-- What is done of a job where memory ran out.
+use Rattle.std.proofs.Common.{◌≡◌, ℕ, inl, inr, List, Option, Result, Ok, Err, sym, subst, arith}
 use Rattle.oc_base.specs.declared.format.Format.{Format}
 use Rattle.oc_names.specs.Wishes.{Wishes}
-use Rattle.oc_convert.specs.Dispatched.{Writer}
 use Rattle.oc_words.specs.declared.job.Job.{Job}
 use Rattle.oc_words.specs.declared.job.Job.TheVariants.{Convert, Symbols, Make}
 use Rattle.oc_words.specs.Faults.{BadWord}
 use Rattle.oc_words.specs.Messages.{word_message_of}
-use Rattle.oc_dispatch.specs.Built.{built}
 use Rattle.objconv.specs.States.{State}
-use Rattle.objconv.specs.Texts.{not_built_text}
 use Rattle.objconv.specs.Refusals.{IsJudged, conversion_refusal, listing_refusal}
 use Rattle.objconv.specs.Conversions.{IsConversion}
 use Rattle.objconv.specs.Listings.{IsSymbols}
-use Rattle.objconv.specs.Runs.{IsUndone, DoesConversion, DoesJob}
+use Rattle.objconv.specs.Making.{IsMaking}
+use Rattle.objconv.specs.Runs.{IsUndone, DoesJob}
 use Rattle.oc_base.specs.declared.fault.Fault.{Fault}
 
 module _ (before after : State) (status : ℕ) where
-  module _ (to : Format) (wishes : Wishes) (input output : List ℕ) where
-    -- a conversion to a target that is built
-    pub does_built : (writer : Option Writer) → is_some writer ≡ true → IsConversion to wishes input output before status after
-        → DoesConversion writer to wishes input output before status after
-    does_built None is job = absurd cc
-    does_built (Some writer) is job = job
-
-    -- to one that is not
-    pub does_unbuilt : (writer : Option Writer) → is_some writer ≡ false → IsUndone not_built_text before status after
-        → DoesConversion writer to wishes input output before status after
-    does_unbuilt None is job = job
-    does_unbuilt (Some writer) is job = absurd cc
-
   -- the job is that of the words
   pub does_same : (asked job : Result Job BadWord) → asked ≡ job → DoesJob job before status after → DoesJob asked before status after
   does_same asked job same does = subst (λ j. DoesJob j before status after) (sym same) does
@@ -57,9 +41,8 @@ module _ (before after : State) (status : ℕ) where
       outs = outs;
     }
 
-    converted_memory : (to : Format) (wishes : Wishes) (input output : List ℕ) (writer : Option Writer) → DoesConversion writer to wishes input output before status after
-    converted_memory to wishes input output None = undone_memory not_built_text
-    converted_memory to wishes input output (Some writer) = record {
+    converted_memory : (to : Format) (wishes : Wishes) (input output : List ℕ) → IsConversion to wishes input output before status after
+    converted_memory to wishes input output = record {
       judged = judged_memory (conversion_refusal wishes to) input;
       exact = λ reads writes m told b holds. inl seven;
       written = λ e. absurd (omega (arith, seven, e));
@@ -80,9 +63,21 @@ module _ (before after : State) (status : ℕ) where
       writes = writes;
     }
 
+    made_memory : (count : ℕ) (to : Format) (output : List ℕ) → IsMaking count to output before status after
+    made_memory count to output = record {
+      words = λ three. omega (arith, seven, three);
+      unread = λ four. omega (arith, seven, four);
+      refused = λ is. absurd (elim is [ inl e ↦ omega (arith, seven, e) | inr (inl e) ↦ omega (arith, seven, e) | inr (inr e) ↦ omega (arith, seven, e) ]);
+      exact = λ writes outs. inl seven;
+      made = λ e. absurd (omega (arith, seven, e));
+      partly = λ e. absurd (omega (arith, seven, e));
+      listing = λ e. absurd (omega (arith, seven, e));
+      reads = reads;
+    }
+
     -- whatever the words ask for
     pub memory_does : (asked : Result Job BadWord) → DoesJob asked before status after
     memory_does (Err bad) = undone_memory (word_message_of bad.index bad.code)
-    memory_does (Ok (Convert to wishes input output)) = converted_memory to wishes input output (built.writer to)
+    memory_does (Ok (Convert to wishes input output)) = converted_memory to wishes input output
     memory_does (Ok (Symbols input)) = listed_memory input
-    memory_does (Ok (Make count to output)) = undone_memory not_built_text
+    memory_does (Ok (Make count to output)) = made_memory count to output

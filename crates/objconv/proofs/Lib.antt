@@ -1,2 +1,4 @@
+pub mod Counted
 pub mod Did
+pub mod Made
 pub mod Refused

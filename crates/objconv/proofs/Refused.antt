@@ -22,7 +22,7 @@ pub holds_of : (P : List ℕ → Type 0) (input : List ℕ) (m : Held) (b read :
 holds_of P input m b read holds same p = subst (λ o. IsSomeAnd o P) (sym holds) (subst P same p)
 
 -- an input that is too long is refused for that
-long_refused : (b : List ℕ) → 67108864 < length b → length_refusal b ≡ Some too_long
+pub long_refused : (b : List ℕ) → 67108864 < length b → length_refusal b ≡ Some too_long
 unfolding length_refusal
 long_refused b long = ap (λ t. cond t (Some too_long) None) (lt-ltb 67108864 (length b) long)
 

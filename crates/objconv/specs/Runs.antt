@@ -1,19 +1,16 @@
 -- What a run of the command does (our profile).
 use Rattle.std.specs.Prelude.{◌≡◌, ℕ, ◌<◌, ◌≤◌, ◌⊎◌, List, Option, Some, None, Result, Ok, Err}
-use Rattle.oc_base.specs.declared.format.Format.{Format}
-use Rattle.oc_names.specs.Wishes.{Wishes}
 use Rattle.oc_outside.specs.Causes.{Rose}
-use Rattle.oc_convert.specs.Dispatched.{Writer}
 use Rattle.oc_words.specs.declared.job.Job.{Job}
 use Rattle.oc_words.specs.declared.job.Job.TheVariants.{Convert, Symbols, Make}
 use Rattle.oc_words.specs.Faults.{BadWord}
 use Rattle.oc_words.specs.Jobs.{job_of}
 use Rattle.oc_words.specs.Messages.{word_message_of}
-use Rattle.oc_dispatch.specs.Built.{built}
 use Rattle.objconv.specs.States.{State, IsStatus}
-use Rattle.objconv.specs.Texts.{Tells, input_text, output_text, memory_text, not_built_text}
+use Rattle.objconv.specs.Texts.{Tells, input_text, output_text, memory_text}
 use Rattle.objconv.specs.Conversions.{IsConversion}
 use Rattle.objconv.specs.Listings.{IsSymbols}
+use Rattle.objconv.specs.Making.{IsMaking}
 
 -- ... what the words ask for
 
@@ -27,23 +24,22 @@ pub record IsUndone (text : List ℕ) (before : State) (status : ℕ) (after : S
   pub shown : after.shown ≡ before.shown
   pub outs : after.out_faults ≡ before.out_faults
 
--- a conversion is done, where the writer of its target is built
-abbrev pub DoesConversion : Option Writer → Format → Wishes → List ℕ → List ℕ → State → ℕ → State → Type 0
-DoesConversion None to wishes input output = IsUndone not_built_text
-DoesConversion (Some writer) to wishes input output = IsConversion to wishes input output
-
--- the job of the words is done, or it is told which word is at fault. Nothing is made yet
+-- the job of the words is done, or it is told which word is at fault
 abbrev pub DoesJob : Result Job BadWord → State → ℕ → State → Type 0
 DoesJob (Err bad) = IsUndone (word_message_of bad.index bad.code)
-DoesJob (Ok (Convert to wishes input output)) = DoesConversion (built.writer to) to wishes input output
+DoesJob (Ok (Convert to wishes input output)) = IsConversion to wishes input output
 DoesJob (Ok (Symbols input)) = IsSymbols input
-DoesJob (Ok (Make count to output)) = IsUndone not_built_text
+DoesJob (Ok (Make count to output)) = IsMaking count to output
 
 -- ... what holds of every run
 
--- the status leaves all files as they were
+-- no write failed in a run that ended with the status
 abbrev pub LeavesFiles : ℕ → Type 0
 LeavesFiles status = (status ≡ 0 → ⊥) × (status ≡ 5 → ⊥)
+
+-- the status leaves all files as they were, whatever the job. With 6 a file may have been made; a listing changes none with any status (`IsSymbols`), and a conversion has no 6 (`IsConversion`)
+abbrev pub KeepsFiles : ℕ → Type 0
+KeepsFiles status = (status ≡ 0 → ⊥) × (status ≡ 5 → ⊥) × (status ≡ 6 → ⊥)
 
 -- the status leaves standard output as it was
 abbrev pub LeavesOutput : ℕ → Type 0
@@ -60,7 +56,7 @@ pub record IsEnd (before : State) (status : ℕ) (after : State) : Type 0 where
   pub write_failed : before.write_faults < after.write_faults → status ≡ 5
   pub out_failed : before.out_faults < after.out_faults → status ≡ 6
   -- what becomes of the files and of standard output
-  pub kept : LeavesFiles status → after.held ≡ before.held
+  pub kept : KeepsFiles status → after.held ≡ before.held
   pub unwritten : LeavesFiles status → after.write_faults ≡ before.write_faults
   pub shown : LeavesOutput status → after.shown ≡ before.shown
   pub unshown : LeavesOutput status → after.out_faults ≡ before.out_faults

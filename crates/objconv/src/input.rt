@@ -21,8 +21,8 @@ pub enum InputFault {
     NoMemory,
 }
 
-// the refusal of an input that is too long
-fn too_long() -> Fault
+/// The refusal of an input that is too long. Constant time.
+pub(crate) fn too_long() -> Fault
     ensures { result ≡ too_long }
 {
     let header = Spot {

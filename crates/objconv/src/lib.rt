@@ -5,6 +5,9 @@ mod command;
 mod conversion;
 mod input;
 mod listing;
+#[cfg(test)]
+mod made_files;
+mod making;
 mod report;
 #[cfg(test)]
 mod tests;

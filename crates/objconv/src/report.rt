@@ -6,7 +6,7 @@ ghost use Rattle.oc_outside.specs.Texts.{LeavesOther};
 ghost use Rattle.oc_words.specs.Messages.{word_message_of};
 ghost use Rattle.objconv.specs.Reports.{IsReported, IsWordReported};
 ghost use Rattle.objconv.specs.States.{status_by};
-ghost use Rattle.objconv.specs.Texts.{Tells, input_text, output_text, memory_text, not_built_text};
+ghost use Rattle.objconv.specs.Texts.{Tells, input_text, output_text, memory_text};
 
 use crate::input::InputFault;
 use oc_base::{Class, Code, Fault, class, message};
@@ -36,14 +36,6 @@ fn memory_words() -> &'static str
     ensures { result.now ≡ memory_text }
 {
     "objconv: out of memory\n"
-}
-
-/// The text for a job that is not built yet.
-#[tactic(auto, unfolding(crate::specs::Texts::not_built_text))]
-pub fn not_built_words() -> &'static str
-    ensures { result.now ≡ not_built_text }
-{
-    "objconv: word 0: NotBuilt\n"
 }
 
 // the status of a refusal

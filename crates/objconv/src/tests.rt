@@ -32,18 +32,19 @@ const ELF32: &[u8] = &[0x7F, 0x45, 0x4C, 0x46, 0x01];
 /// The first byte of a module of OMF.
 const OMF: &[u8] = &[0x80];
 
-/// Words that are no job, or one that is not built: nothing is read, so that no call is there to fail.
+/// Words that are no job: nothing is read, so that no call is there to fail.
 const NO_JOB: Case = Case {
-    words: JOB,
+    words: &[],
     a: Some(ELF32),
     failing: 1,
     room: 100,
     status: 3,
-    told: "objconv: word 0: NotBuilt\n",
+    told: "objconv: word 0: MissingTarget\n",
 };
 
 /// An input that was not read: call 1 is the first read.
 const UNREAD: Case = Case {
+    words: JOB,
     status: 4,
     told: "objconv: input fault\n",
     ..NO_JOB
@@ -51,6 +52,7 @@ const UNREAD: Case = Case {
 
 /// An input of no known format.
 const UNKNOWN: Case = Case {
+    words: JOB,
     a: Some(&[0]),
     failing: 0,
     status: 1,
@@ -58,20 +60,22 @@ const UNKNOWN: Case = Case {
     ..NO_JOB
 };
 
-/// An input of a format that is not read yet.
-const UNBUILT: Case = Case {
+/// An input that ends within its first record.
+const SHORT: Case = Case {
     a: Some(OMF),
-    status: 2,
-    told: "objconv: refused: header 0: NotBuilt at 0\n",
+    told: "objconv: malformed: header 0: Short at 0\n",
     ..UNKNOWN
 };
 
-const CASES: [Case; 23] = [
-    Case {
-        words: &[],
-        told: "objconv: word 0: MissingTarget\n",
-        ..NO_JOB
-    },
+/// An input for a machine with other addresses than the target's.
+const OTHER_WORD: Case = Case {
+    status: 2,
+    told: "objconv: refused: header 0: WordSize at 0\n",
+    ..SHORT
+};
+
+const CASES: [Case; 20] = [
+    NO_JOB,
     Case {
         words: &["-fcoff32", "a", "a"],
         told: "objconv: word 2: SameFile\n",
@@ -97,19 +101,6 @@ const CASES: [Case; 23] = [
         words: &["-fcoff32", "a"],
         room: 0,
         told: "",
-        ..NO_JOB
-    },
-    // targets that are not built, and what is made
-    Case {
-        words: &["-fmac64", "a", "b"],
-        ..NO_JOB
-    },
-    Case {
-        words: &["a", "b", "-fomf", "-nu"],
-        ..NO_JOB
-    },
-    Case {
-        words: &["--make=2", "coff32", "b"],
         ..NO_JOB
     },
     // the first read fails, the one that tells the end, and there is no file
@@ -151,22 +142,20 @@ const CASES: [Case; 23] = [
         told: "",
         ..UNKNOWN
     },
-    // a format that is not read yet; words that differ come first, but not where a file is listed
-    UNBUILT,
+    // a fault of the file; words that differ come first, but not where a file is listed
+    SHORT,
     Case {
         words: &["-ds", "a"],
-        ..UNBUILT
+        ..SHORT
     },
     Case {
         words: &["-fcoff64", "a", "b"],
-        told: "objconv: refused: header 0: WordSize at 0\n",
-        ..UNBUILT
+        ..OTHER_WORD
     },
     Case {
         words: &["a", "-fcoff64", "-nu", "b", "--strip-debug"],
         a: Some(ELF32),
-        told: "objconv: refused: header 0: WordSize at 0\n",
-        ..UNBUILT
+        ..OTHER_WORD
     },
 ];
 

@@ -73,7 +73,7 @@ fn digit(byte: u8) -> u8
 }
 
 /// The bytes that these lines give, two digits each.
-fn bytes_of(alloc: Global, lines: &[&str]) -> Result<Vec<u8>, NoMemory> {
+pub(crate) fn bytes_of(alloc: Global, lines: &[&str]) -> Result<Vec<u8>, NoMemory> {
     let mut bytes = Vec::new(alloc);
     for line in lines {
         for pair in line.as_bytes().chunks(2) {

@@ -13,8 +13,8 @@ word_for-Omf = refl
 word_for-Mac64 : word_for Mac64 ≡ W64
 word_for-Mac64 = refl
 
-class_of-NotBuilt : class_of code.NotBuilt ≡ Refused
-class_of-NotBuilt = refl
+class_of-AddendTooWide : class_of code.AddendTooWide ≡ Refused
+class_of-AddendTooWide = refl
 
 class_of-BadPair : class_of code.BadPair ≡ Malformed
 class_of-BadPair = refl

@@ -65,7 +65,6 @@ pub fn class(code: Code) -> Class
         | Code::NoForm
         | Code::OffsetTooBig
         | Code::EmptyEnd
-        | Code::AddendTooWide
-        | Code::NotBuilt => Class::Refused,
+        | Code::AddendTooWide => Class::Refused,
     }
 }

@@ -101,8 +101,6 @@ pub enum Code {
     EmptyEnd,
     /// The addend does not fit the field in place.
     AddendTooWide,
-    /// The conversion is not built yet.
-    NotBuilt,
     /// The input has more than 67,108,864 bytes.
     LimitInput,
     /// A section has more than 2,147,483,647 bytes.

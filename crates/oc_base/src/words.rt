@@ -87,7 +87,6 @@ pub fn code_name(code: Code) -> &'static str
         Code::OffsetTooBig => "OffsetTooBig",
         Code::EmptyEnd => "EmptyEnd",
         Code::AddendTooWide => "AddendTooWide",
-        Code::NotBuilt => "NotBuilt",
         Code::LimitInput => "LimitInput",
         Code::LimitSection => "LimitSection",
         Code::LimitSum => "LimitSum",

@@ -1,6 +1,5 @@
 mod IdentifyRows
 mod DispatchRows
-pub mod Dispatching
 pub mod Firsts
 pub mod Notes
 pub mod Outlines

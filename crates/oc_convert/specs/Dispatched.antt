@@ -1,7 +1,7 @@
--- What a conversion promises that finds the format of its input itself, and takes its reader and writer from those that are built (our profile).
+-- What a conversion promises that finds the format of its input itself, and takes its reader and writer by the formats (our profile).
 use Rattle.std.specs.Prelude.{◌≡◌, ℕ, if◌then◌else◌, List, Option, Some, None, Ok}
 use Rattle.oc_base.specs.declared.code.Code.{Code}
-use Rattle.oc_base.specs.declared.code.Code.TheVariants.{UnknownFormat, WordSize, NotBuilt}
+use Rattle.oc_base.specs.declared.code.Code.TheVariants.{UnknownFormat, WordSize}
 use Rattle.oc_base.specs.declared.fault.Phase.TheVariants.{Header}
 use Rattle.oc_base.specs.declared.fault.Fault.{Fault}
 use Rattle.oc_base.specs.declared.format.Format.{Format}
@@ -11,7 +11,6 @@ use Rattle.oc_linking.specs.Numbers.{or_else}
 use Rattle.oc_neutral.specs.Families.{same_word}
 use Rattle.oc_neutral.specs.Objects.{Object}
 use Rattle.oc_neutral.specs.Dialects.{Dialect}
-use Rattle.oc_neutral.specs.Targets.{IsDialect}
 use Rattle.oc_names.specs.Wishes.{Wishes}
 use Rattle.oc_convert.specs.Identified.{identified}
 use Rattle.oc_convert.specs.Refusals.{first_refusal}
@@ -24,15 +23,10 @@ pub record Writer : Type 0 where
   pub dialect : Dialect
   pub canonical : Object → List ℕ
 
--- the readers and the writers, by format; none where one is not built
+-- the readers and the writers, by format
 pub record Built : Type 0 where
-  pub reader : Format → Option Dialect
-  pub writer : Format → Option Writer
-
--- each is for the format under which it stands
-pub record AreBuilt (built : Built) : Type 0 where
-  pub readers : (from : Format) (f : Dialect) → built.reader from ≡ Some f → (f.format ≡ from) × IsDialect f
-  pub writers : (to : Format) (w : Writer) → built.writer to ≡ Some w → (w.dialect.format ≡ to) × IsDialect w.dialect
+  pub reader : Format → Dialect
+  pub writer : Format → Writer
 
 -- ... the first refusal
 
@@ -44,19 +38,13 @@ header_refusal code = record { phase = Header; index = 0; code = code; place = 0
 abbrev pub word_refusal : Format → Format → Option Fault
 word_refusal from to = if same_word (word_for from) (word_for to) then None else Some (header_refusal WordSize)
 
--- the first refusal where these are the reader and the writer
-abbrev pub refusal_by : Wishes → Format → List ℕ → Option Dialect → Option Writer → Option Fault
-refusal_by wishes to b None writer = Some (header_refusal NotBuilt)
-refusal_by wishes to b (Some f) None = Some (header_refusal NotBuilt)
-refusal_by wishes to b (Some f) (Some w) = first_refusal wishes f to b
-
 -- the first refusal where this is the format of the file
 abbrev pub refusal_from : Built → Wishes → Format → List ℕ → Option Format → Option Fault
 refusal_from built wishes to b None = Some (header_refusal UnknownFormat)
-refusal_from built wishes to b (Some from) = or_else (word_refusal from to) (refusal_by wishes to b (built.reader from) (built.writer to))
+refusal_from built wishes to b (Some from) = or_else (word_refusal from to) (first_refusal wishes (built.reader from) to b)
 
 -- the first refusal of a file on its way to a target, or none: the first bytes are those of no format; or else the words of the formats differ; or else the
--- reader or the writer is not built; or else the first refusal of the conversion
+-- first refusal of the conversion
 abbrev pub dispatch_refusal : Built → Wishes → Format → List ℕ → Option Fault
 dispatch_refusal built wishes to b = refusal_from built wishes to b (identified b)
 
@@ -66,26 +54,16 @@ dispatch_refusal built wishes to b = refusal_from built wishes to b (identified 
 pub record IsDispatched (built : Built) (wishes : Wishes) (to : Format) (b c : List ℕ) : Type 0 where
   pub from : Format
   pub identified : identified b ≡ Some from
-  pub reader : Dialect
-  pub is_reader : built.reader from ≡ Some reader
-  pub writer : Writer
-  pub is_writer : built.writer to ≡ Some writer
-  pub planned : planned_file wishes reader to writer.canonical b ≡ Ok c
-  pub faithful : IsFaithful wishes reader writer.dialect b c
+  pub planned : planned_file wishes (built.reader from) to (built.writer to).canonical b ≡ Ok c
+  pub faithful : IsFaithful wishes (built.reader from) (built.writer to).dialect b c
 
 -- ... reading alone
-
--- the first refusal where this is the reader
-abbrev pub fault_by : Keep → List ℕ → Option Dialect → Option Fault
-fault_by keep b None = Some (header_refusal NotBuilt)
-fault_by keep b (Some f) = f.rules.fault b keep
 
 -- the first refusal of a file that is only read, where this is its format
 abbrev pub fault_from : Built → Keep → List ℕ → Option Format → Option Fault
 fault_from built keep b None = Some (header_refusal UnknownFormat)
-fault_from built keep b (Some from) = fault_by keep b (built.reader from)
+fault_from built keep b (Some from) = (built.reader from).rules.fault b keep
 
--- the first refusal of a file that is only read, or none: the first bytes are those of no format; or else the reader is not built; or else the file's first
--- fault as it is kept
+-- the first refusal of a file that is only read, or none: the first bytes are those of no format; or else the file's first fault as it is kept
 abbrev pub reading_refusal : Built → Keep → List ℕ → Option Fault
 reading_refusal built keep b = fault_from built keep b (identified b)

@@ -1,11 +1,10 @@
-//! The conversion of a file of any format to any other, as far as both are built.
+//! The conversion of a file of any format to any other of its word.
 ghost use Rattle.std.specs.Prelude.{◌≡◌, ◌≤◌, length, true, None, Some, IfErr, IfOk, OnOk};
-ghost use Rattle.std.specs.Option.{is_some};
 ghost use Rattle.oc_base.specs.Formats.{word_for};
 ghost use Rattle.oc_neutral.specs.Families.{same_word};
-ghost use Rattle.oc_convert.specs.Dispatched.{IsDispatched, dispatch_refusal, refusal_by};
+ghost use Rattle.oc_convert.specs.Dispatched.{IsDispatched, dispatch_refusal};
 ghost use Rattle.oc_convert.specs.Identified.{identified};
-ghost use Rattle.oc_convert.specs.Refusals.{IsFaultOf};
+ghost use Rattle.oc_convert.specs.Refusals.{IsFaultOf, first_refusal};
 ghost use Rattle.oc_dispatch.specs.Built.{IsPlanned, built};
 
 use crate::any_plan::AnyPlan;
@@ -17,20 +16,12 @@ use oc_convert::{ConvertFault, convert, identify};
 use oc_elf_read::{ElfReader32, ElfReader64};
 use oc_elf_write::{ElfWriter32, ElfWriter64};
 use oc_macho_reader::{MachReader32, MachReader64};
+use oc_macho_write::{MachWriter32, MachWriter64};
 use oc_names::Edits;
 use oc_neutral::{Emits, Reads};
+use oc_omf_reader::OmfReader;
+use oc_omf_write::OmfWriter;
 use std::alloc::Global;
-
-/// Whether files of the format can be written: those of ELF and COFF can. Constant time, no memory.
-#[tactic(auto, unfolding(crate::specs::Built::built))]
-pub fn is_written(to: Format) -> bool
-    ensures { result ≡ is_some (built.writer to) }
-{
-    match to {
-        Format::Elf32 | Format::Elf64 | Format::Coff32 | Format::Coff64 => true,
-        Format::Mac32 | Format::Mac64 | Format::Omf => false,
-    }
-}
 
 // the conversion of a file that this reader reads
 #[tactic(auto, unfolding(crate::specs::Built::built))]
@@ -45,8 +36,8 @@ fn dispatch_from<R: Reads>(
     requires size { length bytes.now ≤ 67108864 }
     requires source { R.dialect.format ≡ from }
     requires word { word_for to ≡ word_for from }
-    ensures accepted { OnOk result (refusal_by edits.now to bytes.now (Some R.dialect) (built.writer to) ≡ None) }
-    ensures refused { IfErr result (IsFaultOf (refusal_by edits.now to bytes.now (Some R.dialect) (built.writer to))) }
+    ensures accepted { OnOk result (first_refusal edits.now R.dialect to bytes.now ≡ None) }
+    ensures refused { IfErr result (IsFaultOf (first_refusal edits.now R.dialect to bytes.now)) }
     ensures planned { IfOk result (λ plan. IsPlanned edits.now to R.dialect bytes.now (⟦<AnyPlan as Emits>⟧.file plan)) }
 {
     match to {
@@ -74,7 +65,24 @@ fn dispatch_from<R: Reads>(
                 Err(fault) => Err(fault),
             }
         }
-        Format::Mac32 | Format::Mac64 | Format::Omf => Err(header_refusal(Code::NotBuilt)),
+        Format::Mac32 => {
+            match convert(alloc, reader, &MachWriter32, from, to, bytes, edits) {
+                Ok(plan) => Ok(AnyPlan::Mac32(plan)),
+                Err(fault) => Err(fault),
+            }
+        }
+        Format::Mac64 => {
+            match convert(alloc, reader, &MachWriter64, from, to, bytes, edits) {
+                Ok(plan) => Ok(AnyPlan::Mac64(plan)),
+                Err(fault) => Err(fault),
+            }
+        }
+        Format::Omf => {
+            match convert(alloc, reader, &OmfWriter, from, to, bytes, edits) {
+                Ok(plan) => Ok(AnyPlan::Omf(plan)),
+                Err(fault) => Err(fault),
+            }
+        }
     }
 }
 
@@ -111,7 +119,7 @@ fn dispatch_identified(
         Format::Coff64 => dispatch_from(alloc, &CoffReader64, from, to, bytes, edits),
         Format::Mac32 => dispatch_from(alloc, &MachReader32, from, to, bytes, edits),
         Format::Mac64 => dispatch_from(alloc, &MachReader64, from, to, bytes, edits),
-        Format::Omf => Err(header_refusal(Code::NotBuilt)),
+        Format::Omf => dispatch_from(alloc, &OmfReader, from, to, bytes, edits),
     }
 }
 
@@ -120,9 +128,8 @@ fn dispatch_identified(
 ///
 /// `Refused` exactly where there is a first refusal: in the file header `UnknownFormat`, where the
 /// first bytes are those of no format; else `WordSize`, where the formats have addresses of two
-/// sizes; else `NotBuilt`, where the format of the file is not read yet or the target is not written
-/// yet; else the first refusal of `convert`, of any class. Where there is none, the planned file is the
-/// canonical one for the file's object, edited and fitted, and it links as the edited input does.
+/// sizes; else the first refusal of `convert`, of any class. Where there is none, the planned file is
+/// the canonical one for the file's object, edited and fitted, and it links as the edited input does.
 /// `NoMemory` where memory ran out. Takes the memory and time of `convert`.
 pub fn dispatch(
     alloc: Global,

@@ -1,4 +1,4 @@
-//! The readers and writers that are built, behind one call each: a file's format is found by its
+//! The readers and writers of all formats, behind one call each: a file's format is found by its
 //! first bytes, and the target's by its name.
 #![tactic(auto)]
 
@@ -8,5 +8,5 @@ mod header;
 mod reading;
 
 pub use any_plan::AnyPlan;
-pub use dispatching::{dispatch, is_written};
+pub use dispatching::dispatch;
 pub use reading::read_any;

@@ -1,4 +1,4 @@
-//! The object of a file of any format that is read.
+//! The object of a file of any format.
 ghost use Rattle.std.specs.Prelude.{◌≡◌, ◌≤◌, length, None, IfErr, IfOk, OnOk};
 ghost use Rattle.oc_neutral.specs.Computed.{object_in};
 ghost use Rattle.oc_neutral.specs.Readable.{IsReadable};
@@ -14,6 +14,7 @@ use oc_convert::{ConvertFault, identify};
 use oc_elf_read::{ElfReader32, ElfReader64};
 use oc_macho_reader::{MachReader32, MachReader64};
 use oc_neutral::{Keep, Neutral, ReadFault, Reads, shown_object_is_computed};
+use oc_omf_reader::OmfReader;
 use std::alloc::Global;
 
 // the object of a file that this reader reads
@@ -47,9 +48,9 @@ fn read_by<R: Reads>(
 /// relocations. The format of the file is found by its first bytes.
 ///
 /// `Refused` exactly where there is a first refusal: in the file header `UnknownFormat`, where the
-/// first bytes are those of no format; else `NotBuilt`, where the format is not read yet; else the
-/// first fault of the file, of any class. Where there is none, it is the one object that shows the
-/// file. `NoMemory` where memory ran out. Takes the memory and time of reading.
+/// first bytes are those of no format; else the first fault of the file, of any class. Where there is
+/// none, it is the one object that shows the file. `NoMemory` where memory ran out. Takes the memory
+/// and time of reading.
 #[tactic(auto, unfolding(crate::specs::Built::built))]
 pub fn read_any(alloc: Global, bytes: &[u8], keep: &Keep) -> Result<Neutral, ConvertFault>
     requires { length bytes.now ≤ 67108864 }
@@ -65,6 +66,6 @@ pub fn read_any(alloc: Global, bytes: &[u8], keep: &Keep) -> Result<Neutral, Con
         Some(Format::Coff64) => read_by(alloc, &CoffReader64, bytes, keep),
         Some(Format::Mac32) => read_by(alloc, &MachReader32, bytes, keep),
         Some(Format::Mac64) => read_by(alloc, &MachReader64, bytes, keep),
-        Some(Format::Omf) => Err(header_refusal(Code::NotBuilt)),
+        Some(Format::Omf) => read_by(alloc, &OmfReader, bytes, keep),
     }
 }

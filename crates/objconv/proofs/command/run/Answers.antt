@@ -1,30 +1,35 @@
 -- The job of the words is done.
-use Rattle.std.proofs.Common.{rules, ◌≡◌, Ok}
-use Rattle.oc_words.specs.declared.job.Job.TheVariants.{Symbols, Make}
-use Rattle.oc_words.specs.Faults.{bad}
+use Rattle.std.proofs.Common.{rules, ◌≡◌, Result, Ok}
+use Rattle.oc_words.specs.declared.job.Job.{Job}
+use Rattle.oc_words.specs.declared.job.Job.TheVariants.{Convert, Symbols, Make}
+use Rattle.oc_words.specs.Faults.{BadWord, bad}
 use Rattle.oc_words.specs.Jobs.{job_of}
+use Rattle.objconv.proofs.Counted.{low_job}
 use Rattle.objconv.proofs.Did.{does_same, memory_does}
 use Rattle.objconv.proofs.command.run.Goals as goal
+
+pub returns-in-Ok-Convert : goal.returns-in-Ok-Convert
+returns-in-Ok-Convert g c =
+    let job : Result Job BadWord = Ok (Convert c.in-Ok-Convert.to c.in-Ok-Convert.edits c.as_str.result.now c.as_str-in-Ok-Convert.result.now) in
+    let asked : job_of c.args.words.now ≡ job = search rules in
+    record { job = does_same _ _ c.convert_file.result (job_of c.args.words.now) job asked c.convert_file.ensures.job; end = c.convert_file.ensures.end }
 
 pub returns-in-Ok-Symbols : goal.returns-in-Ok-Symbols
 returns-in-Ok-Symbols g c =
     let asked : job_of c.args.words.now ≡ Ok (Symbols c.as_str-in-Ok-Symbols.result.now) = search rules in
     record { job = does_same _ _ c.list_file.result (job_of c.args.words.now) (Ok (Symbols c.as_str-in-Ok-Symbols.result.now)) asked c.list_file.ensures.job; end = c.list_file.ensures.end }
 
+pub make_file-requires : goal.make_file-requires
+make_file-requires g c =
+    let asked : job_of c.args.words.now ≡ Ok (Make c.in-Ok-Make.count c.in-Ok-Make.to c.as_str-in-Ok-Make.result.now) = search rules in
+    low_job c.args.words.now c.in-Ok-Make.count c.in-Ok-Make.to c.as_str-in-Ok-Make.result.now asked
+
 pub returns-in-Ok-Make : goal.returns-in-Ok-Make
 returns-in-Ok-Make g c =
-    let asked : job_of c.args.words.now ≡ Ok (Make c.in-Ok-Make.field-0-0 c.in-Ok-Make.field-0-1 c.in-Ok-Make.field-0-2) = search rules in
+    let asked : job_of c.args.words.now ≡ Ok (Make c.in-Ok-Make.count c.in-Ok-Make.to c.as_str-in-Ok-Make.result.now) = search rules in
     record {
-      job = does_same _ _ c.tell.result (job_of c.args.words.now) (Ok (Make c.in-Ok-Make.field-0-0 c.in-Ok-Make.field-0-1 c.in-Ok-Make.field-0-2)) asked (record {
-        named = search rules;
-        told = search rules;
-        held = search rules;
-        reads = search rules;
-        writes = search rules;
-        shown = search rules;
-        outs = search rules;
-      });
-      end = search rules;
+      job = does_same _ _ c.make_file.result (job_of c.args.words.now) (Ok (Make c.in-Ok-Make.count c.in-Ok-Make.to c.as_str-in-Ok-Make.result.now)) asked c.make_file.ensures.job;
+      end = c.make_file.ensures.end;
     }
 
 pub returns-in-Err-Bad : goal.returns-in-Err-Bad
@@ -43,8 +48,8 @@ returns-in-Err-Bad g c =
       end = search rules;
     }
 
-pub returns : goal.returns
-returns g c = record {
+pub returns-in-Err-NoMemory : goal.returns-in-Err-NoMemory
+returns-in-Err-NoMemory g c = record {
   job = memory_does _ _ c.report_memory.result c.report_memory.ensures.status (search rules) (search rules) (search rules) (search rules) (search rules) (job_of c.args.words.now);
   end = search rules;
 }

@@ -1,4 +1,4 @@
--- What is planned, by the reader of the format.
+-- What is planned, and what is refused first, by the reader of the format.
 use Rattle.std.proofs.Common.{ap}
 use Rattle.std.proofs.lemmas.Result.{IfOk-weaker}
 use Rattle.oc_base.specs.declared.format.Word.TheVariants.{W32, W64}
@@ -6,48 +6,126 @@ use Rattle.oc_coff_read.specs.Rules.{coff_dialect}
 use Rattle.oc_elf_read.specs.declared.class.ElfClass.TheVariants.{Class32, Class64}
 use Rattle.oc_elf_read.specs.Elf.{elf_dialect}
 use Rattle.oc_macho_read.specs.Rules.{mach_dialect}
+use Rattle.oc_omf_read.specs.Rules.{omf_dialect}
 use Rattle.oc_dispatch.specs.Built.{built, reader_of}
-use Rattle.oc_dispatch.proofs.DispatchLemmas.{built_planned}
+use Rattle.oc_dispatch.proofs.DispatchLemmas.{reader_accepted, reader_planned, reader_refused}
 use Rattle.oc_dispatch.proofs.dispatching.dispatch_identified.Goals as goal
+
+pub returns-in-Elf32-clause-accepted : goal.returns-in-Elf32-clause-accepted
+unfolding built
+returns-in-Elf32-clause-accepted c =
+    reader_accepted c.args.edits.now c.args.to c.args.bytes.now c.args.from c.requires.identified c.requires.word (elf_dialect Class32) (ap reader_of c.in-Elf32.is) c.dispatch_from.result c.dispatch_from.ensures.accepted
+
+pub returns-in-Elf32-clause-refused : goal.returns-in-Elf32-clause-refused
+unfolding built
+returns-in-Elf32-clause-refused c =
+    reader_refused c.args.edits.now c.args.to c.args.bytes.now c.args.from c.requires.identified c.requires.word (elf_dialect Class32) (ap reader_of c.in-Elf32.is) c.dispatch_from.result c.dispatch_from.ensures.refused
 
 pub returns-in-Elf32-clause-dispatched : goal.returns-in-Elf32-clause-dispatched
 unfolding built
 returns-in-Elf32-clause-dispatched c =
     IfOk-weaker c.dispatch_from.result _ _
-    (λ plan planned. built_planned c.args.edits.now c.args.to c.args.bytes.now c.args.from c.requires.identified (elf_dialect Class32) (ap reader_of c.in-Elf32.is) _ planned)
+    (λ plan planned. reader_planned c.args.edits.now c.args.to c.args.bytes.now c.args.from c.requires.identified (elf_dialect Class32) (ap reader_of c.in-Elf32.is) _ planned)
     c.dispatch_from.ensures.planned
+
+pub returns-in-Elf64-clause-accepted : goal.returns-in-Elf64-clause-accepted
+unfolding built
+returns-in-Elf64-clause-accepted c =
+    reader_accepted c.args.edits.now c.args.to c.args.bytes.now c.args.from c.requires.identified c.requires.word (elf_dialect Class64) (ap reader_of c.in-Elf64.is) c.dispatch_from-in-Elf64.result c.dispatch_from-in-Elf64.ensures.accepted
+
+pub returns-in-Elf64-clause-refused : goal.returns-in-Elf64-clause-refused
+unfolding built
+returns-in-Elf64-clause-refused c =
+    reader_refused c.args.edits.now c.args.to c.args.bytes.now c.args.from c.requires.identified c.requires.word (elf_dialect Class64) (ap reader_of c.in-Elf64.is) c.dispatch_from-in-Elf64.result c.dispatch_from-in-Elf64.ensures.refused
 
 pub returns-in-Elf64-clause-dispatched : goal.returns-in-Elf64-clause-dispatched
 unfolding built
 returns-in-Elf64-clause-dispatched c =
     IfOk-weaker c.dispatch_from-in-Elf64.result _ _
-    (λ plan planned. built_planned c.args.edits.now c.args.to c.args.bytes.now c.args.from c.requires.identified (elf_dialect Class64) (ap reader_of c.in-Elf64.is) _ planned)
+    (λ plan planned. reader_planned c.args.edits.now c.args.to c.args.bytes.now c.args.from c.requires.identified (elf_dialect Class64) (ap reader_of c.in-Elf64.is) _ planned)
     c.dispatch_from-in-Elf64.ensures.planned
+
+pub returns-in-Coff32-clause-accepted : goal.returns-in-Coff32-clause-accepted
+unfolding built
+returns-in-Coff32-clause-accepted c =
+    reader_accepted c.args.edits.now c.args.to c.args.bytes.now c.args.from c.requires.identified c.requires.word (coff_dialect W32) (ap reader_of c.in-Coff32.is) c.dispatch_from-in-Coff32.result c.dispatch_from-in-Coff32.ensures.accepted
+
+pub returns-in-Coff32-clause-refused : goal.returns-in-Coff32-clause-refused
+unfolding built
+returns-in-Coff32-clause-refused c =
+    reader_refused c.args.edits.now c.args.to c.args.bytes.now c.args.from c.requires.identified c.requires.word (coff_dialect W32) (ap reader_of c.in-Coff32.is) c.dispatch_from-in-Coff32.result c.dispatch_from-in-Coff32.ensures.refused
 
 pub returns-in-Coff32-clause-dispatched : goal.returns-in-Coff32-clause-dispatched
 unfolding built
 returns-in-Coff32-clause-dispatched c =
     IfOk-weaker c.dispatch_from-in-Coff32.result _ _
-    (λ plan planned. built_planned c.args.edits.now c.args.to c.args.bytes.now c.args.from c.requires.identified (coff_dialect W32) (ap reader_of c.in-Coff32.is) _ planned)
+    (λ plan planned. reader_planned c.args.edits.now c.args.to c.args.bytes.now c.args.from c.requires.identified (coff_dialect W32) (ap reader_of c.in-Coff32.is) _ planned)
     c.dispatch_from-in-Coff32.ensures.planned
+
+pub returns-in-Coff64-clause-accepted : goal.returns-in-Coff64-clause-accepted
+unfolding built
+returns-in-Coff64-clause-accepted c =
+    reader_accepted c.args.edits.now c.args.to c.args.bytes.now c.args.from c.requires.identified c.requires.word (coff_dialect W64) (ap reader_of c.in-Coff64.is) c.dispatch_from-in-Coff64.result c.dispatch_from-in-Coff64.ensures.accepted
+
+pub returns-in-Coff64-clause-refused : goal.returns-in-Coff64-clause-refused
+unfolding built
+returns-in-Coff64-clause-refused c =
+    reader_refused c.args.edits.now c.args.to c.args.bytes.now c.args.from c.requires.identified c.requires.word (coff_dialect W64) (ap reader_of c.in-Coff64.is) c.dispatch_from-in-Coff64.result c.dispatch_from-in-Coff64.ensures.refused
 
 pub returns-in-Coff64-clause-dispatched : goal.returns-in-Coff64-clause-dispatched
 unfolding built
 returns-in-Coff64-clause-dispatched c =
     IfOk-weaker c.dispatch_from-in-Coff64.result _ _
-    (λ plan planned. built_planned c.args.edits.now c.args.to c.args.bytes.now c.args.from c.requires.identified (coff_dialect W64) (ap reader_of c.in-Coff64.is) _ planned)
+    (λ plan planned. reader_planned c.args.edits.now c.args.to c.args.bytes.now c.args.from c.requires.identified (coff_dialect W64) (ap reader_of c.in-Coff64.is) _ planned)
     c.dispatch_from-in-Coff64.ensures.planned
+
+pub returns-in-Mac32-clause-accepted : goal.returns-in-Mac32-clause-accepted
+unfolding built
+returns-in-Mac32-clause-accepted c =
+    reader_accepted c.args.edits.now c.args.to c.args.bytes.now c.args.from c.requires.identified c.requires.word (mach_dialect W32) (ap reader_of c.in-Mac32.is) c.dispatch_from-in-Mac32.result c.dispatch_from-in-Mac32.ensures.accepted
+
+pub returns-in-Mac32-clause-refused : goal.returns-in-Mac32-clause-refused
+unfolding built
+returns-in-Mac32-clause-refused c =
+    reader_refused c.args.edits.now c.args.to c.args.bytes.now c.args.from c.requires.identified c.requires.word (mach_dialect W32) (ap reader_of c.in-Mac32.is) c.dispatch_from-in-Mac32.result c.dispatch_from-in-Mac32.ensures.refused
 
 pub returns-in-Mac32-clause-dispatched : goal.returns-in-Mac32-clause-dispatched
 unfolding built
 returns-in-Mac32-clause-dispatched c =
     IfOk-weaker c.dispatch_from-in-Mac32.result _ _
-    (λ plan planned. built_planned c.args.edits.now c.args.to c.args.bytes.now c.args.from c.requires.identified (mach_dialect W32) (ap reader_of c.in-Mac32.is) _ planned)
+    (λ plan planned. reader_planned c.args.edits.now c.args.to c.args.bytes.now c.args.from c.requires.identified (mach_dialect W32) (ap reader_of c.in-Mac32.is) _ planned)
     c.dispatch_from-in-Mac32.ensures.planned
+
+pub returns-in-Mac64-clause-accepted : goal.returns-in-Mac64-clause-accepted
+unfolding built
+returns-in-Mac64-clause-accepted c =
+    reader_accepted c.args.edits.now c.args.to c.args.bytes.now c.args.from c.requires.identified c.requires.word (mach_dialect W64) (ap reader_of c.in-Mac64.is) c.dispatch_from-in-Mac64.result c.dispatch_from-in-Mac64.ensures.accepted
+
+pub returns-in-Mac64-clause-refused : goal.returns-in-Mac64-clause-refused
+unfolding built
+returns-in-Mac64-clause-refused c =
+    reader_refused c.args.edits.now c.args.to c.args.bytes.now c.args.from c.requires.identified c.requires.word (mach_dialect W64) (ap reader_of c.in-Mac64.is) c.dispatch_from-in-Mac64.result c.dispatch_from-in-Mac64.ensures.refused
 
 pub returns-in-Mac64-clause-dispatched : goal.returns-in-Mac64-clause-dispatched
 unfolding built
 returns-in-Mac64-clause-dispatched c =
     IfOk-weaker c.dispatch_from-in-Mac64.result _ _
-    (λ plan planned. built_planned c.args.edits.now c.args.to c.args.bytes.now c.args.from c.requires.identified (mach_dialect W64) (ap reader_of c.in-Mac64.is) _ planned)
+    (λ plan planned. reader_planned c.args.edits.now c.args.to c.args.bytes.now c.args.from c.requires.identified (mach_dialect W64) (ap reader_of c.in-Mac64.is) _ planned)
     c.dispatch_from-in-Mac64.ensures.planned
+
+pub returns-in-Omf-clause-accepted : goal.returns-in-Omf-clause-accepted
+unfolding built
+returns-in-Omf-clause-accepted c =
+    reader_accepted c.args.edits.now c.args.to c.args.bytes.now c.args.from c.requires.identified c.requires.word omf_dialect (ap reader_of c.in-Omf.is) c.dispatch_from-in-Omf.result c.dispatch_from-in-Omf.ensures.accepted
+
+pub returns-in-Omf-clause-refused : goal.returns-in-Omf-clause-refused
+unfolding built
+returns-in-Omf-clause-refused c =
+    reader_refused c.args.edits.now c.args.to c.args.bytes.now c.args.from c.requires.identified c.requires.word omf_dialect (ap reader_of c.in-Omf.is) c.dispatch_from-in-Omf.result c.dispatch_from-in-Omf.ensures.refused
+
+pub returns-in-Omf-clause-dispatched : goal.returns-in-Omf-clause-dispatched
+unfolding built
+returns-in-Omf-clause-dispatched c =
+    IfOk-weaker c.dispatch_from-in-Omf.result _ _
+    (λ plan planned. reader_planned c.args.edits.now c.args.to c.args.bytes.now c.args.from c.requires.identified omf_dialect (ap reader_of c.in-Omf.is) _ planned)
+    c.dispatch_from-in-Omf.ensures.planned

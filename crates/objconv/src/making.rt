@@ -1,0 +1,117 @@
+//! An object that is made.
+ghost use Rattle.std.specs.Prelude.{◌≡◌, ◌+◌, ◌-◌, ◌^◌, ◌<◌, ◌≤◌, length, IfOk, IfErr};
+ghost use Rattle.oc_base.specs.Formats.{word_for};
+ghost use Rattle.oc_convert.specs.Refusals.{IsFaultOf};
+ghost use Rattle.objconv.specs.Making as making;
+ghost use Rattle.objconv.specs.Runs.{IsEnd};
+ghost use Rattle.objconv.specs.States.{state_of};
+
+use crate::input::{InputFault, too_long};
+use crate::report::{output_words, report, report_memory, tell};
+use crate::writing::write_output;
+use oc_base::{Bytes, Format, NoMemory, word_of};
+use oc_convert::ConvertFault;
+use oc_dispatch::{AnyPlan, dispatch};
+use oc_made::made_file;
+use oc_names::Edits;
+use oc_neutral::Emits;
+use oc_outside::{Console, Files, LIMIT, show_all};
+use std::alloc::Global;
+
+/// What is written and shown of an object that is made.
+#[derive(Drop)]
+struct Made<P> {
+    plan: P,
+    summary: Bytes,
+}
+
+// the line that says how much was made
+#[tactic(auto, unfolding(crate::specs::Making::summary_of))]
+fn summary(alloc: Global, count: u32, size: u64) -> Result<Bytes, NoMemory>
+    requires { count ≤ 100000 }
+    ensures { IfOk result (λ text. text ≡ making.summary_of count size) }
+{
+    let relocs = 2 * count;
+    let text = format!(in alloc; "made {count} functions, {relocs} relocations, {size} bytes\n")?;
+    Ok(Bytes::from_vec(text.into_bytes()))
+}
+
+// the plan, with the line that says how much was made
+fn summed<P: Emits + Drop>(alloc: Global, count: u32, plan: P) -> Result<Made<P>, NoMemory>
+    requires { count ≤ 100000 }
+    ensures plan { IfOk result (λ made. made.plan ≡ plan) }
+    ensures summary { IfOk result (λ made. made.summary ≡ making.summary_of count (length (P.file plan))) }
+{
+    let summary = summary(alloc, count, plan.len())?;
+    Ok(Made { plan, summary })
+}
+
+// the plan of the object of so many functions as a file in the format `to`
+fn plan(alloc: Global, count: u32, to: Format) -> Result<AnyPlan, ConvertFault>
+    requires { count ≤ 100000 }
+    ensures planned { IfOk result (λ plan. making.IsMadeFile count to (⟦<AnyPlan as Emits>⟧.file plan)) }
+    ensures refused { IfErr result (IsFaultOf (making.making_refusal count to)) }
+{
+    let bytes = match made_file(alloc, count, word_of(to)) {
+        Ok(bytes) => bytes,
+        Err(NoMemory) => return Err(ConvertFault::NoMemory),
+    };
+    if bytes.len() as u64 > LIMIT {
+        return Err(ConvertFault::Refused(too_long()));
+    }
+    let edits = Edits::new(alloc);
+    dispatch(alloc, to, bytes.as_slice(), &edits)
+}
+
+// the same, with the line that says how much was made
+fn prepared(alloc: Global, count: u32, to: Format) -> Result<Made<AnyPlan>, ConvertFault>
+    requires { count ≤ 100000 }
+    ensures planned { IfOk result (λ made. making.IsMadeFile count to (⟦<AnyPlan as Emits>⟧.file made.plan)) }
+    ensures summary { IfOk result (λ made. made.summary ≡ making.summary_of count (length (⟦<AnyPlan as Emits>⟧.file made.plan))) }
+    ensures refused { IfErr result (IsFaultOf (making.making_refusal count to)) }
+{
+    let plan = match plan(alloc, count, to) {
+        Ok(plan) => plan,
+        Err(fault) => return Err(fault),
+    };
+    match summed(alloc, count, plan) {
+        Ok(made) => Ok(made),
+        Err(NoMemory) => Err(ConvertFault::NoMemory),
+    }
+}
+
+/// Makes the object of `count` functions in the file `output` in the format `to`, whose writer is
+/// built, shows how much was made, and answers the status of the run. The output is created only once
+/// its plan and the line to be shown are made; the line is shown only once the output is whole.
+pub fn make_file<F: Files, C: Console>(
+    alloc: Global,
+    files: &mut F,
+    console: &mut C,
+    count: u32,
+    to: Format,
+    output: &str,
+) -> u8
+    requires { count ≤ 100000 }
+    ensures job { making.IsMaking count to output.now
+        (state_of F.held F.read_faults F.write_faults C.shown C.told C.out_faults C.err_faults files.old console.old) result
+        (state_of F.held F.read_faults F.write_faults C.shown C.told C.out_faults C.err_faults files.new console.new) }
+    ensures end { IsEnd
+        (state_of F.held F.read_faults F.write_faults C.shown C.told C.out_faults C.err_faults files.old console.old) result
+        (state_of F.held F.read_faults F.write_faults C.shown C.told C.out_faults C.err_faults files.new console.new) }
+{
+    let made = match prepared(alloc, count, to) {
+        Ok(made) => made,
+        Err(ConvertFault::Refused(fault)) => {
+            return report(alloc, console, InputFault::Refused(fault));
+        }
+        Err(ConvertFault::NoMemory) => return report_memory(console),
+    };
+    let Made { plan, summary } = made;
+    match write_output(files, output, plan) {
+        Ok(()) => match show_all(console, summary.as_slice()) {
+            Ok(()) => 0,
+            Err(_) => 6,
+        },
+        Err(_) => tell(console, output_words().as_bytes(), 5),
+    }
+}
