@@ -1,9 +1,8 @@
 //! Times the fitting of an object of ELF to a target, against a walk over the same object, and the
 //! planning of the file and all its windows.
 //!
-//! `bench_express TARGET SYMBOLS RELOCATIONS [LAST]`, where TARGET is `elf32`, `elf64` or `coff64`, and
-//! nothing is planned where LAST is `fit`. What was fitted goes to the standard output, times to
-//! standard error.
+//! `bench_express TARGET SYMBOLS RELOCATIONS [LAST]`, where TARGET is a format but `coff32`, and nothing
+//! is planned where LAST is `fit`. What was fitted goes to the standard output, times to standard error.
 #![tactic(auto)]
 
 ghost use Rattle.std.specs.Prelude.{◌≡◌, ◌<◌, ◌≤◌, ◌*◌, ◌^◌, codes, length, IfOk, None, OnOk};
@@ -18,10 +17,12 @@ use oc_base::{Bytes, Format, NoMemory, Word, word_of};
 use oc_coff_write::CoffWriter64;
 use oc_elf_write::{ElfWriter32, ElfWriter64};
 use oc_express::fit;
+use oc_macho_write::{MachWriter32, MachWriter64};
 use oc_neutral::{
     Base, Binding, Builder, Check, Emits, Fitted, Form, Hint, Kind, Less, Mark, Neutral, Reloc,
     Section, Symbol, Target, Value, Visibility, Width, Writes, are_bytes,
 };
+use oc_omf_write::OmfWriter;
 use std::alloc::Global;
 use std::env;
 use std::rt::{Clock, Env};
@@ -248,7 +249,10 @@ fn emit<R: Clock + Eprint>(rt: &R, alloc: Global, fitted: Fitted) -> Result<()> 
         Format::Elf32 => give(rt, start, &ElfWriter32.plan(alloc, fitted)?),
         Format::Elf64 => give(rt, start, &ElfWriter64.plan(alloc, fitted)?),
         Format::Coff64 => give(rt, start, &CoffWriter64.plan(alloc, fitted)?),
-        Format::Coff32 | Format::Mac32 | Format::Mac64 | Format::Omf => Ok(()),
+        Format::Mac32 => give(rt, start, &MachWriter32.plan(alloc, fitted)?),
+        Format::Mac64 => give(rt, start, &MachWriter64.plan(alloc, fitted)?),
+        Format::Omf => give(rt, start, &OmfWriter.plan(alloc, fitted)?),
+        Format::Coff32 => Ok(()),
     }
 }
 
@@ -324,7 +328,10 @@ fn target(word: Option<String>) -> Result<Format> {
         "elf32" => Ok(Format::Elf32),
         "elf64" => Ok(Format::Elf64),
         "coff64" => Ok(Format::Coff64),
-        _ => Err(anyhow!("TARGET is elf32, elf64 or coff64")),
+        "mac32" => Ok(Format::Mac32),
+        "mac64" => Ok(Format::Mac64),
+        "omf" => Ok(Format::Omf),
+        _ => Err(anyhow!("TARGET is elf32, elf64, coff64, mac32, mac64 or omf")),
     }
 }
 
