@@ -30,7 +30,7 @@ module _ (names : List (List ℕ)) (entries : List Entry) (ranks : List ℕ) (o 
   -- each name of the order is given
   pub order_given : (k : ℕ) → k < length (names_of entries) → is_given names (name_at (names_of entries) k) ≡ true
   order_given k l =
-      let d : Entry = record { name = record { ref_ptr = (0, 0); now = [] }; number = 0 } in
+      let d : Entry = record { name = record { ref_ptr = (0, 0); now = [] }; number = 0; back = 0 } in
       let l' : k < length entries = omega (arith, count_of_names entries) in
       let within : (get_or entries k d).number < length names = slice_get_within names (get_or entries k d).number (get_or entries k d).name.now (o.named k d l') in
       let is : get_or names (get_or entries k d).number [] ≡ name_at (names_of entries) k
@@ -88,6 +88,13 @@ module _ (names : List (List ℕ)) (entries : List Entry) (ranks : List ℕ) (o 
       (tail_between (names_of entries) o.ascends k (k + 1) j.at (omega arith) (omega arith) j.within there))))
       (cases_Bool (is_maximal names (name_at (names_of entries) k))))
       (cases_Bool (ends_next (names_of entries) k))
+
+-- the same, where both are held as slices
+pub rank_there : (names : List (List ℕ)) (entries : List Entry) (ranks : List ℕ) → IsOrder names entries ranks
+    → (held : List Entry) (read : List ℕ) → held ≡ entries → read ≡ ranks → (i : ℕ) → i < length read → get_or read i 0 < length held
+rank_there names entries ranks o held read e r i l =
+    let within = rank_within names entries ranks o i (omega (arith, l, ap length r, o.whole)) in
+    omega (arith, within, ap (λ rs. get_or rs i 0) r, ap length e, count_of_names entries)
 
 given_take : (names : List (List ℕ)) (i : ℕ) (n : List ℕ) → is_given (take i names) n ≡ true → is_given names n ≡ true
 given_take names i n g =

@@ -3,6 +3,7 @@ pub mod GivenLemmas
 pub mod PlaceLaws
 pub mod SliceLemmas
 pub mod OrderLemmas
+pub mod KeyLemmas
 pub mod RankLemmas
 pub mod TailLemmas
 pub mod LayoutLemmas

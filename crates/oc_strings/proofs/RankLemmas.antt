@@ -1,19 +1,20 @@
 -- Entries in ascending order, and the ranks of the given names.
-use Rattle.std.proofs.Common.{◌≡◌, ℕ, Bool, ◌+◌, ◌-◌, ◌<◌, ◌≤◌, true, false, List, [], ◌∷◌, ◌++◌, length, reverse, get_or, set, Some, refl, sym, ◌∙◌, ap, subst, arith, ⊎_elim}
+use Rattle.std.proofs.Common.{◌≡◌, ℕ, Bool, ◌+◌, ◌-◌, ◌^◌, ◌<◌, ◌≤◌, true, false, List, [], ◌∷◌, ◌++◌, length, get_or, set, Some, refl, sym, ◌∙◌, ap, subst, arith, ⊎_elim}
 use Rattle.std.proofs.lemmas.List.{get_or-map, length-map, get_or_default, length-set, get_or-set_same, get_or-set_other, get_or_append_left, length_push, map_push, get_or_push}
 use Rattle.std.proofs.lemmas.List.Sorted.{All-permutation, Contains-permutation}
 use Rattle.std.proofs.lemmas.Option.{slice_get-get_or, slice_get_within, same_Some}
 use Rattle.std.proofs.lemmas.Bool.{cases_eq, cases_lt}
-use Rattle.std.specs.List.{slice_get}
+use Rattle.std.specs.List.{All, slice_get}
 use Rattle.std.specs.List.Sorted.{IsSortedBy, IsPermutation}
-use Rattle.std.specs.Ordering.{nat_cmp, is_lt}
-use Rattle.std.specs.Cmp.Lexicographic.{slice_cmp}
+use Rattle.std.specs.Ordering.{is_lt}
 use denote.Ref.{Bor}
 use Rattle.oc_base.specs.Strings.{ends}
 use Rattle.oc_strings.specs.declared.order.Entry.{Entry}
 use Rattle.oc_strings.specs.Tables.{texts}
 use Rattle.oc_strings.proofs.SliceLemmas.{text_at}
+use Rattle.oc_strings.specs.Keys.{back_number, entry_order, IsKeyed}
 use Rattle.oc_strings.proofs.OrderLemmas.{same_or_before}
+use Rattle.oc_strings.proofs.KeyLemmas.{entry_order_is}
 use Rattle.oc_strings.specs.Order.{is_before, Ascends, StrictlyAscends, names_of, name_at, EndsWithName, IsNumbered, IsOrder}
 
 pub name_of_entry : (entries : List Entry) (k : ℕ) (d : List ℕ) (e : Entry) → k < length entries → get_or (names_of entries) k d ≡ (get_or entries k e).name.now
@@ -28,16 +29,31 @@ pub ends_by_place : (entries : List Entry) (i j : ℕ) (e : Entry) (b : Bool) �
 ends_by_place entries i j e b li lj h = rw (name_of_entry entries i [] e li, name_of_entry entries j [] e lj) h
 
 -- what the sort says, of the names
-pub ascending : (entries : List Entry) → IsSortedBy (λ (a b : Entry). is_lt (slice_cmp nat_cmp (reverse a.name.now) (reverse b.name.now))) entries → Ascends (names_of entries)
-ascending entries sorted k d l =
-    let e : Entry = record { name = record { ref_ptr = (0, 0); now = d }; number = 0 } in
+pub ascending : (entries : List Entry) → All IsKeyed entries → IsSortedBy (λ a b. is_lt (entry_order a b)) entries → Ascends (names_of entries)
+ascending entries keyed sorted k d l =
+    let e : Entry = record { name = record { ref_ptr = (0, 0); now = d }; number = 0; back = 0 } in
     let in' : k + 1 < length entries = omega (arith, count_of_names entries) in
     let in'' : k < length entries = omega arith in
-    rw (name_of_entry entries (k + 1) d e in', name_of_entry entries k d e in'') (sorted k e (omega arith) in')
+    let later : Entry = get_or entries (k + 1) e in
+    let here : Entry = get_or entries k e in
+    rw (name_of_entry entries (k + 1) d e in', name_of_entry entries k d e in'')
+    (ap is_lt (sym (entry_order_is later here (keyed (k + 1) e in') (keyed k e in''))) ∙ sorted k e (omega arith) in')
+
+-- the entry of a name with a number
+abbrev pub made_of : Bor (List ℕ) → ℕ → Entry
+made_of name number = record { name = name; number = number; back = back_number name.now }
+
+-- entries that were made of names are keyed in any order
+pub keyed_moved : (names : List (Bor (List ℕ))) (before after : List Entry) → IsPermutation before after
+    → ((k : ℕ) (d : Entry) (e : Bor (List ℕ)) → k < length before → (get_or before k d ≡ made_of (get_or names k e) k) × ((j : ℕ) → get_or (get_or names k e).now j 0 < 2 ^ 8)) → All IsKeyed after
+keyed_moved names before after moves each =
+    let e : Bor (List ℕ) = record { ref_ptr = (0, 0); now = [] } in
+    All-permutation IsKeyed before after moves
+    (λ k d l. let is = each k d e l in subst IsKeyed (sym is.0) (record { back = refl; bytes = is.1 }))
 
 -- entries that were numbered in order stay the names' entries in any order
 pub numbered : (names : List (Bor (List ℕ))) (before after : List Entry) → IsPermutation before after → length before ≡ length names
-    → ((k : ℕ) (d : Entry) (e : Bor (List ℕ)) → k < length names → get_or before k d ≡ record { name = get_or names k e; number = k }) → IsNumbered (texts names) after
+    → ((k : ℕ) (d : Entry) (e : Bor (List ℕ)) → k < length names → get_or before k d ≡ made_of (get_or names k e) k) → IsNumbered (texts names) after
 numbered names before after moves count each =
     let e : Bor (List ℕ) = record { ref_ptr = (0, 0); now = [] } in
     let test : Entry → Type 0 = λ x. slice_get (texts names) x.number ≡ Some x.name.now in
@@ -49,7 +65,7 @@ numbered names before after moves count each =
           subst test (sym (each k d e in')) (slice_get-get_or (texts names) k [] there ∙ ap Some (text_at names k e [] in')));
       whole = λ i within.
           let l : i < length names = omega (arith, length-map names (λ (n : Bor (List ℕ)). n.now)) in
-          let entry : Entry = record { name = get_or names i e; number = i } in
+          let entry : Entry = made_of (get_or names i e) i in
           let found = Contains-permutation before after entry moves (i, omega arith, each i entry e l) in
           (found.0, found.1, λ d. ap (λ (x : Entry). x.number) (get_or_default after found.0 d entry found.1 ∙ found.2));
     }
@@ -224,7 +240,7 @@ rank_all names all numbered entries ranks i l done =
       ascends = done.ascends;
       named = done.named;
       ranked = λ j within.
-          let d : Entry = record { name = record { ref_ptr = (0, 0); now = [] }; number = 0 } in
+          let d : Entry = record { name = record { ref_ptr = (0, 0); now = [] }; number = 0; back = 0 } in
           let w = numbered.whole j within in
           let below : w.0 < i = omega (arith, w.1) in
           let r = done.ranked w.0 d d below in

@@ -95,6 +95,11 @@ module _ (names : List (List ℕ)) (order : List ℕ) (s : IsSearchable names or
   unfolding table_place
   no_place head e = cond-false (is_given names name) (place_from head (tops_of names) name) None e
 
+-- the given name whose place is known
+pub given_is : (head : ℕ) (bytes : List ℕ) (given : List Place) (near : ℕ) → near < length given
+    → (place : Place) → ((d : Place) → place ≡ get_or given near d) → name_at (names_in head bytes given) near ≡ name_in head bytes place
+given_is head bytes given near l place e = get_or-map (name_in head bytes) given near place [] l ∙ ap (name_in head bytes) (sym (e place))
+
 module _ (head : ℕ) (bytes : List ℕ) (given : List Place) (order : List ℕ) (t : IsTable head bytes given order) (name : List ℕ) (m : ℕ) (l : m < length order) where
   number_within : get_or order m 0 < length given
   number_within = omega (arith, t.searchable.numbers m l, length-map given (name_in head bytes))

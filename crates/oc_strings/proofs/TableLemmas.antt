@@ -161,7 +161,7 @@ module _ (head : ℕ) (names : List (List ℕ)) (offsets : List ℕ) (fits : hea
 -- the numbers of the entries serve for the search
 pub numbers_search : (names : List (List ℕ)) (entries : List Entry) (ranks : List ℕ) → IsOrder names entries ranks → IsSearchable names (numbers_of entries)
 numbers_search names entries ranks o =
-    let none : Entry = record { name = record { ref_ptr = (0, 0); now = [] }; number = 0 } in
+    let none : Entry = record { name = record { ref_ptr = (0, 0); now = [] }; number = 0; back = 0 } in
     let count : length (numbers_of entries) ≡ length entries = length-map entries (λ (e : Entry). e.number) in
     let number : (k : ℕ) → k < length entries → get_or (numbers_of entries) k 0 ≡ (get_or entries k none).number = λ k l. get_or-map (λ (e : Entry). e.number) entries k none 0 l in
     let named : (k : ℕ) → k < length entries → name_at names (get_or (numbers_of entries) k 0) ≡ (get_or entries k none).name.now

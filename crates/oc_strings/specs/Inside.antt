@@ -12,6 +12,10 @@ name_in head bytes place = slice_range bytes (place.at - head) (place.at - head 
 abbrev pub names_in : ℕ → List ℕ → List Place → List (List ℕ)
 names_in head bytes given = map (name_in head bytes) given
 
+-- the name was given, at this position
+abbrev pub IsGivenAt : List (List ℕ) → ℕ → List ℕ → Type 0
+IsGivenAt names k name = (k < length names) × (name_at names k ≡ name)
+
 -- the names with these numbers
 abbrev pub pick : List (List ℕ) → List ℕ → List (List ℕ)
 pick names numbers = map (name_at names) numbers

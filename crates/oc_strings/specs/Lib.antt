@@ -1,4 +1,5 @@
 pub mod Tables
 pub mod Order
+pub mod Keys
 pub mod Inside
 pub mod Parts

@@ -2,7 +2,7 @@
 ghost use Rattle.std.specs.Prelude.{◌≡◌, ℕ, ◌<◌, List, ◌&&◌, All, IfOk, IsSome, is_none, not, length, map, slice_index_or};
 ghost use Rattle.oc_base.specs.Strings.{tops_of};
 ghost use Rattle.oc_strings.specs.Tables.{texts, offset_of};
-ghost use Rattle.oc_strings.specs.Order.{IsOrder, AreNextTails, ends_next, names_of, IsLaidOut};
+ghost use Rattle.oc_strings.specs.Order.{IsOrder, ends_next, names_of, IsLaidOut};
 
 use crate::order::{Entry, Order};
 use crate::tails::{is_top, next_tails, place_tails};
@@ -34,20 +34,18 @@ fn place<'a>(
     head: u32,
     names: &[&'a [u8]],
     order: &Order<'a>,
-    tails: &[Option<usize>],
 ) -> Result<Placed<'a>, NoMemory>
-    requires ordered { IsOrder (texts names.now) order.now.entries.items order.now.ranks.items }
-    requires known { AreNextTails (names_of order.now.entries.items) tails.now }
-    requires whole { length tails.now ≡ length order.now.entries.items }
+    requires { IsOrder (texts names.now) order.now.entries.items order.now.ranks.items }
     ensures { IfOk result (λ placed. IsLaidOut head (texts names.now) (names_of order.now.entries.items) (length names.now) (texts placed.tops.items) placed.offsets.items) }
 {
     let entries = order.entries.as_slice();
+    let tails = next_tails(alloc, entries)?;
     let mut tops = Vec::new(alloc);
     let mut offsets = vec![in alloc; None; entries.len()]?;
     let mut at = u64::from(head);
     for rank in &order.ranks {
         if is_new_top(entries, &offsets, *rank) {
-            place_tails(&mut offsets, entries, tails, *rank, at);
+            place_tails(&mut offsets, entries, &tails, *rank, at);
             let name = entries[*rank].name;
             tops.push(name)?;
             at = at.saturating_add(name.len() as u64).saturating_add(1);
@@ -89,8 +87,7 @@ impl<'a> Layout<'a> {
         ensures entries { IfOk result (λ layout. (ranks : List ℕ) × IsOrder (texts names.now) layout.entries.items ranks) }
     {
         let order = Order::of(alloc, names)?;
-        let tails = next_tails(alloc, &order.entries)?;
-        let placed = place(alloc, head, names, &order, &tails)?;
+        let placed = place(alloc, head, names, &order)?;
         let offsets = by_rank(alloc, &placed.offsets, &order.ranks)?;
         Ok(Layout {
             tops: placed.tops,

@@ -1,7 +1,8 @@
 //! Names in the order of their bytes, read from the last one on.
-ghost use Rattle.std.specs.Prelude.{◌≡◌, ◌↔◌, IsTrue, MatchBool, reverse, IfOk};
+ghost use Rattle.std.specs.Prelude.{◌≡◌, ◌↔◌, ℕ, ◌<◌, ◌^◌, IsTrue, MatchBool, reverse, slice_index, IfOk};
 ghost use Rattle.std.specs.Ordering.{nat_cmp};
 ghost use Rattle.std.specs.Cmp.Lexicographic.{slice_cmp};
+ghost use Rattle.oc_strings.specs.Keys as keys;
 ghost use Rattle.oc_strings.specs.Order.{IsNumbered, names_of, Ascends, EndsWithName, IsOrder, SharesEnd};
 ghost use Rattle.oc_strings.specs.Tables.{texts};
 
@@ -9,11 +10,12 @@ use oc_base::NoMemory;
 use std::alloc::Global;
 use std::cmp::Ordering;
 
-/// A name that was given, and its place among the given names.
+/// A name that was given, its place among the given names, and the number of its last eight bytes.
 #[derive(Clone, Copy, Debug)]
 pub(crate) struct Entry<'a> {
     pub name: &'a [u8],
     pub number: usize,
+    pub back: u64,
 }
 
 /// How many bytes are compared at once, while they are the same.
@@ -46,6 +48,56 @@ pub(crate) fn compare_backward(a: &[u8], b: &[u8]) -> Ordering
     compare_bytes(a_left, b_left)
 }
 
+/// Byte `i` of a name, counted from the last one on; 0 where the name is shorter.
+fn byte_back(name: &[u8], i: usize) -> u8
+    ensures { result ≡ keys.byte_back name.now i }
+{
+    if i < name.len() {
+        name[name.len() - 1 - i]
+    } else {
+        0
+    }
+}
+
+/// The number of a name's last eight bytes, the last one the highest.
+#[tactic(auto, unfolding(crate::specs::Keys::back_number))]
+fn back_number(name: &[u8]) -> u64
+    ensures { result ≡ keys.back_number name.now }
+{
+    u64::from_be_bytes([
+        byte_back(name, 0),
+        byte_back(name, 1),
+        byte_back(name, 2),
+        byte_back(name, 3),
+        byte_back(name, 4),
+        byte_back(name, 5),
+        byte_back(name, 6),
+        byte_back(name, 7),
+    ])
+}
+
+/// The entry of a name with this place among the given ones.
+fn entry_of(name: &[u8], number: usize) -> Entry<'_>
+    ensures entry { result ≡ record { name = name.entry; number = number; back = keys.back_number name.now } }
+    ensures bytes { (k : ℕ) → slice_index name.now k < 2 ^ 8 }
+{
+    Entry {
+        name,
+        number,
+        back: back_number(name),
+    }
+}
+
+/// Compares the numbers of two entries, and their names only where these are the same.
+fn compare_entries(a: &Entry, b: &Entry) -> Ordering
+    ensures { result ≡ keys.entry_order a.now b.now }
+{
+    match a.back.cmp(&b.back) {
+        Ordering::Equal => compare_backward(a.name, b.name),
+        other => other,
+    }
+}
+
 /// An entry for each name, in ascending order.
 fn sorted<'a>(alloc: Global, names: &[&'a [u8]]) -> Result<Vec<Entry<'a>>, NoMemory>
     ensures ascends { IfOk result (λ entries. Ascends (names_of entries.items)) }
@@ -53,9 +105,9 @@ fn sorted<'a>(alloc: Global, names: &[&'a [u8]]) -> Result<Vec<Entry<'a>>, NoMem
 {
     let mut entries = Vec::with_capacity(alloc, names.len())?;
     for (number, name) in names.iter().enumerate() {
-        entries.push(Entry { name, number })?;
+        entries.push(entry_of(name, number))?;
     }
-    entries.sort_unstable_by(|a, b| compare_backward(a.name, b.name));
+    entries.sort_unstable_by(compare_entries);
     Ok(entries)
 }
 

@@ -1,7 +1,7 @@
 //! The search for a name in a table.
-ghost use Rattle.std.specs.Prelude.{◌≡◌, ℕ, ◌+◌, ◌-◌, ◌^◌, ◌<◌, ◌≤◌, IfOk, length, slice_index_or};
+ghost use Rattle.std.specs.Prelude.{◌≡◌, ℕ, ◌+◌, ◌-◌, ◌^◌, ◌<◌, ◌≤◌, ◌↔◌, IfOk, IsTrue, length, slice_index_or};
 ghost use Rattle.oc_base.specs.Strings.{table_place};
-ghost use Rattle.oc_strings.specs.Inside.{name_in, names_in, AreWithin, IsSearchable, IsTable};
+ghost use Rattle.oc_strings.specs.Inside.{name_in, names_in, AreWithin, IsGivenAt, IsSearchable, IsTable};
 
 use crate::order::compare_backward;
 use crate::table::Place;
@@ -40,4 +40,34 @@ pub(crate) fn find(
         }
     }
     None
+}
+
+/// Whether the given name at a position is this one.
+fn is_given_at(head: u32, bytes: &[u8], given: &[Place], near: usize, name: &[u8]) -> bool
+    requires { AreWithin head bytes.now given.now }
+    ensures { IsTrue result ↔ IsGivenAt (names_in head bytes.now given.now) near name.now }
+{
+    match given.get(near) {
+        Some(place) => name_at(head, bytes, *place) == name,
+        None => false,
+    }
+}
+
+/// The offset of a name in the table that consists of these parts, which is looked for first where
+/// the given name at `near` stands.
+pub(crate) fn find_near(
+    head: u32,
+    bytes: &[u8],
+    given: &[Place],
+    order: &[u32],
+    near: usize,
+    name: &[u8],
+) -> Option<u32>
+    requires { IsTable head bytes.now given.now order.now }
+    ensures { result ≡ table_place head (names_in head bytes.now given.now) name.now }
+{
+    if is_given_at(head, bytes, given, near, name) {
+        return Some(given[near].at);
+    }
+    find(head, bytes, given, order, name)
 }

@@ -5,7 +5,7 @@ ghost use Rattle.oc_strings.specs.Tables.{StringTable, StandsAt};
 
 use crate::layout::Layout;
 use crate::parts::{bytes_of, numbers, places, slices};
-use crate::search::find;
+use crate::search::{find, find_near};
 use oc_base::{Bytes, NoMemory};
 use std::alloc::Global;
 use std::marker::Model;
@@ -87,6 +87,19 @@ impl Table {
         ensures stands { IfSome result (λ at. (self.now.head ≤ at) × StandsAt name.now (table_text self.now.names) (at - self.now.head)) }
     {
         find(self.head, &self.bytes, &self.given, &self.order, name)
+    }
+
+    /// The offset of the name in bytes as `offset` gives it, and `None` exactly where it was not
+    /// given. `near` is the position among the given names at which it is looked for first; any
+    /// number may be given. No memory. Where the name stands there, the time is constant but for
+    /// comparing it with that name; else it is that of `offset`.
+    pub fn offset_near(&self, near: usize, name: &[u8]) -> Option<u32>
+        ensures place { result ≡ table_place self.now.head self.now.names name.now }
+        ensures given { IsSome result ↔ Contains self.now.names name.now }
+        // The name stands there in the bytes, which begin at the head.
+        ensures stands { IfSome result (λ at. (self.now.head ≤ at) × StandsAt name.now (table_text self.now.names) (at - self.now.head)) }
+    {
+        find_near(self.head, &self.bytes, &self.given, &self.order, near, name)
     }
 
     /// The bytes of the table, from its head on. Constant time, no memory.

@@ -25,10 +25,17 @@ fn table_of(alloc: Global, head: u32, names: &[&[u8]]) -> Result<Option<Table>, 
     Ok(Some(Table::of(alloc, head, &owned)?))
 }
 
-/// Expects each name at its place in the table.
+/// Expects each name at its place in the table, whichever given name is compared first.
 fn expect(rt: &impl Abort, table: &Table, places: &[(&[u8], Option<u32>)]) {
     for (name, place) in places {
         assert_eq!(rt; table.offset(name), *place, "{name:?}");
+        for near in [0, 1, 2, usize::MAX] {
+            assert_eq!(rt;
+                table.offset_near(near, name),
+                *place,
+                "{name:?} near {near}"
+            );
+        }
     }
 }
 

@@ -7,7 +7,7 @@ use Rattle.oc_strings.specs.declared.order.Entry.{Entry}
 use Rattle.oc_strings.specs.Tables.{texts, capped}
 use Rattle.oc_strings.specs.Order.{names_of, name_at, IsOrder, IsLaidOut, place_in, ends_next}
 use Rattle.oc_strings.proofs.RankLemmas.{name_of_entry, count_of_names}
-use Rattle.oc_strings.proofs.LayoutLemmas.{rank_within, laid_none, laid_same, laid_more, last_text}
+use Rattle.oc_strings.proofs.LayoutLemmas.{rank_there, rank_within, laid_none, laid_same, laid_more, last_text}
 use Rattle.oc_strings.proofs.layout.place.Goals as goal
 use Rattle.oc_strings.proofs.layout.place.Goals.{then-is_new_top+in_ok-push, else-is_new_top}
 
@@ -23,6 +23,22 @@ loop-rank-init c =
       at = omega (arith, ap (λ ts. length (text_of ts)) none);
     }
 
+pub place_tails-requires-clause-within : goal.place_tails-requires-clause-within
+place_tails-requires-clause-within c =
+    rank_there (texts c.args.names.now) c.args.order.now.entries.items c.args.order.now.ranks.items c.requires c.as_slice-entries.result.now c.deref-rank-items.result.now
+    c.as_slice-entries.ensures.value c.deref-rank-items.ensures.value c.loop-rank.rank-index (omega arith)
+
+pub bounds-entries-rank : goal.bounds-entries-rank
+bounds-entries-rank c =
+    rank_there (texts c.args.names.now) c.args.order.now.entries.items c.args.order.now.ranks.items c.requires c.as_slice-entries.result.now c.deref-rank-items.result.now
+    c.as_slice-entries.ensures.value c.deref-rank-items.ensures.value c.loop-rank.rank-index (omega arith)
+
+pub offset_bounds-entries-rank : goal.offset_bounds-entries-rank
+offset_bounds-entries-rank c =
+    let there = rank_there (texts c.args.names.now) c.args.order.now.entries.items c.args.order.now.ranks.items c.requires c.as_slice-entries.result.now c.deref-rank-items.result.now
+    c.as_slice-entries.ensures.value c.deref-rank-items.ensures.value c.loop-rank.rank-index (omega arith) in
+    search (rules, there)
+
 pub loop-rank-preserved : goal.loop-rank-preserved
 loop-rank-preserved c =
     let names : List (List ℕ) = texts c.args.names.now in
@@ -32,10 +48,10 @@ loop-rank-preserved c =
     let i : ℕ = c.loop-rank.rank-index in
     let rank : ℕ = get_or read i 0 in
     let name : List ℕ = name_at (names_of entries) rank in
-    let d : Entry = record { name = record { ref_ptr = (0, 0); now = [] }; number = 0 } in
+    let d : Entry = record { name = record { ref_ptr = (0, 0); now = [] }; number = 0; back = 0 } in
     let order : IsOrder names entries read
     = subst (λ (es : List Entry). IsOrder names es read) (sym c.as_slice-entries.ensures.value)
-    (subst (λ (rs : List ℕ). IsOrder names c.args.order.now.entries.items rs) (sym c.deref-rank-items.ensures.value) c.requires.ordered)
+    (subst (λ (rs : List ℕ). IsOrder names c.args.order.now.entries.items rs) (sym c.deref-rank-items.ensures.value) c.requires)
     in
     let within : i < length names = omega (arith, order.whole) in
     let test : (is_none (get_or offsets rank None) && not (ends_next (names_of entries) rank)) ≡ c.is_new_top.result

@@ -14,7 +14,7 @@ loop-current-init c =
 pub loop-current-preserved : goal.loop-current-preserved
 loop-current-preserved c =
     let names = names_of c.args.entries.now in
-    let d : Entry = record { name = record { ref_ptr = (0, 0); now = [] }; number = 0 } in
+    let d : Entry = record { name = record { ref_ptr = (0, 0); now = [] }; number = 0; back = 0 } in
     let placing = subst (IsPlacing names c.args.at c.args.k c.args.offsets.now c.loop-current.offsets) c.in-Some.is c.loop-current.invariant in
     let within : c.args.k < length c.args.entries.now = c.requires.within in
     let here : c.in-Some.i < length c.args.entries.now = omega (arith, placing.on.0) in

@@ -9,7 +9,7 @@ use Rattle.oc_strings.proofs.layout.Layout.of.Goals as goal
 pub by_rank-requires-clause-placed : goal.by_rank-requires-clause-placed
 by_rank-requires-clause-placed c =
     let all : length c.args.names.now ≡ length (texts c.args.names.now) = sym (length-map c.args.names.now (λ (n : Bor (List ℕ)). n.now)) in
-    subst (All (λ (o : Option ℕ). IsSome o)) (sym c.deref-3.ensures.value)
+    subst (All (λ (o : Option ℕ). IsSome o)) (sym c.deref.ensures.value)
     (placed_all (texts c.args.names.now) c.in_ok-order.order.entries.items c.in_ok-order.order.ranks.items c.in_ok-order.ensures c.args.head (length c.args.names.now) all
     (texts c.in_ok-placed.placed.tops.items) c.in_ok-placed.placed.offsets.items c.in_ok-placed.ensures)
 
@@ -25,5 +25,5 @@ returns-clause-offsets c =
     offsets_all (texts c.args.names.now) c.in_ok-order.order.entries.items c.in_ok-order.order.ranks.items c.in_ok-order.ensures c.args.head (length c.args.names.now) all
     (texts c.in_ok-placed.placed.tops.items) c.in_ok-placed.placed.offsets.items c.in_ok-placed.ensures c.in_ok-offsets.offsets.items
     (c.in_ok-offsets.ensures
-    ∙ ap (λ os. map (λ rank. get_or os rank None) c.deref-4.result.now) c.deref-3.ensures.value
-    ∙ ap (map (λ rank. get_or c.in_ok-placed.placed.offsets.items rank None)) c.deref-4.ensures.value)
+    ∙ ap (λ os. map (λ rank. get_or os rank None) c.deref-2.result.now) c.deref.ensures.value
+    ∙ ap (map (λ rank. get_or c.in_ok-placed.placed.offsets.items rank None)) c.deref-2.ensures.value)

@@ -18,7 +18,7 @@ pub loop-entry-preserved : goal.loop-entry-preserved
 loop-entry-preserved c =
     let numbered = subst (IsNumbered (texts c.args.names.now)) (sym c.deref-entry-items.ensures.value) c.in_ok-all.ensures.numbered in
     let up = subst (λ (all : List Entry). Ascends (names_of all)) (sym c.deref-entry-items.ensures.value) c.in_ok-all.ensures.ascends in
-    let d : Entry = record { name = record { ref_ptr = (0, 0); now = [] }; number = 0 } in
+    let d : Entry = record { name = record { ref_ptr = (0, 0); now = [] }; number = 0; back = 0 } in
     let count : c.len.result ≡ length c.if-not-ends_with_name.entries.items = c.len.ensures ∙ c.if-not-ends_with_name.entries.ok.0 in
     let e = get_or c.deref-entry-items.result.now c.loop-entry.entry-index d in
     let same : c.deref.result.now ≡ c.loop-entry.entries.items = c.deref.ensures.value in
