@@ -4,6 +4,7 @@
 //! `bench_strings KIND COUNT LENGTH`, where KIND is `tails` (names of that length, of which all but
 //! the first ten bytes are one of a few tails), `chain` (each name is the one before without its
 //! first byte) or `equal`. What was made goes to the standard output, times to standard error.
+//! The table is asked for each name twice: by the search, and at the name's own position.
 #![tactic(auto)]
 
 use anyhow::{Result, anyhow};
@@ -89,13 +90,20 @@ fn measure<R: Clock + Print + Eprint>(rt: &R, alloc: Global, names: &[Bytes]) ->
         .filter(|name| table.offset(name.as_slice()).is_some())
         .count();
     let asked = start.elapsed(rt)?;
+    let start = Instant::now(rt)?;
+    let found_near = names
+        .iter()
+        .enumerate()
+        .filter(|(k, name)| table.offset_near(*k, name.as_slice()).is_some())
+        .count();
+    let asked_near = start.elapsed(rt)?;
     let count = names.len();
     let size = table.bytes().len();
-    println!(rt; "{count} names, {found} found, a table of {size} bytes")?;
+    println!(rt; "{count} names, {found} found, {found_near} found near, a table of {size} bytes")?;
     let (sort, backward) = (sort.as_micros(), backward.as_micros());
-    let (made, asked) = (made.as_micros(), asked.as_micros());
+    let (made, asked, near) = (made.as_micros(), asked.as_micros(), asked_near.as_micros());
     eprintln!(rt;
-        "sort {sort} us, from the end {backward} us, table {made} us, offsets {asked} us"
+        "sort {sort} us, from the end {backward} us, table {made} us, offsets {asked} us, near {near} us"
     )?;
     Ok(())
 }
