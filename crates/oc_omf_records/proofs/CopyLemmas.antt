@@ -1,5 +1,5 @@
 -- Where the copies of content bytes stand.
-use Rattle.std.proofs.Common.{◌≡◌, ℕ, zero, suc, ◌+◌, ◌-◌, ◌*◌, ◌<◌, Bool, true, false, ◌&&◌, nat_lt, nat_le, IsTrue, List, [], ◌∷◌, length, All, refl, sym, ◌∙◌, ap, arith, Option, Some, None}
+use Rattle.std.proofs.Common.{◌≡◌, ℕ, zero, suc, ◌+◌, ◌-◌, ◌*◌, ◌<◌, Bool, true, false, ◌&&◌, nat_lt, nat_le, List, [], ◌∷◌, length, All, refl, sym, ◌∙◌, ap, arith, Option, Some, None}
 use Rattle.std.specs.Option.{option_map}
 use Rattle.std.proofs.lemmas.Bool.Decides.{nat_tests}
 use Rattle.std.proofs.lemmas.List.Elements.{All-nil, All-cons, All-append, All-map, All-weaker}
@@ -86,24 +86,17 @@ copies_of-within (nested count inside rest) at =
     IsWithin-found _ _ (count * size_of inside) (size_of rest) (IsWithin-in_each count (size_of inside) _ (copies_of-within inside at)) (copies_of-within rest at)
 
 -- under a count of 0, no place is kept
-pub kept-found : (live : Bool) (x y : Option (List ℕ)) (s t : ℕ) → (IsTrue live → s ≡ t) → kept live (found x s y) ≡ found (kept live x) t (kept live y)
-kept-found true x y s t same = ap (λ n. found x n y) (same refl)
-kept-found false (Some places) y s t same = refl
-kept-found false None None s t same = refl
-kept-found false None (Some places) s t same = refl
-
 pub kept-in_each : (live : Bool) (count size : ℕ) (x : Option (List ℕ)) → kept live (option_map (in_each count size) x) ≡ option_map (in_each count size) (kept live x)
 kept-in_each true count size x = refl
 kept-in_each false count size None = refl
 kept-in_each false count size (Some places) = ap Some (sym (in_each-nothing count size))
 
-pub kept-repeated : (live : Bool) (count s t : ℕ) (x : Option (List ℕ)) → (IsTrue live → 0 < count → s ≡ t)
-    → kept live (option_map (in_each count s) x) ≡ option_map (in_each count t) (kept (live && nat_lt 0 count) x)
-kept-repeated true zero s t None same = refl
-kept-repeated true zero s t (Some places) same = refl
-kept-repeated true (suc n) s t x same =
+pub kept-repeated : (live : Bool) (count size : ℕ) (x : Option (List ℕ))
+    → kept live (option_map (in_each count size) x) ≡ option_map (in_each count size) (kept (live && nat_lt 0 count) x)
+kept-repeated true zero size None = refl
+kept-repeated true zero size (Some places) = refl
+kept-repeated true (suc n) size x =
     let test : nat_lt 0 (suc n) ≡ true = grind (arith, nat_tests) in
-    let e : s ≡ t = same refl (omega arith) in
-    rw (test, e) refl
-kept-repeated false count s t None same = refl
-kept-repeated false count s t (Some places) same = ap Some (sym (in_each-nothing count t))
+    rw test refl
+kept-repeated false count size None = refl
+kept-repeated false count size (Some places) = ap Some (sym (in_each-nothing count size))

@@ -1,8 +1,9 @@
 -- What a walk over blocks finds of the copies of four content bytes (TIS OMF 1.1, "LIDATA: Logical Iterated Data Record").
-use Rattle.std.specs.Prelude.{ℕ, ◌≡◌, ◌<◌, ◌*◌, ◌^◌, min, Bool, true, false, List, [], All, Option, Vec}
+use Rattle.std.specs.Prelude.{ℕ, ◌≡◌, ◌<◌, ◌*◌, ◌^◌, min, Bool, true, false, List, [], All, Option, Some, None, Vec}
 use Rattle.std.specs.Global.{Global}
 use Rattle.std.specs.Option.{option_map}
 use Rattle.oc_omf_records.specs.declared.seeking.Sought.{Sought}
+use Rattle.oc_omf_records.specs.declared.seeking.Sought.TheVariants.{Found, Beyond}
 use Rattle.oc_omf_records.specs.Blocks.{Blocks, size_of, copies_of}
 
 -- the list of places, if there is one
@@ -14,10 +15,10 @@ abbrev pub kept : Bool → Option (List ℕ) → Option (List ℕ)
 kept true places = places
 kept false places = option_map (λ _. []) places
 
--- the walk gives the size of the row, and where the copies stand in it
-pub record Finds (live : Bool) (row : Blocks) (at : ℕ) (sought : Sought) : Type 0 where
-  pub size : sought.size ≡ min (size_of row) (2 ^ 32)
-  pub places : places_in sought.places ≡ kept live (copies_of row at)
+-- the walk gives where the copies stand in the row; or that the row does not hold the content, and the size of the row
+abbrev pub Finds : Bool → Blocks → ℕ → Sought → Type 0
+Finds live row at (Found places) = Some places.items ≡ kept live (copies_of row at)
+Finds live row at (Beyond size) = (copies_of row at ≡ None) × (size ≡ min (size_of row) (2 ^ 32))
 
 -- the places are places of one piece, and there are fewer than 2^31 bytes in all copies of it
 abbrev pub FitIn : ℕ → ℕ → List ℕ → Type 0

@@ -10,7 +10,7 @@ use crate::faults::{BlockFault, CopyFault};
 use crate::iterated::{Iterated, total_size};
 use crate::places::Places;
 use crate::reading::{MOST_LEVELS, read_block};
-use crate::seeking::seek_row;
+use crate::seeking::{Sought, seek_row};
 use oc_base::{Bytes, NoMemory, View};
 use std::alloc::Global;
 
@@ -68,18 +68,20 @@ impl Block {
     /// order. `at` is the encoded place of the first of the four, counted from the first byte of the
     /// first block. There is no copy where a count of 0 stands around them.
     ///
-    /// `NotContent` comes exactly where the four bytes do not lie in one content. Time is linear in
-    /// the encoded blocks and, at each of the at most 32 levels around the content, in the copies
-    /// there, which are never more than those given. Memory is linear in the places given.
+    /// `NotContent` comes exactly where the four bytes do not lie in one content. The blocks before
+    /// the content are walked once, and those behind it not at all, but for each row of blocks around
+    /// it that is repeated more than once and whose copies are given: that is walked once more, for
+    /// its size. Time is linear in the blocks walked and, at each of the at most 32 levels around the
+    /// content, in the copies there, which are never more than those given. Memory is linear in the
+    /// places given.
     pub fn copies(&self, alloc: Global, at: u32) -> Result<Places, CopyFault>
         requires { size_of (shown self.now) < 2 ^ 31 }
         ensures well { IfOk result (λ places. copies_of (shown self.now) at ≡ Some places) }
         ensures refused { IfErr result (λ fault. RefusesCopies fault (copies_of (shown self.now) at)) }
     {
-        let sought = seek_row(alloc, &self.blocks, at, true)?;
-        match sought.places {
-            Some(places) => Ok(Places::from_vec(places)),
-            None => Err(CopyFault::NotContent),
+        match seek_row(alloc, &self.blocks, at, true)? {
+            Sought::Found(places) => Ok(Places::from_vec(places)),
+            Sought::Beyond(_) => Err(CopyFault::NotContent),
         }
     }
 }

@@ -1,25 +1,25 @@
 //! Where the copies of four content bytes stand.
-ghost use Rattle.std.specs.Prelude.{◌≡◌, ◌+◌, ◌*◌, ◌^◌, ◌<◌, ◌≤◌, ◌++◌, ◌&&◌, nat_lt, min, All, IfOk, OnOk, IsTrue};
-ghost use Rattle.std.specs.Option.{option_map, ForSome};
-ghost use Rattle.oc_omf_records.specs.Blocks.{moved, in_each, in_content, found, size_of};
+ghost use Rattle.std.specs.Prelude.{◌≡◌, ◌+◌, ◌^◌, ◌<◌, ◌++◌, ◌&&◌, nat_lt, All, IfOk, OnOk, IsTrue};
+ghost use Rattle.oc_omf_records.specs.Blocks.{moved, in_each, in_content, size_of};
 ghost use Rattle.oc_omf_records.specs.Rows.{row_of, rows_of};
 ghost use Rattle.oc_omf_records.specs.Seeking.{Finds, places_in, kept, FitIn};
 
-use crate::iterated::{Iterated, MOST_BYTES, product};
+use crate::iterated::{Iterated, MOST_BYTES, product, total_size};
 use std::alloc::{AllocError, Global};
 
-/// What a walk over blocks finds of the copies of four content bytes.
+/// What a walk over blocks finds of four content bytes.
 #[derive(Debug, Drop)]
-pub struct Sought {
-    /// How many bytes the blocks stand for, or 2^32 where there are more.
-    pub size: u64,
-    /// Where the copies stand among those bytes, if the content is in the blocks. Where a count of
-    /// 0 stands around the blocks, there are none.
-    pub places: Option<Vec<u32>>,
+pub enum Sought {
+    /// Where their copies stand among the bytes that the blocks stand for. Where a count of 0 stands
+    /// around the blocks, there are none.
+    Found(Vec<u32>),
+    /// The blocks do not hold them, and stand for so many bytes, or 2^32 where there are more.
+    Beyond(u64),
 }
 
-/// Walks the blocks for the four content bytes at `at`, an encoded place. No count of 0 stands around
-/// the blocks exactly where `live`; else no place is computed.
+/// Walks the blocks for the four content bytes at `at`, an encoded place, and no further than the
+/// block that holds them. No count of 0 stands around the blocks exactly where `live`; else no place
+/// is computed.
 #[cycle(seeking)]
 pub fn seek_row(
     alloc: Global,
@@ -30,15 +30,14 @@ pub fn seek_row(
     requires { IsTrue live → size_of (rows_of blocks.now) < 2 ^ 31 }
     ensures { IfOk result (Finds live (rows_of blocks.now) at) }
 {
-    let mut sought = Sought {
-        size: 0,
-        places: None,
-    };
+    let mut before = 0u64;
     for block in blocks {
-        let own = seek_block(alloc, block, at, live)?;
-        sought = followed(sought, own);
+        match seek_block(alloc, block, at, live)? {
+            Sought::Found(places) => return Ok(Sought::Found(moved_by(places, before))),
+            Sought::Beyond(size) => before = (before + size).min(MOST_BYTES),
+        }
     }
-    Ok(sought)
+    Ok(Sought::Beyond(before))
 }
 
 /// Walks the block for the four content bytes at `at`.
@@ -54,12 +53,18 @@ fn seek_block(alloc: Global, block: &Iterated, at: u32, live: bool) -> Result<So
             bytes,
         } => {
             let size = bytes.len() as u64;
-            let places = seek_content(alloc, *place, size, at, live)?;
-            repeated(alloc, Sought { size, places }, *count)
+            match seek_content(alloc, *place, size, at, live)? {
+                Some(places) => Ok(Sought::Found(in_each(alloc, *count, size, &places)?)),
+                None => Ok(Sought::Beyond(product(*count, size))),
+            }
         }
         Iterated::Nested { count, blocks } => {
-            let inside = seek_row(alloc, blocks, at, is_live(live, *count))?;
-            repeated(alloc, inside, *count)
+            match seek_row(alloc, blocks, at, is_live(live, *count))? {
+                Sought::Found(places) => {
+                    Ok(Sought::Found(in_each_row(alloc, *count, blocks, places)?))
+                }
+                Sought::Beyond(size) => Ok(Sought::Beyond(product(*count, size))),
+            }
         }
     }
 }
@@ -92,54 +97,33 @@ fn seek_content(
     Ok(Some(places))
 }
 
-/// What is found in some blocks, or else in those behind them.
-fn followed(before: Sought, own: Sought) -> Sought
-    requires sizes { before.size + own.size < 2 ^ 64 }
-    requires fit { ForSome own.places (λ places. All (λ place. before.size + place < 2 ^ 32) places.items) }
-    ensures size { result.size ≡ min (before.size + own.size) (2 ^ 32) }
-    ensures places { places_in result.places ≡ found (places_in before.places) before.size (places_in own.places) }
-{
-    let Sought { size, places } = before;
-    let total = (size + own.size).min(MOST_BYTES);
-    match places {
-        Some(places) => Sought {
-            size: total,
-            places: Some(places),
-        },
-        None => Sought {
-            size: total,
-            places: moved_by(own.places, size),
-        },
-    }
-}
-
 /// The places, that much further.
-fn moved_by(places: Option<Vec<u32>>, by: u64) -> Option<Vec<u32>>
-    requires { ForSome places (λ places. All (λ place. by + place < 2 ^ 32) places.items) }
-    ensures { places_in result ≡ option_map (moved by) (places_in places) }
+fn moved_by(places: Vec<u32>, by: u64) -> Vec<u32>
+    requires { All (λ place. by + place < 2 ^ 32) places.items }
+    ensures { result.items ≡ moved by places.items }
 {
-    let mut places = places?;
+    let mut places = places;
     for place in places.iter_mut() {
         *place = (by + u64::from(*place)) as u32;
     }
-    Some(places)
+    places
 }
 
-/// What is found where the blocks are repeated.
-fn repeated(alloc: Global, one: Sought, count: u32) -> Result<Sought, AllocError>
-    requires { ForSome one.places (λ places. FitIn count one.size places.items) }
-    ensures size { IfOk result (λ all. all.size ≡ min (count * one.size) (2 ^ 32)) }
-    ensures places { IfOk result (λ all. places_in all.places ≡ option_map (in_each count one.size) (places_in one.places)) }
+/// The places in a row of blocks, in each of `count` copies of the row. The blocks are walked for
+/// the size of a copy only where a place stands in more than one.
+fn in_each_row(
+    alloc: Global,
+    count: u32,
+    blocks: &[Iterated],
+    places: Vec<u32>,
+) -> Result<Vec<u32>, AllocError>
+    requires { FitIn count (size_of (rows_of blocks.now)) places.items }
+    ensures { IfOk result (λ all. all.items ≡ in_each count (size_of (rows_of blocks.now)) places.items) }
 {
-    let Sought { size, places } = one;
-    let all = match places {
-        Some(places) => Some(in_each(alloc, count, size, &places)?),
-        None => None,
-    };
-    Ok(Sought {
-        size: product(count, size),
-        places: all,
-    })
+    if places.is_empty() || count == 1 {
+        return Ok(places);
+    }
+    in_each(alloc, count, total_size(blocks), &places)
 }
 
 /// The places in a piece of `size` bytes, in each of `count` copies of the piece.

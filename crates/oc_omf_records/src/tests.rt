@@ -45,6 +45,39 @@ const ROWS: [u8; 23] = [
     2, 0, 2, 0, 1, 0, 0, 0, 2, 0x61, 0x62, 3, 0, 0, 0, 1, 0x63, 1, 0, 0, 0, 1, 0x64,
 ];
 
+/// No time a row of `7 8 9 10` and three times `x`. The content stands at place 9.
+const FIRST_NO_TIME: [u8; 19] = [0, 0, 2, 0, 1, 0, 0, 0, 4, 7, 8, 9, 10, 3, 0, 0, 0, 1, 0x78];
+
+/// That row once.
+const FIRST_ONCE: [u8; 19] = [1, 0, 2, 0, 1, 0, 0, 0, 4, 7, 8, 9, 10, 3, 0, 0, 0, 1, 0x78];
+
+/// That row twice.
+const FIRST_TWICE: [u8; 19] = [2, 0, 2, 0, 1, 0, 0, 0, 4, 7, 8, 9, 10, 3, 0, 0, 0, 1, 0x78];
+
+/// No time a row of three times `x` and `7 8 9 10`. The content stands at place 15.
+const LAST_NO_TIME: [u8; 19] = [0, 0, 2, 0, 3, 0, 0, 0, 1, 0x78, 1, 0, 0, 0, 4, 7, 8, 9, 10];
+
+/// That row once.
+const LAST_ONCE: [u8; 19] = [1, 0, 2, 0, 3, 0, 0, 0, 1, 0x78, 1, 0, 0, 0, 4, 7, 8, 9, 10];
+
+/// That row twice.
+const LAST_TWICE: [u8; 19] = [2, 0, 2, 0, 3, 0, 0, 0, 1, 0x78, 1, 0, 0, 0, 4, 7, 8, 9, 10];
+
+/// Twice a row of a block and `y`; in the block once `7 8 9 10` and three times `x`. The content
+/// stands at place 13.
+const ONCE_IN_TWICE: [u8; 29] = [
+    2, 0, 2, 0, 1, 0, 2, 0, 1, 0, 0, 0, 4, 7, 8, 9, 10, 3, 0, 0, 0, 1, 0x78, 1, 0, 0, 0, 1, 0x79,
+];
+
+/// Twice a row of `y` and a block; in the block twice `x` and `7 8 9 10`. The content stands at
+/// place 25.
+const TWICE_IN_TWICE: [u8; 29] = [
+    2, 0, 2, 0, 1, 0, 0, 0, 1, 0x79, 2, 0, 2, 0, 1, 0, 0, 0, 1, 0x78, 1, 0, 0, 0, 4, 7, 8, 9, 10,
+];
+
+/// No time `7 8 9 10`, and behind it `y`. The content stands at place 5.
+const NOT_THERE: [u8; 15] = [0, 0, 0, 0, 4, 7, 8, 9, 10, 1, 0, 0, 0, 1, 0x79];
+
 /// One byte in so many levels of blocks, each there once.
 fn in_levels(alloc: Global, levels: u32) -> Result<Vec<u8>, AllocError> {
     let mut bytes = Vec::new(alloc);
@@ -178,7 +211,7 @@ fn blocks_that_are_cut(rt: HostRuntime) {
 
 /// Blocks, the width of their counts, the bytes that they stand for, and a place with what becomes
 /// of four bytes there.
-const COPIES: [(&[u8], bool, &[u8], u32, Result<&[u32], CopyFault>); 6] = [
+const COPIES: [(&[u8], bool, &[u8], u32, Result<&[u32], CopyFault>); 16] = [
     (
         &THREE_OF_TWO,
         true,
@@ -204,6 +237,46 @@ const COPIES: [(&[u8], bool, &[u8], u32, Result<&[u32], CopyFault>); 6] = [
     (&OVER_NO_TIME, true, &[], 19, Ok(&[])),
     // No content here has four bytes.
     (&ROWS, false, b"abcccabcccd", 9, Err(CopyFault::NotContent)),
+    (&FIRST_NO_TIME, false, b"", 9, Ok(&[])),
+    (&FIRST_ONCE, false, b"\x07\x08\x09\x0Axxx", 9, Ok(&[0])),
+    (
+        &FIRST_TWICE,
+        false,
+        b"\x07\x08\x09\x0Axxx\x07\x08\x09\x0Axxx",
+        9,
+        Ok(&[0, 7]),
+    ),
+    (&LAST_NO_TIME, false, b"", 15, Ok(&[])),
+    (&LAST_ONCE, false, b"xxx\x07\x08\x09\x0A", 15, Ok(&[3])),
+    (
+        &LAST_TWICE,
+        false,
+        b"xxx\x07\x08\x09\x0Axxx\x07\x08\x09\x0A",
+        15,
+        Ok(&[3, 10]),
+    ),
+    (
+        &ONCE_IN_TWICE,
+        false,
+        b"\x07\x08\x09\x0Axxxy\x07\x08\x09\x0Axxxy",
+        13,
+        Ok(&[0, 8]),
+    ),
+    (
+        &TWICE_IN_TWICE,
+        false,
+        b"yx\x07\x08\x09\x0Ax\x07\x08\x09\x0Ayx\x07\x08\x09\x0Ax\x07\x08\x09\x0A",
+        25,
+        Ok(&[2, 7, 13, 18]),
+    ),
+    (&NOT_THERE, false, b"y", 5, Ok(&[])),
+    (
+        &TWICE_IN_TWICE,
+        false,
+        b"yx\x07\x08\x09\x0Ax\x07\x08\x09\x0Ayx\x07\x08\x09\x0Ax\x07\x08\x09\x0A",
+        26,
+        Err(CopyFault::NotContent),
+    ),
 ];
 
 #[test]
