@@ -6,16 +6,14 @@ use Rattle.std.proofs.lemmas.List.{length-append}
 use Rattle.std.proofs.lemmas.Option.{none-some, same_Some}
 use Rattle.oc_shelf.proofs.WritingLaws.MemberLemmas.{member_flat_map}
 use Rattle.oc_omf_read.specs.declared.cut.Cut.{Cut}
-use Rattle.oc_omf_read.specs.declared.structures.Base.{Base}
 use Rattle.oc_omf_read.specs.declared.topics.Topic.TheVariants as topic
-use Rattle.oc_omf_read.specs.Cursor.{Read, Reading, each_read}
-use Rattle.oc_omf_read.specs.Structures.{External, Piece, base_read, piece_read, public_read}
+use Rattle.oc_omf_read.specs.Cursor.{Read, Reading}
+use Rattle.oc_omf_read.specs.Structures.{External, Piece, piece_read}
 use Rattle.oc_omf_read.specs.Entries.{Entry, all_read, in_file, says_nothing, whole}
 use Rattle.oc_omf_read.specs.Tables.{Tables, tables_of}
 use Rattle.oc_omf_read.specs.Fixups.{fixed_in, last_of}
-use Rattle.oc_omf_read.specs.Held.{Held}
 use Rattle.oc_omf_read.specs.Known.{AreInForce}
-use Rattle.oc_omf_read.specs.Topics.{publics_on, said_on}
+use Rattle.oc_omf_read.specs.Topics.{said_on}
 use Rattle.oc_omf_read.specs.Defined.{and_entry, part_of}
 use Rattle.oc_omf_read.proofs.EachLemmas.{Goes}
 use Rattle.oc_omf_read.proofs.GoesLemmas.{communal_goes, external_goes}
@@ -26,18 +24,10 @@ use Rattle.oc_omf_judge.specs.declared.reached.Reached.{Reached}
 use Rattle.oc_omf_judge.specs.declared.whole.Whole.{Whole}
 use Rattle.oc_omf_judge.specs.Counts.{AreCounts, end_of, external_by}
 use Rattle.oc_omf_judge.specs.LastData.{IsLast, shown}
-use Rattle.oc_omf_judge.specs.Locals.{AreLocals, AreLocated}
 use Rattle.oc_omf_judge.specs.Lying.{lying_of}
 use Rattle.oc_omf_judge.specs.Reached.{AreExternalsTaken, AreSmall, ArePartsTaken, IsEntryTaken, judged_behind, last_in, placed_in}
 use Rattle.oc_omf_judge.specs.Starts.{AreStarts}
 use Rattle.oc_omf_judge.specs.Whole.{IsWhole, entries}
-
--- ... definitions
-
-pub located_entry : (old new : Held) (local : Bool) (place : ℕ) (wide : Bool) (b : List ℕ) (base : Base) (at : ℕ) → base_read b 0 ≡ Ok (base, at)
-    → AreLocated old (all_read (each_read (public_read wide local base.segment) b at)) new → AreLocated old (all_read (said_on (topic.Publics local) place wide b).publics) new
-located_entry old new local place wide b base at e located publics are =
-    subst (λ xs. AreLocals (publics ++ xs) new) (sym (ap (λ (r : Reading Base). all_read (publics_on local place wide b r)) e ∙ read_in_file place (each_read (public_read wide local base.segment) b at))) (located publics are)
 
 -- ... counts
 

@@ -1,7 +1,6 @@
 pub mod EntryLemmas
 pub mod FixedLemmas
 pub mod JudgingLemmas
-pub mod LocalLemmas
 pub mod MentionLemmas
 pub mod NamedLemmas
 pub mod PartLemmas

@@ -21,7 +21,7 @@ use Rattle.oc_omf_read.specs.Targets.{external_at, meaning_of, section_target, t
 use Rattle.oc_omf_read.specs.Seen.{mention_of}
 use Rattle.oc_omf_judge.specs.declared.named.Named.TheVariants as named
 use Rattle.oc_omf_judge.specs.declared.whole.Whole.{Whole}
-use Rattle.oc_omf_judge.specs.Locals.{AreLocals}
+use Rattle.oc_omf_read.specs.Locals.{AreLocals}
 use Rattle.oc_omf_judge.specs.Named.{named_external, named_of, named_symbol, section_at, shown}
 use Rattle.oc_omf_judge.specs.Whole.{IsWhole, entries, meaning, tables}
 use Rattle.oc_omf_judge.proofs.MentionLemmas.{IsAmong, external_mentioned, numbered_among, same_is}

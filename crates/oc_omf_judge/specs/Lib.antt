@@ -1,4 +1,3 @@
-pub mod Locals
 pub mod Whole
 pub mod Named
 pub mod Rows

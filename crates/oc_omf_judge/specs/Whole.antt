@@ -13,7 +13,7 @@ use Rattle.oc_omf_read.specs.Judged.{IsFront}
 use Rattle.oc_omf_read.specs.Fixups.{Fixed}
 use Rattle.oc_omf_read.specs.RelocationFaults as faults
 use Rattle.oc_omf_judge.specs.declared.whole.Whole.{Whole}
-use Rattle.oc_omf_judge.specs.Locals.{AreLocals}
+use Rattle.oc_omf_read.specs.Locals.{AreLocals}
 
 -- its entries, what they define, and what indexes mean
 abbrev pub entries : Whole → List Entry

@@ -46,7 +46,7 @@ pub(crate) fn is_there(counts: Counts, method: Method) -> bool
         0 => is_indexed(counts.segments, method.index),
         1 => is_indexed(counts.groups, method.index),
         2 => is_indexed(counts.externals, method.index),
-        _ => true,
+        3.. => true,
     }
 }
 

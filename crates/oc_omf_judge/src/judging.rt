@@ -4,12 +4,11 @@ ghost use Rattle.oc_neutral.specs.Readable.{IsReadFault};
 ghost use Rattle.oc_shelf.specs.Reading.Stops.{IsStop};
 ghost use Rattle.oc_omf_read.specs.Rules.{fault_of};
 
-use crate::locals::local_segments;
 use crate::relocation_loop::check_relocations;
 use crate::whole::Whole;
 use oc_base::{Class, Fault, class};
 use oc_neutral::{Keep, ReadFault};
-use oc_omf_read::{Module, judge_front};
+use oc_omf_read::{Module, judge_front, local_segments};
 use oc_shelf::Stop;
 use std::alloc::Global;
 

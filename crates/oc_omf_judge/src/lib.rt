@@ -6,7 +6,6 @@ mod counts;
 mod fixups;
 mod judging;
 mod last_data;
-mod locals;
 mod named;
 mod reached;
 mod relocation_loop;

@@ -57,7 +57,7 @@ pub(crate) fn named_of<'a>(whole: &Whole<'a>, method: Method) -> Option<Named<'a
     match method.number {
         0 => Some(section_at(u32::from(method.index))),
         2 => named_external(whole, method.index),
-        _ => None,
+        1 | 3.. => None,
     }
 }
 

@@ -1,5 +1,5 @@
 //! Judging threads and fixups, entry by entry.
-ghost use Rattle.std.specs.Prelude.{◌≡◌, ◌+◌, ◌≤◌, Bool, length, Ok, None, IfErr, OnOk};
+ghost use Rattle.std.specs.Prelude.{◌≡◌, ℕ, ◌+◌, ◌≤◌, Bool, length, Ok, None, IfErr, OnOk};
 ghost use Rattle.oc_linking.specs.FirstFault.{first_fault};
 ghost use Rattle.oc_shelf.specs.Reading.Stops.{IsStop};
 ghost use Rattle.oc_shelf.specs.declared.reading.stop.Stop.TheVariants as stop;
@@ -77,10 +77,9 @@ fn take_parts(
 }
 
 // takes up the segment in the contents of an entry, if one is read
-fn see_segment(reached: &mut Reached<'_>, spot: Spot, wide: bool, contents: &View<'_>)
-    ensures { (w : Whole) → specs.IsEntryTaken w reached.old spot.index (said_on topic.Segment spot.place wide contents.now) reached.new }
+fn see_segment(reached: &mut Reached<'_>, wide: bool, contents: &View<'_>)
+    ensures { (w : Whole) (index place : ℕ) → specs.IsEntryTaken w reached.old index (said_on topic.Segment place wide contents.now) reached.new }
 {
-    let _ = spot.index;
     match read_segment(contents, wide) {
         Ok(_segment) => reached.counts.segments = one_more(reached.counts.segments),
         Err(_) => (),
@@ -89,11 +88,9 @@ fn see_segment(reached: &mut Reached<'_>, spot: Spot, wide: bool, contents: &Vie
 
 // takes up the group in the contents of an entry, if one is read
 #[tactic(auto, unfolding(oc_omf_read::specs::Structures::group_read))]
-fn see_group(reached: &mut Reached<'_>, spot: Spot, wide: bool, contents: &View<'_>)
-    ensures { (w : Whole) → specs.IsEntryTaken w reached.old spot.index (said_on topic.Group spot.place wide contents.now) reached.new }
+fn see_group(reached: &mut Reached<'_>, contents: &View<'_>)
+    ensures { (w : Whole) (index place : ℕ) (wide : Bool) → specs.IsEntryTaken w reached.old index (said_on topic.Group place wide contents.now) reached.new }
 {
-    let _ = spot.index;
-    let _ = wide;
     match read_index(contents, 0) {
         Ok(_name) => reached.counts.groups = one_more(reached.counts.groups),
         Err(_) => (),
@@ -101,10 +98,9 @@ fn see_group(reached: &mut Reached<'_>, spot: Spot, wide: bool, contents: &View<
 }
 
 // takes up the externals in the contents of an entry, or the communals, up to the first that is cut
-fn see_externals(reached: &mut Reached<'_>, spot: Spot, communals: bool, contents: &View<'_>)
-    ensures { (w : Whole) (local : Bool) → specs.AreExternalsTaken w reached.old spot.index spot.place (each_read (external_by communals local) contents.now 0) reached.new }
+fn see_externals(reached: &mut Reached<'_>, communals: bool, contents: &View<'_>)
+    ensures { (w : Whole) (index place : ℕ) (local : Bool) → specs.AreExternalsTaken w reached.old index place (each_read (external_by communals local) contents.now 0) reached.new }
 {
-    let _ = spot.index;
     let count = reached.counts.externals;
     reached.counts.externals = with_externals(contents, communals, count);
 }
@@ -113,15 +109,13 @@ fn see_externals(reached: &mut Reached<'_>, spot: Spot, communals: bool, content
 fn see_data<'a>(
     alloc: Global,
     reached: &mut Reached<'a>,
-    spot: Spot,
     wide: bool,
     iterated: bool,
     contents: &View<'a>,
 ) -> Result<(), Stop>
-    ensures taken { OnOk result ((w : Whole) → specs.IsEntryTaken w reached.old spot.index (said_on (topic.Data iterated) spot.place wide contents.now) reached.new) }
+    ensures taken { OnOk result ((w : Whole) (index place : ℕ) → specs.IsEntryTaken w reached.old index (said_on (topic.Data iterated) place wide contents.now) reached.new) }
     ensures stop { IfErr result (λ s. s ≡ stop.NoMemory) }
 {
-    let _ = spot.index;
     match LastData::read(alloc, contents, wide, iterated) {
         Ok(Some(last)) => {
             reached.last = Some(last);
@@ -149,22 +143,22 @@ fn take_entry<'a>(
 {
     match topic {
         Topic::Segment => {
-            see_segment(reached, spot, wide, contents);
+            see_segment(reached, wide, contents);
             Ok(())
         }
         Topic::Group => {
-            see_group(reached, spot, wide, contents);
+            see_group(reached, contents);
             Ok(())
         }
         Topic::Externals(_local) => {
-            see_externals(reached, spot, false, contents);
+            see_externals(reached, false, contents);
             Ok(())
         }
         Topic::Communals => {
-            see_externals(reached, spot, true, contents);
+            see_externals(reached, true, contents);
             Ok(())
         }
-        Topic::Data(iterated) => see_data(alloc, reached, spot, wide, iterated, contents),
+        Topic::Data(iterated) => see_data(alloc, reached, wide, iterated, contents),
         Topic::Fixups => take_parts(alloc, whole, reached, spot, wide, contents),
         Topic::Names => Ok(()),
         Topic::Publics(_local) => Ok(()),

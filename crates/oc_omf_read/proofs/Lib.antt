@@ -7,6 +7,7 @@ pub mod GoesLemmas
 pub mod GroupLemmas
 pub mod HeaderLemmas
 pub mod LaterLemmas
+pub mod LocalLemmas
 pub mod MemberLemmas
 pub mod NameLemmas
 pub mod PieceLemmas

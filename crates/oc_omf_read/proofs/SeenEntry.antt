@@ -2,8 +2,7 @@
 use Rattle.std.proofs.Common.{◌≡◌, ℕ, Bool, true, false, List, [], ◌∷◌, ◌++◌, length, map, Some, None, Ok, Err, refl, sym, ◌∙◌, ap, subst, append-nil}
 use Rattle.std.proofs.lemmas.List.{length-map, map-append}
 use Rattle.std.proofs.lemmas.Option.{none-some}
-use Rattle.oc_linking.specs.Numbers.{or_else}
-use Rattle.oc_linking.specs.FirstFault.{first_broken, stage_fault}
+use Rattle.oc_linking.specs.FirstFault.{first_broken}
 use Rattle.oc_shelf.specs.declared.reading.stop.Stop.{Stop}
 use Rattle.oc_shelf.specs.Reading.Stops.{IsStop}
 use Rattle.oc_omf_read.specs.declared.cut.Cut.{Cut}
@@ -16,11 +15,12 @@ use Rattle.oc_omf_read.specs.Structures.{Group, base_read, communal_read, extern
 use Rattle.oc_omf_read.specs.Entries.{Entry, all_read, in_file, whole}
 use Rattle.oc_omf_read.specs.Tables.{Tables}
 use Rattle.oc_omf_read.specs.Symbols.{external_mention}
-use Rattle.oc_omf_read.specs.SymbolFaults.{base_conditions, symbol_stage}
+use Rattle.oc_omf_read.specs.SymbolFaults.{base_conditions}
 use Rattle.oc_omf_read.specs.Topics.{publics_on, said_on}
 use Rattle.oc_omf_read.specs.Defined.{and_entry, part_of}
 use Rattle.oc_omf_read.specs.Held.{Held}
-use Rattle.oc_omf_read.specs.Seen.{AreCommunal, AreKnown, AreExternalsStopped, AreExternalsTaken, AreNamed, IsEntrySeen, IsEntryStopped, IsSeen, mention_of}
+use Rattle.oc_omf_read.specs.Locals.{AreLocals, AreLocated}
+use Rattle.oc_omf_read.specs.Seen.{AreCommunal, AreExternalsStopped, AreExternalsTaken, AreNamed, IsEntrySeen, IsEntryStopped, IsSeen, mention_of}
 use Rattle.oc_omf_read.proofs.GroupLemmas.{group_named, group_with, none_of}
 use Rattle.oc_omf_read.proofs.SeenLemmas.{symbols_judged}
 use Rattle.oc_omf_read.proofs.StageLaws.{read_in_file, whole_read}
@@ -135,9 +135,9 @@ communals_stop known old index place wide b s stopped all t names is =
 pub nothing_seen : (known : Held) (old : Seen) (index : ℕ) (e : Entry) → e.bases ≡ [] → e.publics ≡ [] → e.externals ≡ [] → e.segments ≡ [] → e.groups ≡ [] → IsEntrySeen known old index e old
 nothing_seen known old index e b p x s g = silent_seen known old index e old b p x (λ t is. same_kept t e old s g is)
 
--- ... the names of definitions that this module alone sees
+-- ... the segments of definitions that this module alone sees
 
-pub known_entry : (old new : Held) (local : Bool) (place : ℕ) (wide : Bool) (b : List ℕ) (base : Base) (at : ℕ) → base_read b 0 ≡ Ok (base, at)
-    → AreKnown old (all_read (each_read (public_read wide local base.segment) b at)) new → AreKnown old (all_read (said_on (topic.Publics local) place wide b).publics) new
-known_entry old new local place wide b base at e known publics are =
-    subst (λ xs. AreNamed true (publics ++ xs) new) (sym (ap (λ (r : Reading Base). all_read (publics_on local place wide b r)) e ∙ read_in_file place (each_read (public_read wide local base.segment) b at))) (known publics are)
+pub located_entry : (old new : Held) (local : Bool) (place : ℕ) (wide : Bool) (b : List ℕ) (base : Base) (at : ℕ) → base_read b 0 ≡ Ok (base, at)
+    → AreLocated old (all_read (each_read (public_read wide local base.segment) b at)) new → AreLocated old (all_read (said_on (topic.Publics local) place wide b).publics) new
+located_entry old new local place wide b base at e located publics are =
+    subst (λ xs. AreLocals (publics ++ xs) new) (sym (ap (λ (r : Reading Base). all_read (publics_on local place wide b r)) e ∙ read_in_file place (each_read (public_read wide local base.segment) b at))) (located publics are)

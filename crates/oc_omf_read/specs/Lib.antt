@@ -16,5 +16,6 @@ pub mod Known
 pub mod Topics
 pub mod Defined
 pub mod Held
+pub mod Locals
 pub mod Seen
 pub mod Judged

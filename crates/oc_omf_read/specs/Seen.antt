@@ -1,5 +1,5 @@
 -- What a reader keeps of the entries before one, as long as it judges symbols (our profile).
-use Rattle.std.specs.Prelude.{◌≡◌, ℕ, Bool, true, false, not, nat_eq, nat_lt, List, [], ◌∷◌, ◌++◌, length, map, is_some, Option, Some, None, Ok, Err}
+use Rattle.std.specs.Prelude.{◌≡◌, ℕ, Bool, true, false, not, nat_eq, nat_lt, List, [], ◌∷◌, ◌++◌, map, is_some, Option, Some, None, Ok, Err}
 use Rattle.std.specs.List.{list_any}
 use Rattle.std.specs.Option.{option_map_or}
 use Rattle.oc_base.specs.declared.code.Code.TheVariants.{SymbolPastEnd, SymbolKind, DuplicateName, BadSymbol}
@@ -17,7 +17,7 @@ use Rattle.oc_omf_read.specs.Entries.{Entry, all_read}
 use Rattle.oc_omf_read.specs.Tables.{Tables}
 use Rattle.oc_omf_read.specs.Sections.{size_at}
 use Rattle.oc_omf_read.specs.Symbols.{Mention, external_mention, public_mention, same_symbol}
-use Rattle.oc_omf_read.specs.SymbolFaults.{Told, code_of, communal_conditions, is_empty, is_other_length, is_undefined, same_public, symbol_fault, symbol_stage}
+use Rattle.oc_omf_read.specs.SymbolFaults.{code_of, communal_conditions, is_empty, is_other_length, is_undefined, same_public, symbol_fault, symbol_stage}
 use Rattle.oc_omf_read.specs.Defined.{and_entry}
 use Rattle.oc_omf_read.specs.Held.{Held, value_at}
 
@@ -129,7 +129,3 @@ IsEntrySeen known old index e new =
 abbrev pub IsEntryStopped : Held → Seen → ℕ → Entry → Stop → Type 0
 IsEntryStopped known old index e s =
     (all t : Tables) → AreNamed true all.publics known → IsSeen t old → IsStop (stage_fault (symbol_stage (record { index = index; before = t; all = all; entry = e }))) s
-
--- names are taken up with those of more definitions
-abbrev pub AreKnown : Held → List Public → Held → Type 0
-AreKnown old more new = (publics : List Public) → AreNamed true publics old → AreNamed true (publics ++ more) new

@@ -13,7 +13,7 @@ ghost use Rattle.oc_omf_read.specs.declared.topics.Topic.TheVariants as topic;
 use crate::cursor::read_index;
 use crate::entries::is_wide;
 use crate::externals::{take_communals, take_externals};
-use crate::known::known_locals;
+use crate::locals::local_segments;
 use crate::module::Module;
 use crate::publics::take_public_entry;
 use crate::reading::read_segment;
@@ -91,7 +91,7 @@ pub(crate) fn check_symbols<'a>(alloc: Global, omf: &Module<'a>) -> Result<Seen<
     ensures seen { IfOk result (λ s. specs.IsSeen (tables_of (entries_in omf.now)) s) }
     ensures stop { IfErr result (IsStop (first_fault (symbol_stages (entries_in omf.now)))) }
 {
-    let known = known_locals(alloc, omf)?;
+    let known = local_segments(alloc, omf)?;
     let mut seen = Seen::new(alloc);
     for i in 0..omf.count() {
         let entry = omf.entry(i);

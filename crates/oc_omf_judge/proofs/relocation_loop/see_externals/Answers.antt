@@ -6,5 +6,5 @@ use Rattle.oc_omf_judge.proofs.EntryLemmas.{externals_taken}
 use Rattle.oc_omf_judge.proofs.relocation_loop.see_externals.Goals as goal
 
 pub returns : goal.returns
-returns c = λ w local.
-    externals_taken w c.args.reached.now _ c.args.spot.index c.args.spot.place (each_read (external_by c.args.communals local) c.args.contents.now 0) refl refl refl refl refl (c.with_externals-reached.ensures local)
+returns c = λ w index place local.
+    externals_taken w c.args.reached.now _ index place (each_read (external_by c.args.communals local) c.args.contents.now 0) refl refl refl refl refl (c.with_externals-reached.ensures local)

@@ -9,6 +9,7 @@ use Rattle.oc_omf_read.specs.Tables.{tables_of}
 use Rattle.oc_omf_read.specs.Topics.{said_on}
 use Rattle.oc_omf_read.specs.Defined.{before_in}
 use Rattle.oc_omf_read.specs.Seen.{IsSeen}
+use Rattle.oc_omf_read.proofs.LocalLemmas.{named_locals}
 use Rattle.oc_omf_read.proofs.StageLaws.{all_behind, defined_behind, entry_count, entry_here}
 use Rattle.oc_omf_read.proofs.SymbolStages.{symbols_at, symbols_first, symbols_here}
 use Rattle.oc_omf_read.proofs.symbol_loop.check_symbols.Goals as goal
@@ -21,7 +22,7 @@ returns-in-Err-clause-stop c =
     let there = entry_here file c.loop-i.i r c.topic_of-topic.result c.is_wide-wide.result c.entry-entry.ensures.place c.entry-entry.ensures.entry c.topic_of-topic.ensures c.is_wide-wide.ensures in
     subst (λ o. IsStop o c.in-Err.stop) (sym (symbols_first file))
     (stops_at (symbols_at file) c.loop-i.i (length (entries_in file)) c.in-Err.stop c.loop-i.invariant.clean (slice_get_within (entries_in file) c.loop-i.i e there)
-    (subst (λ o. IsStop o c.in-Err.stop) (sym (symbols_here file c.loop-i.i e there)) (c.in-Err.ensures.stop (tables_of (entries_in file)) (before_in file c.loop-i.i) c.in_ok-known.ensures c.loop-i.invariant.seen)))
+    (subst (λ o. IsStop o c.in-Err.stop) (sym (symbols_here file c.loop-i.i e there)) (c.in-Err.ensures.stop (tables_of (entries_in file)) (before_in file c.loop-i.i) (named_locals (tables_of (entries_in file)).publics c.in_ok-known.known c.in_ok-known.ensures) c.loop-i.invariant.seen)))
 
 pub loop-i-preserved : goal.loop-i-preserved
 loop-i-preserved c =
@@ -29,7 +30,7 @@ loop-i-preserved c =
     let r = c.entry-entry.result in
     let e : Entry = said_on c.topic_of-topic.result r.place c.is_wide-wide.result r.contents in
     let there = entry_here file c.loop-i.i r c.topic_of-topic.result c.is_wide-wide.result c.entry-entry.ensures.place c.entry-entry.ensures.entry c.topic_of-topic.ensures c.is_wide-wide.ensures in
-    let taken = c.in-Ok.ensures.taken (tables_of (entries_in file)) (before_in file c.loop-i.i) c.in_ok-known.ensures c.loop-i.invariant.seen in
+    let taken = c.in-Ok.ensures.taken (tables_of (entries_in file)) (before_in file c.loop-i.i) (named_locals (tables_of (entries_in file)).publics c.in_ok-known.known c.in_ok-known.ensures) c.loop-i.invariant.seen in
     record {
       clean = clean_more (symbols_at file) c.loop-i.i c.loop-i.invariant.clean (symbols_here file c.loop-i.i e there ∙ taken.0);
       seen = subst (λ t. IsSeen t c.see_entry.new.seen) (sym (defined_behind file c.loop-i.i e there)) taken.1;

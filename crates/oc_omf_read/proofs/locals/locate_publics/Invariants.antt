@@ -2,9 +2,9 @@
 use Rattle.std.proofs.Common.{◌-◌, List, [], length}
 use Rattle.oc_omf_read.specs.Structures.{Public, public_read}
 use Rattle.oc_omf_read.specs.Held.{Held}
-use Rattle.oc_omf_judge.specs.Locals.{AreLocals}
+use Rattle.oc_omf_read.specs.Locals.{AreLocals}
 use Rattle.oc_omf_read.proofs.WalkLemmas.{Walk}
-use Rattle.oc_omf_judge.proofs.locals.locate_publics.Given as goal
+use Rattle.oc_omf_read.proofs.locals.locate_publics.Given as goal
 
 abbrev pub invariant-loop-at : goal.invariant-loop-at
 invariant-loop-at l =

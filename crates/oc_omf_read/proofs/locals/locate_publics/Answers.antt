@@ -4,12 +4,12 @@ use Rattle.oc_omf_read.specs.Structures.{Public, public_read}
 use Rattle.oc_omf_read.specs.Entries.{all_read, in_file}
 use Rattle.oc_omf_read.specs.Held.{Held}
 use Rattle.oc_omf_read.specs.Seen.{public_with}
-use Rattle.oc_omf_judge.specs.Locals.{AreLocals}
+use Rattle.oc_omf_read.specs.Locals.{AreLocals}
 use Rattle.oc_omf_read.proofs.EachLemmas.{each_behind, each_from}
 use Rattle.oc_omf_read.proofs.GoesLemmas.{public_goes}
 use Rattle.oc_omf_read.proofs.StageLaws.{read_in_file}
 use Rattle.oc_omf_read.proofs.WalkLemmas.{walk_begin, walk_end, walk_more, walk_over}
-use Rattle.oc_omf_judge.proofs.locals.locate_publics.Goals as goal
+use Rattle.oc_omf_read.proofs.locals.locate_publics.Goals as goal
 
 pub loop-at-init : goal.loop-at-init
 loop-at-init c = λ publics are.

@@ -4,9 +4,9 @@ use Rattle.oc_omf_read.specs.Entries.{Entry, entries_in}
 use Rattle.oc_omf_read.specs.Tables.{Tables, tables_of}
 use Rattle.oc_omf_read.specs.Topics.{said_on}
 use Rattle.oc_omf_read.specs.Defined.{before_in}
-use Rattle.oc_omf_judge.specs.Locals.{AreLocals}
+use Rattle.oc_omf_read.specs.Locals.{AreLocals}
 use Rattle.oc_omf_read.proofs.StageLaws.{all_behind, defined_behind, entry_count, entry_here}
-use Rattle.oc_omf_judge.proofs.locals.local_segments.Goals as goal
+use Rattle.oc_omf_read.proofs.locals.local_segments.Goals as goal
 
 pub loop-i-init : goal.loop-i-init
 unfolding tables_of
@@ -18,7 +18,7 @@ loop-i-preserved c =
     let r = c.entry-entry.result in
     let e : Entry = said_on c.topic_of-topic.result r.place c.is_wide-wide.result r.contents in
     let there = entry_here file c.loop-i.i r c.topic_of-topic.result c.is_wide-wide.result c.entry-entry.ensures.place c.entry-entry.ensures.entry c.topic_of-topic.ensures c.is_wide-wide.ensures in
-    subst (λ (t : Tables). AreLocals t.publics c.locate_entry.new.locals) (sym (defined_behind file c.loop-i.i e there)) (c.in_ok-locate_entry.ensures (before_in file c.loop-i.i).publics c.loop-i.invariant)
+    subst (λ (t : Tables). AreLocals t.publics c.locate_entry.new.locals) (sym (defined_behind file c.loop-i.i e there)) (c.in_ok-locate_entry.ensures r.place (before_in file c.loop-i.i).publics c.loop-i.invariant)
 
 pub returns : goal.returns
 returns c =

@@ -1,7 +1,7 @@
 -- One definition more, by what a reader keeps of those that a module alone sees.
 use Rattle.std.proofs.Common.{◌≡◌, ℕ, Bool, true, false, cond, List, [], ◌∷◌, ◌++◌, Option, None, Some, refl, sym, ◌∙◌, ap}
 use Rattle.std.specs.Prelude.{◌&&◌, bytes_eq, is_some}
-use Rattle.std.specs.List.{find}
+use Rattle.std.specs.List.{find, list_any}
 use Rattle.std.specs.Map.{update}
 use Rattle.std.specs.Option.{option_map, option_or}
 use Rattle.std.proofs.lemmas.Bool.{true≢false}
@@ -12,7 +12,8 @@ use Rattle.oc_omf_read.specs.Structures.{Public}
 use Rattle.oc_omf_read.specs.Symbols.{agree, public_mention, same_symbol}
 use Rattle.oc_omf_read.specs.Held.{Held, value_at}
 use Rattle.oc_omf_read.proofs.SeenSteps.{same_way}
-use Rattle.oc_omf_judge.specs.Locals.{AreLocals, local_mention}
+use Rattle.oc_omf_read.specs.Seen.{AreNamed}
+use Rattle.oc_omf_read.specs.Locals.{AreLocals, local_mention}
 
 -- the first definition that this module alone sees under a name
 abbrev first_local : List ℕ → List Public → Option Public
@@ -72,3 +73,16 @@ local_new publics old new p are local free taken name = taken name ∙ by (bytes
         nothing : (b : Bool) → (b && false) ≡ false
         nothing true = refl
         nothing false = refl
+
+-- the names that are held are those of definitions that this module alone sees
+pub named_locals : (publics : List Public) (held : Held) → AreLocals publics held → AreNamed true publics held
+named_locals publics held are name = ap is_some (are name) ∙ found publics
+  where
+    found : (ps : List Public) → is_some (segment_in (first_local name ps)) ≡ list_any (λ p. same_symbol (local_mention name) (public_mention p)) ps
+    found [] = refl
+    found (p ∷ ps) = by (same_symbol (local_mention name) (public_mention p)) refl (found ps)
+      where
+        by : (b : Bool) → same_symbol (local_mention name) (public_mention p) ≡ b → is_some (segment_in (first_local name ps)) ≡ list_any (λ q. same_symbol (local_mention name) (public_mention q)) ps
+            → is_some (segment_in (first_local name (p ∷ ps))) ≡ list_any (λ q. same_symbol (local_mention name) (public_mention q)) (p ∷ ps)
+        by true e rest = rw e refl
+        by false e rest = rw e rest

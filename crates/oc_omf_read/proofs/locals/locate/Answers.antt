@@ -3,8 +3,8 @@ use Rattle.std.proofs.Common.{◌≡◌, ℕ, List, Some, sym, ◌∙◌, ap, su
 use Rattle.std.specs.Prelude.{bytes_eq, is_some}
 use Rattle.std.specs.Map.{update}
 use Rattle.oc_omf_read.specs.Held.{value_at}
-use Rattle.oc_omf_judge.proofs.LocalLemmas.{local_known, local_new, local_other}
-use Rattle.oc_omf_judge.proofs.locals.locate.Goals as goal
+use Rattle.oc_omf_read.proofs.LocalLemmas.{local_known, local_new, local_other}
+use Rattle.oc_omf_read.proofs.locals.locate.Goals as goal
 
 pub returns-then-not-local : goal.returns-then-not-local
 returns-then-not-local c = λ publics p are kind name segment. local_other publics c.args.locals.now p are (kind ∙ c.if-not-local.true)

@@ -1,14 +1,19 @@
 //! The segments of the symbols that a module alone sees.
-ghost use Rattle.std.specs.Prelude.{◌≡◌, ◌++◌, ◌∷◌, [], List, IfOk, OnOk};
+ghost use Rattle.std.specs.Prelude.{◌≡◌, ℕ, ◌++◌, ◌∷◌, [], List, IfOk, OnOk};
 ghost use Rattle.oc_omf_read.specs.Cursor.{each_read};
 ghost use Rattle.oc_omf_read.specs.Entries.{all_read, entries_in};
 ghost use Rattle.oc_omf_read.specs.Structures.{Public, public_read};
 ghost use Rattle.oc_omf_read.specs.Tables.{tables_of};
 ghost use Rattle.oc_omf_read.specs.Topics.{said_on};
-ghost use Rattle.oc_omf_judge.specs.Locals.{AreLocals, AreLocated};
+ghost use Rattle.oc_omf_read.specs.Locals.{AreLocals, AreLocated};
 
+use crate::entries::is_wide;
+use crate::held::{take_up, value_of};
+use crate::module::Module;
+use crate::reading::read_base;
+use crate::symbols::read_public;
+use crate::topics::{Topic, topic_of};
 use oc_base::{NoMemory, View};
-use oc_omf_read::{Module, Topic, is_wide, read_base, read_public, take_up, topic_of, value_of};
 use std::alloc::Global;
 use std::collections::BTreeMap;
 
@@ -59,13 +64,11 @@ fn locate_publics<'a>(
 fn locate_entry<'a>(
     locals: &mut BTreeMap<&'a [u8], u32>,
     topic: Topic,
-    place: u64,
     wide: bool,
     contents: &View<'a>,
 ) -> Result<(), NoMemory>
-    ensures { OnOk result (AreLocated locals.old (all_read (said_on topic place wide contents.now).publics) locals.new) }
+    ensures { OnOk result ((place : ℕ) → AreLocated locals.old (all_read (said_on topic place wide contents.now).publics) locals.new) }
 {
-    let _ = place;
     match topic {
         Topic::Publics(local) => match read_base(contents) {
             Ok((base, at)) => locate_publics(locals, wide, local, base.segment, contents, at),
@@ -85,7 +88,7 @@ fn locate_entry<'a>(
 /// The names of all definitions that a module alone sees, each with the index of the segment of the
 /// first of that name. `NoMemory` where memory ran out. Linear in the file, and for each name the time
 /// of about log2(n) comparisons.
-pub(crate) fn local_segments<'a>(
+pub fn local_segments<'a>(
     alloc: Global,
     omf: &Module<'a>,
 ) -> Result<BTreeMap<&'a [u8], u32>, NoMemory>
@@ -96,7 +99,7 @@ pub(crate) fn local_segments<'a>(
         let entry = omf.entry(i);
         let topic = topic_of(entry.kind);
         let wide = is_wide(entry.kind);
-        locate_entry(&mut locals, topic, entry.place, wide, &entry.contents)?;
+        locate_entry(&mut locals, topic, wide, &entry.contents)?;
     }
     Ok(locals)
 }
