@@ -40,7 +40,8 @@ use Rattle.oc_omf_reader.proofs.BindingLemmas.{binding_is, mentions_are}
 use Rattle.oc_omf_reader.proofs.ContentLemmas.{indexed_is, known_kind}
 use Rattle.oc_omf_reader.proofs.GivenFields.{number_stands}
 use Rattle.oc_omf_reader.proofs.HearLemmas.{symbol_at}
-use Rattle.oc_omf_reader.proofs.MentionLemmas.{any_told, same_self}
+use Rattle.oc_omf_judge.proofs.MentionLemmas.{same_self}
+use Rattle.oc_omf_reader.proofs.MentionLemmas.{any_told}
 use Rattle.oc_omf_reader.proofs.StartLemmas.{symbol_number}
 
 -- ... numbers of externals

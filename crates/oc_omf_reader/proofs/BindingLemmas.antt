@@ -17,7 +17,7 @@ use Rattle.oc_omf_reader.specs.declared.heard.What.TheVariants as what
 use Rattle.oc_omf_reader.specs.Bindings.{binding_seen, place_binding}
 use Rattle.oc_omf_reader.specs.Heard.{Told, of_communal, of_external, of_public, told_by, told_in}
 use Rattle.oc_omf_reader.specs.Mentioned.{length_by, length_in, length_said, mention_of, place_by, place_in, place_said, seen_in, symbols_told}
-use Rattle.oc_omf_reader.proofs.MentionLemmas.{same_is}
+use Rattle.oc_omf_judge.proofs.MentionLemmas.{same_is}
 
 -- ... mentions
 

@@ -14,7 +14,8 @@ use Rattle.oc_omf_reader.specs.declared.mentioned.Mentions.{Mentions}
 use Rattle.oc_omf_reader.specs.declared.heard.Heard.{Heard}
 use Rattle.oc_omf_reader.specs.Heard.{Told, all_told, told_of}
 use Rattle.oc_omf_reader.specs.Mentioned.{AreNumbered, HasHeard, Seen, blank, external_number, external_said, mention_of, number_among, number_held, held, seen_in, seen_more, seen_of, symbol_of, symbols_told, value_at}
-use Rattle.oc_omf_reader.proofs.MentionLemmas.{AreApart, Unlike, among_push, any_told, externals_keep, number_low, same_is, same_self, seen_set, seen_with, symbols_apart, symbols_push}
+use Rattle.oc_omf_judge.proofs.MentionLemmas.{same_is, same_self}
+use Rattle.oc_omf_reader.proofs.MentionLemmas.{AreApart, Unlike, among_push, any_told, externals_keep, number_low, seen_set, seen_with, symbols_apart, symbols_push}
 
 -- ... what is held
 

@@ -22,7 +22,8 @@ use Rattle.oc_omf_reader.specs.Heard.{Told, of_external, of_public, told_by, tol
 use Rattle.oc_omf_reader.specs.Mentioned.{mention_of, place_by, place_in, place_said, symbols_told}
 use Rattle.oc_omf_reader.proofs.BindingLemmas.{places_are}
 use Rattle.oc_omf_reader.proofs.ContentLemmas.{all_append, all_flat}
-use Rattle.oc_omf_reader.proofs.MentionLemmas.{any_told, same_is, same_self}
+use Rattle.oc_omf_judge.proofs.MentionLemmas.{same_is, same_self}
+use Rattle.oc_omf_reader.proofs.MentionLemmas.{any_told}
 use Rattle.oc_omf_read.proofs.EntryLemmas.{numbered_at}
 use Rattle.oc_neutral.proofs.Positions.{each_at}
 

@@ -1,37 +1,16 @@
 -- Symbols by their mentions.
 use Rattle.std.proofs.Common.{◌≡◌, ℕ, suc, ◌+◌, ◌<◌, Bool, true, false, cond, List, [], ◌∷◌, ◌++◌, length, map, set, Option, None, Some, refl, sym, ◌∙◌, ap, arith}
-use Rattle.std.specs.Prelude.{◌&&◌, ◌||◌, not, bytes_eq, filter_map, fold}
+use Rattle.std.specs.Prelude.{◌||◌, not, filter_map, fold}
 use Rattle.std.specs.List.{cons_option, list_any}
 use Rattle.std.proofs.lemmas.Bool.{true≢false}
-use Rattle.std.proofs.lemmas.Slice.Eq.{bytes_eq-Decides}
 use Rattle.std.proofs.lemmas.List.{map-append}
 use Rattle.std.proofs.lemmas.List.Folds.{list_any-append}
 use Rattle.std.proofs.lemmas.Grind.{fold-append}
 use Rattle.oc_linking.specs.Numbers.{or_else}
-use Rattle.oc_shelf.proofs.ReadingLaws.StageLemmas.{both_hold}
-use Rattle.oc_omf_read.specs.Symbols.{Mention, agree, number_of, same_symbol, with_new}
+use Rattle.oc_omf_read.specs.Symbols.{Mention, number_of, same_symbol, with_new}
 use Rattle.oc_omf_reader.specs.Heard.{Told}
+use Rattle.oc_omf_judge.proofs.MentionLemmas.{same_is, same_self}
 use Rattle.oc_omf_reader.specs.Mentioned.{Seen, blank, external_number, external_said, length_by, length_in, length_said, mention_of, number_among, place_by, place_in, place_said, seen_in, seen_more, symbols_told}
-
--- ... one symbol
-
-agree_is : (a b : Bool) → agree a b ≡ true → a ≡ b
-agree_is true true e = refl
-agree_is true false e = absurd (true≢false (sym e))
-agree_is false true e = absurd (true≢false (sym e))
-agree_is false false e = refl
-
-agree_self : (a : Bool) → agree a a ≡ true
-agree_self true = refl
-agree_self false = refl
-
-pub same_is : (x y : Mention) → same_symbol x y ≡ true → x ≡ y
-same_is x y e =
-    let both = both_hold (agree x.local y.local) (bytes_eq x.name y.name) e in
-    ap (λ (l : Bool). record { local = l; name = x.name }) (agree_is x.local y.local both.0) ∙ ap (λ (name : List ℕ). record { local = y.local; name = name }) ((bytes_eq-Decides x.name y.name).0 both.1)
-
-pub same_self : (x : Mention) → same_symbol x x ≡ true
-same_self x = ap (λ b. b && bytes_eq x.name x.name) (agree_self x.local) ∙ (bytes_eq-Decides x.name x.name).1 refl
 
 -- ... some symbols
 

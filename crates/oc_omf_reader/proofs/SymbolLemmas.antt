@@ -36,7 +36,8 @@ use Rattle.oc_omf_reader.specs.Heard.{told_in}
 use Rattle.oc_omf_reader.specs.Mentioned.{HasHeard, Seen, seen_in, seen_of, symbols_told}
 use Rattle.oc_omf_reader.proofs.BindingLemmas.{binding_is, mentions_are}
 use Rattle.oc_omf_reader.proofs.LocalLemmas.{local_placed}
-use Rattle.oc_omf_reader.proofs.MentionLemmas.{AreApart, same_self, symbols_apart}
+use Rattle.oc_omf_judge.proofs.MentionLemmas.{same_self}
+use Rattle.oc_omf_reader.proofs.MentionLemmas.{AreApart, symbols_apart}
 
 -- ... bindings
 

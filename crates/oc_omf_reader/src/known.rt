@@ -53,7 +53,7 @@ pub(crate) fn align_of(segment: &Segment) -> u32
         3 => 16,
         4 => 256,
         5 => 4,
-        _ => 0,
+        0 | 6.. => 0,
     }
 }
 
