@@ -9,7 +9,7 @@ use Rattle.oc_elf_file.specs.Heads.{heads_of, group_heads, section_heads, reloc_
 use Rattle.oc_elf_write.specs.declared.heads.Head.{Head}
 use Rattle.oc_elf_write.specs.declared.heads.Head.TheVariants as head
 use Rattle.oc_elf_write.specs.Heads.{head_in, heads_in, AreHeads}
-use Rattle.oc_elf_write.proofs.Turns.{map_append}
+use Rattle.oc_plans.proofs.Turns.{map_append}
 
 -- the null one, those of groups, of sections and of relocation tables, and the last three are all
 pub all_heads : (n : Object) (null groups sections tables symtab strtab all : List Head) → null ≡ head.Null ∷ []

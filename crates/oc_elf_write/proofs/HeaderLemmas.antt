@@ -30,7 +30,7 @@ use Rattle.oc_elf_file.specs.Headers.{made_headers, plain_header, shdr_of}
 use Rattle.oc_elf_file.specs.Layout.{Part, FileHead, Body, laid_parts, part_begin, part_size, parts_of}
 use Rattle.oc_elf_file.proofs.PartLaws.{headed_from}
 use Rattle.oc_elf_write.specs.LaidParts.{begins_by}
-use Rattle.oc_elf_write.proofs.Turns.{take_next}
+use Rattle.oc_plans.proofs.Turns.{take_next}
 use Rattle.oc_elf_file.specs.Heads.{group_head, section_head, reloc_head, placed_sections, Head, NullHead, GroupHead, SectionHead, RelocHead, SymtabHead, StrtabHead, ShstrtabHead, heads_of, head_size, head_where, group_heads, section_heads, reloc_heads, table_heads, is_symtab_head, is_strtab_head, is_shstrtab_head}
 use Rattle.oc_elf_write.proofs.WordLemmas.{end_ones}
 

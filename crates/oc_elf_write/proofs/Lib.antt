@@ -1,5 +1,4 @@
 pub mod BodyLemmas
-pub mod FieldBytes
 pub mod FormLemmas
 pub mod HeadLemmas
 pub mod KeyLemmas
@@ -8,7 +7,6 @@ pub mod LineLemmas
 pub mod NumberLemmas
 pub mod PlanLemmas
 pub mod RelocationLemmas
-pub mod SectionAlone
 pub mod StringLemmas
 pub mod HeaderLemmas
 pub mod SymbolLemmas

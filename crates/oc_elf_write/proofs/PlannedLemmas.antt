@@ -1,12 +1,12 @@
 -- The parts of the canonical file, as a plan has them.
-use Rattle.std.proofs.Common.{◌≡◌, ℕ, suc, ◌+◌, ◌-◌, ◌^◌, ◌<◌, ◌≤◌, List, [], ◌∷◌, ◌++◌, length, map, replicate, Option, Some, refl, sym, ◌∙◌, ap, subst, arith}
+use Rattle.std.proofs.Common.{◌≡◌, ℕ, ◌+◌, ◌^◌, ◌<◌, List, [], ◌∷◌, ◌++◌, length, map, Some, refl, sym, ◌∙◌, ap, subst, arith}
 use Rattle.std.specs.Prelude.{slice_get}
 use Rattle.std.specs.List.{AllByRecursion, enumerate_from}
 use Rattle.std.proofs.lemmas.List.{length-map}
 use Rattle.std.proofs.lemmas.List.FromFn.{length-enumerate_from}
 use Rattle.oc_neutral.specs.declared.section.Section.{Section}
 use Rattle.oc_neutral.specs.Objects.{Object}
-use Rattle.oc_shelf.specs.Writing.Parts.{Laid, laid, joined, file_of, end_of, AreInOrder, table_of}
+use Rattle.oc_shelf.specs.Writing.Parts.{Laid, file_of, end_of, AreInOrder, table_of}
 use Rattle.oc_shelf.proofs.WritingLaws.MemberLemmas.{of_map}
 use Rattle.oc_shelf.proofs.WritingLaws.PartLemmas.{laid_there}
 use Rattle.oc_shelf.proofs.WritingLaws.StandingLemmas.{stands_inside}
@@ -14,7 +14,7 @@ use Rattle.oc_elf_read.specs.declared.class.ElfClass.{ElfClass}
 use Rattle.oc_elf_read.specs.declared.class.ElfClass.TheVariants.{Class32, Class64}
 use Rattle.oc_elf_read.specs.declared.ehdr.Ehdr.{Ehdr}
 use Rattle.oc_elf_read.specs.declared.shdr.Shdr.{Shdr}
-use Rattle.oc_elf_file.specs.Bodies.{field_number, raw_of}
+use Rattle.oc_elf_file.specs.Bodies.{raw_of}
 use Rattle.oc_elf_file.specs.Canonical.{body_bytes, elf_file, file_header, part_bytes}
 use Rattle.oc_elf_file.specs.Headers.{made_headers}
 use Rattle.oc_elf_file.specs.Heads.{heads_of}
@@ -29,42 +29,16 @@ use Rattle.oc_elf_write.specs.declared.layout.Extents.{Extents}
 use Rattle.oc_elf_write.specs.Bodies.{AreBodies, body_by, HasBody}
 use Rattle.oc_elf_write.specs.Heads.{AreHeads, head_in}
 use Rattle.oc_elf_write.specs.LaidParts.{AreLaid, begins_by}
-use Rattle.oc_elf_write.specs.Plans.{elf_pieces, IsPlan, parts_by, pieces_at}
-use Rattle.oc_elf_write.specs.Raws.{all_raws, section_with_numbers, with_addends}
+use Rattle.oc_elf_write.specs.Plans.{elf_pieces, IsPlan, parts_by}
+use Rattle.oc_plans.specs.Numbered.{section_with_numbers}
+use Rattle.oc_plans.specs.Placed.{pieces_at}
+use Rattle.oc_plans.proofs.PlacedLemmas.{ends_laid, joined_pieces, mapped_in, order_laid, pieces_laid, places_laid}
+use Rattle.oc_elf_write.specs.Raws.{addend_in, all_raws, with_addends}
 use Rattle.oc_elf_write.proofs.BodyLemmas.{body_is, has_body, joined_rows}
 use Rattle.oc_elf_write.proofs.HeadLemmas.{head_listed}
-use Rattle.oc_elf_write.proofs.Turns.{from_each, map_append}
+use Rattle.oc_plans.proofs.Turns.{from_each, length-laid, map_append}
 
 -- ... parts that are laid
-
-module _ {X : Type 0} (begin : ℕ → X → ℕ) (size : X → ℕ) (f : X → List ℕ) where
-  abbrev piece : Laid X → Laid (List ℕ)
-  piece l = record { at = l.at; part = f l.part }
-
-  pub pieces_laid : (at : ℕ) (xs : List X) → pieces_at (map (λ (l : Laid X). l.at) (laid begin size at xs)) (map f xs) ≡ map piece (laid begin size at xs)
-  pieces_laid at [] = refl
-  pieces_laid at (x ∷ xs) = ap (λ ps. record { at = begin at x; part = f x } ∷ ps) (pieces_laid (begin at x + size x) xs)
-
-  module _ (sized : (x : X) → length (f x) ≡ size x) where
-    pub order_laid : ((at : ℕ) (x : X) → at ≤ begin at x) → (at : ℕ) (xs : List X) → AreInOrder at (map piece (laid begin size at xs))
-    order_laid up at [] = tt
-    order_laid up at (x ∷ xs) = (up at x, subst (λ p. AreInOrder (begin at x + p) (map piece (laid begin size (begin at x + size x) xs))) (sym (sized x)) (order_laid up (begin at x + size x) xs))
-
-    pub ends_laid : (at : ℕ) (xs : List X) → map end_of (map piece (laid begin size at xs)) ≡ map (λ (l : Laid X). l.at + size l.part) (laid begin size at xs)
-    ends_laid at [] = refl
-    ends_laid at (x ∷ xs) = ap (λ p. (begin at x + p) ∷ map end_of (map piece (laid begin size (begin at x + size x) xs))) (sized x) ∙ ap (λ es. (begin at x + size x) ∷ es) (ends_laid (begin at x + size x) xs)
-
-length-laid : {X : Type 0} (begin : ℕ → X → ℕ) (size : X → ℕ) (at : ℕ) (xs : List X) → length (laid begin size at xs) ≡ length xs
-length-laid begin size at [] = refl
-length-laid begin size at (x ∷ xs) = ap suc (length-laid begin size (begin at x + size x) xs)
-
-joined_pieces : {X : Type 0} (f : X → List ℕ) (at : ℕ) (ls : List (Laid X)) → joined (λ (x : List ℕ). x) at (map (λ (l : Laid X). record { at = l.at; part = f l.part }) ls) ≡ joined f at ls
-joined_pieces f at [] = refl
-joined_pieces f at (l ∷ ls) = ap (λ zs. replicate (l.at - at) 0 ++ (f l.part ++ zs)) (joined_pieces f (l.at + length (f l.part)) ls)
-
-places_laid : {X : Type 0} (f : X → List ℕ) (ls : List (Laid X)) → map (λ (l : Laid (List ℕ)). l.at) (map (λ (l : Laid X). record { at = l.at; part = f l.part }) ls) ≡ map (λ (l : Laid X). l.at) ls
-places_laid f [] = refl
-places_laid f (l ∷ ls) = ap (λ zs. l.at ∷ zs) (places_laid f ls)
 
 -- the file of the pieces is the canonical file
 pub file_is : (class : ElfClass) (n : Object) → file_of (elf_pieces class n) ≡ elf_file class n
@@ -72,24 +46,6 @@ unfolding elf_file
 file_is class n = joined_pieces (part_bytes class n) 0 (laid_parts class n)
 
 -- ... which parts they are
-
-mapped_in : {A X Y : Type 0} (into : A → Option X) (f : A → Y) (g : X → Y) (these : List A) (xs : List X) → map into these ≡ map Some xs
-    → ((a : A) (x : X) → into a ≡ Some x → f a ≡ g x) → map f these ≡ map g xs
-mapped_in into f g [] [] are same = refl
-mapped_in into f g [] (x ∷ xs) are same = absurd (let e = ap length are in omega (arith, e))
-mapped_in into f g (a ∷ these) [] are same = absurd (let e = ap length are in omega (arith, e))
-mapped_in {A} {X} {Y} into f g (a ∷ these) (x ∷ xs) are same =
-    let first : into a ≡ Some x = ap (λ os. head_or os (Some x)) are in
-    let rest : map into these ≡ map Some xs = ap tail_of are in
-    ap (λ (y : Y). y ∷ map f these) (same a x first) ∙ ap (λ ys. g x ∷ ys) (mapped_in into f g these xs rest same)
-  where
-    head_or : List (Option X) → Option X → Option X
-    head_or [] d = d
-    head_or (o ∷ os) d = o
-
-    tail_of : List (Option X) → List (Option X)
-    tail_of [] = []
-    tail_of (o ∷ os) = os
 
 map_map : {X Y Z : Type 0} (f : Y → Z) (g : X → Y) (xs : List X) → map f (map g xs) ≡ map (λ x. f (g x)) xs
 map_map f g [] = refl
@@ -148,7 +104,7 @@ module _ (class : ElfClass) (n : Object) (these : List Head) (are : AreHeads n t
 
 -- ... bytes
 
-raws_32 : (n : Object) (xs : List (ℕ × Section)) → map (λ (s : Section). s.bytes) (map (section_with_numbers field_number n.relocs) xs) ≡ map (λ (x : ℕ × Section). raw_of Class32 n x.0 x.1) xs
+raws_32 : (n : Object) (xs : List (ℕ × Section)) → map (λ (s : Section). s.bytes) (map (section_with_numbers addend_in n.relocs) xs) ≡ map (λ (x : ℕ × Section). raw_of Class32 n x.0 x.1) xs
 unfolding raw_of
 raws_32 n [] = refl
 raws_32 n (x ∷ xs) = ap (λ zs. raw_of Class32 n x.0 x.1 ∷ zs) (raws_32 n xs)
@@ -162,7 +118,3 @@ raws_64 n i (x ∷ xs) = ap (λ zs. x.bytes ∷ zs) (raws_64 n (i + 1) xs)
 pub raws_are : (class : ElfClass) (n : Object) → map (λ (s : Section). s.bytes) (with_addends class n.relocs n.sections) ≡ all_raws class n
 raws_are Class32 n = raws_32 n (enumerate_from 0 n.sections)
 raws_are Class64 n = raws_64 n 0 n.sections
-
-pub length-with_addends : (class : ElfClass) (n : Object) (xs : List Section) → length (with_addends class n.relocs xs) ≡ length xs
-length-with_addends Class32 n xs = length-map (enumerate_from 0 xs) (section_with_numbers field_number n.relocs) ∙ length-enumerate_from 0 xs
-length-with_addends Class64 n xs = refl

@@ -19,7 +19,8 @@ use Rattle.oc_elf_file.specs.Groups.{group_words, is_member_head, member_number}
 use Rattle.oc_elf_file.specs.Heads.{Head, NullHead, GroupHead, SectionHead, RelocHead, SymtabHead, StrtabHead, ShstrtabHead, heads_of, head_size}
 use Rattle.oc_elf_file.proofs.HeadLaws.{head_at}
 use Rattle.oc_elf_write.specs.Words.{all_words, items_at}
-use Rattle.oc_elf_write.proofs.Turns.{take_next, length-first}
+use Rattle.oc_plans.proofs.Turns.{take_next}
+use Rattle.oc_elf_write.proofs.Turns.{length-first}
 
 -- a list by its positions
 pub from_positions : {X Y : Type 0} (f : ℕ → Y) (d : Y) (i : ℕ) (xs : List X) (ys : List Y) → length ys ≡ length xs → ((k : ℕ) → k < length xs → get_or ys k d ≡ f (i + k))

@@ -12,7 +12,7 @@ use crate::layout::layout_of;
 use crate::lines::lines_of;
 use crate::numbers::Numbers;
 use crate::plan::Plan;
-use crate::raw::write_addends;
+use crate::raw::with_addends;
 use oc_base::NoMemory;
 use oc_elf_read::ElfClass;
 use oc_neutral::{Fitted, Neutral, Section};
@@ -23,9 +23,8 @@ fn sections_of(class: ElfClass, neutral: Neutral) -> Vec<Section>
     ensures { map (λ s. s.bytes) result.items ≡ all_raws class neutral }
 {
     neutral.is_object();
-    let (_groups, mut sections, _symbols, relocs) = neutral.into_parts();
-    write_addends(class, &relocs, sections.as_mut_slice());
-    sections
+    let (_groups, sections, _symbols, relocs) = neutral.into_parts();
+    with_addends(class, &relocs, sections)
 }
 
 /// The plan of the canonical ELF file of an object that is ready to be written. `NoMemory` where memory

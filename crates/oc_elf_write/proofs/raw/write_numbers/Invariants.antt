@@ -1,7 +1,0 @@
-use Rattle.oc_elf_write.proofs.FieldBytes.{IsWriting}
-use Rattle.oc_elf_file.specs.Bodies.{field_number}
-use Rattle.oc_elf_write.proofs.raw.write_numbers.Given as goal
-
--- with the numbers that are left the section has all
-abbrev pub invariant-loop-field : goal.invariant-loop-field
-invariant-loop-field l = IsWriting field_number l.fn.relocs l.initial.section l.field-iterator l.section

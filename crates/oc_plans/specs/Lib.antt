@@ -1,0 +1,4 @@
+pub mod Alone
+pub mod Joined
+pub mod Numbered
+pub mod Placed
