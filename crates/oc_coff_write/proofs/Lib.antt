@@ -1,6 +1,5 @@
 pub mod DecimalLemmas
 pub mod EntryLemmas
-pub mod FieldBytes
 pub mod FormLemmas
 pub mod HeaderLemmas
 pub mod KeyLemmas
@@ -12,6 +11,5 @@ pub mod PlanLemmas
 pub mod PlannedLemmas
 pub mod Ready
 pub mod RelocationLemmas
-pub mod SectionAlone
 pub mod StringLemmas
 pub mod TableRows

@@ -21,10 +21,7 @@ use Rattle.oc_coff_write.specs.Lines.{line_in, lines_in, AreLines}
 use Rattle.oc_coff_write.specs.declared.lines.Line.TheVariants as line
 use Rattle.oc_coff_write.proofs.KeyLemmas.{one_key, one_passes, IsOne}
 use Rattle.oc_coff_write.specs.declared.lines.Line.{Line}
-
-map_append : {X Y : Type 0} (f : X → Y) (xs ys : List X) → map f (xs ++ ys) ≡ map f xs ++ map f ys
-map_append f [] ys = refl
-map_append f (x ∷ xs) ys = ap (λ zs. f x ∷ zs) (map_append f xs ys)
+use Rattle.oc_plans.proofs.Turns.{map_append}
 
 -- the lines of the symbols from position k on that pass
 abbrev pub lines_left : (ℕ → Symbol → lines.Line) → (Symbol → Bool) → List Symbol → ℕ → List (Option lines.Line)

@@ -32,6 +32,7 @@ use Rattle.oc_coff_write.specs.declared.lines.Line.{Line as Given}
 use Rattle.oc_coff_write.specs.declared.lines.Line.TheVariants as line
 use Rattle.oc_coff_write.specs.declared.numbers.Numbers.{Numbers}
 use Rattle.oc_coff_read.specs.Lines.{Line, SectionLine, LocalLine, DefaultLine, OuterLine, lines_of, line_size, numbered_lines, entry_count, is_section_line, is_default_line, is_outer_line}
+use Rattle.oc_plans.proofs.Turns.{take_next}
 
 -- where the last of laid things begins that passes, k where none does
 abbrev pub last_where : {X : Type 0} → (X → Bool) → ℕ → List (Laid X) → ℕ
@@ -65,12 +66,6 @@ last_is_first {X} test (l ∷ ls) once = by (test l.part) refl (last_is_first te
     by false e rest = rest
 
 -- ... lines laid one behind another
-
--- the lines before one, with it
-take_next : {X : Type 0} (xs : List X) (k : ℕ) (x : X) → slice_get xs k ≡ Some x → take (k + 1) xs ≡ take k xs ++ x ∷ []
-take_next [] k x here = absurd (none-some x here)
-take_next (y ∷ xs) zero x here = ap (λ z. z ∷ []) (same_Some y x here)
-take_next (y ∷ xs) (suc k) x here = let e : suc k + 1 ≡ suc (k + 1) = omega arith in ap (λ m. take m (y ∷ xs)) e ∙ ap (λ zs. y ∷ zs) (take_next xs k x here)
 
 -- the number of the last of the first k lines that passes
 abbrev pub number_upto : (Line → Bool) → List Line → ℕ → ℕ

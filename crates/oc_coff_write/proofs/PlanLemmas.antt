@@ -1,94 +1,20 @@
--- The parts of a planned file: which they are, and where they stand.
-use Rattle.std.proofs.Common.{◌≡◌, ℕ, zero, suc, ◌+◌, ◌-◌, ◌*◌, ◌/◌, ◌%◌, ◌^◌, ◌<◌, ◌≤◌, ◌≢◌, List, [], ◌∷◌, ◌++◌, length, map, get_or, Some, inl, inr, refl, sym, ◌∙◌, ap, subst, arith, length-append}
-use Rattle.std.specs.Prelude.{slice_get}
-use Rattle.std.proofs.lemmas.Bool.{cases_lt}
-use Rattle.std.proofs.lemmas.Option.{get_or_from_slice_get}
+-- The parts of a planned file: which they are.
+use Rattle.std.proofs.Common.{◌≡◌, ℕ, zero, suc, ◌+◌, ◌-◌, ◌*◌, ◌/◌, ◌%◌, ◌^◌, ◌<◌, ◌≤◌, ◌≢◌, List, [], ◌∷◌, ◌++◌, length, map, get_or, refl, sym, ◌∙◌, ap, subst, arith, length-append}
 use Rattle.oc_base.specs.Strings.{table_text}
 use Rattle.oc_outside.specs.Windows.{IsFilled}
 use Rattle.oc_base.specs.Numbers.{bytes_of_number}
 use Rattle.oc_base.proofs.NumberLaws.{length-bytes_of_number}
 use Rattle.oc_strings.specs.Tables.{StringTable}
-use Rattle.oc_shelf.specs.Writing.Parts.{Laid, laid, laid_end, behind, Pieces, piece_at, end_of, AreInOrder, table_of, HaveSize}
-use Rattle.oc_shelf.proofs.WritingLaws.PartLemmas.{laid_end_from, length-joined}
+use Rattle.oc_shelf.specs.Writing.Parts.{laid_end, behind, piece_at, table_of, HaveSize}
+use Rattle.oc_shelf.proofs.WritingLaws.PartLemmas.{laid_end_from}
 use Rattle.oc_coff_read.specs.declared.file_header.FileHeader.{FileHeader}
 use Rattle.oc_coff_read.specs.declared.relocation.Relocation.{Relocation}
 use Rattle.oc_coff_read.specs.Relocation.{relocation_bytes}
 use Rattle.oc_coff_read.specs.Bodies.{with_count}
 use Rattle.oc_coff_read.proofs.StructureLaws.{length-relocation_bytes}
-use Rattle.oc_coff_write.specs.Plans.{pieces_laid, file_by, places_of, end_of_all, relocation_rows, bodies_of, strings_bytes, parts_by, IsPlan}
-
--- ... parts one behind another
-
-abbrev laid_from : ℕ → List (List ℕ) → Pieces
-laid_from at parts = laid behind length at parts
-
-length-laid_from : (at : ℕ) (parts : List (List ℕ)) → length (laid_from at parts) ≡ length parts
-length-laid_from at [] = refl
-length-laid_from at (x ∷ parts) = ap suc (length-laid_from (at + length x) parts)
-
--- there are as many pieces as parts
-pub length-pieces : (parts : List (List ℕ)) → length (pieces_laid parts) ≡ length parts
-length-pieces parts = length-laid_from 0 parts
-
-length-places_from : (at : ℕ) (parts : List (List ℕ)) → length (map (λ (l : Laid (List ℕ)). l.at) (laid_from at parts)) ≡ length parts
-length-places_from at [] = refl
-length-places_from at (x ∷ parts) = ap suc (length-places_from (at + length x) parts)
-
--- and places
-pub length-places : (parts : List (List ℕ)) → length (places_of parts) ≡ length parts
-length-places parts = length-places_from 0 parts
-
-part_from : (at : ℕ) (parts : List (List ℕ)) (k : ℕ) → (piece_at (laid_from at parts) k).part ≡ get_or parts k []
-part_from at [] k = refl
-part_from at (x ∷ parts) zero = refl
-part_from at (x ∷ parts) (suc k) = part_from (at + length x) parts k
-
--- piece k is part k
-pub part_is : (parts : List (List ℕ)) (k : ℕ) → (piece_at (pieces_laid parts) k).part ≡ get_or parts k []
-part_is parts k = part_from 0 parts k
-
-place_from : (at : ℕ) (parts : List (List ℕ)) (k : ℕ) → (piece_at (laid_from at parts) k).at ≡ get_or (map (λ (l : Laid (List ℕ)). l.at) (laid_from at parts)) k 0
-place_from at [] k = refl
-place_from at (x ∷ parts) zero = refl
-place_from at (x ∷ parts) (suc k) = place_from (at + length x) parts k
-
--- it begins at place k
-pub place_is : (parts : List (List ℕ)) (k : ℕ) → (piece_at (pieces_laid parts) k).at ≡ get_or (places_of parts) k 0
-place_is parts k = place_from 0 parts k
-
-next_from : (at : ℕ) (parts : List (List ℕ)) (k : ℕ) → k + 1 < length parts
-    → end_of (piece_at (laid_from at parts) k) ≡ get_or (map (λ (l : Laid (List ℕ)). l.at) (laid_from at parts)) (suc k) 0
-next_from at [] k low = absurd (omega (arith, low))
-next_from at (x ∷ []) k low = absurd (omega (arith, low))
-next_from at (x ∷ y ∷ parts) zero low = refl
-next_from at (x ∷ y ∷ parts) (suc k) low = next_from (at + length x) (y ∷ parts) k (omega (arith, low))
-
--- and ends at the next place
-pub next_is : (parts : List (List ℕ)) (k : ℕ) → k + 1 < length parts → end_of (piece_at (pieces_laid parts) k) ≡ get_or (places_of parts) (k + 1) 0
-next_is parts k low = let e : suc k ≡ k + 1 = omega arith in next_from 0 parts k low ∙ ap (λ j. get_or (places_of parts) j 0) e
-
-last_from : (at : ℕ) (parts : List (List ℕ)) (k : ℕ) → k + 1 ≡ length parts → end_of (piece_at (laid_from at parts) k) ≡ laid_end behind length at parts
-last_from at [] k is = absurd (omega (arith, is))
-last_from at (x ∷ []) zero is = refl
-last_from at (x ∷ []) (suc k) is = absurd (omega (arith, is))
-last_from at (x ∷ y ∷ parts) zero is = absurd (omega (arith, is))
-last_from at (x ∷ y ∷ parts) (suc k) is = last_from (at + length x) (y ∷ parts) k (omega (arith, is))
-
--- the last at the end
-pub last_is : (parts : List (List ℕ)) (k : ℕ) → k + 1 ≡ length parts → end_of (piece_at (pieces_laid parts) k) ≡ end_of_all parts
-last_is parts k is = last_from 0 parts k is
-
-order_from : (at : ℕ) (parts : List (List ℕ)) → AreInOrder at (laid_from at parts)
-order_from at [] = tt
-order_from at (x ∷ parts) = (omega arith, order_from (at + length x) parts)
-
--- they are in order
-pub pieces_in_order : (parts : List (List ℕ)) → AreInOrder 0 (pieces_laid parts)
-pieces_in_order parts = order_from 0 parts
-
--- the file ends there
-pub file_long : (parts : List (List ℕ)) → length (file_by parts) ≡ end_of_all parts
-file_long parts = let l = length-joined behind length (λ at x. omega arith) (λ (x : List ℕ). x) 0 parts (λ k x h. refl) in omega (arith, l)
+use Rattle.oc_plans.specs.Joined.{end_of_all, pieces_laid}
+use Rattle.oc_plans.proofs.JoinedLemmas.{length-pieces, part_is}
+use Rattle.oc_coff_write.specs.Plans.{relocation_rows, bodies_of, strings_bytes, parts_by, IsPlan}
 
 low_from : (at : ℕ) (parts : List (List ℕ)) (k : ℕ) → at + length (get_or parts k []) ≤ laid_end behind length at parts
 low_from at [] k = omega arith
@@ -192,7 +118,7 @@ module _ (header : FileHeader) (names : StringTable) {headers raws : List (List 
   small_at : (k : ℕ) → length (get_or (parts_by header headers raws relocs entries names) k []) < 2 ^ 32
   small_at k =
       let low = part_low (parts_by header headers raws relocs entries names) k in
-      let ends = is.ends in
+      let ends = is.laid.ends in
       let small = is.small in
       omega (arith, low, ends, small)
 
@@ -200,28 +126,6 @@ module _ (header : FileHeader) (names : StringTable) {headers raws : List (List 
       → IsFilled (piece_at (pieces_laid now) k).part from old new n
   filled_at k xs same from old new n filled =
       subst (λ (zs : List ℕ). IsFilled zs from old new n) (sym (part_is now k ∙ ap (λ ps. get_or ps k []) (sym view) ∙ same)) filled
-
-  -- as many places as parts
-  pub plan_count : length places ≡ length (pieces_laid now)
-  plan_count = ap length is.begins ∙ length-places (parts_by header headers raws relocs entries names) ∙ ap length view ∙ sym (length-pieces now)
-
-  pub plan_long : end ≡ length (file_by now)
-  plan_long = is.ends ∙ ap end_of_all view ∙ sym (file_long now)
-
-  -- where a part ends
-  pub plan_end : (k result : ℕ) → k < length (pieces_laid now) → (k + 1 ≡ length places → result ≡ end) → (k + 1 < length places → slice_get places (k + 1) ≡ Some result)
-      → result ≡ end_of (piece_at (pieces_laid now) k)
-  plan_end k result low last next =
-      let count = plan_count in
-      let long = length-pieces now in
-      elim (cases_lt (k + 1) (length places)) [
-        | inl more ↦
-            sym (get_or_from_slice_get places (k + 1) result 0 (next more)) ∙ ap (λ ps. get_or ps (k + 1) 0) (is.begins ∙ ap places_of view)
-            ∙ sym (next_is now k (omega (arith, more, count, long)))
-        | inr past ↦
-            let e : k + 1 ≡ length places = omega (arith, past, count, low) in
-            last e ∙ is.ends ∙ ap end_of_all view ∙ sym (last_is now k (omega (arith, e, count, long)))
-      ]
 
   pub headers_small : length (table_of headers) < 2 ^ 32
   headers_small = small_at 1

@@ -1,7 +1,7 @@
 -- The parts of the canonical file, as a plan has them.
-use Rattle.std.proofs.Common.{◌≡◌, ℕ, suc, ◌+◌, ◌-◌, List, [], ◌∷◌, ◌++◌, length, map, replicate, Some, refl, sym, ◌∙◌, ap, subst, arith}
-use Rattle.std.specs.Prelude.{slice_get, flat_map}
-use Rattle.std.specs.List.{AllByRecursion, enumerate_from}
+use Rattle.std.proofs.Common.{◌≡◌, ℕ, ◌+◌, ◌-◌, List, [], ◌∷◌, ◌++◌, length, map, replicate, refl, sym, ◌∙◌, ap, subst, arith}
+use Rattle.std.specs.Prelude.{flat_map}
+use Rattle.std.specs.List.{enumerate_from}
 use Rattle.std.proofs.lemmas.List.{length-map}
 use Rattle.oc_base.specs.declared.format.Word.{Word}
 use Rattle.oc_strings.specs.Tables.{StringTable as Names}
@@ -21,9 +21,12 @@ use Rattle.oc_coff_read.proofs.CodedLaws.{IsForCoff}
 use Rattle.oc_coff_read.proofs.PartLaws.{part_sized, entries_are_rows, header_is_eight}
 use Rattle.oc_coff_read.proofs.SizeLaws.{small_file}
 use Rattle.oc_coff_read.proofs.StructureLaws.{length-section_header_bytes}
-use Rattle.oc_coff_write.specs.Bodies.{section_with_numbers, raws_in, relocations_in}
+use Rattle.oc_plans.specs.Numbered.{section_with_numbers}
+use Rattle.oc_coff_write.specs.Bodies.{addend_in, raws_in, relocations_in}
 use Rattle.oc_coff_write.specs.LaidParts.{places_by, end_by, AreLaid}
-use Rattle.oc_coff_write.specs.Plans.{file_by, places_of, end_of_all, relocation_rows, bodies_of, strings_bytes, parts_by, IsPlan, coff_parts}
+use Rattle.oc_plans.proofs.Turns.{from_each, map_append}
+use Rattle.oc_plans.specs.Joined.{end_of_all, file_by, places_of}
+use Rattle.oc_coff_write.specs.Plans.{relocation_rows, bodies_of, strings_bytes, parts_by, IsPlan, coff_parts}
 use Rattle.oc_coff_write.specs.Strings.{table_for}
 use Rattle.oc_coff_write.proofs.LaidLemmas.{file_ends}
 
@@ -65,10 +68,6 @@ joined_rows : {X : Type 0} (f : X → List ℕ) (xs : List X) → flat_map f xs 
 joined_rows f [] = refl
 joined_rows f (x ∷ xs) = ap (λ zs. f x ++ zs) (joined_rows f xs)
 
-pub map_append : {X Y : Type 0} (f : X → Y) (xs ys : List X) → map f (xs ++ ys) ≡ map f xs ++ map f ys
-map_append f [] ys = refl
-map_append f (x ∷ xs) ys = ap (λ zs. f x ∷ zs) (map_append f xs ys)
-
 bodies_are : (w : Word) (n : Object) (xs : List (ℕ × Section))
     → map (part_bytes w n) (flat_map section_parts xs) ≡ bodies_of (map (λ (x : ℕ × Section). raw_of w n x.0 x.1) xs) (map (λ (x : ℕ × Section). relocs_of w (numbered_lines w n) n x.0) xs)
 unfolding part_bytes
@@ -107,11 +106,6 @@ headers_sized : (w : Word) (n : Object) (xs : List (ℕ × Section)) → HaveSiz
 headers_sized w n [] = tt
 headers_sized w n (x ∷ xs) = (length-section_header_bytes (header_at w n x) (header_is_eight w n x), headers_sized w n xs)
 
--- what holds of each element by its position holds of all
-pub from_each : {X : Type 0} (P : X → Type 0) (xs : List X) → ((k : ℕ) (x : X) → slice_get xs k ≡ Some x → P x) → AllByRecursion P xs
-from_each P [] each = tt
-from_each P (x ∷ xs) each = (each 0 x refl, from_each P xs (λ k y h. each (suc k) y h))
-
 -- it is a plan, where its layout is that of the parts
 pub plan_is : (w : Word) (n : Object) → IsForCoff w n → (header : FileHeader) (headers : List SectionHeader) (raws : List (List ℕ)) (relocs : List (List Relocation)) (entries : List (List ℕ)) (names : Names)
     → header ≡ file_header w n → headers ≡ headers_of w n → raws ≡ raws_in w n → relocs ≡ relocations_in w n → entries ≡ entry_rows w n → names ≡ table_for w n
@@ -123,8 +117,7 @@ plan_is w n is header headers raws relocs entries names a b c d e f places end l
     let small = small_file w n is in
     let own = laid_are.ends in
     record {
-      begins = laid_are.begins ∙ sym (places_are w n) ∙ ap places_of (sym same);
-      ends = laid_are.ends ∙ sym (end_is w n) ∙ ap end_of_all (sym same);
+      laid = record { begins = laid_are.begins ∙ sym (places_are w n) ∙ ap places_of (sym same); ends = laid_are.ends ∙ sym (end_is w n) ∙ ap end_of_all (sym same) };
       small = omega (arith, own, long, small);
       headed = subst (λ (hs : List SectionHeader). HaveSize 40 (map section_header_bytes hs)) (sym b) (headers_sized w n (enumerate_from 0 n.sections));
       entered = subst (λ (rows : List (List ℕ)). HaveSize 18 rows) (sym e) (from_each (λ (row : List ℕ). length row ≡ 18) (entry_rows w n) (entries_are_rows w n));
@@ -137,7 +130,7 @@ plan_is w n is header headers raws relocs entries names a b c d e f places end l
 -- ... bytes
 
 -- the bytes of sections with the numbers of their relocations
-pub raws_are : (w : Word) (n : Object) (xs : List (ℕ × Section)) → map (λ (s : Section). s.bytes) (map (section_with_numbers w n.relocs) xs) ≡ map (λ (x : ℕ × Section). raw_of w n x.0 x.1) xs
+pub raws_are : (w : Word) (n : Object) (xs : List (ℕ × Section)) → map (λ (s : Section). s.bytes) (map (section_with_numbers (addend_in w) n.relocs) xs) ≡ map (λ (x : ℕ × Section). raw_of w n x.0 x.1) xs
 unfolding raw_of
 raws_are w n [] = refl
 raws_are w n (x ∷ xs) = ap (λ zs. raw_of w n x.0 x.1 ∷ zs) (raws_are w n xs)

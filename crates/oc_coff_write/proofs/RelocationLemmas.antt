@@ -16,7 +16,7 @@ use Rattle.oc_express.proofs.Giving.{all_given}
 use Rattle.oc_coff_write.specs.declared.numbers.Numbers.{Numbers}
 use Rattle.oc_coff_write.specs.Numbers.{HasNumber, IsNumbered}
 use Rattle.oc_coff_write.proofs.NumberLemmas.{target_has}
-use Rattle.oc_coff_write.proofs.PlannedLemmas.{from_each}
+use Rattle.oc_plans.proofs.Turns.{from_each}
 
 -- a relocation, field by field
 pub relocation_is : (w : Word) (n : Object) (x : Field Reloc) (symbol type : ℕ) → symbol ≡ target_number (numbered_lines w n) x.item.target → type ≡ type_of w x.item

@@ -4,7 +4,8 @@ use Rattle.oc_base.specs.declared.format.Word.{Word}
 use Rattle.oc_base.specs.Numbers.{bytes_of_number}
 use Rattle.oc_base.specs.Strings.{table_text}
 use Rattle.oc_neutral.specs.Objects.{Object}
-use Rattle.oc_shelf.specs.Writing.Parts.{Laid, laid, laid_end, behind, Pieces, file_of, table_of, HaveSize}
+use Rattle.oc_shelf.specs.Writing.Parts.{table_of, HaveSize}
+use Rattle.oc_plans.specs.Joined.{AreJoined}
 use Rattle.oc_strings.specs.Tables.{StringTable}
 use Rattle.oc_neutral.specs.declared.coff.TheConstants.{STRINGS_HEAD}
 use Rattle.oc_coff_read.specs.declared.file_header.FileHeader.{FileHeader}
@@ -16,22 +17,6 @@ use Rattle.oc_coff_read.specs.Relocation.{relocation_bytes}
 use Rattle.oc_coff_read.specs.Bodies.{with_count}
 use Rattle.oc_coff_read.specs.Layout.{parts_of}
 use Rattle.oc_coff_read.specs.Canonical.{part_bytes}
-
--- parts of bytes, each where the one before ends
-abbrev pub pieces_laid : List (List ℕ) → Pieces
-pieces_laid parts = laid behind length 0 parts
-
--- the file of parts
-abbrev pub file_by : List (List ℕ) → List ℕ
-file_by parts = file_of (pieces_laid parts)
-
--- where each begins
-abbrev pub places_of : List (List ℕ) → List ℕ
-places_of parts = map (λ (l : Laid (List ℕ)). l.at) (pieces_laid parts)
-
--- where the last ends
-abbrev pub end_of_all : List (List ℕ) → ℕ
-end_of_all parts = laid_end behind length 0 parts
 
 -- the relocation entries of a section, each as its bytes
 abbrev pub relocation_rows : List Relocation → List (List ℕ)
@@ -54,8 +39,7 @@ parts_by header headers raws relocs entries names =
 
 -- what holds of a planned file of these parts: the places are theirs, and 32 bits are enough for them
 pub record IsPlan (parts headers raws : List (List ℕ)) (relocs : List (List Relocation)) (entries : List (List ℕ)) (places : List ℕ) (end : ℕ) : Type 0 where
-  pub begins : places ≡ places_of parts
-  pub ends : end ≡ end_of_all parts
+  pub laid : AreJoined places end parts
   pub small : end < 2 ^ 32
   pub headed : HaveSize SECTION_HEADER_SIZE headers
   pub entered : HaveSize SYMBOL_SIZE entries

@@ -1,5 +1,5 @@
 //! Planned files.
-ghost use Rattle.std.specs.Prelude.{◌≡◌, ◌+◌, ◌<◌, ◌^◌, [], Some, length, map, slice_get, slice_index_or};
+ghost use Rattle.std.specs.Prelude.{◌≡◌, ◌<◌, ◌^◌, [], length, map, slice_index_or};
 ghost use Rattle.oc_outside.specs.Windows.{IsFilled};
 ghost use Rattle.oc_shelf.specs.Writing.Parts.{table_of};
 ghost use Rattle.oc_coff_read.specs.SectionHeader.{section_header_bytes};
@@ -11,6 +11,7 @@ use crate::structures::pack_file_header;
 use crate::tables::{entries_window, headers_window, relocations_window, strings_window};
 use oc_coff_read::{FileHeader, Relocation, SectionHeader};
 use oc_neutral::{Emits, Section};
+use oc_plans::end_at;
 use oc_shelf::{Layout, Parts, copy_window, window_of};
 use oc_strings::Table;
 use std::marker::Model;
@@ -76,19 +77,6 @@ impl Plan {
     }
 }
 
-// where part `k` ends, of parts that begin at these places, the last of which ends at `end`
-fn end_at(places: &[u64], end: u64, k: usize) -> u64
-    requires { k < length places.now }
-    ensures last { k + 1 ≡ length places.now → result ≡ end }
-    ensures next { k + 1 < length places.now → slice_get places.now (k + 1) ≡ Some result }
-{
-    if k + 1 == places.len() {
-        end
-    } else {
-        places[k + 1]
-    }
-}
-
 // a window of the bytes of the section at a position
 fn raw_window(sections: &[Section], k: usize, from: u64, out: &mut [u8]) -> usize
     requires { k < length sections.now }
@@ -107,7 +95,7 @@ fn table_window(relocs: &[Vec<Relocation>], k: usize, from: u64, out: &mut [u8])
 }
 
 impl Parts for Plan {
-    ghost use Rattle.oc_coff_write.specs.Plans.{pieces_laid};
+    ghost use Rattle.oc_plans.specs.Joined.{pieces_laid};
 
     ghost parts = { λ p. pieces_laid p };
 
@@ -120,7 +108,7 @@ impl Parts for Plan {
     }
 
     fn end(&self, k: usize) -> u64 {
-        end_at(&self.layout.places, self.layout.end, k)
+        end_at(&self.layout, k)
     }
 
     fn part_window(&self, k: usize, from: u64, out: &mut [u8]) -> usize {
@@ -146,7 +134,7 @@ impl Parts for Plan {
 }
 
 impl Emits for Plan {
-    ghost use Rattle.oc_coff_write.specs.Plans.{file_by};
+    ghost use Rattle.oc_plans.specs.Joined.{file_by};
 
     ghost file = { λ p. file_by p };
 

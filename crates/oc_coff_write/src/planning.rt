@@ -7,11 +7,12 @@ ghost use Rattle.oc_coff_write.specs.Plans.{coff_parts};
 use crate::headers::{file_header_of, headers_of};
 use crate::layout::layout_of;
 use crate::plan::Plan;
-use crate::raw::write_all;
+use crate::raw::Addends;
 use crate::relocations::all_relocations;
 use crate::symbols::symbols_of;
 use oc_base::{NoMemory, Word};
 use oc_neutral::{Fitted, Neutral, Section};
+use oc_plans::with_numbers;
 use std::alloc::Global;
 
 // the sections of an object, with the numbers in their fields
@@ -19,9 +20,8 @@ fn sections_of(word: Word, neutral: Neutral) -> Vec<Section>
     ensures { map (λ s. s.bytes) result.items ≡ raws_in word neutral }
 {
     neutral.is_object();
-    let (_groups, mut sections, _symbols, relocs) = neutral.into_parts();
-    write_all(word, &relocs, sections.as_mut_slice());
-    sections
+    let (_groups, sections, _symbols, relocs) = neutral.into_parts();
+    with_numbers(&Addends { word }, &relocs, sections)
 }
 
 /// The plan of the canonical COFF file of an object that is ready to be written. `NoMemory` where memory

@@ -1,35 +1,25 @@
-//! The bytes of sections, with the numbers in their fields.
-ghost use Rattle.std.specs.Prelude.{◌≡◌, length, map};
-ghost use Rattle.std.specs.List.{AllByRecursion, enumerate_from};
-ghost use Rattle.oc_chains.specs.Fields.{FollowFrom};
-ghost use Rattle.oc_neutral.specs.Constants.{EndsWithin, IsWide, LieWithin};
-ghost use Rattle.oc_coff_write.specs.Bodies.{section_with_numbers, with_numbers};
-
+//! The numbers in the fields of relocations.
 use crate::forms::field_number;
 use oc_base::Word;
-use oc_chains::{Chains, Walk};
-use oc_neutral::{Reloc, Section};
+use oc_neutral::Reloc;
+use oc_plans::FieldNumbers;
 
-// writes the numbers of these relocations into their fields
-fn write_numbers(word: Word, relocs: Walk<'_, Reloc>, section: &mut Section)
-    requires apart { FollowFrom 0 relocs }
-    requires wide { AllByRecursion IsWide relocs }
-    requires inside { AllByRecursion (EndsWithin (length section.old.bytes)) relocs }
-    ensures { section.new ≡ with_numbers word relocs.entry section.old }
-{
-    for field in relocs {
-        let number = field_number(word, field.item);
-        section.put(field.at, field.width, number);
-    }
+/// The numbers in the fields of relocations in a file of that word.
+#[derive(Clone, Copy)]
+pub(crate) struct Addends {
+    /// The word of the file.
+    pub(crate) word: Word,
 }
 
-/// Writes the numbers of relocations into their fields in the bytes of the sections. Linear in the
-/// sections and relocations, no memory.
-pub(crate) fn write_all(word: Word, relocs: &Chains<Reloc>, sections: &mut [Section])
-    requires { LieWithin sections.old relocs.now.lists }
-    ensures { sections.new ≡ map (section_with_numbers word relocs.now.lists) (enumerate_from 0 sections.old) }
-{
-    for k in 0..relocs.section_count() {
-        write_numbers(word, relocs.walk(k), &mut sections[k as usize]);
+impl FieldNumbers for Addends {
+    ghost use Rattle.std.specs.Prelude.{◌≡◌};
+    ghost use Rattle.oc_coff_write.specs.Bodies.{addend_in};
+
+    ghost tells = { λ x number_of. number_of ≡ addend_in x.word };
+
+    ghost leads = { λ x position r. Unit {0} };
+
+    fn number(&self, _position: u32, _at: u32, reloc: Reloc) -> u64 {
+        field_number(self.word, reloc)
     }
 }

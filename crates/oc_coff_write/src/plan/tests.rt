@@ -1,56 +1,24 @@
 //! What a plan holds of a file: the bytes of sections, and the numbers of its structures.
-ghost use Rattle.std.specs.Prelude.{◌≡◌, codes, None, IfOk};
-ghost use Rattle.oc_base.specs.declared.format.Format.TheVariants.{Coff64};
-ghost use Rattle.oc_linking.specs.declared.terms.Kind.TheVariants as kind;
-ghost use Rattle.oc_neutral.specs.Fitted.{CanFit};
-ghost use Rattle.oc_neutral.specs.Invariants.{HasItsBytes};
-
 use super::Plan;
 use crate::writer::CoffWriter64;
-use oc_base::{Bytes, Format, NoMemory};
+use oc_base::Format;
 use oc_express::fit;
-use oc_neutral::{Builder, Kind, Neutral, Section, Writes};
+use oc_neutral::Writes;
+use oc_plans::object_of_data;
 use oc_shelf::Layout;
-use std::alloc::Global;
 use std::test::Fail;
 
 /// How many bytes the one section has.
 const SIZE: u32 = 100_000;
 
-/// A section of data of an ELF object: its tag is SHT_PROGBITS, above the bits for SHF_WRITE and SHF_ALLOC.
-fn data(alloc: Global) -> Result<Section, NoMemory>
-    ensures bytes { IfOk result HasItsBytes }
-    ensures kind { IfOk result (λ s. s.kind ≡ kind.Data) }
-    ensures name { IfOk result (λ s. s.name ≡ codes ".data") }
-    ensures tag { IfOk result (λ s. s.tag ≡ 11) }
-    ensures align { IfOk result (λ s. s.align ≡ 16) }
-    ensures alone { IfOk result (λ s. s.group ≡ None) }
-{
-    Ok(Section {
-        name: Bytes::from_slice(alloc, b".data")?,
-        kind: Kind::Data,
-        align: 16,
-        size: SIZE,
-        bytes: Bytes::from_vec(vec![in alloc; 7u8; SIZE as usize]?),
-        tag: 11,
-        number: 1,
-        group: None,
-    })
-}
-
-/// An object of that section alone.
-fn object(alloc: Global) -> Result<Neutral, Fail>
-    ensures { IfOk result (CanFit Coff64) }
-{
-    let mut builder = Builder::new(alloc, Format::Elf64);
-    builder.add_section(data(alloc)?)?;
-    Ok(builder.finish())
-}
-
 /// The plan of 100,000 bytes of data has these, one header, two entries, and a place for each part.
 #[test]
 fn a_plan_does_not_keep_the_file(rt: HostRuntime) -> Result<(), Fail> {
-    let fitted = fit(rt.alloc(), Format::Coff64, object(rt.alloc())?)?;
+    let fitted = fit(
+        rt.alloc(),
+        Format::Coff64,
+        object_of_data(rt.alloc(), Format::Coff64, SIZE)?,
+    )?;
     let Plan {
         header: _,
         headers,

@@ -10,7 +10,7 @@ use Rattle.oc_coff_read.specs.Bodies.{relocs_of}
 use Rattle.oc_coff_read.specs.Lines.{numbered_lines}
 use Rattle.oc_coff_write.specs.Bodies.{relocations_in}
 use Rattle.oc_coff_write.proofs.HeaderLemmas.{enumerate_step}
-use Rattle.oc_coff_write.proofs.PlannedLemmas.{map_append}
+use Rattle.oc_plans.proofs.Turns.{map_append}
 use Rattle.oc_coff_write.proofs.relocations.all_relocations.Goals as goal
 
 pub loop-k-preserved : goal.loop-k-preserved

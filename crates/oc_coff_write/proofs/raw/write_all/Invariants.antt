@@ -1,8 +1,0 @@
-use Rattle.std.proofs.Common.{◌≡◌}
-use Rattle.oc_neutral.proofs.Partly.{partly}
-use Rattle.oc_coff_write.specs.Bodies.{section_with_numbers}
-use Rattle.oc_coff_write.proofs.raw.write_all.Given as goal
-
--- the sections so far are done
-abbrev pub invariant-loop-k : goal.invariant-loop-k
-invariant-loop-k l = l.sections ≡ partly (section_with_numbers l.word l.relocs.lists) 0 l.k l.initial.sections
