@@ -57,10 +57,10 @@ pub(crate) fn padded(name: &[u8]) -> [u8; NAME_SIZE]
     padded
 }
 
-/// The offset of a name in a string table; 0, where the empty name stands, if it was not given. Time as
-/// for `Table::offset`.
-pub(crate) fn offset_in(names: &Table, name: &[u8]) -> u32
+/// The offset of a name in a string table; 0, where the empty name stands, if it was not given. It is
+/// looked for first at the position `near` among the given names: time as for `Table::offset_near`.
+pub(crate) fn offset_in(names: &Table, near: usize, name: &[u8]) -> u32
     ensures { (given : List (List ℕ)) → names.now ≡ table_with given → result ≡ layout.offset_in given name.now }
 {
-    names.offset(name).unwrap_or(0)
+    names.offset_near(near, name).unwrap_or(0)
 }

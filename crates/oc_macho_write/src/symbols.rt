@@ -25,6 +25,7 @@ fn own_nlist(
     alloc: Global,
     neutral: &Neutral,
     names: &Table,
+    near: usize,
     addresses: &[u64],
     section: u32,
 ) -> Result<Nlist, NoMemory>
@@ -35,7 +36,7 @@ fn own_nlist(
     let name = section_symbol_name(alloc, u64::from(section) + 1)?;
     let stood = values::at_place(neutral, addresses, section, 0);
     Ok(Nlist {
-        n_strx: offset_in(names, name.as_slice()),
+        n_strx: offset_in(names, near, name.as_slice()),
         n_type: stood.n_type,
         n_sect: stood.n_sect,
         n_desc: 0,
@@ -44,14 +45,20 @@ fn own_nlist(
 }
 
 // the entry of a symbol
-fn symbol_nlist(names: &Table, addresses: &[u64], neutral: &Neutral, symbol: &Symbol) -> Nlist
+fn symbol_nlist(
+    names: &Table,
+    near: usize,
+    addresses: &[u64],
+    neutral: &Neutral,
+    symbol: &Symbol,
+) -> Nlist
     requires addresses { AreAddresses neutral.now addresses.now }
     requires there { IsBinding neutral.now symbol.now.binding }
     ensures { (w : Word) → names.now ≡ table_with (layout.line_names w neutral.now) → result ≡ symbols.symbol_entry w neutral.now symbol.now }
 {
     let stood = values::of_binding(neutral, addresses, symbol.binding);
     Nlist {
-        n_strx: offset_in(names, symbol.name.as_slice()),
+        n_strx: offset_in(names, near, symbol.name.as_slice()),
         n_type: values::type_by(stood, symbol.binding, symbol.vis),
         n_sect: stood.n_sect,
         n_desc: values::desc_by(symbol.binding),
@@ -59,11 +66,12 @@ fn symbol_nlist(names: &Table, addresses: &[u64], neutral: &Neutral, symbol: &Sy
     }
 }
 
-// the entry of a line
+// the entry of a line, whose name is looked for first at the position `near` among the given names
 #[tactic(auto, unfolding(oc_macho_file::specs::Symbols::line_entry))]
 fn line_nlist(
     alloc: Global,
     names: &Table,
+    near: usize,
     addresses: &[u64],
     neutral: &Neutral,
     line: Line,
@@ -75,16 +83,16 @@ fn line_nlist(
 {
     neutral.is_object();
     match line {
-        Line::Own(k) => own_nlist(alloc, neutral, names, addresses, k),
+        Line::Own(k) => own_nlist(alloc, neutral, names, near, addresses, k),
         Line::Local(k) | Line::Outer(k) => {
-            Ok(symbol_nlist(names, addresses, neutral, neutral.symbol(k)))
+            Ok(symbol_nlist(names, near, addresses, neutral, neutral.symbol(k)))
         }
     }
 }
 
 /// The entries of these lines, whose names stand in this table, of an object whose sections have these
 /// addresses. `NoMemory` where memory ran out. Linear in the lines, but for looking up names in the
-/// string table.
+/// string table, each where that of its line was given.
 pub(crate) fn nlists_of(
     alloc: Global,
     word: Word,
@@ -101,8 +109,8 @@ pub(crate) fn nlists_of(
 {
     let _ = word;
     let mut nlists = Vec::with_capacity(alloc, lines.len())?;
-    for line in lines {
-        nlists.push(line_nlist(alloc, names, addresses, neutral, *line)?)?;
+    for (k, line) in lines.iter().enumerate() {
+        nlists.push(line_nlist(alloc, names, k, addresses, neutral, *line)?)?;
     }
     Ok(nlists)
 }

@@ -15,29 +15,29 @@ use Rattle.oc_macho_write.proofs.symbols.nlists_of.Goals as goal
 
 pub line_nlist-requires-clause-there : goal.line_nlist-requires-clause-there
 line_nlist-requires-clause-there c =
-    let k = c.loop-line.line-index in
-    let x = line_listed c.args.word c.args.neutral.now c.args.lines.now k _ c.requires.lines (slice_get-get_or c.args.lines.now k (line.Own 0) c.loop-line-test.true) in
+    let k = c.loop-k.k in
+    let x = line_listed c.args.word c.args.neutral.now c.args.lines.now k _ c.requires.lines (slice_get-get_or c.args.lines.now k (line.Own 0) c.loop-k-test.true) in
     ap is_some x.2
 
 pub line_nlist-requires-clause-section : goal.line_nlist-requires-clause-section
 line_nlist-requires-clause-section c =
-    let k = c.loop-line.line-index in
-    let x = line_listed c.args.word c.args.neutral.now c.args.lines.now k _ c.requires.lines (slice_get-get_or c.args.lines.now k (line.Own 0) c.loop-line-test.true) in
+    let k = c.loop-k.k in
+    let x = line_listed c.args.word c.args.neutral.now c.args.lines.now k _ c.requires.lines (slice_get-get_or c.args.lines.now k (line.Own 0) c.loop-k-test.true) in
     own_named c.args.word c.args.neutral.now _ k x.0 x.1 x.2
 
-pub loop-line-preserved : goal.loop-line-preserved
-loop-line-preserved c =
+pub loop-k-preserved : goal.loop-k-preserved
+loop-k-preserved c =
     let n = c.args.neutral.now in
-    let k = c.loop-line.line-index in
-    let x = line_listed c.args.word n c.args.lines.now k _ c.requires.lines (slice_get-get_or c.args.lines.now k (line.Own 0) c.loop-line-test.true) in
-    more_given c.loop-line.nlists.items _ _ _ (line_entry c.args.word n x.0 ∷ []) _
-    (◌∙◌ {A = List Nlist} c.in_ok-push.ensures.items (ap (λ (s : Nlist). c.loop-line.nlists.items ++ s ∷ []) (c.in_ok-line_nlist.ensures c.args.word x.0 c.requires.names x.2)))
-    (ap (map (line_entry c.args.word n)) (drop_step (lines_of c.args.word n) k x.0 x.1)) c.loop-line.invariant
+    let k = c.loop-k.k in
+    let x = line_listed c.args.word n c.args.lines.now k _ c.requires.lines (slice_get-get_or c.args.lines.now k (line.Own 0) c.loop-k-test.true) in
+    more_given c.loop-k.nlists.items _ _ _ (line_entry c.args.word n x.0 ∷ []) _
+    (◌∙◌ {A = List Nlist} c.in_ok-push.ensures.items (ap (λ (s : Nlist). c.loop-k.nlists.items ++ s ∷ []) (c.in_ok-line_nlist.ensures c.args.word x.0 c.requires.names x.2)))
+    (ap (map (line_entry c.args.word n)) (drop_step (lines_of c.args.word n) k x.0 x.1)) c.loop-k.invariant
 
 pub returns : goal.returns
 returns c =
     let n = c.args.neutral.now in
-    let k = c.loop-line.line-index in
+    let k = c.loop-k.k in
     let many = as_many_lines c.args.word n c.args.lines.now c.requires.lines in
-    let done : length (lines_of c.args.word n) ≤ k = omega (arith, c.loop-line-test.false, many) in
-    all_given c.loop-line.nlists.items _ _ (ap (map (line_entry c.args.word n)) (drop_all k (lines_of c.args.word n) done)) c.loop-line.invariant
+    let done : length (lines_of c.args.word n) ≤ k = omega (arith, c.loop-k-test.false, many) in
+    all_given c.loop-k.nlists.items _ _ (ap (map (line_entry c.args.word n)) (drop_all k (lines_of c.args.word n) done)) c.loop-k.invariant

@@ -4,5 +4,5 @@ use Rattle.oc_macho_file.specs.Symbols.{line_entry}
 use Rattle.oc_macho_write.proofs.symbols.nlists_of.Given as goal
 
 -- the entries so far, and those that are left
-abbrev pub invariant-loop-line : goal.invariant-loop-line
-invariant-loop-line l = l.nlists.items ++ map (line_entry l.fn.word l.neutral) (drop l.line-index (lines_of l.fn.word l.neutral)) ≡ map (line_entry l.fn.word l.neutral) (lines_of l.fn.word l.neutral)
+abbrev pub invariant-loop-k : goal.invariant-loop-k
+invariant-loop-k l = l.nlists.items ++ map (line_entry l.fn.word l.neutral) (drop l.k (lines_of l.fn.word l.neutral)) ≡ map (line_entry l.fn.word l.neutral) (lines_of l.fn.word l.neutral)
