@@ -192,12 +192,14 @@ fn header_by(class: ElfClass, neutral: &Neutral, made: Made<'_>, head: Head, pla
     }
 }
 
-// the section header of what stands at a place
+// the section header of what stands at a place, whose name is looked for first at the position `near`
+// among the given names
 fn header_of(
     alloc: Global,
     class: ElfClass,
     neutral: &Neutral,
     made: Made<'_>,
+    near: usize,
     head: Head,
     place: u64,
 ) -> Result<Shdr, NoMemory>
@@ -207,14 +209,15 @@ fn header_of(
     ensures { IfOk result (λ shdr. (is : elf_heads.Head) → head_in neutral.now head ≡ Some is → shdr ≡ headers.shdr_of class neutral.now place is) }
 {
     let name = head_name(alloc, class, neutral, head)?;
-    let sh_name = offset_in(&made.bodies.shstrtab, name.as_slice());
+    let sh_name = offset_in(&made.bodies.shstrtab, near, name.as_slice());
     let size = body_size(class, neutral.sections(), made.bodies, head);
     let plain = plain_header(sh_name, place, size);
     Ok(header_by(class, neutral, made, head, plain))
 }
 
 /// The section headers of a file whose parts begin at these places. `NoMemory` where memory ran out.
-/// Linear in the headers, but for looking up names in the string table.
+/// Linear in the headers, but for looking up names in the string table, each where the next given one
+/// stands.
 pub(crate) fn shdrs_of(
     alloc: Global,
     class: ElfClass,
@@ -230,8 +233,11 @@ pub(crate) fn shdrs_of(
     ensures { IfOk result (λ shdrs. shdrs.items ≡ headers.made_headers class neutral.now) }
 {
     let mut shdrs = Vec::with_capacity(alloc, heads.len())?;
+    let mut near = 0;
     for k in 0..heads.len() {
-        shdrs.push(header_of(alloc, class, neutral, made, heads[k], places[k + 1])?)?;
+        let shdr = header_of(alloc, class, neutral, made, near, heads[k], places[k + 1])?;
+        near += usize::from(shdr.sh_name != 0);
+        shdrs.push(shdr)?;
     }
     Ok(shdrs)
 }

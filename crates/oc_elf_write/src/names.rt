@@ -12,12 +12,12 @@ use oc_neutral::Neutral;
 use oc_strings::Table;
 use std::alloc::Global;
 
-/// The offset of a name in a string table; 0, where the empty name stands, if it was not given. Time as
-/// for `Table::offset`.
-pub(crate) fn offset_in(names: &Table, name: &[u8]) -> u32
+/// The offset of a name in a string table; 0, where the empty name stands, if it was not given. It is
+/// looked for first at the position `near` among the given names: time as for `Table::offset_near`.
+pub(crate) fn offset_in(names: &Table, near: usize, name: &[u8]) -> u32
     ensures { (given : List (List ℕ)) → names.now ≡ table_with given → result ≡ symbols.offset_in given name.now }
 {
-    names.offset(name).unwrap_or(0)
+    names.offset_near(near, name).unwrap_or(0)
 }
 
 // what stands before the name of a section in that of its relocation table

@@ -46,18 +46,18 @@ fn section_sym(neutral: &Neutral, section: u32) -> Sym
 
 // the entry of a signature, which stands in its group
 #[tactic(auto, unfolding(oc_elf_file::specs::Symbols::line_entry))]
-fn signature_sym(names: &Table, neutral: &Neutral, group: u32) -> Sym
+fn signature_sym(names: &Table, near: usize, neutral: &Neutral, group: u32) -> Sym
     requires few { length neutral.now.groups + 1 + length neutral.now.sections < 2 ^ 16 }
     requires there { group < length neutral.now.groups }
     requires names { names.now ≡ table_with (layout.line_names neutral.now) }
     ensures { (is : elf_lines.Line) → line_in neutral.now (line.Signature group) ≡ Some is → result ≡ symbols.line_entry neutral.now is }
 {
-    let name = offset_in(names, neutral.group(group).key.as_slice());
+    let name = offset_in(names, near, neutral.group(group).key.as_slice());
     local_sym(name, STT_NOTYPE, group_number(neutral, group) as u16)
 }
 
 // the entry of a symbol
-fn symbol_sym(names: &Table, neutral: &Neutral, symbol: &Symbol) -> Sym
+fn symbol_sym(names: &Table, near: usize, neutral: &Neutral, symbol: &Symbol) -> Sym
     requires few { length neutral.now.groups + 1 + length neutral.now.sections < 2 ^ 16 }
     requires there { IsBinding neutral.now symbol.now.binding }
     requires names { names.now ≡ table_with (layout.line_names neutral.now) }
@@ -65,7 +65,7 @@ fn symbol_sym(names: &Table, neutral: &Neutral, symbol: &Symbol) -> Sym
 {
     let stood = values::of_binding(neutral, symbol.binding);
     Sym {
-        st_name: offset_in(names, symbol.name.as_slice()),
+        st_name: offset_in(names, near, symbol.name.as_slice()),
         st_value: stood.st_value,
         st_size: values::size_by(symbol.binding, symbol.size),
         st_info: values::info_by(symbol.binding, symbol.mark),
@@ -74,9 +74,9 @@ fn symbol_sym(names: &Table, neutral: &Neutral, symbol: &Symbol) -> Sym
     }
 }
 
-// the entry of a line
+// the entry of a line, whose name is looked for first at the position `near` among the given names
 #[tactic(auto, unfolding(oc_elf_file::specs::Symbols::line_entry))]
-fn line_sym(names: &Table, neutral: &Neutral, line: Line) -> Sym
+fn line_sym(names: &Table, near: usize, neutral: &Neutral, line: Line) -> Sym
     requires few { length neutral.now.groups + 1 + length neutral.now.sections < 2 ^ 16 }
     requires there { IsSome (line_in neutral.now line) }
     requires names { names.now ≡ table_with (layout.line_names neutral.now) }
@@ -86,13 +86,13 @@ fn line_sym(names: &Table, neutral: &Neutral, line: Line) -> Sym
     match line {
         Line::Null => local_sym(0, STT_NOTYPE, SHN_UNDEF),
         Line::Section(k) => section_sym(neutral, k),
-        Line::Signature(g) => signature_sym(names, neutral, g),
-        Line::Local(k) | Line::Outer(k) => symbol_sym(names, neutral, neutral.symbol(k)),
+        Line::Signature(g) => signature_sym(names, near, neutral, g),
+        Line::Local(k) | Line::Outer(k) => symbol_sym(names, near, neutral, neutral.symbol(k)),
     }
 }
 
 /// The entries of these lines, whose names stand in this table. `NoMemory` where memory ran out. Linear
-/// in the lines, but for looking up names in the string table.
+/// in the lines, but for looking up names in the string table, each where the next given one stands.
 pub(crate) fn syms_of(
     alloc: Global,
     neutral: &Neutral,
@@ -105,8 +105,11 @@ pub(crate) fn syms_of(
     ensures { IfOk result (λ syms. syms.items ≡ map (symbols.line_entry neutral.now) (elf_lines.lines_of neutral.now)) }
 {
     let mut syms = Vec::with_capacity(alloc, lines.len())?;
+    let mut near = 0;
     for line in lines {
-        syms.push(line_sym(names, neutral, *line))?;
+        let sym = line_sym(names, near, neutral, *line);
+        near += usize::from(sym.st_name != 0);
+        syms.push(sym)?;
     }
     Ok(syms)
 }
