@@ -12,7 +12,7 @@ use Rattle.oc_omf_file.specs.Names.{names_size, filled_from}
 use Rattle.oc_omf_file.proofs.ListLemmas.{all_both}
 use Rattle.oc_omf_write.specs.declared.entries.Entry.{Entry}
 use Rattle.oc_omf_write.specs.Names.{names_entry, texts_in, IsRange, AreAdded, AreShort}
-use Rattle.oc_omf_write.proofs.SymbolLemmas.{map_append}
+use Rattle.oc_plans.proofs.Turns.{map_append}
 
 -- ... ranges
 

@@ -26,12 +26,13 @@ use Rattle.oc_omf_write.specs.Made.{IsMade}
 use Rattle.oc_omf_write.specs.Names.{names_entry, texts_in, IsRange}
 use Rattle.oc_omf_write.specs.Pieces.{data_entries}
 use Rattle.oc_omf_write.specs.Plans.{AreEntries, parts_by, omf_parts}
-use Rattle.oc_omf_write.specs.Raws.{section_with_numbers}
+use Rattle.oc_plans.specs.Numbered.{section_with_numbers}
+use Rattle.oc_omf_write.specs.Raws.{addend_in}
 use Rattle.oc_omf_write.specs.Written.{fixups_in}
 use Rattle.oc_omf_write.specs.Tables.{texts_of, fixups_of, bytes_by, CanPut}
 use Rattle.oc_omf_write.proofs.EntryLemmas.{IsPut, each_put}
 use Rattle.oc_omf_write.proofs.PlannedLemmas.{data_are}
-use Rattle.oc_omf_write.proofs.SymbolLemmas.{map_append}
+use Rattle.oc_plans.proofs.Turns.{map_append}
 
 -- ... outputs behind the names
 
@@ -169,7 +170,7 @@ header_same n t = refl
 module _ (n : Object) (is : IsForOmf n) (t : Tables) (numbers : List ℕ) (made : IsMade n t numbers) (symbols entries : List Entry) (of : symbols ≡ map entry_for (symbol_outputs n)) (are : AreEntries t symbols entries) where
   -- how many sections there are
   counted : length t.sections.items ≡ length n.sections
-  counted = ap length made.sections ∙ length-map (enumerate_from 0 n.sections) (section_with_numbers n n.relocs) ∙ length-enumerate_from 0 n.sections
+  counted = ap length made.sections ∙ length-map (enumerate_from 0 n.sections) (section_with_numbers (addend_in n) n.relocs) ∙ length-enumerate_from 0 n.sections
 
   data_is : data_entries (fixups_of t) t.sections.items ≡ map entry_for (flat_map (data_outputs n) (enumerate_from 0 n.sections))
   data_is = ap (λ fs. data_entries fs t.sections.items) made.fixups ∙ ap (data_entries (fixups_in numbers n)) made.sections ∙ data_are n numbers

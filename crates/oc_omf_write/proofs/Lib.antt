@@ -1,6 +1,5 @@
 pub mod DataLemmas
 pub mod EntryLemmas
-pub mod FieldBytes
 pub mod FillLemmas
 pub mod FinalLemmas
 pub mod FixupLemmas
@@ -12,7 +11,6 @@ pub mod PieceLemmas
 pub mod PlanLemmas
 pub mod PlannedLemmas
 pub mod ReadyLemmas
-pub mod SectionAlone
 pub mod SegmentLemmas
 pub mod SymbolLemmas
 pub mod TableLemmas

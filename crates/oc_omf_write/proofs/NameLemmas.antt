@@ -13,7 +13,7 @@ use Rattle.oc_omf_file.proofs.ListLemmas.{all_both}
 use Rattle.oc_omf_write.specs.declared.names.Name.{Name}
 use Rattle.oc_omf_write.specs.declared.names.Names.{Names}
 use Rattle.oc_omf_write.specs.Names.{text_by, IsNameOf, given_for, names_for, place_among, value_at, AreNames, AreUpto}
-use Rattle.oc_omf_write.proofs.SymbolLemmas.{map_append}
+use Rattle.oc_plans.proofs.Turns.{map_append}
 
 -- ... texts
 

@@ -28,15 +28,16 @@ use Rattle.oc_omf_write.specs.Entries.{entry_for}
 use Rattle.oc_omf_write.specs.Names.{names_for, given_for}
 use Rattle.oc_omf_write.specs.Numbers.{AreNumbers}
 use Rattle.oc_omf_write.specs.Pieces.{places_of, piece_entries, section_entries, fixups_at, data_entries}
-use Rattle.oc_omf_write.specs.Raws.{with_numbers, section_with_numbers, sections_in}
+use Rattle.oc_plans.specs.Numbered.{with_numbers, section_with_numbers}
+use Rattle.oc_omf_write.specs.Raws.{addend_in, sections_in}
 use Rattle.oc_omf_write.specs.Written.{between, fixup_bytes_of, fixup_with, method_by, HasIndex, fixups_in}
 use Rattle.oc_omf_write.specs.Written as written
-use Rattle.oc_omf_write.proofs.SymbolLemmas.{map_append}
+use Rattle.oc_plans.proofs.Turns.{map_append}
 
 -- ... sections
 
 -- sections keep their names and kinds
-given_same : (n : Object) (k : ℕ) (ss : List Section) → given_for (map (section_with_numbers n n.relocs) (enumerate_from k ss)) ≡ given_for ss
+given_same : (n : Object) (k : ℕ) (ss : List Section) → given_for (map (section_with_numbers (addend_in n) n.relocs) (enumerate_from k ss)) ≡ given_for ss
 given_same n k [] = refl
 given_same n k (s ∷ ss) = ap (λ xs. s.name ∷ class_of s ∷ xs) (given_same n (k + 1) ss)
 
@@ -48,7 +49,7 @@ names_same n = ap (λ xs. fold with_name [] ([] ∷ codes "FLAT" ∷ xs)) (given
 -- the section at a position, with the numbers in its fields
 pub section_is : (n : Object) (k : ℕ) (s : Section) → slice_get n.sections k ≡ Some s → slice_get (sections_in n) k ≡ Some (with_contents (raw_of n k s) s)
 unfolding raw_of
-section_is n k s here = member_map (section_with_numbers n n.relocs) (enumerate_from 0 n.sections) k (k, s) (member_enumerated 0 n.sections k s here ∙ ap (λ j. Some (j, s)) (omega arith))
+section_is n k s here = member_map (section_with_numbers (addend_in n) n.relocs) (enumerate_from 0 n.sections) k (k, s) (member_enumerated 0 n.sections k s here ∙ ap (λ j. Some (j, s)) (omega arith))
 
 -- ... fixups
 
@@ -131,21 +132,21 @@ section_entries_are n numbers k s =
     ∙ pieces_are n numbers k s (pieces_upto (length s.bytes) (offsets_of n k) (length s.bytes) 0)
 
 -- a section with its numbers is as long
-numbers_long : (n : Object) (k : ℕ) (s : Section) → length (with_numbers n (list_of n.relocs k) s).bytes ≡ length s.bytes
+numbers_long : (n : Object) (k : ℕ) (s : Section) → length (with_numbers (addend_in n k) (list_of n.relocs k) s).bytes ≡ length s.bytes
 unfolding raw_of
 numbers_long n k s = length-raw n k s
 
 -- the entries of all sections
 data_from : (n : Object) (numbers : List ℕ) (k : ℕ) (ss : List Section) → ((j : ℕ) (s : Section) → slice_get ss j ≡ Some s → slice_get n.sections (k + j) ≡ Some s)
-    → flat_map (λ (x : ℕ × Section). section_entries x.0 (fixups_at (fixups_in numbers n) x.0) (length x.1.bytes)) (enumerate_from k (map (section_with_numbers n n.relocs) (enumerate_from k ss)))
+    → flat_map (λ (x : ℕ × Section). section_entries x.0 (fixups_at (fixups_in numbers n) x.0) (length x.1.bytes)) (enumerate_from k (map (section_with_numbers (addend_in n) n.relocs) (enumerate_from k ss)))
     ≡ map entry_for (flat_map (data_outputs n) (enumerate_from k ss))
 data_from n numbers k [] there = refl
 data_from n numbers k (s ∷ ss) there =
     let rest : List Entry
-    = flat_map (λ (x : ℕ × Section). section_entries x.0 (fixups_at (fixups_in numbers n) x.0) (length x.1.bytes)) (enumerate_from (k + 1) (map (section_with_numbers n n.relocs) (enumerate_from (k + 1) ss))) in
+    = flat_map (λ (x : ℕ × Section). section_entries x.0 (fixups_at (fixups_in numbers n) x.0) (length x.1.bytes)) (enumerate_from (k + 1) (map (section_with_numbers (addend_in n) n.relocs) (enumerate_from (k + 1) ss))) in
     let own : slice_get n.sections k ≡ Some s = ap (slice_get n.sections) (omega arith) ∙ there 0 s refl in
-    let long : length (with_numbers n (list_of n.relocs k) s).bytes ≡ length s.bytes = numbers_long n k s in
-    ap (λ fs. section_entries k fs (length (with_numbers n (list_of n.relocs k) s).bytes) ++ rest) (fixups_there n numbers k s own)
+    let long : length (with_numbers (addend_in n k) (list_of n.relocs k) s).bytes ≡ length s.bytes = numbers_long n k s in
+    ap (λ fs. section_entries k fs (length (with_numbers (addend_in n k) (list_of n.relocs k) s).bytes) ++ rest) (fixups_there n numbers k s own)
     ∙ ap (λ m. section_entries k (written.fixups_of numbers n k) m ++ rest) long
     ∙ ap (λ es. es ++ rest) (section_entries_are n numbers k s)
     ∙ ap (λ es. map entry_for (data_outputs n (k, s)) ++ es) (data_from n numbers (k + 1) ss (λ j x h. ap (slice_get n.sections) (omega arith) ∙ there (suc j) x h))

@@ -31,7 +31,8 @@ use Rattle.oc_omf_write.specs.Names.{IsNameOf, names_entry, texts_in, names_for,
 use Rattle.oc_omf_write.specs.Numbers.{HasPlace, AreNumbers}
 use Rattle.oc_omf_write.specs.Pieces.{AreInSections, FollowWithin, fixups_at, piece_entries, section_entries, data_entries, places_of}
 use Rattle.oc_omf_write.specs.Plans.{AreEntries}
-use Rattle.oc_omf_write.specs.Raws.{sections_in, section_with_numbers}
+use Rattle.oc_plans.specs.Numbered.{section_with_numbers}
+use Rattle.oc_omf_write.specs.Raws.{addend_in, sections_in}
 use Rattle.oc_omf_write.specs.Tables.{AreSound, texts_of, fixups_of}
 use Rattle.oc_omf_write.specs.Written as written
 use Rattle.oc_omf_write.proofs.EntryLemmas.{section_there, fixups_here, fixups_follow}
@@ -144,7 +145,7 @@ range_long k (suc m) = ap suc (range_long (k + 1) m)
 
 -- there are as many sections with numbers
 pub sections_in_counted : (n : Object) → length (sections_in n) ≡ length n.sections
-sections_in_counted n = length-map (enumerate_from 0 n.sections) (section_with_numbers n n.relocs) ∙ length-enumerate_from 0 n.sections
+sections_in_counted n = length-map (enumerate_from 0 n.sections) (section_with_numbers (addend_in n) n.relocs) ∙ length-enumerate_from 0 n.sections
 
 module _ (n : Object) (is : IsForOmf n) (t : Tables) (numbers : List ℕ) (made : IsMade n t numbers) where
   pub sections_counted : length t.sections.items ≡ length n.sections

@@ -11,10 +11,7 @@ use Rattle.oc_neutral.specs.Objects.{Object}
 use Rattle.oc_omf_file.specs.Outputs.{Output, external_output, communal_output, public_output, symbol_outputs}
 use Rattle.oc_omf_write.specs.declared.entries.Entry.{Entry}
 use Rattle.oc_omf_write.specs.Entries.{entry_for}
-
-pub map_append : {X Y : Type 0} (f : X → Y) (xs ys : List X) → map f (xs ++ ys) ≡ map f xs ++ map f ys
-map_append f [] ys = refl
-map_append f (x ∷ xs) ys = ap (λ zs. f x ∷ zs) (map_append f xs ys)
+use Rattle.oc_plans.proofs.Turns.{map_append}
 
 -- the entries of the symbols from position k on
 abbrev pub entries_left : (ℕ × Symbol → Option Output) → List Symbol → ℕ → List Entry

@@ -5,34 +5,13 @@ use Rattle.oc_neutral.specs.Objects.{Object}
 use Rattle.oc_omf_file.specs.Canonical.{output_bytes}
 use Rattle.oc_omf_file.specs.Names.{filled_from}
 use Rattle.oc_omf_file.specs.Outputs.{outputs_of}
-use Rattle.oc_shelf.specs.Writing.Parts.{Laid, laid, laid_end, behind, Pieces, file_of}
+use Rattle.oc_plans.specs.Joined.{AreJoined}
 use Rattle.oc_omf_write.specs.declared.entries.Entry.{Entry}
 use Rattle.oc_omf_write.specs.declared.entries.Entry.TheVariants as entry
 use Rattle.oc_omf_write.specs.declared.tables.Tables.{Tables}
 use Rattle.oc_omf_write.specs.Names.{names_entry, texts_in, IsRange}
 use Rattle.oc_omf_write.specs.Pieces.{data_entries}
 use Rattle.oc_omf_write.specs.Tables.{AreSound, CanPut, bytes_by, texts_of, fixups_of}
-
--- parts of bytes, each where the one before ends
-abbrev pub pieces_laid : List (List ℕ) → Pieces
-pieces_laid parts = laid behind length 0 parts
-
--- the file of parts
-abbrev pub file_by : List (List ℕ) → List ℕ
-file_by parts = file_of (pieces_laid parts)
-
--- where each begins
-abbrev pub places_of : List (List ℕ) → List ℕ
-places_of parts = map (λ (l : Laid (List ℕ)). l.at) (pieces_laid parts)
-
--- where the last ends
-abbrev pub end_of_all : List (List ℕ) → ℕ
-end_of_all parts = laid_end behind length 0 parts
-
--- the places and the end are those of the parts
-pub record AreLaid (places : List ℕ) (end : ℕ) (parts : List (List ℕ)) : Type 0 where
-  pub begins : places ≡ places_of parts
-  pub ends : end ≡ end_of_all parts
 
 -- the entries of a file, as their bytes
 abbrev pub parts_by : Tables → List Entry → List (List ℕ)
@@ -53,7 +32,7 @@ pub record AreEntries (t : Tables) (symbols entries : List Entry) : Type 0 where
 pub record IsPlan (t : Tables) (entries : List Entry) (places : List ℕ) (end : ℕ) : Type 0 where
   pub sound : AreSound t
   pub fits : AllByRecursion (CanPut t) entries
-  pub laid : AreLaid places end (parts_by t entries)
+  pub laid : AreJoined places end (parts_by t entries)
 
 -- the entries of the canonical file of an object, as their bytes
 abbrev pub omf_parts : Object → List (List ℕ)

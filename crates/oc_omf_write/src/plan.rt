@@ -1,11 +1,12 @@
 //! Planned files.
-ghost use Rattle.std.specs.Prelude.{◌≡◌, ◌+◌, ◌<◌, Some, length, slice_get};
+ghost use Rattle.std.specs.Prelude.{◌≡◌, ◌<◌, Some, length, slice_get};
 ghost use Rattle.oc_omf_write.specs.Plans.{IsPlan, parts_by};
 
 use crate::entries::Entry;
 use crate::tables::Tables;
 use crate::windows::entry_window;
 use oc_neutral::Emits;
+use oc_plans::end_at;
 use oc_shelf::{Layout, Parts, window_of};
 use std::marker::Model;
 
@@ -46,19 +47,6 @@ impl Plan {
     }
 }
 
-// where part `k` ends, of parts that begin at these places, the last of which ends at `end`
-fn end_at(places: &[u64], end: u64, k: usize) -> u64
-    requires { k < length places.now }
-    ensures last { k + 1 ≡ length places.now → result ≡ end }
-    ensures next { k + 1 < length places.now → slice_get places.now (k + 1) ≡ Some result }
-{
-    if k + 1 == places.len() {
-        end
-    } else {
-        places[k + 1]
-    }
-}
-
 // entry `k`
 fn entry_at(entries: &[Entry], k: usize) -> Entry
     requires { k < length entries.now }
@@ -68,7 +56,7 @@ fn entry_at(entries: &[Entry], k: usize) -> Entry
 }
 
 impl Parts for Plan {
-    ghost use Rattle.oc_omf_write.specs.Plans.{pieces_laid};
+    ghost use Rattle.oc_plans.specs.Joined.{pieces_laid};
 
     ghost parts = { λ p. pieces_laid p };
 
@@ -81,7 +69,7 @@ impl Parts for Plan {
     }
 
     fn end(&self, k: usize) -> u64 {
-        end_at(&self.layout.places, self.layout.end, k)
+        end_at(&self.layout, k)
     }
 
     fn part_window(&self, k: usize, from: u64, out: &mut [u8]) -> usize {
@@ -91,7 +79,7 @@ impl Parts for Plan {
 }
 
 impl Emits for Plan {
-    ghost use Rattle.oc_omf_write.specs.Plans.{file_by};
+    ghost use Rattle.oc_plans.specs.Joined.{file_by};
 
     ghost file = { λ p. file_by p };
 

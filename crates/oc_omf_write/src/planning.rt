@@ -16,12 +16,13 @@ use crate::names::{Names, add_names};
 use crate::numbers::numbers_of;
 use crate::pieces::add_data;
 use crate::plan::Plan;
-use crate::raw::write_all;
+use crate::raw::Addends;
 use crate::segments::segments_of;
 use crate::symbols::symbol_entries;
 use crate::tables::Tables;
 use oc_base::NoMemory;
 use oc_neutral::{Fitted, Neutral, Section, Symbol};
+use oc_plans::with_numbers;
 use std::alloc::Global;
 
 // the sections of an object, with the numbers in their fields, and its symbols
@@ -30,8 +31,9 @@ fn parts_of(neutral: Neutral) -> (Vec<Section>, Vec<Symbol>)
     ensures symbols { result.1.items ≡ neutral.symbols }
 {
     neutral.is_object();
-    let (_groups, mut sections, symbols, relocs) = neutral.into_parts();
-    write_all(&symbols, &relocs, sections.as_mut_slice());
+    let (_groups, sections, symbols, relocs) = neutral.into_parts();
+    let addends = Addends { symbols: &symbols };
+    let sections = with_numbers(&addends, &relocs, sections);
     (sections, symbols)
 }
 

@@ -1,50 +1,13 @@
 //! What a plan holds of a file, where data are cut, and windows of a small file.
-ghost use Rattle.std.specs.Prelude.{◌≡◌, codes, None, IfOk};
-ghost use Rattle.oc_base.specs.declared.format.Format.TheVariants.{Omf};
-ghost use Rattle.oc_linking.specs.declared.terms.Kind.TheVariants as kind;
-ghost use Rattle.oc_neutral.specs.Fitted.{CanFit};
-ghost use Rattle.oc_neutral.specs.Invariants.{HasItsBytes};
-
 use super::Plan;
 use crate::tables::Tables;
 use crate::writer::OmfWriter;
-use oc_base::{Bytes, Format, NoMemory};
+use oc_base::Format;
 use oc_express::fit;
-use oc_neutral::{Builder, Emits, Kind, Neutral, Section, Writes};
+use oc_neutral::{Emits, Writes};
+use oc_plans::object_of_data;
 use oc_shelf::{Layout, Parts};
-use std::alloc::Global;
 use std::test::Fail;
-
-/// A section of data of an ELF object, of so many sevens: its tag is SHT_PROGBITS, above the bits for
-/// SHF_WRITE and SHF_ALLOC.
-fn data(alloc: Global, size: u32) -> Result<Section, NoMemory>
-    ensures bytes { IfOk result HasItsBytes }
-    ensures kind { IfOk result (λ s. s.kind ≡ kind.Data) }
-    ensures name { IfOk result (λ s. s.name ≡ codes ".data") }
-    ensures tag { IfOk result (λ s. s.tag ≡ 11) }
-    ensures align { IfOk result (λ s. s.align ≡ 16) }
-    ensures alone { IfOk result (λ s. s.group ≡ None) }
-{
-    Ok(Section {
-        name: Bytes::from_slice(alloc, b".data")?,
-        kind: Kind::Data,
-        align: 16,
-        size,
-        bytes: Bytes::from_vec(vec![in alloc; 7u8; size as usize]?),
-        tag: 11,
-        number: 1,
-        group: None,
-    })
-}
-
-/// An object of that section alone.
-fn object(alloc: Global, size: u32) -> Result<Neutral, Fail>
-    ensures { IfOk result (CanFit Omf) }
-{
-    let mut builder = Builder::new(alloc, Format::Elf32);
-    builder.add_section(data(alloc, size)?)?;
-    Ok(builder.finish())
-}
 
 /// How many bytes the one section has.
 const SIZE: u32 = 100_000;
@@ -53,7 +16,11 @@ const SIZE: u32 = 100_000;
 /// of the data, and five others.
 #[test]
 fn a_plan_does_not_keep_the_file(rt: HostRuntime) -> Result<(), Fail> {
-    let fitted = fit(rt.alloc(), Format::Omf, object(rt.alloc(), SIZE)?)?;
+    let fitted = fit(
+        rt.alloc(),
+        Format::Omf,
+        object_of_data(rt.alloc(), Format::Omf, SIZE)?,
+    )?;
     let Plan {
         tables: Tables {
             sections,
@@ -92,7 +59,11 @@ static SIZES: [(u32, usize, u64); 6] = [
 #[test]
 fn data_are_cut_at_1024_bytes(rt: HostRuntime) -> Result<(), Fail> {
     for (size, entries, long) in &SIZES {
-        let fitted = fit(rt.alloc(), Format::Omf, object(rt.alloc(), *size)?)?;
+        let fitted = fit(
+            rt.alloc(),
+            Format::Omf,
+            object_of_data(rt.alloc(), Format::Omf, *size)?,
+        )?;
         let plan = OmfWriter.plan(rt.alloc(), fitted)?;
         assert_eq!(rt;
             (plan.count(), plan.len()),
@@ -114,7 +85,11 @@ static SMALL: [u8; 67] = [
 /// A window of every length at every place of a small file is that part of the file.
 #[test]
 fn every_window_of_a_small_file(rt: HostRuntime) -> Result<(), Fail> {
-    let fitted = fit(rt.alloc(), Format::Omf, object(rt.alloc(), 3)?)?;
+    let fitted = fit(
+        rt.alloc(),
+        Format::Omf,
+        object_of_data(rt.alloc(), Format::Omf, 3)?,
+    )?;
     let plan = OmfWriter.plan(rt.alloc(), fitted)?;
     let size = SMALL.len();
     assert_eq!(rt; plan.len(), size as u64);

@@ -8,7 +8,7 @@ use Rattle.oc_express.proofs.Steps.{more_done}
 use Rattle.oc_omf_write.specs.declared.fixups.Fixup.{Fixup}
 use Rattle.oc_omf_write.specs.Written.{fixups_in, fixups_of}
 use Rattle.oc_omf_write.proofs.FixupLemmas.{enumerate_step}
-use Rattle.oc_omf_write.proofs.SymbolLemmas.{map_append}
+use Rattle.oc_plans.proofs.Turns.{map_append}
 use Rattle.oc_omf_write.proofs.fixups.all_fixups.Goals as goal
 
 pub loop-k-preserved : goal.loop-k-preserved

@@ -7,7 +7,8 @@ use Rattle.oc_omf_file.specs.Structures.{entry_bytes}
 use Rattle.oc_omf_write.specs.declared.entries.Entry.{Entry}
 use Rattle.oc_omf_write.specs.declared.entries.Entry.TheVariants as entry
 use Rattle.oc_omf_write.specs.Entries.{type_of}
-use Rattle.oc_omf_write.specs.Plans.{AreLaid, parts_by}
+use Rattle.oc_plans.specs.Joined.{AreJoined}
+use Rattle.oc_omf_write.specs.Plans.{parts_by}
 use Rattle.oc_omf_write.specs.Tables.{CanPut, bytes_by}
 use Rattle.oc_omf_write.proofs.PlanLemmas.{none_laid, parts_more}
 use Rattle.oc_omf_write.proofs.layout.layout_of.Goals as goal
@@ -36,7 +37,7 @@ loop-entry-preserved c =
     let here = slice_get-get_or xs i entry.Header c.loop-entry-test.true in
     let low = c.loop-entry.invariant.1 in
     let end = c.in_ok-lay.ensures.end in (
-      subst (λ ps. AreLaid c.lay.new.layout.places.items c.lay.new.layout.end ps) (sym (parts_more t xs i e here))
+      subst (λ ps. AreJoined c.lay.new.layout.places.items c.lay.new.layout.end ps) (sym (parts_more t xs i e here))
           (c.in_ok-lay.ensures.laid (parts_by t (take i xs)) (bytes_by t e) c.loop-entry.invariant.0 (c.entry_size-size.ensures.long (type_of e) ∙ ap (λ b. length (entry_bytes (type_of e) b)) c.contents.ensures)),
       omega (arith, low, end),
     )
@@ -47,4 +48,4 @@ returns c =
     let xs = c.args.entries.now in
     let i = c.loop-entry.entry-index in
     let past = c.loop-entry-test.false in
-    subst (λ (es : List Entry). AreLaid c.loop-entry.layout.places.items c.loop-entry.layout.end (parts_by t es)) (take_all i xs (omega (arith, past))) c.loop-entry.invariant.0
+    subst (λ (es : List Entry). AreJoined c.loop-entry.layout.places.items c.loop-entry.layout.end (parts_by t es)) (take_all i xs (omega (arith, past))) c.loop-entry.invariant.0

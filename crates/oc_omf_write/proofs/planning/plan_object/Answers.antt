@@ -4,7 +4,8 @@ use Rattle.std.specs.List.{AllByRecursion}
 use Rattle.oc_neutral.specs.Fitted.{IsFitted}
 use Rattle.oc_omf_file.proofs.CodedLaws.{for_omf}
 use Rattle.oc_omf_write.specs.declared.entries.Entry.{Entry}
-use Rattle.oc_omf_write.specs.Plans.{AreEntries, AreLaid, parts_by}
+use Rattle.oc_plans.specs.Joined.{AreJoined}
+use Rattle.oc_omf_write.specs.Plans.{AreEntries, parts_by}
 use Rattle.oc_omf_write.specs.Tables.{CanPut}
 use Rattle.oc_omf_write.proofs.MadeLemmas.{made_sound, made_inside, few_sections, few_texts, made_few, made_put, made_same}
 use Rattle.oc_omf_write.proofs.planning.plan_object.Goals as goal
@@ -60,7 +61,7 @@ new-requires c =
     record {
       sound = made_sound c.args.fitted (for_omf c.args.fitted fit) t c.in_ok-tables.symbols.items c.in_ok-tables.ensures;
       fits = made_put c.args.fitted (for_omf c.args.fitted fit) t c.in_ok-tables.symbols.items c.in_ok-tables.ensures es are;
-      laid = subst (λ (xs : List Entry). AreLaid c.in_ok-layout.layout.places.items c.in_ok-layout.layout.end (parts_by t xs)) c.deref-2.ensures.value c.in_ok-layout.ensures;
+      laid = subst (λ (xs : List Entry). AreJoined c.in_ok-layout.layout.places.items c.in_ok-layout.layout.end (parts_by t xs)) c.deref-2.ensures.value c.in_ok-layout.ensures;
     }
 
 pub returns : goal.returns

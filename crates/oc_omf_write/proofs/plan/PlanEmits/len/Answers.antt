@@ -1,6 +1,8 @@
 -- The file ends with its last part.
-use Rattle.oc_omf_write.proofs.PlanLemmas.{plan_long}
+use Rattle.std.proofs.Common.{subst}
+use Rattle.oc_plans.specs.Joined.{AreJoined}
+use Rattle.oc_plans.proofs.JoinedLemmas.{laid_long}
 use Rattle.oc_omf_write.proofs.plan.PlanEmits.len.Goals as goal
 
 pub returns : goal.returns
-returns c = plan_long _ _ _ _ c.self.invariant c.args.self.now c.self.view_is
+returns c = laid_long _ _ c.args.self.now (subst (AreJoined c.self.inside.layout.places.items c.self.inside.layout.end) c.self.view_is c.self.invariant.laid)

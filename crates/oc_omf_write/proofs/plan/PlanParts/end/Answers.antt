@@ -1,19 +1,14 @@
 -- A part ends where the next begins, and the last with the file.
-use Rattle.std.proofs.Common.{◌≡◌, ◌+◌, length, Some, ◌∙◌, ap, subst, sym, arith, List, ℕ}
-use Rattle.std.specs.Prelude.{slice_get}
-use Rattle.oc_omf_write.proofs.PlanLemmas.{plan_count, plan_end}
+use Rattle.std.proofs.Common.{subst, arith}
+use Rattle.oc_plans.specs.Joined.{AreJoined}
+use Rattle.oc_plans.proofs.JoinedLemmas.{laid_count}
 use Rattle.oc_omf_write.proofs.plan.PlanParts.end.Goals as goal
 
 pub end_at-requires : goal.end_at-requires
 end_at-requires c =
-    let count = plan_count _ _ _ _ c.self.invariant c.args.self.now c.self.view_is in
-    let same = ap length c.deref.ensures.value in
+    let count = laid_count _ _ c.args.self.now (subst (AreJoined c.self.inside.layout.places.items c.self.inside.layout.end) c.self.view_is c.self.invariant.laid) in
     let low = c.requires in
-    omega (arith, count, same, low)
+    omega (arith, count, low)
 
 pub returns : goal.returns
-returns c =
-    let same = ap length c.deref.ensures.value in
-    plan_end _ _ _ _ c.self.invariant c.args.self.now c.self.view_is c.args.k c.end_at.result c.requires
-    (λ e. c.end_at.ensures.last (e ∙ sym same))
-    (λ l. subst (λ (ps : List ℕ). slice_get ps (c.args.k + 1) ≡ Some c.end_at.result) c.deref.ensures.value (c.end_at.ensures.next (omega (arith, l, same))))
+returns c = c.end_at.ensures c.args.self.now (subst (AreJoined c.self.inside.layout.places.items c.self.inside.layout.end) c.self.view_is c.self.invariant.laid)

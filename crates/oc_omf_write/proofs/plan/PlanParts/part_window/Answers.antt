@@ -10,7 +10,7 @@ use Rattle.oc_omf_file.specs.Structures.{entry_bytes}
 use Rattle.oc_omf_write.specs.declared.entries.Entry.{Entry}
 use Rattle.oc_omf_write.specs.Entries.{type_of}
 use Rattle.oc_omf_write.specs.Tables.{CanPut, bytes_by}
-use Rattle.oc_omf_write.proofs.PlanLemmas.{length-pieces, part_is}
+use Rattle.oc_plans.proofs.JoinedLemmas.{length-pieces, part_is}
 use Rattle.oc_omf_write.proofs.plan.PlanParts.part_window.Goals as goal
 
 pub entry_at-entry-requires : goal.entry_at-entry-requires
