@@ -15,7 +15,7 @@ use Rattle.oc_macho_file.proofs.FileSize.{small_file}
 use Rattle.oc_macho_file.proofs.PartLaws.{length-mach_file, rises}
 use Rattle.oc_macho_write.specs.declared.layout.Extents.{Extents}
 use Rattle.oc_macho_write.specs.LaidParts.{AreLaid, begins_by, ends_by}
-use Rattle.oc_macho_write.proofs.Turns.{map_append}
+use Rattle.oc_plans.proofs.Turns.{map_append}
 
 split_at : {X : Type 0} (xs : List X) (k : ℕ) (x : X) → slice_get xs k ≡ Some x → take k xs ++ x ∷ drop (k + 1) xs ≡ xs
 split_at [] k x here = absurd (none-some x here)

@@ -1,7 +1,6 @@
 pub mod AddressLemmas
 pub mod BodyLemmas
 pub mod Commas
-pub mod FieldBytes
 pub mod FormLemmas
 pub mod HeaderLemmas
 pub mod LaidLemmas
@@ -15,7 +14,6 @@ pub mod PlanLemmas
 pub mod PlannedLemmas
 pub mod RelocationLemmas
 pub mod SceneLemmas
-pub mod SectionAlone
 pub mod StringLemmas
 pub mod TableRows
 pub mod Turns

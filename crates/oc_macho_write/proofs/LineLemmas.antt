@@ -12,7 +12,7 @@ use Rattle.oc_macho_write.specs.declared.lines.Line.{Line}
 use Rattle.oc_macho_write.specs.declared.lines.Outer.{Outer}
 use Rattle.oc_macho_write.specs.declared.lines.Outer.TheVariants.{Defined, Undefined, Common, Optional}
 use Rattle.oc_macho_write.specs.Lines.{line_in, lines_in, AreLines, is_outer}
-use Rattle.oc_macho_write.proofs.Turns.{map_append}
+use Rattle.oc_plans.proofs.Turns.{map_append}
 
 -- the next position, and those behind it
 pub range_more : (test : ℕ → Bool) (k m : ℕ) → k < m

@@ -23,7 +23,7 @@ use Rattle.oc_macho_write.specs.declared.lines.Line.TheVariants as line
 use Rattle.oc_macho_write.specs.declared.numbers.Numbers.{Numbers}
 use Rattle.oc_macho_write.specs.Numbers.{AreSized, CanGive, IsBlank, IsNumbered}
 use Rattle.oc_macho_write.specs.Lines.{line_in, IsNamed}
-use Rattle.oc_macho_write.proofs.Turns.{length-laid}
+use Rattle.oc_plans.proofs.Turns.{length-laid}
 use Rattle.oc_macho_write.proofs.LastWhere.{last_where, last_more, last_is, PassesOnce}
 
 -- ... where lines stand

@@ -9,7 +9,7 @@ use Rattle.oc_macho_file.specs.Layout.{head_parts, table_parts, raw_part, relocs
 use Rattle.oc_macho_write.specs.declared.parts.Part.{Part}
 use Rattle.oc_macho_write.specs.declared.parts.Part.TheVariants as part
 use Rattle.oc_macho_write.specs.Parts.{AreParts, part_in, parts_in}
-use Rattle.oc_macho_write.proofs.Turns.{map_append}
+use Rattle.oc_plans.proofs.Turns.{map_append}
 
 pub parts_whole : (n : Object) (heads raws relocs all : List Part) → heads ≡ part.FileHead ∷ part.SegmentHead ∷ part.SectionHeads ∷ part.SymtabHead ∷ part.DysymtabHead ∷ []
     → parts_in n raws ≡ parts_in n heads ++ map Some (map raw_part (stored_sections n)) → parts_in n relocs ≡ parts_in n raws ++ map Some (map relocs_part (enumerate_from 0 n.sections))

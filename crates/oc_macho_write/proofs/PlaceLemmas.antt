@@ -23,7 +23,7 @@ use Rattle.oc_macho_write.specs.declared.places.Places.{Places}
 use Rattle.oc_macho_write.specs.LaidParts.{begins_by}
 use Rattle.oc_macho_write.specs.Parts.{part_in}
 use Rattle.oc_macho_write.specs.Places.{ArePlaces, CanGive, HasRoom, IsBlank}
-use Rattle.oc_macho_write.proofs.Turns.{length-laid}
+use Rattle.oc_plans.proofs.Turns.{length-laid}
 use Rattle.oc_macho_write.proofs.LastWhere.{last_where, last_more, last_is, PassesOnce}
 
 -- ... of some things one alone passes a test

@@ -10,38 +10,13 @@ use Rattle.oc_macho_write.specs.declared.bodies.Bodies.{Bodies}
 use Rattle.oc_macho_write.specs.declared.heads.Heads.{Heads}
 use Rattle.oc_macho_write.specs.declared.parts.Part.{Part}
 use Rattle.oc_macho_write.specs.Bodies.{body_by, HasBody}
-use Rattle.oc_macho_write.specs.Plans.{IsPlan, parts_by, pieces_at}
+use Rattle.oc_plans.specs.Placed.{pieces_at}
+use Rattle.oc_plans.proofs.PlacedLemmas.{all_get, length-pieces, mapped_at, part_is}
+use Rattle.oc_macho_write.specs.Plans.{IsPlan, parts_by}
 
 -- ... pieces
 
-pub length-pieces : (places : List ℕ) (parts : List (List ℕ)) → length places ≡ length parts → length (pieces_at places parts) ≡ length places
-length-pieces [] parts same = refl
-length-pieces (at ∷ places) [] same = absurd (omega (arith, same))
-length-pieces (at ∷ places) (x ∷ parts) same = ap suc (length-pieces places parts (omega (arith, same)))
-
-pub part_is : (places : List ℕ) (parts : List (List ℕ)) (k : ℕ) → length places ≡ length parts → (piece_at (pieces_at places parts) k).part ≡ get_or parts k []
-part_is [] [] k same = refl
-part_is [] (x ∷ parts) k same = absurd (omega (arith, same))
-part_is (at ∷ places) [] k same = absurd (omega (arith, same))
-part_is (at ∷ places) (x ∷ parts) zero same = refl
-part_is (at ∷ places) (x ∷ parts) (suc k) same = part_is places parts k (omega (arith, same))
-
-pub get_any : {X : Type 0} (xs : List X) (k : ℕ) (d e : X) → k < length xs → get_or xs k d ≡ get_or xs k e
-get_any [] k d e low = absurd (omega (arith, low))
-get_any (x ∷ xs) zero d e low = refl
-get_any (x ∷ xs) (suc k) d e low = get_any xs k d e (omega (arith, low))
-
 -- ... which parts they are
-
-pub mapped_at : {X Y : Type 0} (f : X → Y) (xs : List X) (k : ℕ) (d : X) (e : Y) → k < length xs → get_or (map f xs) k e ≡ f (get_or xs k d)
-mapped_at f [] k d e low = absurd (omega (arith, low))
-mapped_at f (x ∷ xs) zero d e low = refl
-mapped_at f (x ∷ xs) (suc k) d e low = mapped_at f xs k d e (omega (arith, low))
-
-all_get : {X : Type 0} (P : X → Type 0) (xs : List X) (k : ℕ) (d : X) → AllByRecursion P xs → k < length xs → P (get_or xs k d)
-all_get P [] k d all low = absurd (omega (arith, low))
-all_get P (x ∷ xs) zero d all low = all.0
-all_get P (x ∷ xs) (suc k) d all low = all_get P xs k d all.1 (omega (arith, low))
 
 module _ (w : Word) (h : Heads) (these : List Part) (sections : List Section) (bodies : Bodies) where
   abbrev parts : List (List ℕ)

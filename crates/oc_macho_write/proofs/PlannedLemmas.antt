@@ -26,37 +26,15 @@ use Rattle.oc_macho_write.specs.Bodies.{AreBodies, body_by, HasBody}
 use Rattle.oc_macho_write.specs.Heads.{AreHeads}
 use Rattle.oc_macho_write.specs.LaidParts.{AreLaid, begins_by}
 use Rattle.oc_macho_write.specs.Parts.{AreParts, part_in}
-use Rattle.oc_macho_write.specs.Plans.{mach_pieces, IsPlan, parts_by, pieces_at}
-use Rattle.oc_macho_write.specs.Relocations.{all_raws, number_at, section_with_numbers}
+use Rattle.oc_macho_write.specs.Plans.{mach_pieces, IsPlan, parts_by}
+use Rattle.oc_plans.specs.Numbered.{section_with_numbers}
+use Rattle.oc_plans.specs.Placed.{pieces_at}
+use Rattle.oc_plans.proofs.PlacedLemmas.{ends_laid, joined_pieces, mapped_in, order_laid, pieces_laid, places_laid}
+use Rattle.oc_macho_write.specs.Relocations.{all_raws, number_at}
 use Rattle.oc_macho_write.proofs.BodyLemmas.{body_is, has_body, is_headed, part_listed}
-use Rattle.oc_macho_write.proofs.Turns.{from_each, length-laid}
+use Rattle.oc_plans.proofs.Turns.{from_each, length-laid}
 
 -- ... parts that are laid
-
-module _ {X : Type 0} (begin : ℕ → X → ℕ) (size : X → ℕ) (f : X → List ℕ) where
-  abbrev piece : Laid X → Laid (List ℕ)
-  piece l = record { at = l.at; part = f l.part }
-
-  pub pieces_laid : (at : ℕ) (xs : List X) → pieces_at (map (λ (l : Laid X). l.at) (laid begin size at xs)) (map f xs) ≡ map piece (laid begin size at xs)
-  pieces_laid at [] = refl
-  pieces_laid at (x ∷ xs) = ap (λ ps. record { at = begin at x; part = f x } ∷ ps) (pieces_laid (begin at x + size x) xs)
-
-  module _ (sized : (x : X) → length (f x) ≡ size x) where
-    pub order_laid : ((at : ℕ) (x : X) → at ≤ begin at x) → (at : ℕ) (xs : List X) → AreInOrder at (map piece (laid begin size at xs))
-    order_laid up at [] = tt
-    order_laid up at (x ∷ xs) = (up at x, subst (λ p. AreInOrder (begin at x + p) (map piece (laid begin size (begin at x + size x) xs))) (sym (sized x)) (order_laid up (begin at x + size x) xs))
-
-    pub ends_laid : (at : ℕ) (xs : List X) → map end_of (map piece (laid begin size at xs)) ≡ map (λ (l : Laid X). l.at + size l.part) (laid begin size at xs)
-    ends_laid at [] = refl
-    ends_laid at (x ∷ xs) = ap (λ p. (begin at x + p) ∷ map end_of (map piece (laid begin size (begin at x + size x) xs))) (sized x) ∙ ap (λ es. (begin at x + size x) ∷ es) (ends_laid (begin at x + size x) xs)
-
-joined_pieces : {X : Type 0} (f : X → List ℕ) (at : ℕ) (ls : List (Laid X)) → joined (λ (x : List ℕ). x) at (map (λ (l : Laid X). record { at = l.at; part = f l.part }) ls) ≡ joined f at ls
-joined_pieces f at [] = refl
-joined_pieces f at (l ∷ ls) = ap (λ zs. replicate (l.at - at) 0 ++ (f l.part ++ zs)) (joined_pieces f (l.at + length (f l.part)) ls)
-
-places_laid : {X : Type 0} (f : X → List ℕ) (ls : List (Laid X)) → map (λ (l : Laid (List ℕ)). l.at) (map (λ (l : Laid X). record { at = l.at; part = f l.part }) ls) ≡ map (λ (l : Laid X). l.at) ls
-places_laid f [] = refl
-places_laid f (l ∷ ls) = ap (λ zs. l.at ∷ zs) (places_laid f ls)
 
 -- the file of the pieces is the canonical file
 pub file_is : (w : Word) (n : Object) → file_of (mach_pieces w n) ≡ mach_file w n
@@ -72,24 +50,6 @@ raws_are w n [] = refl
 raws_are w n (x ∷ xs) = ap (λ bs. raw_of w n x.0 x.1 ∷ bs) (raws_are w n xs)
 
 -- ... which parts they are
-
-mapped_in : {A X Y : Type 0} (into : A → Option X) (f : A → Y) (g : X → Y) (these : List A) (xs : List X) → map into these ≡ map Some xs
-    → ((a : A) (x : X) → into a ≡ Some x → f a ≡ g x) → map f these ≡ map g xs
-mapped_in into f g [] [] are same = refl
-mapped_in into f g [] (x ∷ xs) are same = absurd (let e = ap length are in omega (arith, e))
-mapped_in into f g (a ∷ these) [] are same = absurd (let e = ap length are in omega (arith, e))
-mapped_in {A} {X} {Y} into f g (a ∷ these) (x ∷ xs) are same =
-    let first : into a ≡ Some x = ap (λ os. head_or os (Some x)) are in
-    let rest : map into these ≡ map Some xs = ap tail_of are in
-    ap (λ (y : Y). y ∷ map f these) (same a x first) ∙ ap (λ ys. g x ∷ ys) (mapped_in into f g these xs rest same)
-  where
-    head_or : List (Option X) → Option X → Option X
-    head_or [] d = d
-    head_or (o ∷ os) d = o
-
-    tail_of : List (Option X) → List (Option X)
-    tail_of [] = []
-    tail_of (o ∷ os) = os
 
 module _ (w : Word) (n : Object) (these : List Part) (are : AreParts n these) (h : Heads) (made : AreHeads w n h)
     (sections : List Section) (have : map (λ (s : Section). s.bytes) sections ≡ all_raws w n) (b : Bodies) (tables : AreBodies w n b) where

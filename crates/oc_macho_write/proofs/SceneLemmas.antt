@@ -21,11 +21,12 @@ use Rattle.oc_neutral.specs.KeySymbols.{global_place}
 use Rattle.oc_neutral.specs.Normal.{Place}
 use Rattle.oc_neutral.specs.Objects.{Object}
 use Rattle.oc_neutral.proofs.Positions.{each_weaker, there_at}
+use Rattle.oc_plans.specs.Numbered.{AreAll}
 use Rattle.oc_macho_write.specs.declared.forms.Scene.{Scene}
 use Rattle.oc_macho_write.specs.declared.numbers.Numbers.{Numbers}
 use Rattle.oc_macho_write.specs.Forms.{IsFor, IsLessThere, IsReady, IsScene, IsThere, LeadFrom}
 use Rattle.oc_macho_write.specs.Numbers.{AreSized}
-use Rattle.oc_macho_write.specs.Relocations.{HasNumbers}
+use Rattle.oc_macho_write.specs.Relocations.{CanTell, HasNumbers}
 
 module _ (w : Word) (n : Object) (x : Scene) (object : IsObject n) (scene : IsScene w n x) where
   low : (k : ℕ) → k < length n.sections → k < length x.addresses.now
@@ -71,6 +72,10 @@ module _ (w : Word) (n : Object) (x : Scene) (object : IsObject n) (scene : IsSc
       each_weaker (IsHeld n k s.0.bytes) (λ (f : Field Reloc). IsFor x k f.item)
       (λ f held. record { own = low k l; target = target_there f.item.target held.normal.target; less = less_there f.item.form.less held.normal.less })
       (list_of n.relocs k) (object.built.fields.each k s.0 s.1)
+
+  -- their numbers can be made
+  pub told : (k : ℕ) → k < length n.sections → AreAll (CanTell x k) (list_of n.relocs k)
+  told k l = each_weaker (λ (f : Field Reloc). IsFor x k f.item) (λ (f : Field Reloc). CanTell x k f.item) (λ f is. (scene_ready, is)) (list_of n.relocs k) (leads k l)
 
   -- and has a number
   pub sized_numbers : (y : Numbers) → AreSized n y → HasNumbers x y

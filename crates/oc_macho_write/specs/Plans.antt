@@ -5,6 +5,7 @@ use Rattle.oc_base.specs.declared.format.Word.{Word}
 use Rattle.oc_neutral.specs.declared.section.Section.{Section}
 use Rattle.oc_neutral.specs.Objects.{Object}
 use Rattle.oc_shelf.specs.Writing.Parts.{Laid, Pieces, file_of, end_of, AreInOrder}
+use Rattle.oc_plans.specs.Placed.{pieces_at}
 use Rattle.oc_macho_file.specs.Canonical.{part_bytes}
 use Rattle.oc_macho_file.specs.Layout as layout
 use Rattle.oc_macho_file.specs.Layout.{laid_parts}
@@ -12,12 +13,6 @@ use Rattle.oc_macho_write.specs.declared.bodies.Bodies.{Bodies}
 use Rattle.oc_macho_write.specs.declared.heads.Heads.{Heads}
 use Rattle.oc_macho_write.specs.declared.parts.Part.{Part}
 use Rattle.oc_macho_write.specs.Bodies.{body_by, HasBody, IsHeaded}
-
--- parts that begin at these places
-abbrev pub pieces_at : List ℕ → List (List ℕ) → Pieces
-pieces_at [] parts = []
-pieces_at (at ∷ places) [] = []
-pieces_at (at ∷ places) (x ∷ parts) = record { at = at; part = x } ∷ pieces_at places parts
 
 -- the bytes of the parts of a file
 abbrev pub parts_by : Word → Heads → List Part → List Section → Bodies → List (List ℕ)

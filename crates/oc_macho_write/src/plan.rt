@@ -1,7 +1,8 @@
 //! Planned files.
 ghost use Rattle.std.specs.Prelude.{◌≡◌};
 ghost use Rattle.oc_shelf.specs.Writing.Parts.{AreInOrder};
-ghost use Rattle.oc_macho_write.specs.Plans.{IsPlan, parts_by, pieces_at};
+ghost use Rattle.oc_plans.specs.Placed.{pieces_at};
+ghost use Rattle.oc_macho_write.specs.Plans.{IsPlan, parts_by};
 
 use crate::bodies::{Bodies, body_window};
 use crate::heads::Heads;
@@ -31,7 +32,8 @@ pub struct Plan {
 
 impl Model for Plan {
     ghost use Rattle.oc_shelf.specs.Writing.Parts.{Pieces};
-    ghost use Rattle.oc_macho_write.specs.Plans.{IsPlan, parts_by, pieces_at};
+    ghost use Rattle.oc_plans.specs.Placed.{pieces_at};
+    ghost use Rattle.oc_macho_write.specs.Plans.{IsPlan, parts_by};
 
     ghost Value = { Pieces };
 

@@ -14,9 +14,9 @@ use crate::lines::lines_of;
 use crate::parts::parts_of;
 use crate::places::Places;
 use crate::plan::Plan;
-use crate::raw::write_all;
 use oc_base::{NoMemory, Word};
 use oc_neutral::{Fitted, Neutral, Section};
+use oc_plans::with_numbers;
 use std::alloc::Global;
 
 // the sections of an object, which have these addresses, with the numbers in their fields
@@ -25,14 +25,13 @@ fn sections_of(word: Word, addresses: &[u64], neutral: Neutral) -> Vec<Section>
     ensures { map (λ s. s.bytes) result.items ≡ all_raws word neutral }
 {
     neutral.is_object();
-    let (_groups, mut sections, symbols, relocs) = neutral.into_parts();
+    let (_groups, sections, symbols, relocs) = neutral.into_parts();
     let scene = Scene {
         word,
         addresses,
         symbols: &symbols,
     };
-    write_all(scene, &relocs, sections.as_mut_slice());
-    sections
+    with_numbers(&scene, &relocs, sections)
 }
 
 /// The plan of the canonical Mach-O file of an object that is ready to be written. `NoMemory` where

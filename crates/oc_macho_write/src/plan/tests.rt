@@ -1,58 +1,24 @@
 //! What a plan holds of a file: the bytes of sections, and the numbers of its structures; and its windows.
-ghost use Rattle.std.specs.Prelude.{◌≡◌, ◌≤◌, codes, None, IfOk};
-ghost use Rattle.oc_base.specs.declared.format.Format.TheVariants.{Mac64};
-ghost use Rattle.oc_linking.specs.declared.terms.Kind.TheVariants as kind;
-ghost use Rattle.oc_neutral.specs.Fitted.{CanFit};
-ghost use Rattle.oc_neutral.specs.Invariants.{HasItsBytes};
-
 use super::Plan;
 use crate::bodies::Bodies;
 use crate::heads::Heads;
 use crate::layout::Extents;
 use crate::writer::MachWriter64;
-use oc_base::{Bytes, Format, NoMemory};
+use oc_base::Format;
 use oc_express::fit;
-use oc_neutral::{Builder, Emits, Kind, Neutral, Section, Writes};
-use std::alloc::Global;
+use oc_neutral::{Emits, Writes};
+use oc_plans::object_of_data;
 use std::test::Fail;
-
-/// A section of data of an ELF object: its tag is SHT_PROGBITS, above the bits for SHF_WRITE and SHF_ALLOC.
-fn data(alloc: Global, size: u32) -> Result<Section, NoMemory>
-    requires { size ≤ 100000 }
-    ensures bytes { IfOk result HasItsBytes }
-    ensures kind { IfOk result (λ s. s.kind ≡ kind.Data) }
-    ensures name { IfOk result (λ s. s.name ≡ codes ".data") }
-    ensures tag { IfOk result (λ s. s.tag ≡ 11) }
-    ensures align { IfOk result (λ s. s.align ≡ 16) }
-    ensures alone { IfOk result (λ s. s.group ≡ None) }
-{
-    Ok(Section {
-        name: Bytes::from_slice(alloc, b".data")?,
-        kind: Kind::Data,
-        align: 16,
-        size,
-        bytes: Bytes::from_vec(vec![in alloc; 7u8; size as usize]?),
-        tag: 11,
-        number: 1,
-        group: None,
-    })
-}
-
-/// An object of that section alone.
-fn object(alloc: Global, size: u32) -> Result<Neutral, Fail>
-    requires { size ≤ 100000 }
-    ensures { IfOk result (CanFit Mac64) }
-{
-    let mut builder = Builder::new(alloc, Format::Elf64);
-    builder.add_section(data(alloc, size)?)?;
-    Ok(builder.finish())
-}
 
 /// The plan of 100,000 bytes of data has these, one section header, and a place for each part: the header
 /// of 32 bytes, commands of 256, the data, and a string table of eight bytes.
 #[test]
 fn a_plan_does_not_keep_the_file(rt: HostRuntime) -> Result<(), Fail> {
-    let fitted = fit(rt.alloc(), Format::Mac64, object(rt.alloc(), 100_000)?)?;
+    let fitted = fit(
+        rt.alloc(),
+        Format::Mac64,
+        object_of_data(rt.alloc(), Format::Mac64, 100_000)?,
+    )?;
     let Plan {
         word: _,
         heads: Heads {
@@ -89,7 +55,11 @@ fn a_plan_does_not_keep_the_file(rt: HostRuntime) -> Result<(), Fail> {
 /// bytes that the whole has there, and the rest of the buffer stays.
 #[test]
 fn windows_are_those_of_the_whole(rt: HostRuntime) -> Result<(), Fail> {
-    let fitted = fit(rt.alloc(), Format::Mac64, object(rt.alloc(), 5)?)?;
+    let fitted = fit(
+        rt.alloc(),
+        Format::Mac64,
+        object_of_data(rt.alloc(), Format::Mac64, 5)?,
+    )?;
     let plan = MachWriter64.plan(rt.alloc(), fitted)?;
     let mut whole = [0; 400];
     let size = plan.window(0, &mut whole);

@@ -14,7 +14,7 @@ use Rattle.oc_macho_write.specs.LaidParts.{AreLaid}
 use Rattle.oc_macho_write.proofs.BodyLemmas.{has_body, part_listed, size_is}
 use Rattle.oc_macho_write.proofs.LaidLemmas.{end_by, part_room}
 use Rattle.oc_macho_write.proofs.PartLemmas.{as_many_parts}
-use Rattle.oc_macho_write.proofs.Turns.{take_next}
+use Rattle.oc_plans.proofs.Turns.{take_next}
 use Rattle.oc_macho_write.proofs.layout.layout_of.Goals as goal
 
 pub part_begin-begin-requires-clause-there : goal.part_begin-begin-requires-clause-there

@@ -9,7 +9,7 @@ use Rattle.oc_neutral.specs.WrittenSymbols.{is_written}
 use Rattle.oc_macho_file.specs.Lines.{LocalLine}
 use Rattle.oc_macho_write.specs.Lines.{line_in}
 use Rattle.oc_macho_write.specs.declared.lines.Line.TheVariants as line
-use Rattle.oc_macho_write.proofs.Turns.{filter_step, turn_if, whole}
+use Rattle.oc_plans.proofs.Turns.{filter_step, turn_if, whole}
 use Rattle.oc_macho_write.proofs.lines.add_locals.Goals as goal
 
 pub loop-k-preserved : goal.loop-k-preserved

@@ -6,7 +6,7 @@ use Rattle.oc_macho_file.specs.Lines.{OwnLine}
 use Rattle.oc_macho_write.specs.Lines.{line_in, lines_in}
 use Rattle.oc_macho_write.specs.declared.lines.Line.TheVariants as line
 use Rattle.oc_macho_write.proofs.LineLemmas.{range_more}
-use Rattle.oc_macho_write.proofs.Turns.{turn_if, whole}
+use Rattle.oc_plans.proofs.Turns.{turn_if, whole}
 use Rattle.oc_macho_write.proofs.lines.add_marked.Goals as goal
 
 pub loop-k-init : goal.loop-k-init

@@ -7,7 +7,7 @@ use Rattle.oc_neutral.specs.declared.symbol.Symbol.{Symbol}
 use Rattle.oc_macho_file.specs.Lines.{OuterLine}
 use Rattle.oc_macho_write.specs.Lines.{is_outer, line_in}
 use Rattle.oc_macho_write.specs.declared.lines.Line.TheVariants as line
-use Rattle.oc_macho_write.proofs.Turns.{filter_step, turn_if, whole}
+use Rattle.oc_plans.proofs.Turns.{filter_step, turn_if, whole}
 use Rattle.oc_macho_write.proofs.lines.add_outers.Goals as goal
 
 pub loop-k-preserved : goal.loop-k-preserved

@@ -8,7 +8,7 @@ use Rattle.oc_macho_file.specs.Addresses.{Numbered, is_blank}
 use Rattle.oc_macho_file.specs.Layout.{Raw, raw_part}
 use Rattle.oc_macho_write.specs.Parts.{part_in}
 use Rattle.oc_macho_write.specs.declared.parts.Part.TheVariants as part
-use Rattle.oc_macho_write.proofs.Turns.{filter_step, turn_if, whole}
+use Rattle.oc_plans.proofs.Turns.{filter_step, turn_if, whole}
 use Rattle.oc_macho_write.proofs.parts.add_raws.Goals as goal
 
 pub loop-k-preserved : goal.loop-k-preserved

@@ -7,7 +7,7 @@ use Rattle.oc_neutral.proofs.Positions.{there_at}
 use Rattle.oc_macho_file.specs.Layout.{Relocs, relocs_part}
 use Rattle.oc_macho_write.specs.Parts.{part_in}
 use Rattle.oc_macho_write.specs.declared.parts.Part.TheVariants as part
-use Rattle.oc_macho_write.proofs.Turns.{map_step, turn, whole}
+use Rattle.oc_plans.proofs.Turns.{map_step, turn, whole}
 use Rattle.oc_macho_write.proofs.parts.add_relocs.Goals as goal
 
 pub loop-k-preserved : goal.loop-k-preserved

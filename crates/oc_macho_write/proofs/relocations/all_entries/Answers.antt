@@ -9,7 +9,7 @@ use Rattle.oc_macho_read.specs.declared.relocation_info.RelocationInfo.{Relocati
 use Rattle.oc_macho_file.specs.Layout.{relocs_of}
 use Rattle.oc_macho_write.specs.Relocations.{all_entries}
 use Rattle.oc_macho_write.specs.Words.{items_of}
-use Rattle.oc_macho_write.proofs.Turns.{map_append, map_step}
+use Rattle.oc_plans.proofs.Turns.{map_append, map_step}
 use Rattle.oc_macho_write.proofs.relocations.all_entries.Goals as goal
 
 pub loop-k-preserved : goal.loop-k-preserved

@@ -9,7 +9,7 @@ use Rattle.oc_macho_read.specs.SectionHeader.{section_header_size}
 use Rattle.oc_macho_file.specs.Structures.{section_bytes}
 use Rattle.oc_shelf.proofs.WritingLaws.TableLemmas.{rows_cut, rows_long, rows_more, table_long, times_quotient, times_rises}
 use Rattle.oc_shelf.proofs.WritingLaws.WindowLemmas.{filled_full, filled_nothing}
-use Rattle.oc_macho_write.proofs.PlanLemmas.{mapped_at}
+use Rattle.oc_plans.proofs.PlacedLemmas.{mapped_at}
 use Rattle.oc_macho_write.proofs.tables.headers_window.Goals as goal
 
 -- sizes are those of the word, and never 0
