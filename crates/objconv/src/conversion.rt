@@ -45,8 +45,8 @@ fn plan<F: Files>(
     }
 }
 
-/// Converts the file `input` to the file `output` in the format `to`, whose writer is built, and
-/// answers the status of the run. The output is created only once its plan is made.
+/// Converts the file `input` to the file `output` in the format `to`, and answers the status of the
+/// run. The output is created only once its plan is made.
 pub fn convert_file<F: Files, C: Console>(
     alloc: Global,
     files: &mut F,

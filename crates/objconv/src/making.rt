@@ -80,9 +80,9 @@ fn prepared(alloc: Global, count: u32, to: Format) -> Result<Made<AnyPlan>, Conv
     }
 }
 
-/// Makes the object of `count` functions in the file `output` in the format `to`, whose writer is
-/// built, shows how much was made, and answers the status of the run. The output is created only once
-/// its plan and the line to be shown are made; the line is shown only once the output is whole.
+/// Makes the object of `count` functions in the file `output` in the format `to`, shows how much was
+/// made, and answers the status of the run. The output is created only once its plan and the line to be
+/// shown are made; the line is shown only once the output is whole.
 pub fn make_file<F: Files, C: Console>(
     alloc: Global,
     files: &mut F,

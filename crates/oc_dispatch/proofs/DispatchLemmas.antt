@@ -1,6 +1,6 @@
 -- What is planned of a file whose format is known.
-use Rattle.std.proofs.Common.{◌≡◌, ◌∙◌, ℕ, true, cond, List, Option, Some, None, Result, Ok, ap, subst, sym}
-use Rattle.std.specs.Prelude.{IfErr, OnOk}
+use Rattle.std.proofs.Common.{◌≡◌, ◌∙◌, ℕ, true, cond, List, Option, Some, None, Result, Ok, Err, ap, subst, sym}
+use Rattle.std.specs.Prelude.{IfErr, IfOk, OnOk}
 use Rattle.oc_base.specs.declared.code.Code.TheVariants.{WordSize}
 use Rattle.oc_base.specs.declared.fault.Fault.{Fault}
 use Rattle.oc_base.specs.declared.format.Format.{Format}
@@ -24,6 +24,13 @@ module _ (wishes : Wishes) (to : Format) (b : List ℕ) where
     planned = subst (λ (w : Writer). planned_file wishes f to w.canonical b ≡ Ok c) (sym is) planned;
     faithful = subst (λ (w : Writer). IsFaithful wishes f w.dialect b c) (sym is) faithful;
   }
+
+  -- of all that a conversion by this writer gives
+  pub plans_by : {P : Type 0} (f : Dialect) (w : Writer) → built.writer to ≡ w → (file : P → List ℕ) (r : Result P ConvertFault)
+      → IfOk r (λ plan. planned_file wishes f to w.canonical b ≡ Ok (file plan)) → IfOk r (λ plan. IsFaithful wishes f w.dialect b (file plan))
+      → IfOk r (λ plan. IsPlanned wishes to f b (file plan))
+  plans_by f w is file (Ok plan) planned faithful = writer_planned f w is (file plan) planned faithful
+  plans_by f w is file (Err fault) planned faithful = tt
 
   -- by this reader, which is that of the file's format: it is what is promised
   pub reader_planned : (from : Format) → identified b ≡ Some from → (f : Dialect) → built.reader from ≡ f → (c : List ℕ) → IsPlanned wishes to f b c

@@ -1,13 +1,14 @@
 //! The conversion of a file of any format to any other of its word.
-ghost use Rattle.std.specs.Prelude.{◌≡◌, ◌≤◌, length, true, None, Some, IfErr, IfOk, OnOk};
+ghost use Rattle.std.specs.Prelude.{◌≡◌, ◌≤◌, length, true, None, Ok, Some, IfErr, IfOk, OnOk};
 ghost use Rattle.oc_base.specs.Formats.{word_for};
 ghost use Rattle.oc_neutral.specs.Families.{same_word};
+ghost use Rattle.oc_convert.specs.Converted.{IsFaithful, planned_file};
 ghost use Rattle.oc_convert.specs.Dispatched.{IsDispatched, dispatch_refusal};
 ghost use Rattle.oc_convert.specs.Identified.{identified};
 ghost use Rattle.oc_convert.specs.Refusals.{IsFaultOf, first_refusal};
 ghost use Rattle.oc_dispatch.specs.Built.{IsPlanned, built};
 
-use crate::any_plan::AnyPlan;
+use crate::any_plan::{AnyPlan, PlansAny};
 use crate::header::header_refusal;
 use oc_base::{Code, Format, Word, word_of};
 use oc_coff_reader::{CoffReader32, CoffReader64};
@@ -22,6 +23,29 @@ use oc_neutral::{Emits, Reads};
 use oc_omf_reader::OmfReader;
 use oc_omf_write::OmfWriter;
 use std::alloc::Global;
+
+// the conversion by a reader and a writer
+fn plan_by<R: Reads, W: PlansAny>(
+    alloc: Global,
+    reader: &R,
+    writer: &W,
+    from: Format,
+    to: Format,
+    bytes: &[u8],
+    edits: &Edits,
+) -> Result<AnyPlan, ConvertFault>
+    requires size { length bytes.now ≤ 67108864 }
+    requires source { R.dialect.format ≡ from }
+    requires target { W.dialect.format ≡ to }
+    requires word { word_for to ≡ word_for from }
+    ensures accepted { OnOk result (first_refusal edits.now R.dialect to bytes.now ≡ None) }
+    ensures refused { IfErr result (IsFaultOf (first_refusal edits.now R.dialect to bytes.now)) }
+    ensures planned { IfOk result (λ plan. planned_file edits.now R.dialect to W.canonical bytes.now ≡ Ok (⟦<AnyPlan as Emits>⟧.file plan)) }
+    ensures faithful { IfOk result (λ plan. IsFaithful edits.now R.dialect W.dialect bytes.now (⟦<AnyPlan as Emits>⟧.file plan)) }
+{
+    let plan = convert(alloc, reader, writer, from, to, bytes, edits)?;
+    Ok(W::any(plan))
+}
 
 // the conversion of a file that this reader reads
 #[tactic(auto, unfolding(crate::specs::Built::built))]
@@ -41,48 +65,13 @@ fn dispatch_from<R: Reads>(
     ensures planned { IfOk result (λ plan. IsPlanned edits.now to R.dialect bytes.now (⟦<AnyPlan as Emits>⟧.file plan)) }
 {
     match to {
-        Format::Elf32 => {
-            match convert(alloc, reader, &ElfWriter32, from, to, bytes, edits) {
-                Ok(plan) => Ok(AnyPlan::Elf32(plan)),
-                Err(fault) => Err(fault),
-            }
-        }
-        Format::Elf64 => {
-            match convert(alloc, reader, &ElfWriter64, from, to, bytes, edits) {
-                Ok(plan) => Ok(AnyPlan::Elf64(plan)),
-                Err(fault) => Err(fault),
-            }
-        }
-        Format::Coff32 => {
-            match convert(alloc, reader, &CoffWriter32, from, to, bytes, edits) {
-                Ok(plan) => Ok(AnyPlan::Coff32(plan)),
-                Err(fault) => Err(fault),
-            }
-        }
-        Format::Coff64 => {
-            match convert(alloc, reader, &CoffWriter64, from, to, bytes, edits) {
-                Ok(plan) => Ok(AnyPlan::Coff64(plan)),
-                Err(fault) => Err(fault),
-            }
-        }
-        Format::Mac32 => {
-            match convert(alloc, reader, &MachWriter32, from, to, bytes, edits) {
-                Ok(plan) => Ok(AnyPlan::Mac32(plan)),
-                Err(fault) => Err(fault),
-            }
-        }
-        Format::Mac64 => {
-            match convert(alloc, reader, &MachWriter64, from, to, bytes, edits) {
-                Ok(plan) => Ok(AnyPlan::Mac64(plan)),
-                Err(fault) => Err(fault),
-            }
-        }
-        Format::Omf => {
-            match convert(alloc, reader, &OmfWriter, from, to, bytes, edits) {
-                Ok(plan) => Ok(AnyPlan::Omf(plan)),
-                Err(fault) => Err(fault),
-            }
-        }
+        Format::Elf32 => plan_by(alloc, reader, &ElfWriter32, from, to, bytes, edits),
+        Format::Elf64 => plan_by(alloc, reader, &ElfWriter64, from, to, bytes, edits),
+        Format::Coff32 => plan_by(alloc, reader, &CoffWriter32, from, to, bytes, edits),
+        Format::Coff64 => plan_by(alloc, reader, &CoffWriter64, from, to, bytes, edits),
+        Format::Mac32 => plan_by(alloc, reader, &MachWriter32, from, to, bytes, edits),
+        Format::Mac64 => plan_by(alloc, reader, &MachWriter64, from, to, bytes, edits),
+        Format::Omf => plan_by(alloc, reader, &OmfWriter, from, to, bytes, edits),
     }
 }
 
