@@ -1,5 +1,5 @@
 -- The parts of the canonical file, as a plan has them.
-use Rattle.std.proofs.Common.{◌≡◌, ℕ, ◌+◌, ◌-◌, ◌^◌, ◌<◌, ◌≤◌, List, [], ◌∷◌, ◌++◌, length, map, replicate, Option, Some, refl, sym, ◌∙◌, ap, subst, arith}
+use Rattle.std.proofs.Common.{◌≡◌, ℕ, ◌^◌, ◌<◌, List, [], ◌∷◌, length, map, Some, refl, sym, ◌∙◌, ap, subst, arith}
 use Rattle.std.specs.Prelude.{slice_get}
 use Rattle.std.specs.List.{AllByRecursion, enumerate_from}
 use Rattle.std.proofs.lemmas.List.{length-map}
@@ -7,7 +7,7 @@ use Rattle.std.proofs.lemmas.List.FromFn.{length-enumerate_from}
 use Rattle.oc_base.specs.declared.format.Word.{Word}
 use Rattle.oc_neutral.specs.declared.section.Section.{Section}
 use Rattle.oc_neutral.specs.Objects.{Object}
-use Rattle.oc_shelf.specs.Writing.Parts.{Laid, laid, joined, file_of, end_of, AreInOrder}
+use Rattle.oc_shelf.specs.Writing.Parts.{Laid, file_of, end_of, AreInOrder}
 use Rattle.oc_shelf.proofs.WritingLaws.MemberLemmas.{of_map}
 use Rattle.oc_shelf.proofs.WritingLaws.PartLemmas.{laid_there}
 use Rattle.oc_shelf.proofs.WritingLaws.StandingLemmas.{stands_inside}

@@ -1,10 +1,8 @@
 -- The parts of a planned file: where they stand.
-use Rattle.std.proofs.Common.{◌≡◌, ℕ, zero, suc, ◌+◌, ◌-◌, ◌<◌, List, [], ◌∷◌, ◌++◌, length, map, take, get_or, Some, inl, inr, refl, sym, ◌∙◌, ap, arith}
+use Rattle.std.proofs.Common.{◌≡◌, ℕ, ◌+◌, ◌-◌, List, [], ◌∷◌, ◌++◌, length, map, take, Some, refl, sym, ◌∙◌, ap, arith}
 use Rattle.std.specs.Prelude.{slice_get, flat_map, replicate}
-use Rattle.std.proofs.lemmas.Bool.{cases_lt}
-use Rattle.std.proofs.lemmas.Option.{get_or_from_slice_get, none-some, same_Some}
-use Rattle.oc_shelf.specs.Writing.Parts.{Laid, laid, laid_end, behind, aligned, Pieces, piece_at, end_of, AreInOrder, joined}
-use Rattle.oc_shelf.proofs.WritingLaws.PartLemmas.{length-joined, places_more, end_more}
+use Rattle.oc_shelf.specs.Writing.Parts.{laid, behind, aligned, joined}
+use Rattle.oc_shelf.proofs.WritingLaws.PartLemmas.{places_more, end_more}
 use Rattle.oc_neutral.specs.Objects.{Object}
 use Rattle.oc_omf_file.specs.Canonical.{output_bytes, omf_file}
 use Rattle.oc_omf_file.specs.Outputs.{outputs_of}

@@ -2,7 +2,6 @@
 use Rattle.std.specs.Prelude.{◌≡◌, List}
 use Rattle.oc_neutral.specs.declared.section.Section.{Section}
 use Rattle.oc_neutral.specs.declared.symbol.Symbol.{Symbol}
-use Rattle.oc_neutral.specs.declared.reloc.Reloc.{Reloc}
 use Rattle.oc_neutral.specs.Objects.{Object}
 use Rattle.oc_plans.specs.Numbered.{Numbering, all_with_numbers}
 use Rattle.oc_omf_file.specs.Fixups.{field_number}

@@ -1,5 +1,5 @@
 -- The fields lie in the bytes of their sections.
-use Rattle.std.proofs.Common.{◌≡◌, List, length, map, refl, sym, ◌∙◌, ap, subst, arith}
+use Rattle.std.proofs.Common.{◌≡◌, length, map, refl, sym, ◌∙◌, ap, subst, arith}
 use Rattle.std.specs.List.{enumerate_from}
 use Rattle.oc_chains.specs.Lists.{Lists, list_of}
 use Rattle.oc_neutral.specs.declared.reloc.Reloc.{Reloc}
