@@ -25,6 +25,7 @@ use crate::counts::header_count;
 use crate::lines::Line;
 use crate::names::{default_name, symbol_field};
 use crate::numbers::Numbers;
+use crate::strings::is_given;
 use crate::structures::{pack_section_aux, pack_symbol, pack_weak_aux};
 use crate::values;
 use oc_base::NoMemory;
@@ -73,12 +74,12 @@ pub(crate) fn pack_entry(entry: &Entry) -> Packed
 }
 
 // the entry of the symbol of the section at a position
-fn section_entry(names: &Table, position: u32, section: &Section) -> SymbolEntry
+fn section_entry(names: &Table, near: usize, position: u32, section: &Section) -> SymbolEntry
     requires { position + 1 < 2 ^ 16 }
     ensures { (w : Word) (n : Object) → names.now ≡ table_for w n → result ≡ canonical.line_entry w n (coff_lines.SectionLine position section.now) }
 {
     SymbolEntry {
-        Name: symbol_field(names, section.name.as_slice()),
+        Name: symbol_field(names, near, section.name.as_slice()),
         Value: 0,
         SectionNumber: (position + 1) as u16,
         Type: 0,
@@ -88,13 +89,13 @@ fn section_entry(names: &Table, position: u32, section: &Section) -> SymbolEntry
 }
 
 // the entry of a symbol
-fn symbol_entry(names: &Table, symbol: &Symbol) -> SymbolEntry
+fn symbol_entry(names: &Table, near: usize, symbol: &Symbol) -> SymbolEntry
     requires { HasRoom (canonical.numbers_by symbol.now.binding) }
     ensures { (w : Word) (n : Object) (k : ℕ) → names.now ≡ table_for w n → result ≡ canonical.line_entry w n (coff_lines.OuterLine k symbol.now) }
 {
     let numbers = values::of_binding(symbol.binding);
     SymbolEntry {
-        Name: symbol_field(names, symbol.name.as_slice()),
+        Name: symbol_field(names, near, symbol.name.as_slice()),
         Value: numbers.value,
         SectionNumber: numbers.section,
         Type: values::type_by(symbol.mark),
@@ -104,14 +105,19 @@ fn symbol_entry(names: &Table, symbol: &Symbol) -> SymbolEntry
 }
 
 // the entry of the symbol that stands for the fallback of a Weak
-fn default_entry(alloc: Global, names: &Table, symbol: &Symbol) -> Result<SymbolEntry, NoMemory>
+fn default_entry(
+    alloc: Global,
+    names: &Table,
+    near: usize,
+    symbol: &Symbol,
+) -> Result<SymbolEntry, NoMemory>
     requires { HasRoom (canonical.default_numbers symbol.now.binding) }
     ensures { IfOk result (λ entry. (w : Word) (n : Object) (k : ℕ) → names.now ≡ table_for w n → entry ≡ canonical.line_entry w n (coff_lines.DefaultLine k symbol.now)) }
 {
     let name = default_name(alloc, symbol.name.as_slice())?;
     let numbers = values::of_default(symbol.binding);
     Ok(SymbolEntry {
-        Name: symbol_field(names, name.as_slice()),
+        Name: symbol_field(names, near, name.as_slice()),
         Value: numbers.value,
         SectionNumber: numbers.section,
         Type: 0,
@@ -189,6 +195,7 @@ fn add_section(
     entries: &mut Vec<Entry>,
     neutral: &Neutral,
     made: Made<'_>,
+    near: usize,
     position: u32,
 ) -> Result<(), NoMemory>
     requires there { position < length neutral.now.sections }
@@ -196,7 +203,7 @@ fn add_section(
     requires made { IsMadeOf (word_for neutral.now.format) neutral.now made }
     ensures { OnOk result ((s : Held) → slice_get neutral.now.sections position ≡ Some s → map entry_bytes entries.new.items ≡ map entry_bytes entries.old.items ++ canonical.line_rows (word_for neutral.now.format) neutral.now (coff_lines.SectionLine position s)) }
 {
-    let symbol = section_entry(made.names, position, neutral.section(position));
+    let symbol = section_entry(made.names, near, position, neutral.section(position));
     entries.push(Entry::Symbol(symbol))?;
     entries.push(Entry::SectionAux(section_aux(neutral, made, position)))?;
     Ok(())
@@ -216,6 +223,7 @@ fn weak_aux(tag: u32) -> WeakAux
 fn add_outer(
     entries: &mut Vec<Entry>,
     names: &Table,
+    near: usize,
     numbers: &Numbers,
     position: u32,
     symbol: &Symbol,
@@ -224,7 +232,7 @@ fn add_outer(
     requires tag { (f : Fallback) → symbol.now.binding ≡ Weak f → HasTag numbers.now position f }
     ensures { OnOk result ((w : Word) (n : Object) → names.now ≡ table_for w n → IsNumbered w n numbers.now → map entry_bytes entries.new.items ≡ map entry_bytes entries.old.items ++ canonical.line_rows w n (coff_lines.OuterLine position symbol.now)) }
 {
-    entries.push(Entry::Symbol(symbol_entry(names, symbol)))?;
+    entries.push(Entry::Symbol(symbol_entry(names, near, symbol)))?;
     if let Binding::Weak(fallback) = symbol.binding {
         let tag = numbers.of_fallback(position, fallback);
         entries.push(Entry::WeakAux(weak_aux(tag)))?;
@@ -233,12 +241,17 @@ fn add_outer(
 }
 
 // adds the entry of a Local
-fn add_local(entries: &mut Vec<Entry>, names: &Table, symbol: &Symbol) -> Result<(), NoMemory>
+fn add_local(
+    entries: &mut Vec<Entry>,
+    names: &Table,
+    near: usize,
+    symbol: &Symbol,
+) -> Result<(), NoMemory>
     requires local { is_local symbol.now.binding ≡ true }
     requires room { HasRoom (canonical.numbers_by symbol.now.binding) }
     ensures { OnOk result ((w : Word) (n : Object) (k : ℕ) → names.now ≡ table_for w n → map entry_bytes entries.new.items ≡ map entry_bytes entries.old.items ++ canonical.line_rows w n (coff_lines.LocalLine k symbol.now)) }
 {
-    entries.push(Entry::Symbol(symbol_entry(names, symbol)))?;
+    entries.push(Entry::Symbol(symbol_entry(names, near, symbol)))?;
     Ok(())
 }
 
@@ -247,21 +260,23 @@ fn add_default(
     alloc: Global,
     entries: &mut Vec<Entry>,
     names: &Table,
+    near: usize,
     symbol: &Symbol,
 ) -> Result<(), NoMemory>
     requires { HasRoom (canonical.default_numbers symbol.now.binding) }
     ensures { OnOk result ((w : Word) (n : Object) (k : ℕ) → names.now ≡ table_for w n → map entry_bytes entries.new.items ≡ map entry_bytes entries.old.items ++ canonical.line_rows w n (coff_lines.DefaultLine k symbol.now)) }
 {
-    entries.push(Entry::Symbol(default_entry(alloc, names, symbol)?))?;
+    entries.push(Entry::Symbol(default_entry(alloc, names, near, symbol)?))?;
     Ok(())
 }
 
-// adds the entries of a line
+// adds the entries of a line, whose name is looked for first at the position `near` among the given names
 fn add_line(
     alloc: Global,
     entries: &mut Vec<Entry>,
     neutral: &Neutral,
     made: Made<'_>,
+    near: usize,
     line: Line,
 ) -> Result<(), NoMemory>
     requires coff { container_of neutral.now.format ≡ IsCoff }
@@ -271,15 +286,23 @@ fn add_line(
     ensures { OnOk result ((is : coff_lines.Line) → line_in neutral.now line ≡ Some is → map entry_bytes entries.new.items ≡ map entry_bytes entries.old.items ++ canonical.line_rows (word_for neutral.now.format) neutral.now is) }
 {
     match line {
-        Line::Section(k) => add_section(entries, neutral, made, k),
-        Line::Local(k) => add_local(entries, made.names, neutral.symbol(k)),
-        Line::Default(k) => add_default(alloc, entries, made.names, neutral.symbol(k)),
-        Line::Outer(k) => add_outer(entries, made.names, made.numbers, k, neutral.symbol(k)),
+        Line::Section(k) => add_section(entries, neutral, made, near, k),
+        Line::Local(k) => add_local(entries, made.names, near, neutral.symbol(k)),
+        Line::Default(k) => add_default(alloc, entries, made.names, near, neutral.symbol(k)),
+        Line::Outer(k) => add_outer(
+            entries,
+            made.names,
+            near,
+            made.numbers,
+            k,
+            neutral.symbol(k),
+        ),
     }
 }
 
 /// The entries of these lines of an object, of which the rest was made. `NoMemory` where memory ran out.
-/// Linear in the lines and relocations, but for looking up names in the string table.
+/// Linear in the lines and relocations, but for looking up names in the string table, each where the
+/// next given one stands.
 pub(crate) fn entries_of(
     alloc: Global,
     neutral: &Neutral,
@@ -294,8 +317,10 @@ pub(crate) fn entries_of(
     ensures count { IfOk result (λ entries. length entries.items ≡ coff_lines.entry_count (word_for neutral.now.format) neutral.now) }
 {
     let mut entries = Vec::with_capacity(alloc, made.numbers.count() as usize)?;
+    let mut near = 0;
     for line in lines {
-        add_line(alloc, &mut entries, neutral, made, *line)?;
+        add_line(alloc, &mut entries, neutral, made, near, *line)?;
+        near += usize::from(is_given(neutral, *line));
     }
     Ok(entries)
 }

@@ -58,6 +58,14 @@ pub(crate) fn place_in(names: &Table, name: &[u8]) -> u32
     names.offset(name).unwrap_or(0)
 }
 
+/// The same of a name that is looked for first at the position `near` among the given names. Time as for
+/// `Table::offset_near`.
+fn place_near(names: &Table, near: usize, name: &[u8]) -> u32
+    ensures { result ≡ places.place_in names.now name.now }
+{
+    names.offset_near(near, name).unwrap_or(0)
+}
+
 /// Four zeros and an offset in the string table. Constant time.
 #[tactic(auto, unfolding(oc_base::specs::Numbers::bytes_of_number))]
 pub(crate) fn offset_field(offset: u32) -> [u8; NAME_SIZE]
@@ -68,12 +76,13 @@ pub(crate) fn offset_field(offset: u32) -> [u8; NAME_SIZE]
     field
 }
 
-/// The eight bytes of a symbol's name. Time as for `Table::offset`.
-pub(crate) fn symbol_field(names: &Table, name: &[u8]) -> [u8; NAME_SIZE]
+/// The eight bytes of a symbol's name, which is looked for first at the position `near` among the given
+/// names. Time as for `Table::offset_near`.
+pub(crate) fn symbol_field(names: &Table, near: usize, name: &[u8]) -> [u8; NAME_SIZE]
     ensures { (w : Word) (n : Object) → names.now ≡ table_for w n → result ≡ canonical.symbol_field w n name.now }
 {
     if is_long(name) {
-        return offset_field(place_in(names, name));
+        return offset_field(place_near(names, near, name));
     }
     padded_name(name)
 }

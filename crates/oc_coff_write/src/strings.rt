@@ -26,6 +26,17 @@ fn give(alloc: Global, given: &mut Vec<Bytes>, name: &[u8], wanted: bool) -> Res
     Ok(())
 }
 
+/// Whether the name of a line stands in the string table. Constant time.
+pub(crate) fn is_given(neutral: &Neutral, line: Line) -> bool
+    requires { IsSome (line_in neutral.now line) }
+{
+    match line {
+        Line::Section(k) => is_tabled(neutral.section(k).name.as_slice()),
+        Line::Local(k) | Line::Outer(k) => is_long(neutral.symbol(k).name.as_slice()),
+        Line::Default(_) => true,
+    }
+}
+
 // gives the name of a line, where it stands in the table
 fn give_line(
     alloc: Global,

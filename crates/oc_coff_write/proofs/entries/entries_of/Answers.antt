@@ -1,5 +1,7 @@
 -- Each turn adds the entries of its line.
-use Rattle.std.proofs.Common.{◌≤◌, length, map, ◌∙◌, ap, sym, arith}
+use Rattle.std.proofs.Common.{◌≡◌, ◌≤◌, ℕ, Bool, true, false, length, map, ◌∙◌, ap, sym, arith}
+use mir.Val.{bool_byte}
+use Rattle.std.specs.Option.{is_some}
 use Rattle.std.proofs.lemmas.List.{length-map}
 use Rattle.std.proofs.lemmas.Option.{slice_get-get_or}
 use Rattle.oc_base.specs.Formats.{word_for}
@@ -25,15 +27,29 @@ loop-line-preserved c =
     let w = word_for n.format in
     let k = c.loop-line.line-index in
     let x = line_listed w n c.args.lines.now k _ c.requires.lines (slice_get-get_or c.args.lines.now k (line.Section 0) c.loop-line-test.true) in
-    more_given (map entry_bytes c.loop-line.entries.items) (map entry_bytes c.add_line.new.entries.items) _ _ (line_rows w n x.0) _
-    (c.in_ok-add_line.ensures x.0 x.2) (flat_step (line_rows w n) (lines_of w n) k x.0 x.1) c.loop-line.invariant
+    record {
+      near = omega (arith, c.loop-line.invariant.near, bit_small _ _ c.from-near.ensures);
+      rows =
+          more_given (map entry_bytes c.loop-line.entries.items) (map entry_bytes c.add_line.new.entries.items) _ _ (line_rows w n x.0) _
+          (c.in_ok-add_line.ensures x.0 x.2) (flat_step (line_rows w n) (lines_of w n) k x.0 x.1) c.loop-line.invariant.rows;
+    }
+  where
+    bit_small : (b : Bool) (n : ℕ) → n ≡ bool_byte b → n ≤ 1
+    bit_small true n e = omega (arith, e)
+    bit_small false n e = omega (arith, e)
+
+pub is_given-requires : goal.is_given-requires
+is_given-requires c =
+    let k = c.loop-line.line-index in
+    let x = line_listed (word_for c.args.neutral.now.format) c.args.neutral.now c.args.lines.now k _ c.requires.lines (slice_get-get_or c.args.lines.now k (line.Section 0) c.loop-line-test.true) in
+    ap is_some x.2
 
 pub returns-clause-rows : goal.returns-clause-rows
 returns-clause-rows c =
     let n = c.args.neutral.now in
     let w = word_for n.format in
     let past : length c.args.lines.now ≤ c.loop-line.line-index = omega (arith, c.loop-line-test.false) in
-    all_rows w n c.args.lines.now c.requires.lines c.loop-line.line-index c.loop-line.entries.items past c.loop-line.invariant
+    all_rows w n c.args.lines.now c.requires.lines c.loop-line.line-index c.loop-line.entries.items past c.loop-line.invariant.rows
 
 pub returns-clause-count : goal.returns-clause-count
 returns-clause-count c =
@@ -41,5 +57,5 @@ returns-clause-count c =
     let w = word_for n.format in
     let past : length c.args.lines.now ≤ c.loop-line.line-index = omega (arith, c.loop-line-test.false) in
     sym (length-map c.loop-line.entries.items entry_bytes)
-    ∙ ap length (all_rows w n c.args.lines.now c.requires.lines c.loop-line.line-index c.loop-line.entries.items past c.loop-line.invariant)
+    ∙ ap length (all_rows w n c.args.lines.now c.requires.lines c.loop-line.line-index c.loop-line.entries.items past c.loop-line.invariant.rows)
     ∙ length-entry_rows w n

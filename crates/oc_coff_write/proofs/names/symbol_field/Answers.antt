@@ -14,7 +14,7 @@ unfolding symbol_field string_offset
 returns-then-is_long c = λ w n e.
     let name = c.args.name.now in
     c.offset_field.ensures
-    ∙ ap (λ k. bytes_of_number 4 0 ++ bytes_of_number 4 k) (c.place_in.ensures ∙ ap (λ t. place_in t name) e)
+    ∙ ap (λ k. bytes_of_number 4 0 ++ bytes_of_number 4 k) (c.place_near.ensures ∙ ap (λ t. place_in t name) e)
     ∙ sym (ap (λ b. cond b (bytes_of_number 4 0 ++ bytes_of_number 4 (offset_of (coff_format w) n name)) (padded name)) (sym c.is_long.ensures ∙ c.if-is_long.true))
 
 pub returns : goal.returns
