@@ -22,5 +22,5 @@ pub use code::Code;
 pub use fault::{Class, Fault, Phase, Spot};
 pub use format::{Format, Word, word_of};
 pub use messages::message;
-pub use numbers::{push_u16, push_u32, push_u64, u8_in, u16_in, u32_in, u64_in};
+pub use numbers::{u8_in, u16_in, u32_in, u64_in};
 pub use view::View;

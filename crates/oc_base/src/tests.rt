@@ -125,17 +125,9 @@ fn bytes_and_texts(rt: HostRuntime) -> Result<(), Fail> {
     let mut bytes = Bytes::from_slice(rt.alloc(), b"hello")?;
     bytes.set(4, b'!');
     let text = Text::from_str(rt.alloc(), "a.o")?;
-    let mut out = Vec::new(rt.alloc());
-    push_u16(&mut out, 0x14C)?;
-    push_u32(&mut out, 0x6050_0020)?;
-    push_u64(&mut out, 0x0102_0304_0506_0708)?;
     assert_eq!(rt;
-        (bytes.as_slice(), text.as_str(), out.as_slice()),
-        (
-            b"hell!".as_slice(),
-            "a.o",
-            [0x4C, 1, 0x20, 0, 0x50, 0x60, 8, 7, 6, 5, 4, 3, 2, 1].as_slice()
-        )
+        (bytes.as_slice(), text.as_str()),
+        (b"hell!".as_slice(), "a.o")
     );
     Ok(())
 }
