@@ -1,3 +1,4 @@
+mod Example
 pub mod ReadingLaws
 mod Worked
 pub mod WritingLaws

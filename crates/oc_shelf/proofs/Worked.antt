@@ -4,7 +4,7 @@ use Rattle.std.specs.Prelude.{if◌then◌else◌, nat_eq}
 use Rattle.oc_base.specs.Numbers.{number_at, bytes_of_number}
 use Rattle.oc_linking.specs.FirstFault.{first_fault, stage_fault}
 use Rattle.oc_shelf.specs.Reading.Collected.{collected, position_in}
-use Rattle.oc_shelf.specs.Reading.Example.{passed_at, weighed}
+use Rattle.oc_shelf.proofs.Example.{passed_at, weighed}
 use Rattle.oc_shelf.specs.Reading.Firsts.{first_keyed}
 use Rattle.oc_shelf.specs.Reading.Rows.{rows}
 use Rattle.oc_shelf.specs.Reading.Spans.{meets}

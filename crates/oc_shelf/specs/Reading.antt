@@ -1,5 +1,4 @@
 pub mod Collected
-pub mod Example
 pub mod Firsts
 pub mod Order
 pub mod Rows

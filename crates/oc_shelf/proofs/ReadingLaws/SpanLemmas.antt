@@ -6,7 +6,7 @@ use Rattle.std.proofs.lemmas.Bool.{cases_eq, cases_lt, eq-eqb, ne_eqb}
 use Rattle.std.proofs.lemmas.Bool.Decides.{nat_tests}
 use Rattle.std.proofs.lemmas.Option.{none-some, same_Some}
 use Rattle.oc_shelf.specs.Reading.Firsts.{any_upto}
-use Rattle.oc_shelf.specs.Reading.Spans.{end_at, meets, AreSpans, IsMet, AreSpansOf}
+use Rattle.oc_shelf.specs.Reading.Spans.{end_at, meets, AreSpans, EndBy, IsMet, AreSpansOf}
 use Rattle.oc_shelf.proofs.ReadingLaws.FirstsLemmas.{any_none, any_true}
 
 -- none at first
@@ -85,6 +85,17 @@ met_upto span n begin end spans false are met free = sym (any_none (λ j. option
 -- no spans
 pub are_none : AreSpans []
 are_none = record { some = λ q e h. absurd (none-some e h); apart = λ q e r f h i less. absurd (none-some e h) }
+
+-- a span more, up to whose end all end
+pub end_more : (begin end top now : ℕ) (old new : List (ℕ × ℕ)) → EndBy top old → top ≤ now → end ≤ now → ((q : ℕ) → end_at new q ≡ cond (eqb q begin) (Some end) (end_at old q)) → EndBy now new
+end_more begin end top now old new by low high taken q e h = elim (cases_eq q begin) [
+  | inl same ↦
+      let own : end ≡ e = same_Some end e (sym (taken q ∙ ap (λ b. cond b (Some end) (end_at old q)) (eq-eqb q begin same)) ∙ h) in
+      omega (arith, own, high)
+  | inr other ↦
+      let was = by q e (sym (taken q ∙ ap (λ b. cond b (Some end) (end_at old q)) (ne_eqb q begin other)) ∙ h) in
+      omega (arith, was, low)
+]
 
 -- a span more, which none met
 pub are_more : (begin end : ℕ) (old new : List (ℕ × ℕ)) → AreSpans old → begin < end → (IsMet old begin end → ⊥)

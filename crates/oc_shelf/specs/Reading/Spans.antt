@@ -16,6 +16,10 @@ pub record AreSpans (spans : List (ℕ × ℕ)) : Type 0 where
   pub some : (q e : ℕ) → end_at spans q ≡ Some e → q < e
   pub apart : (q e r f : ℕ) → end_at spans q ≡ Some e → end_at spans r ≡ Some f → q < r → e ≤ r
 
+-- none ends behind a place
+abbrev pub EndBy : ℕ → List (ℕ × ℕ) → Type 0
+EndBy top spans = (q e : ℕ) → end_at spans q ≡ Some e → e ≤ top
+
 -- one of them has a byte between two places
 pub record IsMet (spans : List (ℕ × ℕ)) (begin end : ℕ) : Type 0 where
   pub start : ℕ

@@ -14,17 +14,19 @@ use std::marker::Model;
 #[derive(Drop)]
 pub struct Spans {
     ends: BTreeMap<u64, u64>,
+    // none ends behind it
+    top: u64,
 }
 
 impl Model for Spans {
     ghost use Rattle.std.specs.Prelude.{ℕ, List};
-    ghost use Rattle.oc_shelf.specs.Reading.Spans.{AreSpans};
+    ghost use Rattle.oc_shelf.specs.Reading.Spans.{AreSpans, EndBy};
 
     ghost Value = { List (ℕ × ℕ) };
 
     ghost view = { λ s. s.ends.entries };
 
-    ghost invariant = { λ s. AreSpans s.ends.entries };
+    ghost invariant = { λ s. AreSpans s.ends.entries × EndBy s.top s.ends.entries };
 }
 
 // the last span that begins at a place or before it
@@ -76,6 +78,16 @@ fn meets_behind(ends: &BTreeMap<u64, u64>, at: u64, end: u64) -> bool
     }
 }
 
+// whether a span has a byte between two places
+fn meets(ends: &BTreeMap<u64, u64>, begin: u64, end: u64) -> bool
+    requires some { begin < end }
+    requires spans { AreSpans ends.now.entries }
+    ensures met { result ≡ true → IsMet ends.now.entries begin end }
+    ensures free { result ≡ false → IsMet ends.now.entries begin end → ⊥ }
+{
+    meets_before(ends, begin) || meets_behind(ends, begin, end)
+}
+
 impl Spans {
     /// No spans. Takes no memory.
     pub fn new(alloc: Global) -> Spans
@@ -83,17 +95,18 @@ impl Spans {
     {
         Spans {
             ends: BTreeMap::new(alloc),
+            top: 0,
         }
     }
 
     /// Whether one of the spans has a byte between two places. The time is the logarithm of their
-    /// number.
+    /// number, and constant behind all of them.
     pub fn is_met(&self, begin: u64, end: u64) -> bool
         requires { begin < end }
         ensures met { result ≡ true → IsMet self.now begin end }
         ensures free { result ≡ false → IsMet self.now begin end → ⊥ }
     {
-        meets_before(&self.ends, begin) || meets_behind(&self.ends, begin, end)
+        begin < self.top && meets(&self.ends, begin, end)
     }
 
     /// Takes a span that none of the others meets. `NoMemory` where memory ran out, and the spans
@@ -105,6 +118,7 @@ impl Spans {
         ensures err { OnErr result (self.new ≡ self.old) }
     {
         self.ends.insert(begin, end)?;
+        self.top = self.top.max(end);
         Ok(())
     }
 }

@@ -1,74 +1,9 @@
 //! Worked cases at the borders, worked out by hand.
-use crate::reading::judges::{Judges, judge_all};
 use crate::reading::order::{Placed, sort_by_place};
 use crate::reading::rows::Rows;
 use crate::reading::spans::Spans;
-use crate::reading::stop::Stop;
-use crate::reading::sums::RunningSum;
 use crate::reading::texts::text_at;
-use oc_base::{Code, Fault, Phase};
 use std::test::Fail;
-
-/// Four structures that may not be worth more than a limit together.
-#[derive(Drop)]
-struct Weighed {
-    worths: [u32; 4],
-    total: RunningSum,
-}
-
-impl Judges for Weighed {
-    ghost use Rattle.std.specs.Prelude.{◌≡◌, length};
-    ghost use Rattle.oc_linking.specs.FirstFault.{fault_of};
-    ghost use Rattle.oc_shelf.specs.Reading.Example.{weighed, worth_of};
-    ghost use Rattle.oc_shelf.specs.Reading.Stops.{sum_upto};
-
-    ghost verdict = { λ w. fault_of (weighed w.worths w.total.most) };
-
-    ghost total = { λ w. length w.worths };
-
-    ghost holds = { λ w i. w.total.sum ≡ sum_upto (worth_of w.worths) i };
-
-    fn count(&self) -> u32 {
-        self.worths.len() as u32
-    }
-
-    fn judge(&mut self, i: u32) -> Result<(), Stop> {
-        let worth = u64::from(self.worths[i as usize]);
-        if self.total.passes(worth) {
-            return Err(Stop::Fault(Fault {
-                phase: Phase::Section,
-                index: i,
-                code: Code::LimitBytes,
-                place: u64::from(i),
-            }));
-        }
-        self.total.add(worth);
-        Ok(())
-    }
-}
-
-/// The limit of 9 is kept by a sum of 9, and the first structure that passes it is told.
-#[test]
-fn sums_stop_where_they_pass_the_limit(rt: HostRuntime) -> Result<(), Fail> {
-    let cases = [
-        ([2, 3, 4, 0], None),
-        ([2, 3, 5, 0], Some(2)),
-        ([9, 0, 1, 1], Some(2)),
-        ([u32::MAX, 1, 1, 1], Some(0)),
-    ];
-    for (worths, want) in cases {
-        let mut judged = Weighed {
-            worths,
-            total: RunningSum { sum: 0, most: 9 },
-        };
-        let got = match judge_all(&mut judged) {
-            Err(Stop::Fault(fault)) => Some(fault.index),
-            Ok(()) | Err(Stop::NoMemory) => None,
-        };
-        assert_eq!(rt; got, want);
-    }
-    Ok(())
-}
 
 /// Tables of entries of 10 bytes from 20 on, in a file of 50 bytes, and numbers that lie.
 #[test]

@@ -1,36 +1,17 @@
--- A span that meets two places begins before them, or between them.
-use Rattle.std.proofs.Common.{◌≡◌, ℕ, ◌≤◌, List, inl, inr, Some, sym, ◌∙◌, ap, arith}
-use Rattle.std.proofs.lemmas.Bool.{cases_lt}
-use Rattle.oc_shelf.specs.Reading.Spans.{end_at}
+-- Behind the end of all spans none is met.
+use Rattle.std.proofs.Common.{ℕ, ◌≤◌, List, sym, ◌∙◌, ap, subst, arith}
+use Rattle.oc_shelf.specs.Reading.Spans.{end_at, IsMet}
 use Rattle.oc_shelf.proofs.reading.spans.Spans.is_met.Goals as goal
 
-seen : (old now : List (ℕ × ℕ)) → old ≡ now → (q : ℕ) → end_at old q ≡ end_at now q
-seen old now same q = ap (λ (spans : List (ℕ × ℕ)). end_at spans q) same
+pub returns-then-begin-self-clause-met : goal.returns-then-begin-self-clause-met
+returns-then-begin-self-clause-met c is = subst (λ (spans : List (ℕ × ℕ)). IsMet spans c.args.begin c.args.end) c.self.view_is (c.meets.ensures.met is)
 
-pub returns-then-meets_before-clause-met : goal.returns-then-meets_before-clause-met
-returns-then-meets_before-clause-met c is =
-    let m = c.meets_before.ensures.met is in
-    let a = m.3 in
-    let some = c.requires in
-    record { start = m.0; stop = m.1; there = sym (seen c.self.inside.ends.entries c.args.self.now c.self.view_is m.0) ∙ m.2; before = omega (arith, a, some); behind = m.4 }
+pub returns-then-begin-self-clause-free : goal.returns-then-begin-self-clause-free
+returns-then-begin-self-clause-free c is met = c.meets.ensures.free is (subst (λ (spans : List (ℕ × ℕ)). IsMet spans c.args.begin c.args.end) (sym c.self.view_is) met)
 
-pub returns-else-meets_before-clause-met : goal.returns-else-meets_before-clause-met
-returns-else-meets_before-clause-met c is =
-    let m = c.meets_behind.ensures.met is in
-    let wide = c.self.invariant.some m.0 m.1 m.2 in
-    let a = m.3 in
-    record { start = m.0; stop = m.1; there = sym (seen c.self.inside.ends.entries c.args.self.now c.self.view_is m.0) ∙ m.2; before = m.4; behind = omega (arith, a, wide) }
-
-pub returns-else-meets_before-clause-free : goal.returns-else-meets_before-clause-free
-returns-else-meets_before-clause-free c is met =
-    let there : end_at c.self.inside.ends.entries met.start ≡ Some met.stop = seen c.self.inside.ends.entries c.args.self.now c.self.view_is met.start ∙ met.there in
-    elim (cases_lt c.args.begin met.start) [
-      | inl less ↦
-          let far : c.args.end ≤ met.start = c.meets_behind.ensures.free is met.start met.stop there (omega (arith, less)) in
-          let before = met.before in
-          absurd (omega (arith, far, before))
-      | inr le ↦
-          let near : met.stop ≤ c.args.begin = c.meets_before.ensures.free c.if-meets_before.false met.start met.stop there le in
-          let behind = met.behind in
-          absurd (omega (arith, near, behind))
-    ]
+pub returns-else-begin-self-clause-free : goal.returns-else-begin-self-clause-free
+returns-else-begin-self-clause-free c is met =
+    let within : met.stop ≤ c.self.inside.top = c.self.invariant.1 met.start met.stop (ap (λ (spans : List (ℕ × ℕ)). end_at spans met.start) c.self.view_is ∙ met.there) in
+    let past : c.self.inside.top ≤ c.args.begin = omega (arith, c.if-begin-self.false) in
+    let behind = met.behind in
+    absurd (omega (arith, within, past, behind))
