@@ -10,7 +10,6 @@ mod heads;
 mod layout;
 mod lines;
 mod names;
-mod needed;
 mod numbers;
 mod parts;
 mod places;

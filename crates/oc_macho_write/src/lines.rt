@@ -9,8 +9,8 @@ ghost use Rattle.oc_macho_file.specs.Lines as mach_lines;
 ghost use Rattle.oc_macho_write.specs.Lines.{AreLines, is_outer, lines_in};
 
 use crate::names::section_symbol_name;
-use crate::needed::needed_sections;
 use oc_base::{NoMemory, Word};
+use oc_express::needed_sections;
 use oc_neutral::{Binding, Fallback, Neutral, Symbol, Value};
 use std::alloc::Global;
 
