@@ -10,7 +10,7 @@ build/objconv: $(shell find crates -path '*/out' -prune -o -type f -print) crate
 
 .PHONY: check examples compare tools install clean
 check:
-	rt ci
+	.ci/run
 
 examples: build/objconv
 	docs/check-examples build/objconv
