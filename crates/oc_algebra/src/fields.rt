@@ -1,9 +1,11 @@
 //! Addends, and the fields that hold them.
-ghost use Rattle.std.specs.Prelude.{◌≡◌};
+ghost use Rattle.std.specs.Prelude.{◌≡◌, ◌+◌, ◌≤◌, length};
+ghost use Rattle.oc_base.specs.Numbers.{number_at};
+ghost use Rattle.oc_linking.specs.Fits.{bytes_of};
 ghost use Rattle.oc_algebra.specs.Fields.{extended, field_for, from_field_of, to_field_of};
 
 use crate::residues::reduce;
-use oc_base::Word;
+use oc_base::{Word, u8_in, u16_in, u32_in, u64_in};
 use oc_linking::Width;
 use thiserror::Error;
 
@@ -12,9 +14,22 @@ use thiserror::Error;
 #[error("the addend is too wide for its field")]
 pub struct AddendTooWide;
 
+/// The number in the bytes of a field, from `at` on. Constant time.
+pub fn field_at(contents: &[u8], at: usize, width: Width) -> u64
+    requires { at + bytes_of width ≤ length contents.now }
+    ensures { result ≡ number_at contents.now at (bytes_of width) }
+{
+    match width {
+        Width::One => u8_in(contents, at).into(),
+        Width::Two => u16_in(contents, at).into(),
+        Width::Four => u32_in(contents, at).into(),
+        Width::Eight => u64_in(contents, at),
+    }
+}
+
 /// The number of the low `width` bytes of `field`, the highest of whose bits is the sign. Constant time.
 #[tactic(auto, unfolding(crate::specs::Fields::extended))]
-fn extend(width: Width, field: u64) -> i64
+pub fn extend(width: Width, field: u64) -> i64
     ensures { result ≡ extended width field }
 {
     match width {

@@ -36,7 +36,7 @@ use Rattle.oc_coff_read.specs.HeaderFaults.{passes_end}
 use Rattle.oc_coff_read.specs.SectionFaults.{Numbered, carried_bytes, carried_size, copy_conditions, header_place, limit_conditions, raw_conditions, section_conditions, section_fault, section_stage, table_conditions, worth_by}
 use Rattle.oc_coff_reader.specs.Built.{carried_at, keys_of, section_at, sectioned}
 use Rattle.oc_coff_reader.proofs.BegunLemmas.{key_given, section_group, section_is}
-use Rattle.oc_coff_reader.proofs.KeyListLemmas.{given_low}
+use Rattle.oc_neutral.proofs.KeyListLemmas.{given_low}
 
 numbered_at : {X : Type 0} (n : ℕ) (xs : List X) (i : ℕ) → slice_get (enumerate_from n xs) i ≡ option_map (λ x. (i + n, x)) (slice_get xs i)
 numbered_at n [] zero = refl

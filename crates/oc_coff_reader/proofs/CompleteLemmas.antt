@@ -31,7 +31,7 @@ use Rattle.oc_coff_reader.specs.Built.{keys_of, leader_of, section_at, symbol_at
 use Rattle.oc_coff_reader.specs.Head.{IsHeaded}
 use Rattle.oc_coff_reader.proofs.BegunLemmas.{section_group}
 use Rattle.oc_coff_reader.proofs.CollectLemmas.{sections_are, symbols_are}
-use Rattle.oc_coff_reader.proofs.KeyListLemmas.{all_at, keys_all, keys_apart, keys_begin}
+use Rattle.oc_neutral.proofs.KeyListLemmas.{all_at, keys_all, keys_apart, keys_begin}
 use Rattle.oc_coff_reader.proofs.LedLemmas.{IsLeading, key_led, leading}
 use Rattle.oc_coff_reader.proofs.NumberedSymbols.{IsAt, stands_at}
 use Rattle.oc_coff_reader.proofs.ReadableLemmas.{all_mapped}

@@ -16,7 +16,6 @@ pub mod JudgedFiles
 pub mod JudgedRelocs
 pub mod JudgedSymbols
 pub mod KeptTables
-pub mod KeyListLemmas
 pub mod LedLemmas
 pub mod MeaningLemmas
 pub mod MeantRelocs

@@ -28,6 +28,7 @@ use Rattle.oc_neutral.specs.RowFields.{number_in}
 use Rattle.oc_neutral.specs.Rows.{Row, less_of, same_hint, shift_of}
 use Rattle.oc_neutral.specs.RowValues.{row_reloc}
 use Rattle.oc_neutral.specs.TargetRelocations.{is_homeless}
+use Rattle.oc_neutral.proofs.MovedAddends.{moved_reduced}
 use Rattle.oc_coff_read.specs.declared.relocation.Relocation.{Relocation}
 use Rattle.oc_coff_read.specs.Tables.{Tables, tables_of}
 use Rattle.oc_coff_read.specs.Entries.{Entry, entries_in, entry_numbered}
@@ -36,25 +37,19 @@ use Rattle.oc_coff_read.specs.Sections.{sections_in}
 use Rattle.oc_coff_read.specs.Symbols.{is_own, symbol_of, symbols_in, value_of}
 use Rattle.oc_coff_read.specs.Targets.{Aim, aim_at, aim_by, aim_for, aim_in}
 use Rattle.oc_coff_reader.specs.declared.meaning.Meaning.{Meaning}
-use Rattle.oc_coff_reader.specs.Given.{IsAimed, addend_by, moved_by, place_meant, reloc_as, reloc_at, reloc_by, reloc_for, reloc_meant, reloc_to, reloc_with, symbol_meant}
+use Rattle.oc_coff_reader.specs.Given.{IsAimed, addend_by, place_meant, reloc_as, reloc_at, reloc_by, reloc_for, reloc_meant, reloc_to, reloc_with, symbol_meant}
 use Rattle.oc_coff_reader.specs.Head.{IsHeaded}
 use Rattle.oc_coff_reader.specs.Meanings.{meaning_of, meant_by}
 use Rattle.oc_coff_reader.specs.Numbered.{entry_by}
 use Rattle.oc_coff_reader.specs.Relocs.{width_of}
 use Rattle.oc_coff_reader.specs.Tagged.{carried_position}
 use Rattle.oc_coff_reader.proofs.EntryLemmas.{IsEntry, all_here, entries_sound, find_from}
-use Rattle.oc_coff_reader.proofs.RowLemmas.{IsMeant, IsRow, is_row, meant_none, meant_some, reduced_moved, takes_same}
+use Rattle.oc_coff_reader.proofs.RowLemmas.{IsMeant, IsRow, is_row, meant_none, meant_some, takes_same}
 
 -- the number that is added, as the row has it
 addend_is : (w : Word) (row : Row) (contents : List ℕ) (at : ℕ) → addend_by w (meant_by row) contents at ≡ reduced_number w (number_in row contents at +ℤ shift_of row)
 unfolding from_field_of
 addend_is w row contents at = refl
-
-moved_is : (w : Word) (b : Base) (a n : ℤ) (offset : ℕ) → moved_by w b (reduced_number w (a +ℤ n)) offset ≡ reduced_number w (moved_addend b a offset +ℤ n)
-moved_is w base.Address a n offset = reduced_moved w a n offset
-moved_is w base.Slot a n offset = refl
-moved_is w base.GotBase a n offset = refl
-moved_is w base.HomeNumber a n offset = refl
 
 plain_hint : (h : Hint) → same_hint h Plain ≡ true → h ≡ Plain
 plain_hint Plain e = refl
@@ -88,7 +83,7 @@ module _ (w : Word) (b : List ℕ) (head : IsHeaded b) where
   by_value row s a None aim is e = refl
   by_value row s a (Some (value.Absolute m)) aim is e = refl
   by_value row s a (Some (value.Place k offset)) aim is e =
-      ap (λ (n : ℤ). Some (reloc_as (meant_by row) (target.Section k) n)) (moved_is w row.base a (shift_of row) offset) ∙ ap (λ (r : Reloc). Some r) (made_is w row s (moved_addend row.base a offset) (target.Section k) is)
+      ap (λ (n : ℤ). Some (reloc_as (meant_by row) (target.Section k) n)) (moved_reduced w row.base a (shift_of row) offset) ∙ ap (λ (r : Reloc). Some r) (made_is w row s (moved_addend row.base a offset) (target.Section k) is)
 
   by_entry : (row : Row) (s : ℕ) (a : ℤ) (e : Entry) (o : Option parts.Symbol) (aim : Aim) → IsRow row → aim_for w (sections_in t) (entries_in t) e o ≡ Some (Some aim)
       → symbol_meant w (meant_by row) (reduced_number w (a +ℤ shift_of row)) (value_of (sections_in t) e.symbol) (option_map (λ (x : parts.Symbol). position_of (symbols_in t) x.number) o) ≡ reloc_for w t row s a e o

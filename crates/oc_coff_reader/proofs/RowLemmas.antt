@@ -94,13 +94,6 @@ wide Eight = omega arith
 
 -- ... addends
 
--- an offset that is added before or behind the reduction
-pub reduced_moved : (w : Word) (a n : ℤ) (offset : ℕ) → reduced_number w (reduced_number w (a +ℤ n) +ℤ pos offset) ≡ reduced_number w (a +ℤ pos offset +ℤ n)
-reduced_moved w a n offset =
-    reduced_same w (reduced_number w (a +ℤ n) +ℤ pos offset) (a +ℤ n +ℤ pos offset)
-    (residue_add w (reduced_number w (a +ℤ n)) (pos offset) ∙ ap (λ (m : ℕ). (m + residue_of w (pos offset)) % modulus w) (residue_reduced w (a +ℤ n)) ∙ sym (residue_add w (a +ℤ n) (pos offset)))
-    ∙ (let same : a +ℤ n +ℤ pos offset ≡ a +ℤ pos offset +ℤ n = omega (arith, ints) in ap (reduced_number w) same)
-
 -- ... meanings
 
 -- the row of a meaning

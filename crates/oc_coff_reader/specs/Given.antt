@@ -83,20 +83,13 @@ pub record IsAimed (w : Word) (t : Tables) (j : ℕ) : Type 0 where
 abbrev pub addend_by : Word → Meaning → List ℕ → ℕ → ℤ
 addend_by w m contents at = from_field_of w m.form.width (neg_ℤ (pos m.behind)) (number_at contents at (bytes_of m.form.width))
 
--- and with the offset of a place, where the address of the place is taken
-abbrev pub moved_by : Word → Base → ℤ → ℕ → ℤ
-moved_by w base.Address a offset = reduced_number w (a +ℤ pos offset)
-moved_by w base.Slot a offset = a
-moved_by w base.GotBase a offset = a
-moved_by w base.HomeNumber a offset = a
-
 -- a relocation of a meaning
 abbrev pub reloc_as : Meaning → RelocTarget → ℤ → Reloc
 reloc_as m t a = record { target = t; form = m.form; addend = a; hint = Plain }
 
 -- against a value
 abbrev pub place_meant : Word → Meaning → ℤ → Value → Option Reloc
-place_meant w m a (value.Place k offset) = Some (reloc_as m (target.Section k) (moved_by w m.form.base a offset))
+place_meant w m a (value.Place k offset) = Some (reloc_as m (target.Section k) (reduced_number w (moved_addend m.form.base a offset)))
 place_meant w m a (value.Absolute n) = None
 
 -- against a symbol that stands at a position among the carried ones, or has that value

@@ -1,11 +1,9 @@
 //! The relocations of the object, added section by section.
-ghost use Rattle.std.specs.Prelude.{◌≡◌, ◌+◌, ◌<◌, ◌≤◌, length, take, drop, slice_get, true, None, Some, Ok, IsOk, IfOk, OnOk};
+ghost use Rattle.std.specs.Prelude.{◌≡◌, ◌+◌, ◌<◌, ◌≤◌, length, take, drop, slice_get, true, None, Some, IfOk, OnOk};
 ghost use Rattle.std.specs.List.Sorted.{IsPermutation};
 ghost use Rattle.oc_linking.specs.FirstFault.{stage_fault};
 ghost use Rattle.oc_linking.specs.Keeping.{keeps};
-ghost use Rattle.oc_neutral.specs.Building.{reloc_added};
 ghost use Rattle.oc_neutral.specs.Built.{HasAdded};
-ghost use Rattle.oc_neutral.specs.Invariants.{CanAdd};
 ghost use Rattle.oc_shelf.specs.Reading.Collected.{collected};
 ghost use Rattle.oc_coff_read.specs.SectionFaults.{section_stage};
 ghost use Rattle.oc_coff_read.specs.Sections as sections;
@@ -15,7 +13,6 @@ ghost use Rattle.oc_coff_reader.specs.Built.{carried_at};
 ghost use Rattle.oc_coff_reader.specs.Given as given;
 
 use crate::built_relocs::{in_order, reloc_for};
-use crate::built_sections::want_of_memory;
 use crate::built_symbols::Positions;
 use crate::frame::Coff;
 use crate::judging::{keeps, table_of};
@@ -23,7 +20,7 @@ use crate::relocs::{Table, reloc_of};
 use crate::sections::kind_in;
 use oc_base::{NoMemory, Word};
 use oc_coff_read::SectionHeader;
-use oc_neutral::{Builder, Keep, Kind, Reloc, are_bytes};
+use oc_neutral::{Builder, Keep, Kind, are_bytes};
 use oc_shelf::Placed;
 use std::alloc::Global;
 
@@ -55,19 +52,6 @@ fn contents_of<'a>(coff: &Coff<'a>, table: &Table, h: &SectionHeader) -> &'a [u8
     &file[start..start + h.SizeOfRawData as usize]
 }
 
-// adds a relocation that nothing stands against but want of memory
-fn add_reloc(builder: &mut Builder, section: u32, at: u32, reloc: Reloc) -> Result<(), NoMemory>
-    requires add { CanAdd builder.old.object section at reloc }
-    requires fits { IsOk (reloc_added builder.old section at reloc) }
-    ensures { OnOk result (reloc_added builder.old section at reloc ≡ Ok builder.new) }
-{
-    builder.is_draft();
-    match builder.add_reloc(section, at, reloc) {
-        Ok(()) => Ok(()),
-        Err(fault) => Err(want_of_memory(fault)),
-    }
-}
-
 // adds the relocation of entry `j` of those of a section
 fn add_entry(
     word: Word,
@@ -92,7 +76,7 @@ fn add_entry(
     let _ = keep;
     let r = reloc_of(coff, place.number, &place.table, entries[j].index);
     let reloc = reloc_for(word, coff, positions, place.contents, &r).unwrap();
-    add_reloc(builder, place.position, r.VirtualAddress, reloc)
+    builder.add_clean_reloc(place.position, r.VirtualAddress, reloc)
 }
 
 // adds the relocations of a section, where it is kept

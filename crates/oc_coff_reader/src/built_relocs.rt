@@ -1,7 +1,6 @@
 //! The relocations of the object.
 ghost use Rattle.std.specs.Prelude.{◌≡◌, ◌+◌, ◌<◌, ◌≤◌, ℕ, length, Some, IfOk};
 ghost use Rattle.std.specs.List.Sorted.{IsPermutation};
-ghost use Rattle.oc_base.specs.Numbers.{number_at};
 ghost use Rattle.oc_linking.specs.declared.terms.Hint.TheVariants.{Plain};
 ghost use Rattle.oc_linking.specs.Fits.{bytes_of};
 ghost use Rattle.oc_shelf.specs.Reading.Collected.{collected};
@@ -17,43 +16,20 @@ use crate::built_symbols::Positions;
 use crate::frame::Coff;
 use crate::meaning::{Meaning, meaning_of};
 use crate::relocs::{Table, reloc_of, says_nothing};
-use oc_algebra::{from_field, reduce};
-use oc_base::{NoMemory, Word, u8_in, u16_in, u32_in, u64_in};
+use oc_algebra::{field_at, from_field, reduce};
+use oc_base::{NoMemory, Word};
 use oc_coff_read::Relocation;
-use oc_neutral::{Base, Hint, Reloc, Target, Value, Width};
+use oc_neutral::{Hint, Reloc, Target, Value, moved_addend};
 use oc_shelf::{Placed, sort_by_place};
 use std::alloc::Global;
-
-// the number in the bytes of a field
-fn number_in(contents: &[u8], at: usize, width: Width) -> u64
-    requires { at + bytes_of width ≤ length contents.now }
-    ensures { result ≡ number_at contents.now at (bytes_of width) }
-{
-    match width {
-        Width::One => u8_in(contents, at).into(),
-        Width::Two => u16_in(contents, at).into(),
-        Width::Four => u32_in(contents, at).into(),
-        Width::Eight => u64_in(contents, at),
-    }
-}
 
 // the number that is added, reduced: it stands in the field, and the value is counted from behind that
 fn addend_of(word: Word, contents: &[u8], at: u32, meaning: Meaning) -> i64
     requires { at + bytes_of meaning.form.width ≤ length contents.now }
     ensures { result ≡ given.addend_by word meaning contents.now at }
 {
-    let field = number_in(contents, at as usize, meaning.form.width);
+    let field = field_at(contents, at as usize, meaning.form.width);
     from_field(word, meaning.form.width, -i64::from(meaning.behind), field)
-}
-
-// the addend against a section, where it was against a place at that offset
-fn moved(word: Word, base: Base, addend: i64, offset: u32) -> i64
-    ensures { result ≡ given.moved_by word base addend offset }
-{
-    match base {
-        Base::Address => reduce(word, i128::from(addend) + i128::from(offset)),
-        Base::Slot | Base::GotBase | Base::HomeNumber => addend,
-    }
 }
 
 // a relocation with that meaning
@@ -89,7 +65,7 @@ fn reloc_with(
         Some(k) => Some(reloc_as(meaning, Target::Symbol(k), addend)),
         None => match value_of(coff, positions.sections, &coff.symbol(r.SymbolTableIndex)) {
             Some(Value::Place { section, offset }) => {
-                let addend = moved(word, meaning.form.base, addend, offset);
+                let addend = reduce(word, moved_addend(meaning.form.base, addend, offset.into()));
                 Some(reloc_as(meaning, Target::Section(section), addend))
             }
             Some(Value::Absolute(_)) | None => None,

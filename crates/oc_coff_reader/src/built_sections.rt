@@ -24,7 +24,7 @@ use crate::sections::kind_in;
 use oc_base::{Bytes, NoMemory, Word};
 use oc_coff_read::SectionHeader;
 use oc_neutral::coff::{IMAGE_SCN_ALIGN_1BYTES, IMAGE_SCN_LNK_COMDAT, IMAGE_SCN_LNK_NRELOC_OVFL};
-use oc_neutral::{BuildFault, Builder, Kind, Section};
+use oc_neutral::{Builder, Kind, Section};
 use oc_shelf::Slots;
 use std::alloc::Global;
 
@@ -172,14 +172,6 @@ fn section_of(
     })
 }
 
-/// What stands against an addition, where it is want of memory alone. Constant time.
-pub(crate) fn want_of_memory(fault: BuildFault) -> NoMemory
-    requires { fault ≡ BuildFault.NoMemory }
-{
-    let _ = fault;
-    NoMemory
-}
-
 // adds section `i`, where it is carried
 fn add_section(
     alloc: Global,
@@ -202,10 +194,8 @@ fn add_section(
         None => Ok(()),
         Some(kind) => {
             let section = section_of(alloc, coff, known, i, &h, kind)?;
-            match builder.add_section(section) {
-                Ok(_) => Ok(()),
-                Err(fault) => Err(want_of_memory(fault)),
-            }
+            builder.add_clean_section(section)?;
+            Ok(())
         }
     }
 }

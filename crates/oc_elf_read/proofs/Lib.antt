@@ -17,7 +17,6 @@ pub mod GroupLemmas
 pub mod HeaderLemmas
 pub mod JudgingLemmas
 pub mod KeyLemmas
-pub mod KeyListLemmas
 pub mod KeyedLemmas
 pub mod MarkLemmas
 pub mod NameLemmas

@@ -19,6 +19,7 @@ use Rattle.oc_neutral.specs.declared.reloc.Reloc.{Reloc}
 use Rattle.oc_neutral.specs.declared.reloc.Target.{Target}
 use Rattle.oc_neutral.specs.declared.reloc.Target.TheVariants as target
 use Rattle.oc_neutral.specs.Normal.{moved_addend}
+use Rattle.oc_neutral.proofs.MovedAddends.{moved_reduced}
 use Rattle.oc_neutral.specs.Rows.{Row, Taken, TakesZero, TakesPlace, TakesGotBase, TakesImageBase, TakesHome, TakesSection, less_of, same_base, same_hint, same_taken, same_width, shift_of}
 use Rattle.oc_neutral.specs.RelocTables.{rows_of}
 use Rattle.oc_elf_read.specs.declared.class.ElfClass.{ElfClass}
@@ -27,7 +28,7 @@ use Rattle.oc_elf_read.specs.declared.rel.Rel.{Rel}
 use Rattle.oc_elf_read.specs.Classes.{format_of, word_of}
 use Rattle.oc_elf_read.specs.Fields.{addend_in, row_for, width_of}
 use Rattle.oc_elf_read.specs.Frames.{Framed}
-use Rattle.oc_elf_read.specs.Given.{addend_by, moved_by, reloc_by, reloc_meant, reloc_with}
+use Rattle.oc_elf_read.specs.Given.{addend_by, reloc_by, reloc_meant, reloc_with}
 use Rattle.oc_elf_read.specs.declared.meaning.Meaning.{Meaning}
 use Rattle.oc_elf_read.specs.Meanings.{meaning_of, meant_by}
 use Rattle.oc_elf_read.specs.Entries.{is_section_symbol}
@@ -110,16 +111,6 @@ zero_added a = omega (arith, ints)
 shifted : (row : Row) → IsRow row → shift_of row ≡ pos 0
 shifted row is = ap (λ (n : ℕ). neg_ℤ (pos n)) is.counted
 
-moved_is : (w : Word) (b : Base) (a : ℤ) (offset : ℕ) → moved_by w b (reduced_number w (a +ℤ pos 0)) offset ≡ reduced_number w (moved_addend b a offset +ℤ pos 0)
-moved_is w base.Address a offset =
-    ap (λ (n : ℤ). reduced_number w (reduced_number w n +ℤ pos offset)) (zero_added a)
-    ∙ reduced_same w (reduced_number w a +ℤ pos offset) (a +ℤ pos offset)
-    (residue_add w (reduced_number w a) (pos offset) ∙ ap (λ (n : ℕ). (n + residue_of w (pos offset)) % modulus w) (residue_reduced w a) ∙ sym (residue_add w a (pos offset)))
-    ∙ ap (reduced_number w) (sym (zero_added (a +ℤ pos offset)))
-moved_is w base.Slot a offset = refl
-moved_is w base.GotBase a offset = refl
-moved_is w base.HomeNumber a offset = refl
-
 -- a relocation of a row, with its addend in other words
 abbrev made : Row → Target → ℤ → Reloc
 made row t a = record { target = t; form = record { base = row.base; less = less_of row.taken 0; width = row.width; check = row.check }; addend = a; hint = row.hint }
@@ -128,14 +119,14 @@ made row t a = record { target = t; form = record { base = row.base; less = less
 pub meant_with : (f : Framed) (contents : List ℕ) (r : Rel) (row : Row) → IsRow row → reloc_meant f contents r (meant_by row) ≡ reloc_with f contents r row
 meant_with f contents r row is = by (is_section_symbol (entry_of f r.r_sym))
   where
-    by : (b : Bool) → cond b (option_map (λ k. made row (target.Section k) (moved_by (word_of f.class) row.base (addend_by f.class row.width contents r) (entry_of f r.r_sym).st_value)) (home_of f (entry_of f r.r_sym)))
+    by : (b : Bool) → cond b (option_map (λ k. made row (target.Section k) (reduced_number (word_of f.class) (moved_addend row.base (addend_by f.class row.width contents r) (entry_of f r.r_sym).st_value))) (home_of f (entry_of f r.r_sym)))
         (option_map (λ k. made row (target.Symbol k) (addend_by f.class row.width contents r)) (symbol_position f r.r_sym))
         ≡ cond b (option_map (λ k. made row (target.Section k) (reduced_number (word_of f.class) (moved_addend row.base (addend_in f.class row contents r) (entry_of f r.r_sym).st_value +ℤ shift_of row))) (home_of f (entry_of f r.r_sym)))
         (option_map (λ k. made row (target.Symbol k) (reduced_number (word_of f.class) (addend_in f.class row contents r +ℤ shift_of row))) (symbol_position f r.r_sym))
     by true =
         ap (λ (n : ℤ). option_map (λ k. made row (target.Section k) n) (home_of f (entry_of f r.r_sym)))
-        (ap (λ (n : ℤ). moved_by (word_of f.class) row.base n (entry_of f r.r_sym).st_value) (addend_is f.class row contents r)
-        ∙ moved_is (word_of f.class) row.base (addend_in f.class row contents r) (entry_of f r.r_sym).st_value
+        (ap (λ (n : ℤ). reduced_number (word_of f.class) (moved_addend row.base n (entry_of f r.r_sym).st_value)) (addend_is f.class row contents r)
+        ∙ moved_reduced (word_of f.class) row.base (addend_in f.class row contents r) (pos 0) (entry_of f r.r_sym).st_value
         ∙ ap (λ (n : ℤ). reduced_number (word_of f.class) (moved_addend row.base (addend_in f.class row contents r) (entry_of f r.r_sym).st_value +ℤ n)) (sym (shifted row is)))
     by false =
         ap (λ (n : ℤ). option_map (λ k. made row (target.Symbol k) n) (symbol_position f r.r_sym))

@@ -51,18 +51,11 @@ abbrev pub addend_by : ElfClass → Width → List ℕ → Rel → ℤ
 addend_by Class32 width contents r = from_field_of W32 width (pos 0) (number_at contents r.r_offset (bytes_of width))
 addend_by Class64 width contents r = from_field_of W64 Eight (pos 0) r.r_addend
 
--- and with the offset of a place, where the address of the place is taken
-abbrev pub moved_by : Word → Base → ℤ → ℕ → ℤ
-moved_by w Address a offset = reduced_number w (a +ℤ pos offset)
-moved_by w Slot a offset = a
-moved_by w GotBase a offset = a
-moved_by w HomeNumber a offset = a
-
 -- the relocation of an entry with that meaning
 abbrev pub reloc_meant : Framed → List ℕ → Rel → Meaning → Option Reloc
 reloc_meant f contents r m =
     if is_section_symbol (entry_of f r.r_sym)
-    then option_map (λ k. record { target = target.Section k; form = m.form; addend = moved_by (word_of f.class) m.form.base (addend_by f.class m.form.width contents r) (entry_of f r.r_sym).st_value; hint = m.hint }) (home_of f (entry_of f r.r_sym))
+    then option_map (λ k. record { target = target.Section k; form = m.form; addend = reduced_number (word_of f.class) (moved_addend m.form.base (addend_by f.class m.form.width contents r) (entry_of f r.r_sym).st_value); hint = m.hint }) (home_of f (entry_of f r.r_sym))
     else option_map (λ k. record { target = target.Symbol k; form = m.form; addend = addend_by f.class m.form.width contents r; hint = m.hint }) (symbol_position f r.r_sym)
 
 -- entry k of the table of section i with the offset of its field, where it says something

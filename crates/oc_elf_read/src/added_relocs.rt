@@ -1,10 +1,8 @@
 //! The relocations of the object, added section by section.
-ghost use Rattle.std.specs.Prelude.{◌≡◌, ◌+◌, ◌<◌, ◌≤◌, length, take, true, false, None, Some, Ok, IsOk, OnOk};
+ghost use Rattle.std.specs.Prelude.{◌≡◌, ◌+◌, ◌<◌, ◌≤◌, length, take, true, false, None, Some, OnOk};
 ghost use Rattle.std.specs.List.Sorted.{IsPermutation};
 ghost use Rattle.oc_linking.specs.FirstFault.{first_fault};
-ghost use Rattle.oc_neutral.specs.Building.{reloc_added};
 ghost use Rattle.oc_neutral.specs.Built.{HasAdded, IsStarted};
-ghost use Rattle.oc_neutral.specs.Invariants.{CanAdd};
 ghost use Rattle.oc_neutral.specs.declared.elf.TheConstants.{SHT_NOBITS};
 ghost use Rattle.oc_shelf.specs.Reading.Collected.{collected};
 ghost use Rattle.oc_shelf.specs.Reading.Slots.{AreSlots};
@@ -18,13 +16,12 @@ ghost use Rattle.oc_elf_read.specs.Sections as sections;
 ghost use Rattle.oc_elf_read.specs.Tables.{reloc_count, symbol_count};
 
 use crate::built_relocs::{in_order, reloc_for};
-use crate::built_sections::want_of_memory;
 use crate::frame::Frame;
 use crate::judging::is_kept;
 use crate::relocs::{Aims, reloc_of};
 use crate::shdr::Shdr;
 use oc_base::NoMemory;
-use oc_neutral::{Builder, Keep, Reloc};
+use oc_neutral::{Builder, Keep};
 use oc_shelf::{Placed, Slots};
 use std::alloc::Global;
 
@@ -48,19 +45,6 @@ fn contents_of<'a>(frame: &Frame<'a>, s: &Shdr) -> &'a [u8]
     let start = s.sh_offset as usize;
     let file = frame.file();
     &file[start..start + s.sh_size as usize]
-}
-
-// adds a relocation that nothing stands against but want of memory
-fn add_reloc(builder: &mut Builder, section: u32, at: u32, reloc: Reloc) -> Result<(), NoMemory>
-    requires add { CanAdd builder.old.object section at reloc }
-    requires fits { IsOk (reloc_added builder.old section at reloc) }
-    ensures { OnOk result (reloc_added builder.old section at reloc ≡ Ok builder.new) }
-{
-    builder.is_draft();
-    match builder.add_reloc(section, at, reloc) {
-        Ok(()) => Ok(()),
-        Err(fault) => Err(want_of_memory(fault)),
-    }
 }
 
 // adds the relocation of entry `j` of those of a section
@@ -91,7 +75,7 @@ fn add_entry(
     let s = frame.header(place.number);
     let r = reloc_of(frame, place.number, place.table, entries[j].index);
     let reloc = reloc_for(frame, aims, contents_of(frame, &s), &r).unwrap();
-    add_reloc(builder, place.position, r.r_offset as u32, reloc)
+    builder.add_clean_reloc(place.position, r.r_offset as u32, reloc)
 }
 
 // adds the relocations of a section

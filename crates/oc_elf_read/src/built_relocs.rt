@@ -1,7 +1,6 @@
 //! The relocations of the object.
 ghost use Rattle.std.specs.Prelude.{◌≡◌, ◌+◌, ◌<◌, ◌≤◌, ◌^◌, ℕ, length, take, true, None, Some, IfOk, OnOk};
 ghost use Rattle.std.specs.List.Sorted.{IsPermutation};
-ghost use Rattle.oc_base.specs.Numbers.{number_at};
 ghost use Rattle.oc_linking.specs.Fits.{bytes_of};
 ghost use Rattle.oc_shelf.specs.Reading.Collected.{collected};
 ghost use Rattle.oc_elf_read.specs.Fields as fields;
@@ -17,24 +16,11 @@ use crate::rel::Rel;
 use crate::relocs::{Aims, is_idle, reloc_count, reloc_of};
 use crate::shdr::Shdr;
 use crate::symbols::{entry_of, is_section_symbol};
-use oc_algebra::{from_field, reduce};
-use oc_base::{NoMemory, Word, u8_in, u16_in, u32_in, u64_in};
-use oc_neutral::{Base, Reloc, Target, Width};
+use oc_algebra::{field_at, from_field, reduce};
+use oc_base::NoMemory;
+use oc_neutral::{Reloc, Target, Width, moved_addend};
 use oc_shelf::{Placed, sort_by_place};
 use std::alloc::Global;
-
-// the number in the bytes of a field
-fn number_in(contents: &[u8], at: usize, width: Width) -> u64
-    requires { at + bytes_of width ≤ length contents.now }
-    ensures { result ≡ number_at contents.now at (bytes_of width) }
-{
-    match width {
-        Width::One => u8_in(contents, at).into(),
-        Width::Two => u16_in(contents, at).into(),
-        Width::Four => u32_in(contents, at).into(),
-        Width::Eight => u64_in(contents, at),
-    }
-}
 
 // the number that is added, reduced: it stands in the field of these contents, or in the entry
 fn addend_of(class: ElfClass, contents: &[u8], width: Width, r: &Rel) -> i64
@@ -43,20 +29,10 @@ fn addend_of(class: ElfClass, contents: &[u8], width: Width, r: &Rel) -> i64
 {
     match class {
         ElfClass::Class32 => {
-            let field = number_in(contents, r.r_offset as usize, width);
+            let field = field_at(contents, r.r_offset as usize, width);
             from_field(class.word(), width, 0, field)
         }
         ElfClass::Class64 => from_field(class.word(), Width::Eight, 0, r.r_addend),
-    }
-}
-
-// the addend against a section, where it was against a place at that offset
-fn moved(word: Word, base: Base, addend: i64, offset: u64) -> i64
-    ensures { result ≡ given.moved_by word base addend offset }
-{
-    match base {
-        Base::Address => reduce(word, i128::from(addend) + i128::from(offset)),
-        Base::Slot | Base::GotBase | Base::HomeNumber => addend,
     }
 }
 
@@ -96,7 +72,7 @@ fn reloc_with(
     let word = frame.class().word();
     match home_of(frame, aims.sections, &s) {
         Some(k) => {
-            let addend = moved(word, meaning.form.base, addend, s.st_value);
+            let addend = reduce(word, moved_addend(meaning.form.base, addend, s.st_value));
             Some(reloc_by(meaning, Target::Section(k), addend))
         }
         None => None,

@@ -21,7 +21,7 @@ use crate::sections::{is_zero, kind_of, section_name};
 use crate::shdr::Shdr;
 use oc_base::{Bytes, NoMemory};
 use oc_neutral::elf::SHT_NOBITS;
-use oc_neutral::{BuildFault, Builder, Kind, Section};
+use oc_neutral::{Builder, Kind, Section};
 use oc_shelf::Slots;
 use std::alloc::Global;
 
@@ -105,14 +105,6 @@ fn section_of(
     })
 }
 
-/// What stands against an addition, where it is want of memory alone. Constant time.
-pub(crate) fn want_of_memory(fault: BuildFault) -> NoMemory
-    requires { fault ≡ BuildFault.NoMemory }
-{
-    let _ = fault;
-    NoMemory
-}
-
 // adds section `k`, where it is carried
 fn add_section(
     alloc: Global,
@@ -135,10 +127,8 @@ fn add_section(
         return Ok(());
     }
     let section = section_of(alloc, frame, known, k, &s)?;
-    match builder.add_section(section) {
-        Ok(_) => Ok(()),
-        Err(fault) => Err(want_of_memory(fault)),
-    }
+    builder.add_clean_section(section)?;
+    Ok(())
 }
 
 /// Adds the carried sections. `NoMemory` where memory ran out. Linear in the sections, their names

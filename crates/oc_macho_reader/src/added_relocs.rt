@@ -1,9 +1,7 @@
 //! The relocations of the object, added section by section.
-ghost use Rattle.std.specs.Prelude.{◌≡◌, ◌+◌, ◌<◌, length, take, true, Ok, IsOk, OnOk};
+ghost use Rattle.std.specs.Prelude.{◌≡◌, ◌+◌, ◌<◌, length, take, true, OnOk};
 ghost use Rattle.std.specs.List.Sorted.{IsPermutation};
-ghost use Rattle.oc_neutral.specs.Building.{reloc_added};
 ghost use Rattle.oc_neutral.specs.Built.{HasAdded};
-ghost use Rattle.oc_neutral.specs.Invariants.{CanAdd};
 ghost use Rattle.oc_shelf.specs.Reading.Collected.{collected};
 ghost use Rattle.oc_macho_read.specs.Framed.{IsTable, table_at};
 ghost use Rattle.oc_macho_read.specs.Holders.{AreHolders};
@@ -14,25 +12,11 @@ ghost use Rattle.oc_macho_reader.specs.Given as given;
 
 use crate::aims::Known;
 use crate::built_relocs::{in_order, reloc_for};
-use crate::built_sections::want_of_memory;
 use oc_base::NoMemory;
 use oc_macho_read::{Frame, SectionHeader, item_of, keeps, kind_of};
-use oc_neutral::{Builder, Keep, Reloc};
+use oc_neutral::{Builder, Keep};
 use oc_shelf::Placed;
 use std::alloc::Global;
-
-// adds a relocation that nothing stands against but want of memory
-fn add_reloc(builder: &mut Builder, section: u32, at: u32, reloc: Reloc) -> Result<(), NoMemory>
-    requires add { CanAdd builder.old.object section at reloc }
-    requires fits { IsOk (reloc_added builder.old section at reloc) }
-    ensures { OnOk result (reloc_added builder.old section at reloc ≡ Ok builder.new) }
-{
-    builder.is_draft();
-    match builder.add_reloc(section, at, reloc) {
-        Ok(()) => Ok(()),
-        Err(fault) => Err(want_of_memory(fault)),
-    }
-}
 
 // adds the relocation of field `j` of those of section `i`
 fn add_field(
@@ -56,7 +40,7 @@ fn add_field(
 {
     let item = item_of(frame, i, h, fields[j].index);
     let reloc = reloc_for(frame, keep, known, i, h, &item).unwrap();
-    add_reloc(builder, i, item.first.r_address, reloc)
+    builder.add_clean_reloc(i, item.first.r_address, reloc)
 }
 
 // adds the relocations of section `i`, which is kept

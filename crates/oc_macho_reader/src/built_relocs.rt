@@ -18,45 +18,19 @@ ghost use Rattle.oc_macho_reader.specs.Built.{AreRead, symbol_position};
 ghost use Rattle.oc_macho_reader.specs.Given as given;
 
 use crate::aims::{Aim, Known, aim_of, taken_aim};
-use oc_algebra::reduce;
-use oc_base::{NoMemory, Word, u8_in, u16_in, u32_in, u64_in};
+use oc_algebra::{extend, field_at, reduce};
+use oc_base::{NoMemory, Word};
 use oc_macho_read::{Frame, Item, Meaning, SectionHeader, begins_behind, item_of, meaning_of};
 use oc_neutral::{Form, Keep, Less, Reloc, Width};
 use oc_shelf::{Placed, sort_by_place};
 use std::alloc::Global;
-
-// the number in the bytes of a field
-fn bytes_in(contents: &[u8], at: usize, width: Width) -> u64
-    requires { at + bytes_of width ≤ length contents.now }
-    ensures { result ≡ number_at contents.now at (bytes_of width) }
-{
-    match width {
-        Width::One => u8_in(contents, at).into(),
-        Width::Two => u16_in(contents, at).into(),
-        Width::Four => u32_in(contents, at).into(),
-        Width::Eight => u64_in(contents, at),
-    }
-}
-
-// the number in the low bytes of a field, the highest of whose bits is the sign
-#[tactic(auto, unfolding(oc_algebra::specs::Fields::extended))]
-fn extend(width: Width, field: u64) -> i64
-    ensures { result ≡ extended width field }
-{
-    match width {
-        Width::One => i64::from(((field & 0xff) as u8).cast_signed()),
-        Width::Two => i64::from(((field & 0xffff) as u16).cast_signed()),
-        Width::Four => i64::from(((field & 0xffff_ffff) as u32).cast_signed()),
-        Width::Eight => field.cast_signed(),
-    }
-}
 
 // the number in a field
 fn number_in(contents: &[u8], at: u32, width: Width) -> i64
     requires { at + bytes_of width ≤ length contents.now }
     ensures { result ≡ extended width (number_at contents.now at (bytes_of width)) }
 {
-    extend(width, bytes_in(contents, at as usize, width))
+    extend(width, field_at(contents, at as usize, width))
 }
 
 // the address of the file that a field counts in; 0 where it counts in none

@@ -12,7 +12,7 @@ ghost use Rattle.oc_macho_reader.specs.Built.{AreRead, sectioned};
 use oc_base::{Bytes, NoMemory};
 use oc_macho_read::{Frame, SectionHeader, is_zerofill, kind_of, until_nul};
 use oc_neutral::mach::S_ATTR_LOC_RELOC;
-use oc_neutral::{BuildFault, Builder, Kind, Section};
+use oc_neutral::{Builder, Kind, Section};
 use std::alloc::Global;
 
 // the name of a section: the segment, a comma and the section
@@ -76,14 +76,6 @@ fn section_of(alloc: Global, frame: &Frame, i: u32, h: &SectionHeader) -> Result
     })
 }
 
-/// What stands against an addition, where it is want of memory alone. Constant time.
-pub(crate) fn want_of_memory(fault: BuildFault) -> NoMemory
-    requires { fault ≡ BuildFault.NoMemory }
-{
-    let _ = fault;
-    NoMemory
-}
-
 // adds section `i`
 fn add_section(alloc: Global, frame: &Frame, builder: &mut Builder, i: u32) -> Result<(), NoMemory>
     requires tables { AreRead frame.now }
@@ -97,10 +89,8 @@ fn add_section(alloc: Global, frame: &Frame, builder: &mut Builder, i: u32) -> R
     let count = frame.section_count();
     let _ = count;
     let section = section_of(alloc, frame, i, &h)?;
-    match builder.add_section(section) {
-        Ok(_) => Ok(()),
-        Err(fault) => Err(want_of_memory(fault)),
-    }
+    builder.add_clean_section(section)?;
+    Ok(())
 }
 
 /// Adds the sections. `NoMemory` where memory ran out. Linear in the sections and their bytes.

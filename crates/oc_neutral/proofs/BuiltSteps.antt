@@ -56,12 +56,7 @@ pub can_still : (base d : Draft) (given : Given) → IsDraft base → ((s : ℕ)
     → (s at : ℕ) (r : Reloc) → CanAdd base.object s at r → CanAdd d.object s at r
 can_still base d given draft relocs folded has = can_by base d has.entries draft relocs folded has.made
 
--- nothing stands against a step that gives a draft but want of memory
-pub only_memory : (r : Result Draft BuildFault) (d : Draft) (f : BuildFault) → r ≡ Ok d → (f ≡ fault.NoMemory) ⊎ (r ≡ Err f) → f ≡ fault.NoMemory
-only_memory r d f ok (inl e) = e
-only_memory r d f ok (inr e) = absurd (cc)
-
--- and it gives what it is to give
+-- a step that gives a draft gives that one
 pub added_is : (r : Result Draft BuildFault) (d e : Draft) → r ≡ Ok d → r ≡ Ok e → e ≡ d
 added_is r d e ok now = cc
 

@@ -17,10 +17,8 @@ use Rattle.oc_omf_read.specs.declared.structures.Method.{Method}
 use Rattle.oc_omf_read.specs.declared.structures.Segment.{Segment}
 use Rattle.oc_omf_read.specs.declared.threads.Threads.{Threads}
 use Rattle.oc_omf_read.specs.Entries.{entries_in}
-use Rattle.oc_omf_read.specs.Fixups.{Fixed}
 use Rattle.oc_omf_read.specs.Known.{told}
 use Rattle.oc_omf_read.specs.Sections.{segment_kind}
-use Rattle.oc_omf_read.specs.Structures.{Piece}
 use Rattle.oc_omf_read.specs.Tables.{Tables, indexed, tables_of}
 use Rattle.oc_omf_read.specs.Targets.{Meaning, external_at, is_flat, meaning_of, same_named, target_of}
 use Rattle.oc_omf_reader.specs.declared.fix.Fix.{Fix}
@@ -106,7 +104,3 @@ is_kept t keep segment = option_map_or (λ (s : Segment). keeps keep (segment_ki
 -- the same of one that is kept, where the fixup is of the location type that we have
 unfoldable pub fix_for : Meaning → Keep → ℕ → Fixup → Option Method → Option Method → Option Fix
 fix_for m keep segment f frame target = if nat_eq f.location OFFSET_32 && is_kept m.tables keep segment then fix_by m segment f frame target else None
-
--- what a fixup does, where it is behind data
-abbrev pub fix_in : Meaning → Keep → Fixed → Option Fix
-fix_in m keep x = option_and_then (λ (d : Piece). fix_for m keep d.segment x.fixup x.frame x.target) x.piece

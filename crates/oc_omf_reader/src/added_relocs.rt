@@ -1,10 +1,8 @@
 //! The relocations of the object.
-ghost use Rattle.std.specs.Prelude.{◌≡◌, ◌+◌, ◌<◌, ◌≤◌, length, take, Ok, IsOk, OnOk};
+ghost use Rattle.std.specs.Prelude.{◌≡◌, ◌+◌, ◌<◌, ◌≤◌, length, take, OnOk};
 ghost use Rattle.std.specs.List.Sorted.{IsPermutation};
 ghost use Rattle.oc_base.specs.Numbers.{number_at};
-ghost use Rattle.oc_neutral.specs.Building.{reloc_added};
 ghost use Rattle.oc_neutral.specs.Built.{HasAdded};
-ghost use Rattle.oc_neutral.specs.Invariants.{CanAdd};
 ghost use Rattle.oc_omf_read.specs.Entries.{entries_in};
 ghost use Rattle.oc_omf_read.specs.Fields.{fixups_in};
 ghost use Rattle.oc_omf_reader.specs.Adding.{IsReady};
@@ -14,25 +12,11 @@ ghost use Rattle.oc_omf_reader.specs.Contents.{items_at};
 ghost use Rattle.oc_omf_reader.specs.Fields as listed;
 ghost use Rattle.oc_omf_reader.specs.Given.{given_at};
 
-use crate::built_sections::want_of_memory;
 use crate::fields::Field;
 use crate::fix::reloc_of;
 use crate::fixes::Sight;
 use oc_base::{NoMemory, u32_in};
-use oc_neutral::{Builder, Reloc};
-
-// adds a relocation that nothing stands against but want of memory
-fn add_reloc(builder: &mut Builder, section: u32, at: u32, reloc: Reloc) -> Result<(), NoMemory>
-    requires add { CanAdd builder.old.object section at reloc }
-    requires fits { IsOk (reloc_added builder.old section at reloc) }
-    ensures { OnOk result (reloc_added builder.old section at reloc ≡ Ok builder.new) }
-{
-    builder.is_draft();
-    match builder.add_reloc(section, at, reloc) {
-        Ok(()) => Ok(()),
-        Err(fault) => Err(want_of_memory(fault)),
-    }
-}
+use oc_neutral::Builder;
 
 // the number that stands in a field
 fn number_in(contents: &[Vec<u8>], field: Field) -> u32
@@ -63,12 +47,7 @@ fn add_field(
     let _ = sight;
     let field = fields[j];
     let number = number_in(contents, field);
-    add_reloc(
-        builder,
-        field.section,
-        field.at,
-        reloc_of(&field.fix, number),
-    )
+    builder.add_clean_reloc(field.section, field.at, reloc_of(&field.fix, number))
 }
 
 // where a field stands among all: those of one section stand together, in the order of their offsets

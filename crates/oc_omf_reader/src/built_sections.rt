@@ -12,17 +12,9 @@ ghost use Rattle.oc_omf_reader.specs.Sections.{Knows};
 
 use crate::known::{Known, align_of};
 use oc_base::{Bytes, NoMemory};
-use oc_neutral::{BuildFault, Builder, Section};
+use oc_neutral::{Builder, Section};
 use oc_omf_read::{Module, segment_size};
 use std::alloc::Global;
-
-/// What stands against an addition, where it is want of memory alone. Constant time.
-pub(crate) fn want_of_memory(fault: BuildFault) -> NoMemory
-    requires { fault ≡ BuildFault.NoMemory }
-{
-    let _ = fault;
-    NoMemory
-}
 
 // segment `k`, counted from 0, as a section with these bytes
 fn section_of(alloc: Global, known: &Known, bytes: &[u8], k: usize) -> Result<Section, NoMemory>
@@ -66,10 +58,8 @@ fn add_section(
 {
     omf.is_module();
     let section = section_of(alloc, known, bytes, k)?;
-    match builder.add_section(section) {
-        Ok(_) => Ok(()),
-        Err(fault) => Err(want_of_memory(fault)),
-    }
+    builder.add_clean_section(section)?;
+    Ok(())
 }
 
 /// Adds the sections, which have these bytes. `NoMemory` where memory ran out. Linear in the

@@ -11,10 +11,10 @@ ghost use Rattle.oc_omf_write.specs.Numbers.{AreNumbers};
 ghost use Rattle.oc_omf_write.specs.Written as written;
 
 use crate::forms::{BY_SELF, BY_TARGET, row_number};
-use oc_algebra::{Base, Less, reduce};
+use oc_algebra::{Less, reduce};
 use oc_base::{NoMemory, Word};
 use oc_chains::Field;
-use oc_neutral::{Binding, Neutral, Reloc, Symbol, Target, Value};
+use oc_neutral::{Binding, Neutral, Reloc, Symbol, Target, Value, moved_addend};
 use oc_omf_file::{FRAME_OF_TARGET, METHOD_EXTERNAL, METHOD_GROUP, METHOD_SEGMENT};
 use oc_omf_read::Method;
 use std::alloc::Global;
@@ -74,16 +74,6 @@ fn target_place(symbols: &[Symbol], less: Less, target: Target) -> Option<(u32, 
     }
 }
 
-// the addend against a section, where it was against a place at this offset of the section
-fn moved_addend(base: Base, addend: i64, offset: u32) -> i128
-    ensures { result ≡ normal.moved_addend base addend offset }
-{
-    match base {
-        Base::Address => i128::from(addend) + i128::from(offset),
-        Base::Slot | Base::GotBase | Base::HomeNumber => i128::from(addend),
-    }
-}
-
 /// The relocation as it is written, in an object with these symbols: against a symbol that is defined
 /// here, as one against its section, with its offset added. Constant time.
 pub(crate) fn written_reloc(symbols: &[Symbol], reloc: Reloc) -> Reloc
@@ -93,7 +83,7 @@ pub(crate) fn written_reloc(symbols: &[Symbol], reloc: Reloc) -> Reloc
         None => (reloc.target, i128::from(reloc.addend)),
         Some((section, offset)) => (
             Target::Section(section),
-            moved_addend(reloc.form.base, reloc.addend, offset),
+            moved_addend(reloc.form.base, reloc.addend, offset.into()),
         ),
     };
     Reloc {

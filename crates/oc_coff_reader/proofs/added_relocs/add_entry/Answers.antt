@@ -46,23 +46,23 @@ unwrap-reloc-requires c =
     ∙ (next_of c.args.word c.args.coff.now c.is_headed.ensures (subst AreBytes c.file.ensures c.are_bytes.ensures) c.args.keep.now c.args.positions.now.sections.now c.args.positions.now.symbols.now c.requires.ready c.args.place.now.number c.args.place.now.position c.args.place.now.kind c.args.place.now.table c.args.place.now.contents.now c.requires.place c.requires.kept c.args.entries.now c.requires.entries
     c.args.j (record { place = 0; index = 0 }) c.requires.there).made)) refl
 
-pub add_reloc-requires-clause-add : goal.add_reloc-requires-clause-add
-add_reloc-requires-clause-add c = (ready_next
+pub add_clean_reloc-requires-clause-add : goal.add_clean_reloc-requires-clause-add
+add_clean_reloc-requires-clause-add c = (ready_next
     c.args.word c.args.coff.now c.is_headed.ensures (subst AreBytes c.file.ensures c.are_bytes.ensures) c.args.keep.now c.args.positions.now.sections.now c.args.positions.now.symbols.now c.requires.ready c.args.place.now.number c.args.place.now.position c.args.place.now.kind c.args.place.now.table c.args.place.now.contents.now c.requires.place c.requires.kept c.args.entries.now c.requires.entries
     c.args.j (record { place = 0; index = 0 }) c.requires.there c.args.builder.now c.requires.before c.reloc_of-r.result c.reloc_of-r.ensures c.unwrap-reloc.result (sym (c.reloc_for.ensures c.args.place.now.position) ∙ c.unwrap-reloc.ensures)).can
 
-pub add_reloc-requires-clause-fits : goal.add_reloc-requires-clause-fits
-add_reloc-requires-clause-fits c = subst (λ r. IsOk r) (sym (ready_next
+pub add_clean_reloc-requires-clause-clean : goal.add_clean_reloc-requires-clause-clean
+add_clean_reloc-requires-clause-clean c = subst (λ r. IsOk r) (sym (ready_next
     c.args.word c.args.coff.now c.is_headed.ensures (subst AreBytes c.file.ensures c.are_bytes.ensures) c.args.keep.now c.args.positions.now.sections.now c.args.positions.now.symbols.now c.requires.ready c.args.place.now.number c.args.place.now.position c.args.place.now.kind c.args.place.now.table c.args.place.now.contents.now c.requires.place c.requires.kept c.args.entries.now c.requires.entries
     c.args.j (record { place = 0; index = 0 }) c.requires.there c.args.builder.now c.requires.before c.reloc_of-r.result c.reloc_of-r.ensures c.unwrap-reloc.result (sym (c.reloc_for.ensures c.args.place.now.position) ∙ c.unwrap-reloc.ensures)).ok) refl
 
 pub returns : goal.returns
 returns c =
-    on_ok_weaker c.add_reloc.result (λ ok. subst (λ (d : Draft). HasAdded (started c.args.word c.args.coff.now) d (given_with c.args.word (tables_of c.args.coff.now) c.args.keep.now c.args.place.now.position (take (c.args.j + 1) c.args.entries.now)))
+    on_ok_weaker c.add_clean_reloc.result (λ ok. subst (λ (d : Draft). HasAdded (started c.args.word c.args.coff.now) d (given_with c.args.word (tables_of c.args.coff.now) c.args.keep.now c.args.place.now.position (take (c.args.j + 1) c.args.entries.now)))
     (sym (added_is _ (ready_next
     c.args.word c.args.coff.now c.is_headed.ensures (subst AreBytes c.file.ensures c.are_bytes.ensures) c.args.keep.now c.args.positions.now.sections.now c.args.positions.now.symbols.now c.requires.ready c.args.place.now.number c.args.place.now.position c.args.place.now.kind c.args.place.now.table c.args.place.now.contents.now c.requires.place c.requires.kept c.args.entries.now c.requires.entries
-    c.args.j (record { place = 0; index = 0 }) c.requires.there c.args.builder.now c.requires.before c.reloc_of-r.result c.reloc_of-r.ensures c.unwrap-reloc.result (sym (c.reloc_for.ensures c.args.place.now.position) ∙ c.unwrap-reloc.ensures)).next c.add_reloc.new.builder (ready_next
+    c.args.j (record { place = 0; index = 0 }) c.requires.there c.args.builder.now c.requires.before c.reloc_of-r.result c.reloc_of-r.ensures c.unwrap-reloc.result (sym (c.reloc_for.ensures c.args.place.now.position) ∙ c.unwrap-reloc.ensures)).next c.add_clean_reloc.new.self (ready_next
     c.args.word c.args.coff.now c.is_headed.ensures (subst AreBytes c.file.ensures c.are_bytes.ensures) c.args.keep.now c.args.positions.now.sections.now c.args.positions.now.symbols.now c.requires.ready c.args.place.now.number c.args.place.now.position c.args.place.now.kind c.args.place.now.table c.args.place.now.contents.now c.requires.place c.requires.kept c.args.entries.now c.requires.entries
     c.args.j (record { place = 0; index = 0 }) c.requires.there c.args.builder.now c.requires.before c.reloc_of-r.result c.reloc_of-r.ensures c.unwrap-reloc.result (sym (c.reloc_for.ensures c.args.place.now.position) ∙ c.unwrap-reloc.ensures)).ok ok)) (ready_next
     c.args.word c.args.coff.now c.is_headed.ensures (subst AreBytes c.file.ensures c.are_bytes.ensures) c.args.keep.now c.args.positions.now.sections.now c.args.positions.now.symbols.now c.requires.ready c.args.place.now.number c.args.place.now.position c.args.place.now.kind c.args.place.now.table c.args.place.now.contents.now c.requires.place c.requires.kept c.args.entries.now c.requires.entries
-    c.args.j (record { place = 0; index = 0 }) c.requires.there c.args.builder.now c.requires.before c.reloc_of-r.result c.reloc_of-r.ensures c.unwrap-reloc.result (sym (c.reloc_for.ensures c.args.place.now.position) ∙ c.unwrap-reloc.ensures)).added) c.add_reloc.ensures
+    c.args.j (record { place = 0; index = 0 }) c.requires.there c.args.builder.now c.requires.before c.reloc_of-r.result c.reloc_of-r.ensures c.unwrap-reloc.result (sym (c.reloc_for.ensures c.args.place.now.position) ∙ c.unwrap-reloc.ensures)).added) c.add_clean_reloc.ensures.added

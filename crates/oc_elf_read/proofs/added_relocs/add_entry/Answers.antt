@@ -62,25 +62,25 @@ overflow_cast-r c =
     c.args.entries.now c.requires.entries c.args.j (record { place = 0; index = 0 }) c.requires.there).small in
     omega (arith, small)
 
-pub add_reloc-requires-clause-add : goal.add_reloc-requires-clause-add
-add_reloc-requires-clause-add c =
+pub add_clean_reloc-requires-clause-add : goal.add_clean_reloc-requires-clause-add
+add_clean_reloc-requires-clause-add c =
     (ready c.args.frame.now c.args.keep.now c.is_frame.ensures (stages_clean c.args.frame.now c.args.keep.now c.requires.clean) c.requires.started c.args.place.now.number c.args.place.now.position c.requires.low c.requires.kept c.requires.here
     c.args.entries.now c.requires.entries c.args.j (record { place = 0; index = 0 }) c.requires.there c.args.builder.now c.requires.before c.reloc_of-r.result c.reloc_of-r.ensures c.unwrap-reloc.result
     (ap (λ (xs : List ℕ). reloc_by c.args.frame.now xs c.reloc_of-r.result) (sym (c.contents_of.ensures ∙ ap (contents_of c.args.frame.now) c.header-s.ensures)) ∙ sym c.reloc_for.ensures ∙ c.unwrap-reloc.ensures)).can
 
-pub add_reloc-requires-clause-fits : goal.add_reloc-requires-clause-fits
-add_reloc-requires-clause-fits c = subst (λ r. IsOk r) (sym
+pub add_clean_reloc-requires-clause-clean : goal.add_clean_reloc-requires-clause-clean
+add_clean_reloc-requires-clause-clean c = subst (λ r. IsOk r) (sym
     (ready c.args.frame.now c.args.keep.now c.is_frame.ensures (stages_clean c.args.frame.now c.args.keep.now c.requires.clean) c.requires.started c.args.place.now.number c.args.place.now.position c.requires.low c.requires.kept c.requires.here
     c.args.entries.now c.requires.entries c.args.j (record { place = 0; index = 0 }) c.requires.there c.args.builder.now c.requires.before c.reloc_of-r.result c.reloc_of-r.ensures c.unwrap-reloc.result
     (ap (λ (xs : List ℕ). reloc_by c.args.frame.now xs c.reloc_of-r.result) (sym (c.contents_of.ensures ∙ ap (contents_of c.args.frame.now) c.header-s.ensures)) ∙ sym c.reloc_for.ensures ∙ c.unwrap-reloc.ensures)).ok) refl
 
 pub returns : goal.returns
 returns c =
-    on_ok_weaker c.add_reloc.result (λ ok. subst (λ (d : Draft). HasAdded (symboled c.args.frame.now (symbol_count c.args.frame.now)) d (given_with c.args.frame.now c.args.keep.now c.args.place.now.number c.args.place.now.position (take (c.args.j + 1) c.args.entries.now)))
+    on_ok_weaker c.add_clean_reloc.result (λ ok. subst (λ (d : Draft). HasAdded (symboled c.args.frame.now (symbol_count c.args.frame.now)) d (given_with c.args.frame.now c.args.keep.now c.args.place.now.number c.args.place.now.position (take (c.args.j + 1) c.args.entries.now)))
     (sym (added_is _ (ready c.args.frame.now c.args.keep.now c.is_frame.ensures (stages_clean c.args.frame.now c.args.keep.now c.requires.clean) c.requires.started c.args.place.now.number c.args.place.now.position c.requires.low c.requires.kept c.requires.here
     c.args.entries.now c.requires.entries c.args.j (record { place = 0; index = 0 }) c.requires.there c.args.builder.now c.requires.before c.reloc_of-r.result c.reloc_of-r.ensures c.unwrap-reloc.result
-    (ap (λ (xs : List ℕ). reloc_by c.args.frame.now xs c.reloc_of-r.result) (sym (c.contents_of.ensures ∙ ap (contents_of c.args.frame.now) c.header-s.ensures)) ∙ sym c.reloc_for.ensures ∙ c.unwrap-reloc.ensures)).next c.add_reloc.new.builder (ready c.args.frame.now c.args.keep.now c.is_frame.ensures (stages_clean c.args.frame.now c.args.keep.now c.requires.clean) c.requires.started c.args.place.now.number c.args.place.now.position c.requires.low c.requires.kept c.requires.here
+    (ap (λ (xs : List ℕ). reloc_by c.args.frame.now xs c.reloc_of-r.result) (sym (c.contents_of.ensures ∙ ap (contents_of c.args.frame.now) c.header-s.ensures)) ∙ sym c.reloc_for.ensures ∙ c.unwrap-reloc.ensures)).next c.add_clean_reloc.new.self (ready c.args.frame.now c.args.keep.now c.is_frame.ensures (stages_clean c.args.frame.now c.args.keep.now c.requires.clean) c.requires.started c.args.place.now.number c.args.place.now.position c.requires.low c.requires.kept c.requires.here
     c.args.entries.now c.requires.entries c.args.j (record { place = 0; index = 0 }) c.requires.there c.args.builder.now c.requires.before c.reloc_of-r.result c.reloc_of-r.ensures c.unwrap-reloc.result
     (ap (λ (xs : List ℕ). reloc_by c.args.frame.now xs c.reloc_of-r.result) (sym (c.contents_of.ensures ∙ ap (contents_of c.args.frame.now) c.header-s.ensures)) ∙ sym c.reloc_for.ensures ∙ c.unwrap-reloc.ensures)).ok ok)) (ready c.args.frame.now c.args.keep.now c.is_frame.ensures (stages_clean c.args.frame.now c.args.keep.now c.requires.clean) c.requires.started c.args.place.now.number c.args.place.now.position c.requires.low c.requires.kept c.requires.here
     c.args.entries.now c.requires.entries c.args.j (record { place = 0; index = 0 }) c.requires.there c.args.builder.now c.requires.before c.reloc_of-r.result c.reloc_of-r.ensures c.unwrap-reloc.result
-    (ap (λ (xs : List ℕ). reloc_by c.args.frame.now xs c.reloc_of-r.result) (sym (c.contents_of.ensures ∙ ap (contents_of c.args.frame.now) c.header-s.ensures)) ∙ sym c.reloc_for.ensures ∙ c.unwrap-reloc.ensures)).added) c.add_reloc.ensures
+    (ap (λ (xs : List ℕ). reloc_by c.args.frame.now xs c.reloc_of-r.result) (sym (c.contents_of.ensures ∙ ap (contents_of c.args.frame.now) c.header-s.ensures)) ∙ sym c.reloc_for.ensures ∙ c.unwrap-reloc.ensures)).added) c.add_clean_reloc.ensures.added

@@ -1,5 +1,5 @@
 -- A carried section without a fault passes no limit, so it is added; any other is left out.
-use Rattle.std.proofs.Common.{ℕ, ◌+◌, ◌∙◌, List, length, sym, ap, subst, arith}
+use Rattle.std.proofs.Common.{ℕ, ◌+◌, ◌∙◌, List, length, sym, ap, subst, arith, IsOk, refl}
 use Rattle.oc_neutral.specs.Building.{Draft, section_added}
 use Rattle.std.proofs.lemmas.List.{length-map}
 use Rattle.oc_neutral.specs.declared.group.Group.{Group}
@@ -7,7 +7,7 @@ use Rattle.oc_neutral.specs.declared.section.Section.{Section}
 use Rattle.oc_neutral.specs.Invariants.{HasItsBytes, IsMember}
 use Rattle.oc_elf_read.proofs.StoredLemmas.{member_stored}
 use Rattle.oc_neutral.specs.Started.{stored_section}
-use Rattle.oc_neutral.proofs.BuiltSteps.{added_is, only_memory}
+use Rattle.oc_neutral.proofs.BuiltSteps.{added_is}
 use Rattle.oc_elf_read.specs.declared.shdr.Shdr.{Shdr}
 use Rattle.oc_elf_read.specs.Built.{IsPlaced, keys_of, sectioned}
 use Rattle.oc_elf_read.specs.CarriedSections.{section_with}
@@ -26,33 +26,33 @@ section_of-requires-clause-placed c =
     subst (IsPlaced c.args.frame.now) (sym c.header-s.ensures)
     (placed_at c.args.frame.now c.is_frame.ensures c.requires.sections c.args.k c.requires.there (ap is_carried (sym c.header-s.ensures) ∙ sym c.is_carried_type.ensures ∙ c.if-not-is_carried_type.false))
 
-pub add_section-requires-clause-room : goal.add_section-requires-clause-room
-add_section-requires-clause-room c =
+pub add_clean_section-requires-clause-room : goal.add_clean_section-requires-clause-room
+add_clean_section-requires-clause-room c =
     let long = ap (λ (d : Draft). length d.object.sections) c.requires.before in
     let few = room c.args.frame.now c.is_frame.ensures c.requires.sections c.args.k c.requires.there in
     omega (arith, long, few)
 
-pub add_section-requires-clause-bytes : goal.add_section-requires-clause-bytes
-add_section-requires-clause-bytes c =
+pub add_clean_section-requires-clause-bytes : goal.add_clean_section-requires-clause-bytes
+add_clean_section-requires-clause-bytes c =
     let f = c.args.frame.now in
     let k = c.args.k in
     let carried = ap is_carried (sym c.header-s.ensures) ∙ sym c.is_carried_type.ensures ∙ c.if-not-is_carried_type.false in
     subst HasItsBytes (sym (c.in_ok-section.ensures ∙ ap (λ (s : Shdr). stored_section (keys_of f) (section_with f k s)) c.header-s.ensures))
     (bytes_long f k (here f k) (placed_at f c.is_frame.ensures c.requires.sections k c.requires.there carried))
 
-pub want_of_memory-requires : goal.want_of_memory-requires
-want_of_memory-requires c =
+pub add_clean_section-requires-clause-clean : goal.add_clean_section-requires-clause-clean
+add_clean_section-requires-clause-clean c =
     let f = c.args.frame.now in
     let k = c.args.k in
     let carried = ap is_carried (sym c.header-s.ensures) ∙ sym c.is_carried_type.ensures ∙ c.if-not-is_carried_type.false in
-    only_memory _ (sectioned f (k + 1)) _
-    (ap (λ (d : Draft). section_added d c.in_ok-section.section) c.requires.before
+    subst (λ r. IsOk r)
+    (sym (ap (λ (d : Draft). section_added d c.in_ok-section.section) c.requires.before
     ∙ ap (section_added (sectioned f k)) (c.in_ok-section.ensures ∙ ap (λ (s : Shdr). stored_section (keys_of f) (section_with f k s)) c.header-s.ensures)
-    ∙ carried_added f c.is_frame.ensures c.requires.sections k c.requires.there carried)
-    c.in-Err.ensures.refused
+    ∙ carried_added f c.is_frame.ensures c.requires.sections k c.requires.there carried))
+    refl
 
-pub returns-in-Ok : goal.returns-in-Ok
-returns-in-Ok c =
+pub returns : goal.returns
+returns c =
     let f = c.args.frame.now in
     let k = c.args.k in
     let carried = ap is_carried (sym c.header-s.ensures) ∙ sym c.is_carried_type.ensures ∙ c.if-not-is_carried_type.false in
@@ -60,10 +60,10 @@ returns-in-Ok c =
     (ap (λ (d : Draft). section_added d c.in_ok-section.section) c.requires.before
     ∙ ap (section_added (sectioned f k)) (c.in_ok-section.ensures ∙ ap (λ (s : Shdr). stored_section (keys_of f) (section_with f k s)) c.header-s.ensures)
     ∙ carried_added f c.is_frame.ensures c.requires.sections k c.requires.there carried)
-    c.in-Ok.ensures.added
+    c.in_ok-add_clean_section.ensures.added
 
-pub add_section-requires-clause-group : goal.add_section-requires-clause-group
-add_section-requires-clause-group c =
+pub add_clean_section-requires-clause-group : goal.add_clean_section-requires-clause-group
+add_clean_section-requires-clause-group c =
     let f = c.args.frame.now in
     let k = c.args.k in
     let carried = ap is_carried (sym c.header-s.ensures) ∙ sym c.is_carried_type.ensures ∙ c.if-not-is_carried_type.false in

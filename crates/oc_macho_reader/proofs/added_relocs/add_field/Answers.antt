@@ -39,13 +39,13 @@ unwrap-reloc-requires c =
     item_some c.args.frame.now c.args.keep.now c.args.known.now.positions.now c.requires.ready c.args.i c.args.h.now c.requires.table c.requires.kept c.args.fields.now c.requires.fields c.args.j (record { place = 0; index = 0 }) c.requires.there
     c.item_of-item.result c.item_of-item.ensures.item c.reloc_for.result c.reloc_for.ensures
 
-pub add_reloc-requires-clause-add : goal.add_reloc-requires-clause-add
-add_reloc-requires-clause-add c =
+pub add_clean_reloc-requires-clause-add : goal.add_clean_reloc-requires-clause-add
+add_clean_reloc-requires-clause-add c =
     (item_next c.args.frame.now c.args.keep.now c.args.known.now.positions.now c.requires.ready c.args.i c.args.h.now c.requires.table c.requires.kept c.args.fields.now c.requires.fields c.args.j (record { place = 0; index = 0 }) c.requires.there
     c.item_of-item.result c.item_of-item.ensures.item c.args.builder.now c.requires.before c.unwrap-reloc.result (sym c.reloc_for.ensures ∙ c.unwrap-reloc.ensures)).can
 
-pub add_reloc-requires-clause-fits : goal.add_reloc-requires-clause-fits
-add_reloc-requires-clause-fits c =
+pub add_clean_reloc-requires-clause-clean : goal.add_clean_reloc-requires-clause-clean
+add_clean_reloc-requires-clause-clean c =
     subst (λ r. IsOk r) (sym (item_next c.args.frame.now c.args.keep.now c.args.known.now.positions.now c.requires.ready c.args.i c.args.h.now c.requires.table c.requires.kept c.args.fields.now c.requires.fields c.args.j (record { place = 0; index = 0 }) c.requires.there
     c.item_of-item.result c.item_of-item.ensures.item c.args.builder.now c.requires.before c.unwrap-reloc.result (sym c.reloc_for.ensures ∙ c.unwrap-reloc.ensures)).ok) refl
 
@@ -53,6 +53,6 @@ pub returns : goal.returns
 returns c =
     let m = item_next c.args.frame.now c.args.keep.now c.args.known.now.positions.now c.requires.ready c.args.i c.args.h.now c.requires.table c.requires.kept c.args.fields.now c.requires.fields c.args.j (record { place = 0; index = 0 }) c.requires.there
     c.item_of-item.result c.item_of-item.ensures.item c.args.builder.now c.requires.before c.unwrap-reloc.result (sym c.reloc_for.ensures ∙ c.unwrap-reloc.ensures) in
-    on_ok_weaker c.add_reloc.result
-    (λ ok. subst (λ (d : Draft). HasAdded (started c.args.frame.now c.args.keep.now) d (given_with c.args.frame.now c.args.keep.now c.args.i (take (c.args.j + 1) c.args.fields.now))) (sym (added_is _ m.next c.add_reloc.new.builder m.ok ok)) m.added)
-    c.add_reloc.ensures
+    on_ok_weaker c.add_clean_reloc.result
+    (λ ok. subst (λ (d : Draft). HasAdded (started c.args.frame.now c.args.keep.now) d (given_with c.args.frame.now c.args.keep.now c.args.i (take (c.args.j + 1) c.args.fields.now))) (sym (added_is _ m.next c.add_clean_reloc.new.self m.ok ok)) m.added)
+    c.add_clean_reloc.ensures.added

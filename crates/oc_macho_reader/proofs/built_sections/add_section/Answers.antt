@@ -1,9 +1,9 @@
 -- A section without a fault passes no limit, so it is added.
-use Rattle.std.proofs.Common.{◌+◌, length, sym, ◌∙◌, ap, subst, arith}
+use Rattle.std.proofs.Common.{◌+◌, length, sym, ◌∙◌, ap, subst, arith, IsOk, refl}
 use Rattle.oc_neutral.specs.Building.{Draft, section_added}
 use Rattle.oc_neutral.specs.Invariants.{HasItsBytes, IsMember}
 use Rattle.oc_neutral.specs.declared.section.Section.{Section}
-use Rattle.oc_neutral.proofs.BuiltSteps.{added_is, only_memory}
+use Rattle.oc_neutral.proofs.BuiltSteps.{added_is}
 use Rattle.oc_macho_read.specs.declared.section_header.SectionHeader.{SectionHeader}
 use Rattle.oc_macho_read.specs.Framed.{IsTable}
 use Rattle.oc_macho_read.proofs.SectionLemmas.{there}
@@ -22,38 +22,38 @@ section_of-requires-clause-align c =
     let same = ap (λ (h : SectionHeader). h.align) c.section-h.ensures in
     omega (arith, sound, same)
 
-pub add_section-requires-clause-room : goal.add_section-requires-clause-room
-add_section-requires-clause-room c =
+pub add_clean_section-requires-clause-room : goal.add_clean_section-requires-clause-room
+add_clean_section-requires-clause-room c =
     let long = ap (λ (d : Draft). length d.object.sections) c.requires.before in
     let few = c.section_count-count.ensures.few in
     let count = c.section_count-count.ensures.count in
     let room = section_room c.args.frame.now c.requires.clean c.args.i c.requires.there (omega (arith, few, count)) in
     omega (arith, long, room)
 
-pub add_section-requires-clause-bytes : goal.add_section-requires-clause-bytes
-add_section-requires-clause-bytes c =
+pub add_clean_section-requires-clause-bytes : goal.add_clean_section-requires-clause-bytes
+add_clean_section-requires-clause-bytes c =
     let t = c.args.frame.now in
     let table : IsTable t c.args.i (table_at t c.args.i).header
     = subst (IsTable t c.args.i) c.section-h.ensures (table_of t c.args.i c.section-h.result c.requires.there c.requires.clean c.section-h.ensures c.has_entries.ensures) in
     subst HasItsBytes (sym c.in_ok-section.ensures) (bytes_long t c.requires.tables c.args.i c.requires.there table)
 
-pub want_of_memory-requires : goal.want_of_memory-requires
-want_of_memory-requires c =
+pub add_clean_section-requires-clause-clean : goal.add_clean_section-requires-clause-clean
+add_clean_section-requires-clause-clean c =
     let t = c.args.frame.now in
-    only_memory _ (sectioned t (c.args.i + 1)) _
-    (ap (λ (d : Draft). section_added d c.in_ok-section.section) c.requires.before ∙ ap (section_added (sectioned t c.args.i)) c.in_ok-section.ensures
-    ∙ section_taken t c.requires.clean c.args.i c.requires.there)
-    c.in-Err.ensures.refused
+    subst (λ r. IsOk r)
+    (sym (ap (λ (d : Draft). section_added d c.in_ok-section.section) c.requires.before ∙ ap (section_added (sectioned t c.args.i)) c.in_ok-section.ensures
+    ∙ section_taken t c.requires.clean c.args.i c.requires.there))
+    refl
 
-pub returns-in-Ok : goal.returns-in-Ok
-returns-in-Ok c =
+pub returns : goal.returns
+returns c =
     let t = c.args.frame.now in
     added_is _ (sectioned t (c.args.i + 1)) _
     (ap (λ (d : Draft). section_added d c.in_ok-section.section) c.requires.before ∙ ap (section_added (sectioned t c.args.i)) c.in_ok-section.ensures
     ∙ section_taken t c.requires.clean c.args.i c.requires.there)
-    c.in-Ok.ensures.added
+    c.in_ok-add_clean_section.ensures.added
 
 -- a section is in no group
-pub add_section-requires-clause-group : goal.add_section-requires-clause-group
-add_section-requires-clause-group c =
+pub add_clean_section-requires-clause-group : goal.add_clean_section-requires-clause-group
+add_clean_section-requires-clause-group c =
     subst (λ (x : Section). IsMember (length c.args.builder.now.object.groups) x.group) (sym c.in_ok-section.ensures) (no_group c.args.frame.now c.args.i (length c.args.builder.now.object.groups))
