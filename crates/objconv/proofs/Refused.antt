@@ -7,10 +7,7 @@ use Rattle.oc_base.specs.declared.fault.Fault.{Fault}
 use Rattle.oc_linking.specs.Numbers.{or_else}
 use Rattle.oc_outside.specs.Held.{Held, file_of}
 use Rattle.oc_outside.specs.Reading.{IsWholeOrLonger}
-use Rattle.objconv.specs.declared.input.InputFault.{InputFault}
-use Rattle.objconv.specs.declared.input.InputFault.TheVariants as fault
 use Rattle.objconv.specs.Refusals.{HasRefusal, length_refusal, too_long}
-use Rattle.objconv.specs.Reports.{Explains}
 
 -- what holds of the value holds of it in other words
 pub some_and : {X : Type 0} {P Q : X → Type 0} (o : Option X) → ((x : X) → P x → Q x) → IsSomeAnd o P → IsSomeAnd o Q
@@ -53,12 +50,6 @@ module _ (rest : List ℕ → Option Fault) where
   -- one that is not
   pub rest_next : (b : List ℕ) → length b ≤ 67108864 → whole_refusal b ≡ rest b
   rest_next b short = ap (λ o. or_else o (rest b)) (short_passed b short)
-
-  -- the cause of a fault while an input is read is its cause
-  pub explained_whole : (input : List ℕ) (files : Option Held) (before now : ℕ) (f : InputFault) → Explains length_refusal input files before now f → Explains whole_refusal input files before now f
-  explained_whole input files before now (fault.Refused f) is = record { held = λ m told. some_and (file_of input m) (λ b. length_first b f) (is.held m told) }
-  explained_whole input files before now fault.Unread is = is
-  explained_whole input files before now fault.NoMemory is = is
 
   -- the bytes of the input decide
   pub decided : (input : List ℕ) (files : Option Held) (b : List ℕ) (refusal : Option Fault) → ((m : Held) → files ≡ Some m → file_of input m ≡ Some b) → length b ≤ 67108864

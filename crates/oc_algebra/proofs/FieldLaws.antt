@@ -1,5 +1,5 @@
 -- What fields and addends promise each other.
-use Rattle.std.proofs.Common.{◌≡◌, ℕ, ◌+◌, ◌%◌, ◌<◌, ◌≤◌, refl, sym, ◌∙◌, ap, arith, Bool, true, false, cond, true≢false, Ok, Err, MatchResult}
+use Rattle.std.proofs.Common.{◌≡◌, ℕ, ◌+◌, ◌<◌, ◌≤◌, refl, sym, ◌∙◌, ap, arith, Bool, true, false, cond, true≢false, Ok, Err, MatchResult}
 use Rattle.std.specs.Prelude.{ℤ, pos, negsuc, ◌+ℤ◌, ◌-ℤ◌}
 use borrow.Author.Differences.{ints}
 use Rattle.std.proofs.lemmas.Bool.Decides.{nat_tests}
@@ -12,18 +12,7 @@ use Rattle.oc_linking.specs.Fits.{span, half}
 use Rattle.oc_algebra.specs.Residues.{modulo, residue_of, reduced_number, is_signed_in}
 use Rattle.oc_algebra.specs.Fields.{extended, field_for, from_field_of, to_field_of, too_wide}
 use Rattle.oc_algebra.specs.Promises.{Holds, Written, ReadAgain}
-use Rattle.oc_algebra.proofs.Laws.{residue_add, residue_reduced, reduced_same, reduced_reduced}
-
--- the residue of the addend that a field holds
-pub residue-from_field : (w : Word) (k : Width) (s : ℤ) (f : ℕ)
-    → residue_of w (from_field_of w k s f) ≡ (residue_of w (extended k f) + residue_of w s) % modulus w
-unfolding from_field_of
-residue-from_field w k s f = residue_reduced w (extended k f +ℤ s) ∙ residue_add w (extended k f) s
-
--- the addend that a field holds is reduced
-pub reduced-from_field : (w : Word) (k : Width) (s : ℤ) (f : ℕ) → reduced_number w (from_field_of w k s f) ≡ from_field_of w k s f
-unfolding from_field_of
-reduced-from_field w k s f = reduced_reduced w (extended k f +ℤ s)
+use Rattle.oc_algebra.proofs.Laws.{residue_reduced, reduced_same}
 
 -- the field of a number extends to the number
 extended-modulo : (k : Width) (n : ℤ) → is_signed_in (half k) n ≡ true → extended k (modulo (span k) n) ≡ n

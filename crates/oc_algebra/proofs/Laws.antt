@@ -1,6 +1,6 @@
 -- Laws of residues, for the values of relocations.
 use Rattle.std.proofs.Common.{◌≡◌, ℕ, ◌+◌, ◌/◌, ◌%◌, ◌<◌, sym, ◌∙◌, ap, arith, true}
-use Rattle.std.specs.Prelude.{ℤ, pos, negsuc, ◌+ℤ◌, ◌-ℤ◌, ◌*ℤ◌, neg_ℤ}
+use Rattle.std.specs.Prelude.{ℤ, pos, ◌+ℤ◌, ◌-ℤ◌, ◌*ℤ◌}
 use borrow.Author.Differences.{up, down, ints}
 use Rattle.std.proofs.lemmas.Bool.Decides.{nat_tests}
 use Rattle.oc_base.specs.declared.format.Word.{Word}
@@ -15,23 +15,11 @@ unfolding residue_of
 residue_add W32 a b = omega (arith, ints)
 residue_add W64 a b = omega (arith, ints)
 
--- the residue of a difference
-pub residue_sub : (w : Word) (a b : ℤ) → residue_of w (a -ℤ b) ≡ minus w (residue_of w a) (residue_of w b)
-unfolding residue_of
-residue_sub W32 a b = omega (arith, ints)
-residue_sub W64 a b = omega (arith, ints)
-
 -- the residue of a number less another from 0 on
 pub residue_less : (w : Word) (a : ℤ) (n : ℕ) → residue_of w (a -ℤ pos n) ≡ minus w (residue_of w a) n
 unfolding residue_of
 residue_less W32 a n = omega (arith, ints)
 residue_less W64 a n = omega (arith, ints)
-
--- the residue of a negative number
-pub residue_neg : (w : Word) (n : ℕ) → residue_of w (neg_ℤ (pos n)) ≡ minus w 0 n
-unfolding residue_of
-residue_neg W32 n = omega (arith, ints)
-residue_neg W64 n = omega (arith, ints)
 
 -- the residue of a number from 0 on
 pub residue_nat : (w : Word) (n : ℕ) → residue_of w (pos n) ≡ n % modulus w
@@ -66,14 +54,6 @@ unfolding residue_of reduced_number
 reduced_held W32 n = grind (arith, ints, nat_tests)
 reduced_held W64 n = grind (arith, ints, nat_tests)
 
--- a number that lies there is reduced
-pub reduced_in : (w : Word) (n : ℤ) → is_signed_in (half_modulus w) n ≡ true → reduced_number w n ≡ n
-unfolding residue_of reduced_number
-reduced_in W32 (pos n) l = grind (arith, ints, nat_tests)
-reduced_in W32 (negsuc n) l = grind (arith, ints, nat_tests)
-reduced_in W64 (pos n) l = grind (arith, ints, nat_tests)
-reduced_in W64 (negsuc n) l = grind (arith, ints, nat_tests)
-
 -- the residue of an addend to which an offset is added
 pub residue_moved : (w : Word) (a : ℤ) (n : ℕ) → residue_of w (reduced_number w (a +ℤ pos n)) ≡ (residue_of w a + n % modulus w) % modulus w
 residue_moved w a n = residue_reduced w (a +ℤ pos n) ∙ residue_add w a (pos n) ∙ ap (λ x. (residue_of w a + x) % modulus w) (residue_nat w n)
@@ -96,15 +76,6 @@ minus-self W64 b r small = omega arith
 pub minus-place : (w : Word) (a b o r l : ℕ) → b % modulus w ≡ (a + o) % modulus w → minus w (a + (r + o % modulus w) % modulus w) l ≡ minus w (b + r) l
 minus-place W32 a b o r l e = omega arith
 minus-place W64 a b o r l e = omega arith
-
--- a residue from which l was taken, with l added again
-pub minus-back : (w : Word) (r l : ℕ) → r < modulus w → (minus w (0 + r) l + l) % modulus w ≡ r
-minus-back W32 r l small = omega arith
-minus-back W64 r l small = omega arith
-
--- a reduced addend is the reduced number of its value, where all addresses but the one taken are 0
-pub addend_back : (w : Word) (a : ℤ) (l : ℕ) → reduced_number w a ≡ a → reduced_number w (pos (minus w (0 + residue_of w a) l) +ℤ pos l) ≡ a
-addend_back w a l is = reduced_same w _ a (residue_nat w (minus w (0 + residue_of w a) l + l) ∙ minus-back w (residue_of w a) l (residue_small w a)) ∙ is
 
 -- how many times the modulus two numbers of one residue differ
 abbrev turns : Word → ℤ → ℤ → ℤ

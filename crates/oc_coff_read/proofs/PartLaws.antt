@@ -27,7 +27,6 @@ use Rattle.oc_coff_read.specs.Relocation.{relocation_bytes}
 use Rattle.oc_coff_read.proofs.PaddedLemmas.{length-padded}
 use Rattle.oc_coff_read.proofs.StructureLaws.{length-file_header_bytes, length-section_header_bytes, length-symbol_bytes, length-section_aux_bytes, length-relocation_bytes, length-weak_aux_bytes}
 use Rattle.oc_shelf.specs.Writing.Parts.{Stands, Laid, laid, laid_end, behind, joined, place_where}
-use Rattle.oc_shelf.proofs.WritingLaws.WindowLemmas.{window, window_parts}
 use Rattle.oc_shelf.proofs.WritingLaws.StandingLemmas.{stands_whole, stands_first, stands_second, length-entries}
 use Rattle.oc_shelf.proofs.WritingLaws.PartLemmas.{stands_where, place_past, laid_end_from, place_behind, joined_append, length-laid_rows, length-joined}
 use Rattle.oc_shelf.proofs.WritingLaws.MemberLemmas.{member_first, member_enumerated, member_flat_map, each_append, each_flat_map, each_map, each_enumerated}
@@ -265,12 +264,6 @@ module _ (w : Word) (n : Object) where
       let m = member_part n k 0 s (Raw (0 + k) s) here refl in
       past_head w n (is_raw k) (Raw k s) m.0 (m.1 ∙ ap (λ i. Some (Raw i s)) e) (eq-eqb k k refl) refl (λ j y h t. raw_is n k s here y (part_is_there n j y h) t)
 
-  pub relocs_past : (k : ℕ) (s : Section) → slice_get n.sections k ≡ Some s → 20 ≤ place_where (is_relocs k) (laid_parts w n)
-  relocs_past k s here =
-      let e : 0 + k ≡ k = omega arith in
-      let m = member_part n k 1 s (Relocs (0 + k) s) here refl in
-      past_head w n (is_relocs k) (Relocs k s) m.0 (m.1 ∙ ap (λ i. Some (Relocs i s)) e) (eq-eqb k k refl) refl (λ j y h t. relocs_is n k s here y (part_is_there n j y h) t)
-
   -- where the symbol table begins
   abbrev pub table_place : ℕ
   table_place = laid_end behind (part_size w n) 0 (front_parts n)
@@ -358,9 +351,3 @@ module _ (w : Word) (n : Object) where
       only j (Relocs k s) h e = absurd (true≢false (sym e))
       only j SymbolTable h e = absurd (true≢false (sym e))
       only j StringTable h e = absurd (true≢false (sym e))
-
--- a window of the file is made of the windows of its parts
-pub window_file : (w : Word) (n : Object) (from to : ℕ)
-    → window (from - 0) (to - 0) (coff_file w n) ≡ flat_map (λ (l : Laid Part). window (from - l.at) (to - l.at) (part_bytes w n l.part)) (laid_parts w n)
-unfolding coff_file
-window_file w n from to = window_parts (part_size w n) (part_bytes w n) from to 0 (parts_of n) (λ k x h. part_sized w n x)

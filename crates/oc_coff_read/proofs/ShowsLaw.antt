@@ -95,12 +95,6 @@ no_offset base.Slot a = refl
 no_offset base.GotBase a = refl
 no_offset base.HomeNumber a = refl
 
--- zeros are zero
-zeros_at : (size k : ℕ) → get_or {A = ℕ} (replicate size 0) k 0 ≡ 0
-zeros_at zero k = refl
-zeros_at (suc size) zero = refl
-zeros_at (suc size) (suc k) = zeros_at size k
-
 module _ (w : Word) (n : Object) (is : IsForCoff w n) (has : HasNumbers w n) where
   abbrev file : List ℕ
   file = coff_file w n
@@ -129,12 +123,6 @@ module _ (w : Word) (n : Object) (is : IsForCoff w n) (has : HasNumbers w n) whe
       let e : 1 + i ≡ i + 1 = omega arith in
       ap (λ m. frame_of (record { name = s.name; kind = seen_kind s; align = s.align; size = s.size; contents = []; tag = s.tag; number = m; group = option_and_then (key_of n.groups) s.group }) ∷ map frame_of (map (shown_section n.groups) (map (seen_section coff_manner n) (enumerate_from (i + 1) xs)))) e
       ∙ ap (λ fs. frame_of (made_section w n (i, s)) ∷ fs) (frames (i + 1) xs)
-
-  -- a section of the object that is seen
-  seen_at : (k : ℕ) (s : Section) → slice_get n.sections k ≡ Some s → slice_get (again n).sections k ≡ Some (seen_section coff_manner n (k, s))
-  seen_at k s here =
-      let e : 0 + k ≡ k = omega arith in
-      member_map (seen_section coff_manner n) (enumerate_from 0 n.sections) k (0 + k, s) (member_enumerated 0 n.sections k s here) ∙ ap (λ i. Some (seen_section coff_manner n (i, s))) e
 
   made_at : (k : ℕ) (s : Section) → slice_get n.sections k ≡ Some s → slice_get (S w n is) k ≡ Some (made_section w n (k, s))
   made_at k s here =

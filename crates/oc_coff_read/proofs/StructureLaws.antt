@@ -113,18 +113,6 @@ symbol_at-bytes s rest eight fit =
       number_at-named s.Name ns 4 17 rest eight fit (omega arith) refl,
     ) refl
 
--- a symbol table entry past a front
-pub symbol_at-shift : (front ys : List ℕ) (at j : ℕ) → at ≡ length front + j → symbol_at (front ++ ys) at ≡ symbol_at ys j
-unfolding symbol_at
-symbol_at-shift front ys at j e = rw (
-  name_at-shift front ys at j e,
-  number_at-shift front ys (at + 8) (j + 8) 4 (omega (arith, e)),
-  number_at-shift front ys (at + 12) (j + 12) 2 (omega (arith, e)),
-  number_at-shift front ys (at + 14) (j + 14) 2 (omega (arith, e)),
-  number_at-shift front ys (at + 16) (j + 16) 1 (omega (arith, e)),
-  number_at-shift front ys (at + 17) (j + 17) 1 (omega (arith, e)),
-) refl
-
 -- the numbers of a section's auxiliary entry
 abbrev pub section_aux_numbers : SectionAux → List (ℕ × ℕ)
 section_aux_numbers a = (4, a.Length) ∷ (2, a.NumberOfRelocations) ∷ (2, a.NumberOfLinenumbers) ∷ (4, a.CheckSum) ∷ (2, a.Number) ∷ (1, a.Selection) ∷ (3, 0) ∷ []

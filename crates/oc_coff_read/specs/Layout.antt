@@ -6,7 +6,7 @@ use Rattle.oc_base.specs.Strings.{table_text}
 use Rattle.oc_neutral.specs.declared.section.Section.{Section}
 use Rattle.oc_neutral.specs.Objects.{Object}
 use Rattle.oc_neutral.specs.CoffMeets.{strings_of}
-use Rattle.oc_shelf.specs.Writing.Parts.{Laid, laid, laid_end, behind}
+use Rattle.oc_shelf.specs.Writing.Parts.{Laid, laid, behind}
 use Rattle.oc_neutral.specs.declared.coff.TheConstants.{STRINGS_HEAD}
 use Rattle.oc_coff_read.specs.declared.section_header.TheConstants.{SECTION_HEADER_SIZE}
 use Rattle.oc_coff_read.specs.declared.relocation.TheConstants.{RELOCATION_SIZE}
@@ -52,10 +52,6 @@ part_size w n StringTable = STRINGS_HEAD + length (text_of w n)
 -- the parts with their places
 abbrev pub laid_parts : Word → Object → List (Laid Part)
 laid_parts w n = laid behind (part_size w n) 0 (parts_of n)
-
--- the length of the file
-abbrev pub file_length : Word → Object → ℕ
-file_length w n = laid_end behind (part_size w n) 0 (parts_of n)
 
 -- the part is that of the bytes of the section at position k
 abbrev pub is_raw : ℕ → Part → Bool

@@ -1,5 +1,5 @@
 -- What is given, table by table and entry by entry.
-use Rattle.std.proofs.Common.{◌≡◌, ℕ, ◌+◌, ◌<◌, ◌≤◌, inl, inr, Bool, true, false, cond, List, [], length, take, drop, replicate, Option, None, Some, Ok, refl, sym, ◌∙◌, ap, subst, arith, get_or, length-take, length-drop}
+use Rattle.std.proofs.Common.{◌≡◌, ℕ, ◌+◌, ◌<◌, ◌≤◌, inl, inr, Bool, true, false, cond, List, length, take, drop, replicate, Option, None, Some, Ok, refl, sym, ◌∙◌, ap, subst, arith, get_or, length-take, length-drop}
 use Rattle.std.specs.Prelude.{◌&&◌, ◌||◌, nat_eq, nat_lt, slice_get}
 use Rattle.std.specs.List.Sorted.{IsPermutation}
 use Rattle.std.specs.Option.{option_and_then, option_map, option_map_or}
@@ -46,13 +46,6 @@ use Rattle.oc_coff_reader.proofs.StandingFields.{IsStanding, entry_given, given_
 -- ... sections
 
 module _ (w : Word) (t : Tables) (keep : Keep) where
-  -- nothing is given for no sections
-  pub given_none : (s at : ℕ) → given_before w t keep 0 s at ≡ None
-  given_none s at = ap (λ b. cond b (given_at w t keep s at) None) (low s)
-    where
-      low : (n : ℕ) → nat_lt n 0 ≡ false
-      low n = grind (arith, nat_tests)
-
   -- past the last section nothing is given
   past_none : (s at : ℕ) → length (carried_in t) ≤ s → given_at w t keep s at ≡ None
   unfolding given_at
@@ -94,15 +87,6 @@ module _ (w : Word) (t : Tables) (keep : Keep) where
       both true false e = e
       both false true e = sym e
       both false false e = refl
-
-  -- before the first entry
-  pub given_first : (p s at : ℕ) → given_before w t keep p s at ≡ given_with w t keep p [] s at
-  given_first p s at = by (nat_lt s p) (nat_eq s p)
-    where
-      by : (a b : Bool) → cond a (given_at w t keep s at) None ≡ cond (a || b && false) (given_at w t keep s at) None
-      by true b = refl
-      by false true = refl
-      by false false = refl
 
 -- ... entries of a table
 

@@ -227,10 +227,6 @@ keys_few t k =
     omega (arith, few, keys, count)
 
 module _ (t : Tables) (k : ℕ) (carried : is_some (section_at t k) ≡ true) where
-  -- none begins with a section that is in no group
-  pub none_held : key_in t (k + 1) ≡ None → keys_upto t (k + 1) ≡ keys_upto t k
-  none_held none = keys_alone t k carried none
-
   module _ (g : ℕ) (held : leader_of t (k + 1) ≡ Some g) (key : List ℕ) (is : led_key t g ≡ Some key) where
     pub key_is : key_in t (k + 1) ≡ Some key
     key_is = key_led t (k + 1) ∙ ap (option_and_then (led_key t)) held ∙ is
@@ -251,9 +247,6 @@ group_begun w t k key next d e x before own added =
     ∙ ap (λ (key : List ℕ). plain_draft (coff_format w) (groups_by (keys_upto t k) ++ record { key = key } ∷ []) [] []) own
     ∙ ap (λ (gs : List Group). plain_draft (coff_format w) gs [] []) (sym (map-append (λ (key : List ℕ). record { key = key }) (keys_upto t k) (key ∷ [])))
     ∙ ap (λ (keys : List (List ℕ)). plain_draft (coff_format w) (groups_by keys) [] []) (sym next)
-
-pub grouped_same : (w : Word) (t : Tables) (k : ℕ) → keys_upto t (k + 1) ≡ keys_upto t k → grouped w t k ≡ grouped w t (k + 1)
-grouped_same w t k same = ap (λ (keys : List (List ℕ)). plain_draft (coff_format w) (groups_by keys) [] []) (sym same)
 
 -- ... the group of a section
 

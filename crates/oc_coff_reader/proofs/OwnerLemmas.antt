@@ -246,14 +246,6 @@ owner_there file is i k j found = by (slice_get (symbols_of (entries_in (tables_
           low = subst (λ (n : ℕ). n < length (tables_of file).entries) number entry.low;
         }
 
--- and where none is found
-pub owner_none : (file : List ℕ) (i k : ℕ) → symbol_in (tables_of file) i k ≡ None → slice_get (symbols_of (entries_in (tables_of file)) k) i ≡ None
-owner_none file i k none = by (slice_get (symbols_of (entries_in (tables_of file)) k) i) none
-  where
-    by : (o : Option Entry) → option_map (λ (e : Entry). e.number) o ≡ None → o ≡ None
-    by None e = refl
-    by (Some x) e = absurd (none-some x.number (sym e))
-
 -- ... what is said of a section
 
 commented : (file : List ℕ) (k : ℕ) (h : SectionHeader) → eqb k 0 ≡ false → slice_get (tables_of file).sections (k - 1) ≡ Some (section_table file h)

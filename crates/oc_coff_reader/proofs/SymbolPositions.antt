@@ -1,10 +1,8 @@
 -- Where carried symbols stand, symbol by symbol.
-use Rattle.std.proofs.Common.{◌≡◌, ℕ, zero, suc, ◌+◌, ◌<◌, ◌≤◌, inl, inr, Bool, true, false, cond, eqb, List, [], ◌∷◌, ◌++◌, length, take, set, get_or, replicate, Option, None, Some, refl, sym, ◌∙◌, ap, subst, arith}
+use Rattle.std.proofs.Common.{◌≡◌, ℕ, zero, suc, ◌+◌, ◌<◌, ◌≤◌, inl, inr, Bool, true, false, cond, eqb, List, [], ◌∷◌, ◌++◌, length, take, set, get_or, Option, None, Some, refl, sym, ◌∙◌, ap, subst, arith}
 use Rattle.std.specs.Prelude.{nat_eq, find, is_some, slice_get}
 use Rattle.std.specs.Option.{option_and_then, option_map}
-use Rattle.std.proofs.Math.Seq.{take-length}
 use Rattle.std.proofs.lemmas.Bool.{cases_eq, cases_lt, eqb-true, ne_eqb, true≢false}
-use Rattle.std.proofs.lemmas.List.{length-map}
 use Rattle.std.proofs.lemmas.Option.{none-some, same_Some, slice_get-map, slice_get-get_or, slice_get_within}
 use Rattle.oc_linking.specs.Numbers.{or_else}
 use Rattle.oc_linking.specs.Parts as parts
@@ -13,14 +11,14 @@ use Rattle.oc_neutral.specs.Shows.{AreNumbered}
 use Rattle.oc_shelf.specs.Reading.Collected.{collected}
 use Rattle.oc_shelf.specs.Reading.Slots.{AreSlots}
 use Rattle.oc_shelf.proofs.ReadingLaws.CollectedLemmas.{collected-at, collected-none, collected-some}
-use Rattle.oc_shelf.proofs.ReadingLaws.SlotLemmas.{slots_empty, slots_filled, slots_same}
+use Rattle.oc_shelf.proofs.ReadingLaws.SlotLemmas.{slots_filled, slots_same}
 use Rattle.oc_coff_read.specs.Tables.{Slot, Tables, tables_of}
 use Rattle.oc_coff_read.specs.Entries.{Entry, entries_in, entry_numbered, symbols_from}
 use Rattle.oc_coff_read.specs.Sections.{sections_in}
 use Rattle.oc_coff_read.specs.Symbols.{symbol_of, symbols_in}
 use Rattle.oc_coff_reader.specs.Head.{IsHeaded}
 use Rattle.oc_coff_reader.specs.Numbered.{AreNumbers, entry_by}
-use Rattle.oc_coff_reader.specs.Tagged.{carried_position, symbol_position}
+use Rattle.oc_coff_reader.specs.Tagged.{carried_position}
 use Rattle.oc_coff_reader.specs.Built.{symbol_at}
 use Rattle.oc_coff_reader.proofs.CollectLemmas.{symbols_are}
 use Rattle.oc_coff_reader.proofs.EntryLemmas.{Rise, entries_rise, number_is, rise_apart}
@@ -75,17 +73,6 @@ position_upto t i j = option_and_then (carried_position t) (entry_numbered (take
 pub record AreStanding (file : List ℕ) (i position : ℕ) (slots : List (Option ℕ)) : Type 0 where
   pub slots_are : AreSlots (position_upto (tables_of file) i) (length (tables_of file).entries) slots
   pub next : position ≡ length (collected (symbol_at (tables_of file)) i)
-
-pub standing_none : (file : List ℕ) (n : ℕ) (slots : List (Option ℕ)) → n ≡ length (tables_of file).entries → slots ≡ replicate n None → AreStanding file 0 0 slots
-standing_none file n slots long is = record {
-  slots_are = subst (AreSlots (position_upto (tables_of file) 0) (length (tables_of file).entries)) (sym (is ∙ ap (λ (k : ℕ). replicate k None) long))
-      (slots_empty (position_upto (tables_of file) 0) (length (tables_of file).entries) (λ j. none (entries_in (tables_of file)) j));
-  next = refl;
-}
-  where
-    none : (es : List Entry) (j : ℕ) → option_and_then (carried_position (tables_of file)) (entry_numbered (take 0 es) j) ≡ None
-    none [] j = refl
-    none (x ∷ es) j = refl
 
 -- two positions of one number are one
 one_position : (symbols : List parts.Symbol) → AreNumbered symbols → (p q : ℕ) (x : parts.Symbol) → slice_get symbols p ≡ Some x → slice_get symbols q ≡ Some x → p ≡ q
@@ -154,14 +141,6 @@ module _ (file : List ℕ) (head : IsHeaded file) (i : ℕ) (e : Entry) (here : 
           of j false = refl
           of j true = ap (option_map (λ (x : parts.Symbol). position_of (symbols_in t) x.number)) g ∙ ap Some (standing_at x g ∙ sym are.next)
       by (Some x) g false h = absurd (true≢false (sym h))
-
--- with all symbols the slots are whole
-pub standing_end : (file : List ℕ) (numbers : List ℕ) (i position : ℕ) (slots : List (Option ℕ)) → AreStanding file i position slots → i ≡ length numbers → AreNumbers file numbers
-    → AreSlots (symbol_position (tables_of file)) (length (tables_of file).entries) slots
-standing_end file numbers i position slots are end all =
-    slots_same (position_upto (tables_of file) i) (symbol_position (tables_of file)) (length (tables_of file).entries) slots are.slots_are
-    (λ j. ap (λ (es : List Entry). option_and_then (carried_position (tables_of file)) (entry_numbered es j))
-    (sym (ap (λ (n : ℕ). take n (entries_in (tables_of file))) (end ∙ sym (ap length all.are ∙ length-map numbers (entry_by file))) ∙ take-length (entries_in (tables_of file)))))
 
 -- symbol i of all is the entry of its number
 pub number_here : (file : List ℕ) (numbers : List ℕ) (i d : ℕ) → AreNumbers file numbers → i < length numbers → slice_get (entries_in (tables_of file)) i ≡ Some (entry_by file (get_or numbers i d))

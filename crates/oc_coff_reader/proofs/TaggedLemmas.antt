@@ -1,57 +1,24 @@
 -- What weak externals tag, symbol by symbol.
-use Rattle.std.proofs.Common.{◌≡◌, ℕ, zero, suc, ◌+◌, ◌<◌, inl, inr, Bool, true, false, cond, List, [], ◌∷◌, length, map, take, get_or, set, replicate, Option, None, Some, refl, sym, ◌∙◌, ap, subst, arith}
+use Rattle.std.proofs.Common.{◌≡◌, ℕ, zero, suc, ◌+◌, ◌<◌, inl, inr, Bool, true, false, cond, List, [], ◌∷◌, length, map, take, get_or, set, Option, None, Some, refl, sym, ◌∙◌, ap, arith}
 use Rattle.std.specs.Prelude.{◌&&◌, ◌||◌, nat_eq, nat_lt, is_some, slice_index_or}
 use Rattle.std.specs.List.{list_any}
-use Rattle.std.specs.Option.{option_map, option_map_or}
+use Rattle.std.specs.Option.{option_map_or}
 use Rattle.std.proofs.Math.Seq.{take-length}
 use Rattle.std.proofs.lemmas.Bool.{cases_eq, eq-eqb, ne_eqb}
 use Rattle.std.proofs.lemmas.Bool.Decides.{nat_tests}
 use Rattle.std.proofs.lemmas.List.{get_or-set_same, length-set}
 use Rattle.std.proofs.lemmas.List.Folds.{list_any_more}
 use Rattle.oc_coff_read.specs.declared.constants.TheConstants.{IMAGE_SYM_CLASS_WEAK_EXTERNAL}
-use Rattle.oc_coff_read.specs.declared.weak_aux.WeakAux.{WeakAux}
-use Rattle.oc_coff_read.specs.Tables.{Slot, tables_of}
+use Rattle.oc_coff_read.specs.Tables.{tables_of}
 use Rattle.oc_coff_read.specs.Entries.{Entry, is_class}
 use Rattle.oc_coff_read.specs.Symbols.{tag_of, tags}
 use Rattle.oc_coff_reader.specs.Numbered.{AreNumbers, entry_by}
 use Rattle.oc_coff_reader.specs.Tagged.{AreTagged, marked, tag_by}
 
--- what is said of a default, and which entry it is
-pub tag_some : (e : Entry) (a : WeakAux) → option_map (λ (x : Slot). x.weak) e.aux ≡ Some a → tag_of e ≡ Some a.TagIndex
-tag_some e a is = by e.aux is
-  where
-    by : (o : Option Slot) → option_map (λ (x : Slot). x.weak) o ≡ Some a → option_map (λ (x : Slot). x.weak.TagIndex) o ≡ Some a.TagIndex
-    by None h = absurd (cc)
-    by (Some x) h = ap (option_map (λ (a : WeakAux). a.TagIndex)) h
-
-pub tag_none : (e : Entry) → option_map (λ (x : Slot). x.weak) e.aux ≡ None → tag_of e ≡ None
-tag_none e is = by e.aux is
-  where
-    by : (o : Option Slot) → option_map (λ (x : Slot). x.weak) o ≡ None → option_map (λ (x : Slot). x.weak.TagIndex) o ≡ None
-    by None h = refl
-    by (Some x) h = absurd (cc)
-
 -- the slots have something exactly for the entries that the first symbols tag
 pub record AreMarked (file : List ℕ) (numbers : List ℕ) (i : ℕ) (slots : List (Option ℕ)) : Type 0 where
   pub long : length slots ≡ length (tables_of file).entries
   pub each : (j : ℕ) → j < length (tables_of file).entries → is_some (slice_index_or slots j None) ≡ list_any (λ k. tags j (entry_by file k)) (take i numbers)
-
-get_or-replicate : (n j : ℕ) → slice_index_or {A = Option ℕ} (replicate n None) j None ≡ None
-get_or-replicate zero j = refl
-get_or-replicate (suc n) zero = refl
-get_or-replicate (suc n) (suc j) = get_or-replicate n j
-
-length-replicate : (n : ℕ) → length (replicate {A = Option ℕ} n None) ≡ n
-length-replicate zero = refl
-length-replicate (suc n) = omega (arith, length-replicate n)
-
-pub marked_none : (file : List ℕ) (numbers : List ℕ) (n : ℕ) (slots : List (Option ℕ)) → n ≡ length (tables_of file).entries → slots ≡ replicate n None → AreMarked file numbers 0 slots
-marked_none file numbers n slots long is =
-    subst (AreMarked file numbers 0) (sym is) (record { long = length-replicate n ∙ long; each = λ j low. ap is_some (get_or-replicate n j) ∙ none numbers j })
-  where
-    none : (xs : List ℕ) (j : ℕ) → false ≡ list_any (λ k. tags j (entry_by file k)) (take 0 xs)
-    none [] j = refl
-    none (x ∷ xs) j = refl
 
 set_other : (xs : List (Option ℕ)) (i j : ℕ) (x : Option ℕ) → (i ≡ j → ⊥) → slice_index_or (set xs i x) j None ≡ slice_index_or xs j None
 set_other [] i j x ne = refl

@@ -1,9 +1,9 @@
 -- The fields of relocation entries, taken one after the other.
-use Rattle.std.proofs.Common.{◌≡◌, ℕ, ◌+◌, ◌<◌, ◌≤◌, inl, inr, false, cond, eqb, List, [], Option, None, Some, refl, sym, ◌∙◌, ap, subst, arith}
+use Rattle.std.proofs.Common.{◌≡◌, ℕ, ◌+◌, ◌<◌, ◌≤◌, inl, inr, false, cond, eqb, List, Option, None, Some, refl, sym, ◌∙◌, ap, subst, arith}
 use Rattle.std.specs.Prelude.{is_none}
 use Rattle.std.specs.Option.{option_map, option_map_or}
 use Rattle.std.proofs.lemmas.Bool.{cases_eq, eq-eqb, ne_eqb, true≢false}
-use Rattle.std.proofs.lemmas.Option.{none-some, same_Some}
+use Rattle.std.proofs.lemmas.Option.{same_Some}
 use Rattle.oc_base.specs.declared.format.Word.{Word}
 use Rattle.oc_linking.specs.declared.terms.Width.{Width}
 use Rattle.oc_linking.specs.declared.terms.Width.TheVariants.{One, Two, Four, Eight}
@@ -12,7 +12,7 @@ use Rattle.oc_linking.specs.FirstFault.{first_broken}
 use Rattle.oc_linking.specs.Numbers.{first_upto}
 use Rattle.oc_neutral.specs.Rows.{Row}
 use Rattle.oc_shelf.specs.Reading.Spans.{IsMet, end_at}
-use Rattle.oc_shelf.proofs.ReadingLaws.SpanLemmas.{spans_more, spans_none, spans_same}
+use Rattle.oc_shelf.proofs.ReadingLaws.SpanLemmas.{spans_more, spans_same}
 use Rattle.oc_shelf.proofs.ReadingLaws.StageLemmas.{all_hold}
 use Rattle.oc_coff_read.specs.declared.relocation.Relocation.{Relocation}
 use Rattle.oc_coff_read.specs.Tables.{tables_of}
@@ -50,9 +50,6 @@ wide_field w r has = subst (λ (o : Option Row). 1 ≤ option_map_or (λ (row : 
 
 pub span_is : (w : Word) (file : List ℕ) (table : Table) (k : ℕ) → HasRow w (reloc_of file table k) → span_of w file table k ≡ Some (bytes_for w (reloc_of file table k))
 span_is w file table k has = ap (option_map (λ (row : Row). bytes_for w (reloc_of file table k))) has.is
-
-pub taken_none : (w : Word) (file : List ℕ) (table : Table) (spans : List (ℕ × ℕ)) → spans ≡ [] → AreTaken w file table 0 spans
-taken_none w file table spans is = subst (AreTaken w file table 0) (sym is) (record { fields = spans_none (span_of w file table); wide = λ b e h. absurd (none-some e h) })
 
 pub taken_same : (w : Word) (file : List ℕ) (table : Table) (k : ℕ) (spans : List (ℕ × ℕ)) → AreTaken w file table k spans → span_of w file table k ≡ None → AreTaken w file table (k + 1) spans
 taken_same w file table k spans are none = record { fields = spans_same (span_of w file table) k spans are.fields none; wide = are.wide }

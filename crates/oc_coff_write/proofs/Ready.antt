@@ -1,9 +1,7 @@
 -- An object that is ready for COFF, by its own format.
-use Rattle.std.proofs.Common.{◌≡◌, Bool, true, false, refl, sym, ◌∙◌, ap, subst}
+use Rattle.std.proofs.Common.{◌≡◌, Bool, true, false, refl, sym, ap, subst}
 use Rattle.std.proofs.lemmas.Bool.{true≢false}
 use Rattle.oc_base.specs.Formats.{word_for}
-use Rattle.oc_base.specs.declared.format.Word.{Word}
-use Rattle.oc_base.specs.declared.format.Word.TheVariants.{W32, W64}
 use Rattle.oc_base.specs.declared.format.Format.{Format}
 use Rattle.oc_base.specs.declared.format.Format.TheVariants.{Elf32, Elf64, Coff32, Coff64, Mac32, Mac64, Omf}
 use Rattle.oc_neutral.specs.Family.{Container, IsElf, IsCoff, IsMach, IsOmf}
@@ -34,20 +32,3 @@ pub ready : (n : Object) → container_of n.format ≡ IsCoff → IsFitted n.for
 ready n coff fits = for_coff (word_for n.format) n (subst (λ f. IsFitted f n) (coff_word n.format coff) fits)
 
 -- ... by its word
-
-pub word_is : (w : Word) (n : Object) → IsFitted (coff_format w) n → word_for n.format ≡ w
-word_is w n fits = ap word_for fits.format ∙ by w
-  where
-    by : (w : Word) → word_for (coff_format w) ≡ w
-    by W32 = refl
-    by W64 = refl
-
-pub in_coff : (w : Word) (n : Object) → IsFitted (coff_format w) n → container_of n.format ≡ IsCoff
-in_coff w n fits = ap container_of fits.format ∙ by w
-  where
-    by : (w : Word) → container_of (coff_format w) ≡ IsCoff
-    by W32 = refl
-    by W64 = refl
-
-pub own_fitted : (w : Word) (n : Object) → IsFitted (coff_format w) n → IsFitted n.format n
-own_fitted w n fits = subst (λ f. IsFitted f n) (sym fits.format) fits

@@ -1,5 +1,5 @@
 -- Where an object shows a file, it is the file's, and its refusal is the first.
-use Rattle.std.proofs.Common.{◌≡◌, ℕ, List, Option, None, Result, Ok, sym, ◌∙◌, ap, subst}
+use Rattle.std.proofs.Common.{◌≡◌, ℕ, List, None, Result, Ok, sym, ◌∙◌, ap, subst}
 use Rattle.oc_base.specs.declared.format.Format.{Format}
 use Rattle.oc_base.specs.declared.fault.Fault.{Fault}
 use Rattle.oc_linking.specs.declared.terms.Keep.{Keep}
@@ -17,11 +17,6 @@ use Rattle.oc_convert.specs.declared.fault.ConvertFault.{ConvertFault}
 use Rattle.oc_convert.specs.declared.fault.ConvertFault.TheVariants as fault
 use Rattle.oc_convert.specs.Converted.{HasObject}
 use Rattle.oc_convert.specs.Refusals.{IsFaultOf, IsStepFault, kept_of_file, edited_refusal, object_refusal, first_refusal}
-
--- a fault that stands first
-pub first_stands : (first second : Option Fault) (e : ConvertFault) → IsFaultOf first e → IsFaultOf (or_else first second) e
-first_stands first second fault.NoMemory is = tt
-first_stands first second (fault.Refused f) is = ap (λ o. or_else o second) is
 
 -- a fault of editing
 pub edit_stands : (to : Format) (step : Result Object Fault) (e : ConvertFault) → IsStepFault step e → IsFaultOf (edited_refusal to step) e

@@ -6,8 +6,6 @@ use Rattle.std.specs.Option.{option_map, option_map_or}
 use Rattle.std.proofs.lemmas.Bool.{true≢false, eqb-true, eq-eqb, ne_eqb, cases_lt}
 use Rattle.std.proofs.lemmas.Option.{none-some, same_Some}
 use Rattle.oc_linking.specs.declared.terms.Patch.{Patch}
-use Rattle.oc_linking.specs.declared.terms.Width.{Width}
-use Rattle.oc_linking.specs.declared.terms.Width.TheVariants.{One, Two, Four, Eight}
 use Rattle.oc_linking.specs.declared.terms.Less.{Less}
 use Rattle.oc_linking.specs.declared.terms.Less.TheVariants as less
 use Rattle.oc_linking.specs.Fits.{bytes_of}
@@ -67,12 +65,6 @@ pub empty_past : {X : Type 0} (xs : List (List X)) (k : ℕ) → length xs ≤ k
 empty_past [] k l = refl
 empty_past (x ∷ xs) zero l = absurd (omega (arith, l))
 empty_past (x ∷ xs) (suc k) l = empty_past xs k (omega (arith, l))
-
-pub wide_enough : (width : Width) → 1 ≤ bytes_of width
-wide_enough One = omega arith
-wide_enough Two = omega arith
-wide_enough Four = omega arith
-wide_enough Eight = omega arith
 
 pub all_members : {X : Type 0} (P : X → Type 0) (xs : List X) → ((i : ℕ) (x : X) → slice_get xs i ≡ Some x → P x) → AllByRecursion P xs
 all_members P [] each = tt

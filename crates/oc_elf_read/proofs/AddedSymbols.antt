@@ -23,7 +23,7 @@ use Rattle.oc_neutral.specs.Started.{groups_by, plain_draft, stored_section}
 use Rattle.oc_neutral.proofs.BuiltSteps.{name_is_new}
 use Rattle.oc_neutral.proofs.StartedLaws.{symbol_more}
 use Rattle.oc_shelf.specs.Reading.Collected.{collected}
-use Rattle.oc_shelf.proofs.ReadingLaws.CollectedLemmas.{IsFrom, collected-some, collected-none, collected-from}
+use Rattle.oc_shelf.proofs.ReadingLaws.CollectedLemmas.{IsFrom, collected-some, collected-from}
 use Rattle.oc_shelf.proofs.ReadingLaws.StageLemmas.{clean_at}
 use Rattle.oc_elf_read.specs.declared.constants.TheConstants.{SHN_UNDEF, SHN_COMMON, STB_WEAK}
 use Rattle.oc_elf_read.specs.declared.sym.Sym.{Sym}
@@ -104,18 +104,6 @@ symbol_some f k b some is = rw some (by (is_passed f (entry_of f k)) (binding_of
     by true o e = absurd (none-some b e)
     by false o e = ap (option_map (symbol_with f k (entry_of f k))) e
 
-pub symbol_none : (f : Framed) (k : ℕ) → eqb k 0 ≡ false → carried_binding f (entry_of f k) ≡ None → symbol_of f k ≡ None
-unfolding symbol_of symbol_by
-symbol_none f k some is = rw some (by (is_passed f (entry_of f k)) (binding_of f (entry_of f k)) is)
-  where
-    by : (p : Bool) (o : Option Binding) → cond p None o ≡ None → cond p None (option_map (symbol_with f k (entry_of f k)) o) ≡ None
-    by true o e = refl
-    by false o e = ap (option_map (symbol_with f k (entry_of f k))) e
-
-pub symbol_zero : (f : Framed) → symbol_of f 0 ≡ None
-unfolding symbol_of
-symbol_zero f = refl
-
 -- ... names
 
 name_is : (f : Framed) (k : ℕ) (s : Sym) (b : Binding) → (symbol_with f k s b).name ≡ name_of f s
@@ -136,12 +124,6 @@ public_at f k low some own =
     ∙ ap (λ b. cond b None (Some (name_of f (entry_of f k)))) own
 
 module _ (f : Framed) (clean : stage_fault (symbol_stage f) ≡ None) (k : ℕ) (low : k < symbol_count f) where
-  -- an entry that is not carried leaves the draft
-  pub symbol_left : symbol_of f k ≡ None → symboled f k ≡ symboled f (k + 1)
-  symbol_left none =
-      ap (λ (xs : List parts.Symbol). plain_draft (format_of f.class) (groups_by (keys_of f)) (map (stored_section (keys_of f)) (sections_of f)) (map (computed_symbol (symbols_of f)) xs))
-      (sym (collected-none (symbol_of f) k none))
-
   module _ (some : eqb k 0 ≡ false) (b : Binding) (is : carried_binding f (entry_of f k) ≡ Some b) where
     abbrev pub y : parts.Symbol
     y = symbol_with f k (entry_of f k) b

@@ -1,5 +1,5 @@
 -- What is given, table by table and entry by entry.
-use Rattle.std.proofs.Common.{◌≡◌, ℕ, ◌+◌, ◌^◌, ◌<◌, ◌≤◌, ◌⊎◌, inl, inr, Bool, true, false, cond, List, [], length, take, Option, None, Some, Ok, refl, sym, ◌∙◌, ap, subst, arith, get_or}
+use Rattle.std.proofs.Common.{◌≡◌, ℕ, ◌+◌, ◌^◌, ◌<◌, ◌≤◌, ◌⊎◌, inl, inr, Bool, true, false, cond, List, length, take, Option, None, Some, Ok, refl, sym, ◌∙◌, ap, subst, arith, get_or}
 use Rattle.std.specs.Prelude.{◌&&◌, ◌||◌, nat_eq, nat_lt, slice_get, is_some}
 use Rattle.std.specs.List.Sorted.{IsPermutation}
 use Rattle.std.specs.Option.{option_map_or, option_and_then}
@@ -167,15 +167,6 @@ module _ (f : Framed) (keep : Keep) (frame : IsFrame f) where
           both false false false e = refl
 
 -- ... entries
-
--- before the first entry
-pub given_first : (f : Framed) (keep : Keep) (i p : ℕ) (t x : ℕ) → given_before f keep i t x ≡ given_with f keep i p [] t x
-given_first f keep i p t x = by (is_before f i t) (nat_eq t p)
-  where
-    by : (a b : Bool) → cond a (given_at f keep t x) None ≡ cond (a || b && false) (given_at f keep t x) None
-    by true b = refl
-    by false true = refl
-    by false false = refl
 
 module _ (f : Framed) (keep : Keep) (frame : IsFrame f) (clean : IsClean f keep) (started : IsStarted (elf_dialect f.class) f.file keep (symboled f (symbol_count f)))
     (i p : ℕ) (low : i < length f.headers) (kept : is_kept_section f keep i ≡ true) (position : position_of f i ≡ Some p) where

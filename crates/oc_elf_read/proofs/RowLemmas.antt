@@ -1,9 +1,8 @@
 -- The rows of ELF: none takes a section, and each value is counted from its field's place.
-use Rattle.std.proofs.Common.{◌≡◌, ℕ, Bool, true, false, cond, ◌+◌, ◌%◌, ◌||◌, List, [], ◌∷◌, Option, None, Some, refl, sym, ◌∙◌, ap, subst, arith}
+use Rattle.std.proofs.Common.{◌≡◌, ℕ, Bool, true, false, cond, ◌+◌, ◌%◌, ◌||◌, List, [], ◌∷◌, Option, None, Some, refl, sym, ◌∙◌, ap, subst}
 use Rattle.std.specs.Prelude.{ℤ, pos, ◌+ℤ◌, not, ◌&&◌, nat_eq, neg_ℤ, find}
 use Rattle.std.specs.Option.{option_map, option_map_or, option_and_then}
 use Rattle.std.proofs.lemmas.Bool.{eqb-true, true≢false}
-use Rattle.std.proofs.lemmas.Int.{ints}
 use Rattle.std.proofs.lemmas.Option.{none-some, same_Some}
 use Rattle.oc_base.specs.declared.format.Word.{Word}
 use Rattle.oc_linking.specs.declared.terms.Base.{Base}
@@ -20,7 +19,7 @@ use Rattle.oc_neutral.specs.declared.reloc.Target.{Target}
 use Rattle.oc_neutral.specs.declared.reloc.Target.TheVariants as target
 use Rattle.oc_neutral.specs.Normal.{moved_addend}
 use Rattle.oc_neutral.proofs.MovedAddends.{moved_reduced}
-use Rattle.oc_neutral.specs.Rows.{Row, Taken, TakesZero, TakesPlace, TakesGotBase, TakesImageBase, TakesHome, TakesSection, less_of, same_base, same_hint, same_taken, same_width, shift_of}
+use Rattle.oc_neutral.specs.Rows.{Row, TakesPlace, TakesSection, less_of, same_base, same_hint, same_taken, same_width, shift_of}
 use Rattle.oc_neutral.specs.RelocTables.{rows_of}
 use Rattle.oc_elf_read.specs.declared.class.ElfClass.{ElfClass}
 use Rattle.oc_elf_read.specs.declared.class.ElfClass.TheVariants.{Class32, Class64}
@@ -85,18 +84,6 @@ is_row f r row e = by (found_passes is_plain (λ (x : Row). nat_eq x.number r.r_
         unset true p = absurd (true≢false (sym p))
         unset false p = refl
 
--- it takes no section
-pub takes_none : (row : Row) (k : ℕ) → IsRow row → (less_of row.taken k ≡ less.Section k → ⊥)
-takes_none row k is e = by row.taken is.alone e
-  where
-    by : (t : Taken) → same_taken t TakesSection ≡ false → less_of t k ≡ less.Section k → ⊥
-    by TakesZero n e = absurd (cc)
-    by TakesPlace n e = absurd (cc)
-    by TakesGotBase n e = absurd (cc)
-    by TakesImageBase n e = absurd (cc)
-    by TakesHome n e = absurd (cc)
-    by TakesSection n e = true≢false n
-
 -- ... addends
 
 -- the addend as the row has it
@@ -104,9 +91,6 @@ addend_is : (class : ElfClass) (row : Row) (contents : List ℕ) (r : Rel) → a
 unfolding from_field_of
 addend_is Class32 row contents r = refl
 addend_is Class64 row contents r = refl
-
-zero_added : (a : ℤ) → a +ℤ pos 0 ≡ a
-zero_added a = omega (arith, ints)
 
 shifted : (row : Row) → IsRow row → shift_of row ≡ pos 0
 shifted row is = ap (λ (n : ℕ). neg_ℤ (pos n)) is.counted

@@ -41,9 +41,6 @@ use Rattle.oc_elf_write.specs.Raws.{all_raws}
 use Rattle.oc_elf_write.specs.Words.{items_at}
 use Rattle.oc_base.specs.Numbers.{bytes_of_number}
 use Rattle.oc_base.proofs.NumberLaws.{length-bytes_of_number}
-use Rattle.oc_elf_read.specs.Rel.{rel_size}
-use Rattle.oc_elf_read.specs.Sym.{sym_size}
-use Rattle.oc_elf_file.proofs.StructureLaws.{length-rel_bytes, length-sym_bytes}
 
 -- ... tables
 
@@ -141,17 +138,6 @@ rows_sized f w each (x ∷ xs) = (each x, rows_sized f w each xs)
 -- and the table as many as its rows
 pub rows_long : {X : Type 0} (f : X → List ℕ) (w : ℕ) → ((x : X) → length (f x) ≡ w) → (xs : List X) → length (table_of (map f xs)) ≡ w * length xs
 rows_long f w each xs = table_long w (map f xs) (rows_sized f w each xs) ∙ ap (λ m. w * m) (length-map xs f)
-
--- so the contents of groups, relocation tables and the symbol table, by the tables that were made
-pub group_long : (class : ElfClass) (sections : List Section) (b : Bodies) (g : ℕ) → length (body_by class sections b (head.Group g)) ≡ 4 * length (items_at b.groups.items g)
-group_long class sections b g =
-    ap length (joined_rows (bytes_of_number 4) (items_at b.groups.items g)) ∙ rows_long (bytes_of_number 4) 4 (length-bytes_of_number 4) (items_at b.groups.items g)
-
-pub rels_long : (class : ElfClass) (sections : List Section) (b : Bodies) (k : ℕ) → length (body_by class sections b (head.Relocs k)) ≡ rel_size class * length (items_at b.rels.items k)
-rels_long class sections b k = rows_long (rel_bytes class) (rel_size class) (length-rel_bytes class) (items_at b.rels.items k)
-
-pub syms_long : (class : ElfClass) (sections : List Section) (b : Bodies) → length (body_by class sections b head.Symtab) ≡ sym_size class * length b.syms.items
-syms_long class sections b = rows_long (sym_bytes class) (sym_size class) (length-sym_bytes class) b.syms.items
 
 -- what a vector at a position holds
 pub items_is : {X : Type 0} (vs : List (Vec X Global)) (k : ℕ) (v : Vec X Global) → slice_get vs k ≡ Some v → items_at vs k ≡ v.items

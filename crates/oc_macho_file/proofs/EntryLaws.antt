@@ -8,8 +8,6 @@ use Rattle.std.proofs.lemmas.Option.{none-some, same_Some, slice_get_within}
 use Rattle.oc_base.specs.declared.format.Word.{Word}
 use Rattle.oc_base.specs.declared.format.Word.TheVariants.{W32, W64}
 use Rattle.oc_linking.specs.declared.terms.Patch.{Patch}
-use Rattle.oc_linking.specs.declared.terms.Width.{Width}
-use Rattle.oc_linking.specs.declared.terms.Width.TheVariants.{One, Two, Four, Eight}
 use Rattle.oc_linking.specs.Fits.{bytes_of}
 use Rattle.oc_linking.specs.Numbers.{first_upto}
 use Rattle.oc_linking.specs.Shows.{Apart}
@@ -57,12 +55,6 @@ pub empty_past : {X : Type 0} (xs : List (List X)) (k : ℕ) → length xs ≤ k
 empty_past [] k l = refl
 empty_past (x ∷ xs) zero l = absurd (omega (arith, l))
 empty_past (x ∷ xs) (suc k) l = empty_past xs k (omega (arith, l))
-
-pub wide_enough : (width : Width) → 1 ≤ bytes_of width
-wide_enough One = omega arith
-wide_enough Two = omega arith
-wide_enough Four = omega arith
-wide_enough Eight = omega arith
 
 pub all_members : {X : Type 0} (P : X → Type 0) (xs : List X) → ((i : ℕ) (x : X) → slice_get xs i ≡ Some x → P x) → AllByRecursion P xs
 all_members P [] each = tt

@@ -82,9 +82,6 @@ less_more N = omega (arith, ints)
 own_more : (N : ℤ) (at : ℕ) → N +ℤ pos at ≡ N -ℤ pos 0 +ℤ pos 0 +ℤ pos at
 own_more N at = omega (arith, ints)
 
-section_more : (N : ℤ) (i j : ℕ) → N +ℤ (pos j -ℤ pos (i + 0)) ≡ N -ℤ pos i +ℤ pos j
-section_more N i j = omega (arith, ints)
-
 symbol_more : (N : ℤ) (i j offset : ℕ) → N +ℤ (pos j -ℤ pos (i + offset)) +ℤ pos offset ≡ N -ℤ pos i +ℤ pos j
 symbol_more N i j offset = omega (arith, ints)
 

@@ -203,10 +203,6 @@ module _ (w : Word) (n : Object) where
       stands_at (mach_file w n) (part_bytes w n l.part) (l.at - 0) l.at
       (stands_laid (part_begin w n) (part_size w n) (rises w n) (part_bytes w n) 0 (parts_of n) (λ j x h. part_sized w n x) k l here) e
 
-  -- the length of the file
-  pub file_length : ℕ
-  file_length = laid_end (part_begin w n) (part_size w n) 0 (parts_of n)
-
   pub length-mach_file : length (mach_file w n) ≡ laid_end (part_begin w n) (part_size w n) 0 (parts_of n)
   unfolding mach_file
   length-mach_file = omega (arith, length-joined (part_begin w n) (part_size w n) (rises w n) (part_bytes w n) 0 (parts_of n) (λ j x h. part_sized w n x))

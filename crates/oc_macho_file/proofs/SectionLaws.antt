@@ -50,9 +50,6 @@ made w n = map (made_section w n) (enumerate_from 0 n.sections)
 framed : ℕ → ℕ → List ℕ → List ℕ → Kind → ℕ → ℕ → parts.Section
 framed size number contents name kind align tag = record { name = name; kind = kind; align = align; size = size; contents = contents; tag = tag; number = number; group = None }
 
-pub length-made : (w : Word) (n : Object) → length (made w n) ≡ length n.sections
-length-made w n = length-map (enumerate_from 0 n.sections) (made_section w n) ∙ length-enumerate_from 0 n.sections
-
 pub made_at : (w : Word) (n : Object) (k : ℕ) (s : Section) → slice_get n.sections k ≡ Some s → slice_get (made w n) k ≡ Some (made_section w n (k, s))
 made_at w n k s here =
     let e : 0 + k ≡ k = omega arith in

@@ -8,7 +8,6 @@ use Rattle.std.proofs.lemmas.Bool.Decides.{nat_tests}
 use Rattle.std.proofs.lemmas.Option.{none-some}
 use Rattle.oc_linking.specs.Numbers.{first_upto, or_else}
 use Rattle.oc_linking.proofs.FirstFaultLaws.{first_upto_none}
-use Rattle.oc_shelf.proofs.ReadingLaws.FirstsLemmas.{first_more}
 use Rattle.oc_shelf.proofs.ReadingLaws.StageLemmas.{first_upto-head, first_upto-same, upto_none}
 use Rattle.oc_macho_read.specs.declared.section_header.SectionHeader.{SectionHeader}
 use Rattle.oc_macho_read.specs.Tables.{SectionTable, Tables}
@@ -218,47 +217,3 @@ shared_all free bytes free_now bytes_now begin end number are none q = by (are.e
 pub record AreBytes (t : Tables) (i : ℕ) (edges free bytes : List (ℕ × ℕ)) : Type 0 where
   pub given : (q : ℕ) → is_some (number_by edges q) ≡ true → number_by bytes q ≡ first_among (has_byte q) t i
   pub left : (q : ℕ) → is_some (number_by free q) ≡ (is_some (number_by edges q) && is_none (first_among (has_byte q) t i))
-
-pub bytes_start : (t : Tables) (edges free bytes : List (ℕ × ℕ)) → AreEdges t (length t.sections) edges → AreEdges t (length t.sections) free → bytes ≡ [] → AreBytes t 0 edges free bytes
-bytes_start t edges free bytes are same none = record {
-  given = λ q is. ap (λ (bytes : List (ℕ × ℕ)). number_by bytes q) none;
-  left = λ q. ap is_some (same.are q ∙ sym (are.are q)) ∙ sides (is_some (number_by edges q));
-}
-  where
-    sides : (a : Bool) → a ≡ (a && true)
-    sides true = refl
-    sides false = refl
-
-pub bytes_more : (t : Tables) (i begin end : ℕ) (edges free bytes free_new bytes_new : List (ℕ × ℕ)) → AreBytes t i edges free bytes → begin ≡ (table_at t i).header.addr
-    → end ≡ begin + (table_at t i).header.size
-    → ((q : ℕ) → is_some (number_by free_new q) ≡ (is_some (number_by free q) && not (nat_le begin q && nat_lt q end)))
-    → ((q : ℕ) → number_by bytes_new q ≡ cond (is_some (number_by free q) && (nat_le begin q && nat_lt q end)) (Some (i + 1)) (number_by bytes q)) → AreBytes t (i + 1) edges free_new bytes_new
-bytes_more t i begin end edges free bytes free_new bytes_new are begins ends frees gives = record {
-  given = λ q is. gives q ∙ one q is (first_among (has_byte q) t i) refl ∙ sym (first_more (λ i. cond (has_byte q (table_at t i).header) (Some (i + 1)) None) i);
-  left = λ q. frees q ∙ ap (λ (b : Bool). b && not (nat_le begin q && nat_lt q end)) (are.left q)
-      ∙ two (is_some (number_by edges q)) (first_among (has_byte q) t i) (nat_le begin q && nat_lt q end)
-      ∙ ap (λ (b : Bool). is_some (number_by edges q) && is_none (or_else (first_among (has_byte q) t i) (cond b (Some (i + 1)) None))) (tests q)
-      ∙ ap (λ (o : Option ℕ). is_some (number_by edges q) && is_none o) (sym (first_more (λ i. cond (has_byte q (table_at t i).header) (Some (i + 1)) None) i));
-}
-  where
-    tests : (q : ℕ) → (nat_le begin q && nat_lt q end) ≡ has_byte q (table_at t i).header
-    tests q =
-        ap (λ (e : ℕ). nat_le begin q && nat_lt q e) (ends ∙ ap (λ (a : ℕ). a + (table_at t i).header.size) begins)
-        ∙ ap (λ (a : ℕ). nat_le a q && nat_lt q ((table_at t i).header.addr + (table_at t i).header.size)) begins
-
-    one : (q : ℕ) → is_some (number_by edges q) ≡ true → (o : Option ℕ) → first_among (has_byte q) t i ≡ o
-        → cond (is_some (number_by free q) && (nat_le begin q && nat_lt q end)) (Some (i + 1)) (number_by bytes q) ≡ or_else (first_among (has_byte q) t i) (cond (has_byte q (table_at t i).header) (Some (i + 1)) None)
-    one q is (Some k) e =
-        let taken : is_some (number_by free q) ≡ false = are.left q ∙ rw (is, e) refl in
-        let had : number_by bytes q ≡ Some k = are.given q is ∙ e in
-        rw (taken, had, e) refl
-    one q is None e =
-        let open_yet : is_some (number_by free q) ≡ true = are.left q ∙ rw (is, e) refl in
-        let had : number_by bytes q ≡ None = are.given q is ∙ e in
-        rw (open_yet, had, e) (ap (λ (b : Bool). cond b (Some (i + 1)) None) (tests q))
-
-    two : (a : Bool) (o : Option ℕ) (b : Bool) → (a && is_none o && not b) ≡ (a && is_none (or_else o (cond b (Some (i + 1)) None)))
-    two false o b = refl
-    two true (Some k) b = refl
-    two true None true = refl
-    two true None false = refl

@@ -11,15 +11,14 @@ use Rattle.oc_linking.specs.declared.terms.Keep.{Keep}
 use Rattle.oc_linking.specs.FirstFault.{first_broken, first_fault, stage_fault, fault_of}
 use Rattle.oc_linking.specs.Numbers.{or_else}
 use Rattle.oc_linking.proofs.FirstFaultLaws.{first_upto_none}
-use Rattle.oc_shelf.proofs.ReadingLaws.StageLemmas.{all_hold, first_fault-range}
+use Rattle.oc_shelf.proofs.ReadingLaws.StageLemmas.{all_hold}
 use Rattle.oc_macho_read.specs.declared.section_header.SectionHeader.{SectionHeader}
 use Rattle.oc_macho_read.specs.Tables.{SectionTable, Tables, tables_of}
 use Rattle.oc_macho_read.specs.Sections.{is_kept, is_zerofill}
 use Rattle.oc_macho_read.specs.Framed.{table_at}
 use Rattle.oc_macho_read.specs.HeaderFaults.{header_stage}
 use Rattle.oc_macho_read.specs.SectionFaults.{own_conditions, limit_conditions, section_stage}
-use Rattle.oc_macho_read.specs.RelocationFaults.{entry_stage, no_stage, relocation_stage, relocation_stages}
-use Rattle.oc_macho_read.specs.SymbolFaults.{symbol_stage}
+use Rattle.oc_macho_read.specs.RelocationFaults.{entry_stage, no_stage, relocation_stage}
 use Rattle.oc_macho_read.specs.Rules as rules
 use Rattle.oc_macho_read.proofs.SectionLemmas.{section_broken, there}
 
@@ -77,19 +76,3 @@ pub behind_header : (w : Word) (file : List ℕ) (keep : Keep) (t : Tables) → 
 behind_header w file keep t clean is =
     fault_is w file keep ∙ ap (λ (o : Option Fault). or_else o (first_fault (rules.rest_stages (tables_of w file) keep))) clean
     ∙ ap (λ (t : Tables). first_fault (rules.rest_stages t keep)) (sym is)
-
--- a file whose rest has no fault has none in any stage
-pub record IsClean (t : Tables) (keep : Keep) : Type 0 where
-  pub sections : stage_fault (section_stage t) ≡ None
-  pub symbols : stage_fault (symbol_stage t) ≡ None
-  pub relocs : (i : ℕ) → i < length t.sections → stage_fault (relocation_stage t keep i) ≡ None
-
-pub rest_clean : (t : Tables) (keep : Keep) → first_fault (rules.rest_stages t keep) ≡ None → IsClean t keep
-rest_clean t keep clean =
-    let first = both (stage_fault (section_stage t)) (first_fault (symbol_stage t ∷ relocation_stages t keep)) clean in
-    let second = both (stage_fault (symbol_stage t)) (first_fault (relocation_stages t keep)) first.1 in
-    record {
-      sections = first.0;
-      symbols = second.0;
-      relocs = first_upto_none (λ i. stage_fault (relocation_stage t keep i)) (length t.sections) (sym (first_fault-range (relocation_stage t keep) (length t.sections)) ∙ second.1);
-    }

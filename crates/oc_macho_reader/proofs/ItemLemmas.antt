@@ -8,7 +8,7 @@ use Rattle.oc_base.specs.declared.format.Word.TheVariants.{W32, W64}
 use Rattle.oc_base.specs.declared.format.Word.{Word}
 use Rattle.oc_linking.specs.FirstFault.{fault_of, first_broken, first_fault, stage_fault}
 use Rattle.oc_linking.specs.Fits.{bytes_of}
-use Rattle.oc_linking.specs.declared.terms.Hint.TheVariants.{Call, Plain}
+use Rattle.oc_linking.specs.declared.terms.Hint.TheVariants.{Call}
 use Rattle.oc_linking.specs.declared.terms.Keep.{Keep}
 use Rattle.oc_linking.specs.declared.terms.Width.TheVariants.{Eight, Four, One, Two}
 use Rattle.oc_linking.specs.declared.terms.Width.{Width}
@@ -88,12 +88,6 @@ row_width w e m is =
 -- a call takes the place of a field of four bytes
 abbrev pub IsCallRow : MachRow → Type 0
 IsCallRow m = m.row.hint ≡ Call → (m.row.base ≡ base.Address) × (m.row.taken ≡ TakesPlace) × (m.row.width ≡ Four)
-
-no_call : (m : MachRow) → m.row.hint ≡ Plain → IsCallRow m
-no_call m plain call = absurd (by (sym plain ∙ call))
-  where
-    by : Plain ≡ Call → ⊥
-    by e = cc
 
 calls : (w : Word) → AllRows IsCallRow (mach_entries w)
 calls W32 = (λ e. absurd (cc), (λ e. absurd (cc), (λ e. absurd (cc), (λ e. absurd (cc), tt))))

@@ -14,9 +14,8 @@ use Rattle.oc_express.proofs.Giving.{all_given, more_given}
 use Rattle.oc_macho_read.specs.declared.relocation_info.Reference.{Reference}
 use Rattle.oc_macho_read.specs.declared.relocation_info.Reference.TheVariants as reference
 use Rattle.oc_macho_read.specs.declared.relocation_info.RelocationInfo.{RelocationInfo}
-use Rattle.oc_macho_file.specs.Addresses.{address_of}
 use Rattle.oc_macho_file.specs.Bodies as bodies
-use Rattle.oc_macho_file.specs.Bodies.{end_section_address, entries_at, entries_of, pair_entries, plain_entry, reference_to, scattered_entry, standing_at, standing_entries, taken_section}
+use Rattle.oc_macho_file.specs.Bodies.{entries_at, entries_of, pair_entries, plain_entry, reference_to, standing_at, standing_entries, taken_section}
 use Rattle.oc_macho_file.specs.Lines.{Line, numbered_lines, own_number}
 use Rattle.oc_macho_write.specs.declared.forms.Scene.{Scene}
 use Rattle.oc_macho_write.specs.declared.forms.Standing.{Standing}
@@ -52,14 +51,6 @@ module _ (w : Word) (n : Object) (lines : List (Laid Line)) (y : Standing) (is :
       ap (λ (o : Option ℕ). elim o [ None ↦ plain_entry is is.row.number (reference_to w lines is.reloc.target) ∷ [] | Some second ↦ pair_entries w n lines is second ]) (sym some)
 
 module _ (n : Object) (lines : List (Laid Line)) (y : Standing) (is : bodies.Standing) where
-  pub pair_32 : IsWritten W32 y is → (first second a b : ℕ) → is.row.number ≡ first → a ≡ end_section_address n y.reloc.target → b ≡ address_of n (taken_section is)
-      → scattered_entry y.at first a ∷ scattered_entry 0 second b ∷ [] ≡ pair_entries W32 n lines is second
-  pair_32 written first second a b f ends takes =
-      ap (λ p. scattered_entry p first a ∷ scattered_entry 0 second b ∷ []) written.at
-      ∙ ap (λ t. scattered_entry is.at t a ∷ scattered_entry 0 second b ∷ []) (sym f)
-      ∙ ap (λ z. scattered_entry is.at is.row.number z ∷ scattered_entry 0 second b ∷ []) (ends ∙ ap (λ z. end_section_address n z.target) written.reloc)
-      ∙ ap (λ z. scattered_entry is.at is.row.number (end_section_address n is.reloc.target) ∷ scattered_entry 0 second z ∷ []) takes
-
   pub pair_64 : (written : IsWritten W64 y is) → (first second : ℕ) (own to : Reference) → is.row.number ≡ first → is.row.second ≡ Some second → own ≡ reference.Symbol (own_number lines (taken_section is)) → to ≡ reference_to W64 lines y.reloc.target
       → record { r_address = y.at; r_pcrel = 0; r_length = length_of y.reloc.form.width; r_type = first; refers = own }
       ∷ record { r_address = y.at; r_pcrel = 0; r_length = length_of y.reloc.form.width; r_type = second; refers = to } ∷ [] ≡ pair_entries W64 n lines is second

@@ -36,7 +36,6 @@ pub mod NormalFields
 pub mod NormalObject
 pub mod PlaceLaws
 pub mod PositionLaws
-pub mod ReboundObject
 pub mod ReboundSymbols
 pub mod Regrouping
 pub mod RenameTables

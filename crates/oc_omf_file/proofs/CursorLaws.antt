@@ -68,10 +68,6 @@ index_by k false e small b at s =
 pub reads_index : (k : ℕ) → k < 32768 → Reads index_read (index_bytes k) k
 reads_index k small = index_by k (nat_lt k 128) refl small
 
--- nothing more
-pub reads_done : {X : Type 0} (x : X) → Reads (λ b at. Ok (x, at)) [] x
-reads_done x b at s = let e : at ≡ at + 0 = omega arith in ap (λ k. Ok (x, k)) e
-
 -- one behind another
 pub reads_next : {X Y : Type 0} (first : List ℕ → ℕ → Reading X) (second : X → List ℕ → ℕ → Reading Y) (xs ys : List ℕ) (x : X) (y : Y)
     → Reads first xs x → Reads (second x) ys y → Reads (λ b at. next (first b at) (λ z p. second z b p)) (xs ++ ys) y

@@ -25,7 +25,7 @@ use Rattle.oc_omf_judge.specs.declared.whole.Whole.{Whole}
 use Rattle.oc_omf_judge.specs.Counts.{AreCounts, end_of, external_by}
 use Rattle.oc_omf_judge.specs.LastData.{IsLast, shown}
 use Rattle.oc_omf_judge.specs.Lying.{lying_of}
-use Rattle.oc_omf_judge.specs.Reached.{AreExternalsTaken, AreSmall, ArePartsTaken, IsEntryTaken, judged_behind, last_in, placed_in}
+use Rattle.oc_omf_judge.specs.Reached.{AreExternalsTaken, AreSmall, IsEntryTaken, judged_behind, last_in, placed_in}
 use Rattle.oc_omf_judge.specs.Starts.{AreStarts}
 use Rattle.oc_omf_judge.specs.Whole.{IsWhole, entries}
 
@@ -73,19 +73,6 @@ quiet w old new index e none t s counts last before earlier small is =
         starts_are = subst (λ xs. AreStarts w (fixed_in xs) new.starts) (sym all) (subst (AreStarts w (fixed_in earlier)) (sym s) is.starts_are);
       },
     )
-
--- one that has no data
-same_last : (e : Entry) (r : Reached) → e.pieces ≡ [] → (before : Tables) → AreSmall e → option_map lying_of (last_of before.pieces) ≡ last_in r → option_map lying_of (last_of (before.pieces ++ all_read e.pieces)) ≡ last_in r
-same_last e r none before small is = ap (λ ps. option_map lying_of (last_of (before.pieces ++ all_read ps))) none ∙ ap (λ ps. option_map lying_of (last_of ps)) (append-nil before.pieces) ∙ is
-
--- one that says nothing that is kept
-pub nothing_taken : (w : Whole) (old : Reached) (index : ℕ) (e : Entry) → e.subrecords ≡ [] → e.segments ≡ [] → e.groups ≡ [] → e.externals ≡ [] → e.pieces ≡ [] → IsEntryTaken w old index e old
-nothing_taken w old index e none s g x p =
-    quiet w old old index e none refl refl
-    (λ t are. counts_more t old.counts old.counts e (count_same (length t.segments) old.counts.segments (length (all_read e.segments)) are.segments_are (ap (λ xs. length (all_read xs)) s))
-    (count_same (length t.groups) old.counts.groups (length (all_read e.groups)) are.groups_are (ap (λ xs. length (all_read xs)) g))
-    (count_same (length t.externals) old.counts.externals (length (all_read e.externals)) are.externals_are (ap (λ xs. length (all_read xs)) x)))
-    (same_last e old p)
 
 -- externals
 pub externals_taken : (w : Whole) (old new : Reached) (index place : ℕ) (reads : List (Read External)) → new.threads ≡ old.threads → new.starts ≡ old.starts → last_in new ≡ last_in old
@@ -135,22 +122,6 @@ data_lost w old index place wide iterated b is =
     by before small held (Err c) e = ap (λ (r : Reading Piece). option_map lying_of (last_of (before.pieces ++ all_read (whole place r)))) e ∙ ap (λ ps. option_map lying_of (last_of ps)) (append-nil before.pieces) ∙ held
     by before small held (Ok r) e =
         absurd (none-some (lying_of r.0) (sym (is (λ x f. small x (ap last_of (whole_read place (piece_read wide iterated b 0) x f)))) ∙ ap (λ (r : Reading Piece). option_map lying_of (part_of r)) e))
-
--- threads and fixups
-pub fixups_taken : (w : Whole) (old new : Reached) (index : ℕ) (e : Entry) → e.segments ≡ [] → e.groups ≡ [] → e.externals ≡ [] → e.pieces ≡ [] → ArePartsTaken w old index e.subrecords new → IsEntryTaken w old index e new
-fixups_taken w old new index e s g x p taken before earlier small is =
-    let behind = taken before earlier is in
-    let now = behind.1 in (
-      behind.0,
-      record {
-        counts_are = counts_more before new.counts new.counts e (count_same (length before.segments) new.counts.segments (length (all_read e.segments)) now.counts_are.segments_are (ap (λ xs. length (all_read xs)) s))
-            (count_same (length before.groups) new.counts.groups (length (all_read e.groups)) now.counts_are.groups_are (ap (λ xs. length (all_read xs)) g))
-            (count_same (length before.externals) new.counts.externals (length (all_read e.externals)) now.counts_are.externals_are (ap (λ xs. length (all_read xs)) x));
-        last_is = same_last e new p before small now.last_is;
-        threads_are = now.threads_are;
-        starts_are = now.starts_are;
-      },
-    )
 
 -- ... data that are small enough
 

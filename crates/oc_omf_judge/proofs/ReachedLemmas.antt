@@ -1,9 +1,8 @@
 -- One thread or fixup more, behind what a reader keeps.
 use Rattle.std.proofs.Common.{◌≡◌, ℕ, ◌+◌, ◌<◌, Bool, true, false, cond, List, [], ◌∷◌, ◌++◌, Option, None, Some, Ok, refl, sym, ◌∙◌, ap, subst, arith}
-use Rattle.std.specs.Prelude.{◌&&◌, ◌||◌, if◌then◌else◌, min, nat_eq, nat_le, not, slice_get}
+use Rattle.std.specs.Prelude.{◌&&◌, ◌||◌, if◌then◌else◌, nat_eq, not, slice_get}
 use Rattle.std.specs.List.{list_any}
 use Rattle.std.specs.Option.{is_some, option_and_then, option_map, option_map_or, unwrap_or}
-use Rattle.std.proofs.lemmas.Bool.Decides.{nat_tests}
 use Rattle.std.proofs.lemmas.Option.{get_or_from_slice_get, none-some, slice_get_within}
 use Rattle.oc_base.specs.declared.code.Code.TheVariants.{BadOffset, BadTarget, Overlap, RelocKind, TargetKind}
 use Rattle.oc_base.specs.declared.fault.Fault.{Fault}
@@ -50,16 +49,6 @@ use Rattle.oc_omf_judge.proofs.RowLemmas.{row_is}
 use Rattle.oc_omf_judge.proofs.StartLemmas.{begins_among, free_meets, met_meets, starts_more, starts_stay}
 
 -- ... what indexes name
-
--- an index of two bytes among so many
-pub counted_is : (n count index : ℕ) → count ≡ min n 65536 → index < 65536 → (nat_le 1 index && nat_le index count) ≡ (nat_le 1 index && nat_le index n)
-counted_is n count index e low = by (nat_le index count) (nat_le index n) refl refl
-  where
-    by : (a b : Bool) → nat_le index count ≡ a → nat_le index n ≡ b → (nat_le 1 index && a) ≡ (nat_le 1 index && b)
-    by true true f g = refl
-    by false false f g = refl
-    by true false f g = absurd (grind (arith, nat_tests))
-    by false true f g = absurd (grind (arith, nat_tests))
 
 method_is : (earlier : List Placed) (threads : Threads) (frame : Bool) (d : Datum) → AreInForce earlier threads → method_by threads frame d ≡ method_of earlier frame d
 method_is earlier threads frame (datum.Explicit x) are = refl

@@ -24,16 +24,6 @@ use Rattle.oc_omf_read.specs.Defined.{IsDefined, IsSmall, and_entry, piece_span,
 
 -- ... tables
 
--- tables whose lists are the same
-pub same_tables : (t u : Tables) → t.names ≡ u.names → t.segments ≡ u.segments → t.groups ≡ u.groups → t.publics ≡ u.publics → t.externals ≡ u.externals → t.pieces ≡ u.pieces → t ≡ u
-same_tables t u n s g p e d =
-    ap (λ x. record { names = x; segments = t.segments; groups = t.groups; publics = t.publics; externals = t.externals; pieces = t.pieces }) n
-    ∙ ap (λ x. record { names = u.names; segments = x; groups = t.groups; publics = t.publics; externals = t.externals; pieces = t.pieces }) s
-    ∙ ap (λ x. record { names = u.names; segments = u.segments; groups = x; publics = t.publics; externals = t.externals; pieces = t.pieces }) g
-    ∙ ap (λ x. record { names = u.names; segments = u.segments; groups = u.groups; publics = x; externals = t.externals; pieces = t.pieces }) p
-    ∙ ap (λ x. record { names = u.names; segments = u.segments; groups = u.groups; publics = u.publics; externals = x; pieces = t.pieces }) e
-    ∙ ap (λ x. record { names = u.names; segments = u.segments; groups = u.groups; publics = u.publics; externals = u.externals; pieces = x }) d
-
 -- what is kept speaks of names, segments, groups and data alone
 pub same_defined : (t u : Tables) (d : Defined) → IsDefined t d → u.names ≡ t.names → u.segments ≡ t.segments → u.groups ≡ t.groups → u.pieces ≡ t.pieces → IsDefined u d
 same_defined t u d is n s g p = record {

@@ -35,10 +35,6 @@ indexed things index = if nat_eq index 0 then None else slice_get things (index 
 abbrev pub is_indexed : {X : Type 0} → List X → ℕ → Bool
 is_indexed things index = nat_le 1 index && nat_le index (length things)
 
--- a name has the index, or it is 0, which is the empty name
-abbrev pub is_name : Tables → ℕ → Bool
-is_name t index = nat_le index (length t.names)
-
 -- the name of an index
 abbrev pub name_at : Tables → ℕ → List ℕ
 name_at t index = unwrap_or (indexed t.names index) []

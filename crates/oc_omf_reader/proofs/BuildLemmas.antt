@@ -168,10 +168,6 @@ bytes_long file k s there bytes are long = ap length (sym (are s there)) ∙ lon
 pub item_is : (vs : List (Vec ℕ Global)) (k : ℕ) (v : Vec ℕ Global) → slice_get vs k ≡ Some v → contents.items_at vs k ≡ v.items
 item_is vs k v there = ap (λ (o : Option (Vec ℕ Global)). option_map_or (λ (v : Vec ℕ Global). v.items) o []) there
 
--- before the first section
-pub none_yet : (t : all.Tables) → plain_draft Omf [] [] [] ≡ sectioned t 0
-none_yet t = refl
-
 -- all sections
 pub all_yet : (t : all.Tables) (n : ℕ) → n ≡ length t.segments → sectioned t n ≡ plain_draft Omf [] (stored_all t) []
 all_yet t n is =

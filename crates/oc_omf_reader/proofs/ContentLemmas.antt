@@ -1,5 +1,5 @@
 -- The bytes of segments, data by data.
-use Rattle.std.proofs.Common.{◌≡◌, ℕ, zero, suc, ◌+◌, ◌-◌, ◌^◌, ◌<◌, ◌≤◌, inl, inr, Bool, true, false, cond, List, [], ◌∷◌, ◌++◌, length, take, drop, replicate, set, get_or, Option, None, Some, refl, sym, ◌∙◌, ap, arith, length-append, length-take, length-drop, eqb}
+use Rattle.std.proofs.Common.{◌≡◌, ℕ, zero, suc, ◌+◌, ◌-◌, ◌^◌, ◌<◌, ◌≤◌, inl, inr, Bool, true, false, cond, List, [], ◌∷◌, ◌++◌, length, take, drop, replicate, get_or, Option, None, Some, refl, sym, ◌∙◌, ap, arith, length-append, length-take, length-drop}
 use Rattle.std.specs.Prelude.{◌||◌, ◌&&◌, filter, flat_map, fold, nat_eq, nat_le, nat_lt, slice_get, Vec}
 use Rattle.std.specs.Global.{Global}
 use Rattle.std.specs.List.{AllByRecursion, sum_by}
@@ -33,17 +33,6 @@ use Rattle.oc_omf_reader.proofs.DefinedLemmas.{tables_upto}
 use Rattle.oc_omf_reader.proofs.SoundEntries.{IsSoundPiece, IsSoundSegment, entry_sound, piece_sound, segment_sound}
 
 -- ... vectors
-
--- one vector in the place of another
-pub item_set : (vs : List (Vec ℕ Global)) (j : ℕ) (new : Vec ℕ Global) (k : ℕ) → k < length vs → items_at (set vs j new) k ≡ cond (eqb k j) new.items (items_at vs k)
-item_set [] j new k low = absurd (omega (arith, low))
-item_set (v ∷ vs) zero new zero low = refl
-item_set (v ∷ vs) zero new (suc k) low = ap (λ b. cond b new.items (items_at vs k)) (sym (ne_eqb (suc k) 0 (λ e. omega (arith, e))))
-item_set (v ∷ vs) (suc j) new zero low = ap (λ b. cond b new.items v.items) (sym (ne_eqb 0 (suc j) (λ e. omega (arith, e))))
-item_set (v ∷ vs) (suc j) new (suc k) low = item_set vs j new k (omega (arith, low)) ∙ ap (λ b. cond b new.items (items_at vs k)) (same k j)
-  where
-    same : (k j : ℕ) → eqb k j ≡ eqb (suc k) (suc j)
-    same k j = grind (arith, nat_tests)
 
 -- ... one piece of data
 

@@ -1,6 +1,6 @@
 -- What is held of mentions, one mention after the other.
 use Rattle.std.proofs.Common.{◌≡◌, ℕ, zero, suc, ◌+◌, ◌<◌, ◌≤◌, Bool, true, false, cond, List, [], ◌∷◌, ◌++◌, length, map, take, set, get_or, Option, None, Some, refl, sym, ◌∙◌, ap, subst, arith, length-append}
-use Rattle.std.specs.Prelude.{◌&&◌, ◌||◌, not, bytes_eq, filter_map, fold, slice_get}
+use Rattle.std.specs.Prelude.{◌||◌, not, filter_map, fold, slice_get}
 use Rattle.std.specs.List.{cons_option, list_any}
 use Rattle.std.specs.Option.{option_map}
 use Rattle.std.proofs.lemmas.Bool.{true≢false}
@@ -8,12 +8,12 @@ use Rattle.std.proofs.lemmas.List.{length-map, map-append}
 use Rattle.std.proofs.lemmas.Option.{none-some, same_Some, slice_get-get_or, slice_get-map}
 use Rattle.std.proofs.lemmas.List.Elements.{filter_map-append}
 use Rattle.oc_neutral.proofs.FieldLists.{take_here}
-use Rattle.oc_omf_read.specs.Symbols.{Mention, agree, number_of, same_symbol, with_new}
+use Rattle.oc_omf_read.specs.Symbols.{Mention, number_of, same_symbol, with_new}
 use Rattle.oc_omf_reader.specs.declared.mentioned.Mentioned.{Mentioned}
 use Rattle.oc_omf_reader.specs.declared.mentioned.Mentions.{Mentions}
 use Rattle.oc_omf_reader.specs.declared.heard.Heard.{Heard}
 use Rattle.oc_omf_reader.specs.Heard.{Told, all_told, told_of}
-use Rattle.oc_omf_reader.specs.Mentioned.{AreNumbered, HasHeard, Seen, blank, external_number, external_said, mention_of, number_among, number_held, held, seen_in, seen_more, seen_of, symbol_of, symbols_told, value_at}
+use Rattle.oc_omf_reader.specs.Mentioned.{AreNumbered, HasHeard, Seen, blank, external_number, external_said, mention_of, number_among, number_held, held, seen_in, seen_more, seen_of, symbol_of, symbols_told}
 use Rattle.oc_omf_judge.proofs.MentionLemmas.{same_is, same_self}
 use Rattle.oc_omf_reader.proofs.MentionLemmas.{AreApart, Unlike, among_push, any_told, externals_keep, number_low, seen_set, seen_with, symbols_apart, symbols_push}
 
@@ -37,13 +37,6 @@ among_some ms x k e = by (list_any (same_symbol x) ms) refl e
     by : (b : Bool) → list_any (same_symbol x) ms ≡ b → cond b (Some (number_of ms x)) None ≡ Some k → (list_any (same_symbol x) ms ≡ true) × (number_of ms x ≡ k)
     by true f g = (f, same_Some (number_of ms x) k g)
     by false f g = absurd (none-some k g)
-
-pub among_none : (ms : List Mention) (x : Mention) → number_among ms x ≡ None → Unlike x ms
-among_none ms x e = by (list_any (same_symbol x) ms) refl e
-  where
-    by : (b : Bool) → list_any (same_symbol x) ms ≡ b → cond b (Some (number_of ms x)) None ≡ None → Unlike x ms
-    by false f g = f
-    by true f g = absurd (none-some (number_of ms x) (sym g))
 
 -- a symbol more is numbered
 pub numbered_push : (old new : Mentions) (x : Mention) → AreNumbered old → Unlike x (held old) → held new ≡ held old ++ x ∷ []
@@ -175,31 +168,7 @@ number_inside m x k number =
     let long = length_held m in
     omega (arith, low, is, long)
 
--- nothing is heard yet
-pub heard_none : (m : Mentions) → m.symbols.items ≡ [] → m.externals.items ≡ [] → ((x : Mention) → number_held m x ≡ None) → HasHeard [] m
-heard_none m symbols externals none = record {
-  symbols = ap (map seen_of) symbols;
-  numbered = λ x. none x ∙ ap (λ (items : List Mentioned). number_among (map (λ (s : Mentioned). symbol_of (seen_of s)) items) x) (sym symbols);
-  externals = externals;
-}
-
 -- ... numbers in maps
-
-pub hold_local : (old new : Mentions) (name : List ℕ) (number : ℕ) → ((other : List ℕ) → value_at new.locals other ≡ cond (bytes_eq name other) (Some number) (value_at old.locals other)) → ((other : List ℕ) → value_at new.others other ≡ value_at old.others other)
-    → (y : Mention) → number_held new y ≡ cond (same_symbol (record { local = true; name = name }) y) (Some number) (number_held old y)
-hold_local old new name number taken kept y = by y.local
-  where
-    by : (b : Bool) → value_at (cond b new.locals new.others) y.name ≡ cond (agree true b && bytes_eq name y.name) (Some number) (value_at (cond b old.locals old.others) y.name)
-    by true = taken y.name
-    by false = kept y.name
-
-pub hold_other : (old new : Mentions) (name : List ℕ) (number : ℕ) → ((other : List ℕ) → value_at new.others other ≡ cond (bytes_eq name other) (Some number) (value_at old.others other)) → ((other : List ℕ) → value_at new.locals other ≡ value_at old.locals other)
-    → (y : Mention) → number_held new y ≡ cond (same_symbol (record { local = false; name = name }) y) (Some number) (number_held old y)
-hold_other old new name number taken kept y = by y.local
-  where
-    by : (b : Bool) → value_at (cond b new.locals new.others) y.name ≡ cond (agree false b && bytes_eq name y.name) (Some number) (value_at (cond b old.locals old.others) y.name)
-    by true = kept y.name
-    by false = taken y.name
 
 pub held_push : (old new : Mentions) (s : Mentioned) → new.symbols.items ≡ old.symbols.items ++ s ∷ [] → held new ≡ held old ++ symbol_of (seen_of s) ∷ []
 held_push old new s grown = ap (map (λ (s : Mentioned). symbol_of (seen_of s))) grown ∙ map-append (λ (s : Mentioned). symbol_of (seen_of s)) old.symbols.items (s ∷ [])

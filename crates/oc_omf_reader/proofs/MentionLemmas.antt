@@ -91,12 +91,6 @@ symbols_apart ts = by [] (map mention_of ts) tt
 
 -- ... numbers
 
-number_none : (x : Mention) (ms : List Mention) → Unlike x ms → number_of ms x ≡ length ms
-number_none x [] new = refl
-number_none x (m ∷ ms) new =
-    let both = unlike_or (same_symbol x m) (list_any (same_symbol x) ms) new in
-    ap (λ b. cond (not b) (1 + number_of ms x) 0) both.0 ∙ (let rest = number_none x ms both.1 in let one : 1 + number_of ms x ≡ suc (length ms) = omega (arith, rest) in one)
-
 pub number_front : (x y : Mention) (ms : List Mention) → list_any (same_symbol x) ms ≡ true → number_of (ms ++ y ∷ []) x ≡ number_of ms x
 number_front x y [] there = absurd (true≢false (sym there))
 number_front x y (m ∷ ms) there = by (same_symbol x m) there (number_front x y ms)

@@ -1,15 +1,13 @@
 -- Data of entries, and what they cover.
-use Rattle.std.proofs.Common.{◌≡◌, ℕ, ◌+◌, ◌-◌, ◌<◌, ◌≤◌, Bool, true, false, cond, List, [], ◌∷◌, length, take, drop, replicate, get_or, Some, Ok, Err, refl, sym, ◌∙◌, ap, arith}
-use Rattle.std.specs.Prelude.{◌&&◌, ◌||◌, nat_eq, nat_lt, slice_get, slice_range, filter}
+use Rattle.std.proofs.Common.{◌≡◌, ℕ, ◌+◌, ◌-◌, ◌<◌, ◌≤◌, Bool, true, false, List, [], length, drop, replicate, get_or, Some, Ok, Err, sym, ◌∙◌, ap, arith}
+use Rattle.std.specs.Prelude.{◌||◌, nat_eq, nat_lt, slice_get, filter}
 use Rattle.std.specs.List.{list_any}
 use Rattle.std.proofs.lemmas.Bool.{true≢false}
 use Rattle.std.proofs.lemmas.Bool.Decides.{nat_tests}
-use Rattle.std.proofs.lemmas.List.{get_or-replicate, length-drop, length-replicate}
+use Rattle.std.proofs.lemmas.List.{get_or-replicate, length-replicate}
 use Rattle.std.proofs.lemmas.List.Elements.{filter-append}
 use Rattle.std.proofs.lemmas.List.Folds.{list_any-append}
-use Rattle.std.proofs.Math.Seq.{take-length}
 use Rattle.oc_omf_records.specs.declared.records.Entry.{Entry as Record}
-use Rattle.oc_omf_records.specs.Blocks.{Blocks, size_of}
 use Rattle.oc_omf_read.specs.declared.cut.Cut.{Cut}
 use Rattle.oc_omf_read.specs.Cursor.{Reading, index_read, next, number_read}
 use Rattle.oc_omf_read.specs.Structures as structures
@@ -24,15 +22,9 @@ use Rattle.oc_omf_reader.specs.declared.class.Class.TheVariants as class
 use Rattle.oc_omf_reader.specs.declared.pieces.Piece.{Piece}
 use Rattle.oc_omf_reader.specs.Classes.{class_of}
 use Rattle.oc_omf_reader.specs.Defined.{read_in, said}
-use Rattle.oc_omf_reader.specs.Pieces.{AreCovered, ArePieces, covers, is_covered_by, row_in}
+use Rattle.oc_omf_reader.specs.Pieces.{AreCovered, ArePieces, is_covered_by, row_in}
 use Rattle.oc_omf_reader.proofs.ClassLemmas.{has_no_data, read_whole}
 use Rattle.oc_omf_reader.proofs.DefinedLemmas.{said_by_class, tables_upto}
-
--- the bytes from a place to the end
-pub all_behind : (b : List ℕ) (at : ℕ) → at ≤ length b → slice_range b at (at + (length b - at)) ≡ drop at b
-all_behind b at low =
-    let many : at + (length b - at) - at ≡ length (drop at b) = omega (arith, length-drop at b) in
-    ap (λ (n : ℕ). take n (drop at b)) many ∙ take-length (drop at b)
 
 -- ... one structure
 
@@ -81,20 +73,6 @@ no_pieces r class.Fixups is e = ap (λ (e : Entry). all_read e.pieces) (said_by_
 no_pieces r class.Nothing is e = ap (λ (e : Entry). all_read e.pieces) (said_by_class r class.Nothing is)
 
 -- ... what is covered
-
--- data cover what they are read to cover
-pub covers_same : (p : Piece) (ds : List structures.Piece) (k : ℕ) → ArePieces (Some p) ds → list_any (λ d. nat_lt 0 (piece_size d)) (filter (λ (d : structures.Piece). nat_eq d.segment (k + 1)) ds) ≡ covers p k
-covers_same p ds k are =
-    ap (λ (ds : List structures.Piece). list_any (λ d. nat_lt 0 (piece_size d)) (filter (λ (d : structures.Piece). nat_eq d.segment (k + 1)) ds)) are.1
-    ∙ ap (λ (n : ℕ). list_any (λ d. nat_lt 0 (piece_size d)) (cond (nat_eq n (k + 1)) (are.0 ∷ []) [])) are.2.segment ∙ one (nat_eq p.segment (k + 1))
-  where
-    last : (a : Bool) → (a || false) ≡ a
-    last true = refl
-    last false = refl
-
-    one : (b : Bool) → list_any (λ d. nat_lt 0 (piece_size d)) (cond b (are.0 ∷ []) []) ≡ (b && nat_lt 0 (size_of (row_in p.data)))
-    one true = last (nat_lt 0 (piece_size are.0)) ∙ ap (λ (r : Blocks). nat_lt 0 (size_of r)) are.2.row
-    one false = refl
 
 pub covered_none : (count : ℕ) (flags : List Bool) → flags ≡ replicate count false → AreCovered (tables_of []) count flags
 unfolding tables_of

@@ -1,5 +1,5 @@
 -- Rows of blocks that are put together.
-use Rattle.std.proofs.Common.{rules, ◌≡◌, ℕ, zero, suc, ◌+◌, ◌-◌, ◌*◌, ◌^◌, ◌<◌, ◌≤◌, min, Vec, Global, List, [], ◌∷◌, ◌++◌, length, get_or, take, refl, sym, ◌∙◌, ap, arith, length-append, drop, slice_range}
+use Rattle.std.proofs.Common.{rules, ◌≡◌, ℕ, zero, suc, ◌+◌, ◌-◌, ◌^◌, ◌<◌, ◌≤◌, min, Vec, Global, List, [], ◌∷◌, ◌++◌, length, get_or, take, refl, sym, ◌∙◌, ap, arith, length-append, drop, slice_range}
 use Rattle.std.proofs.lemmas.List.{take_more, append-nil, append_assoc, length-take-le, length-drop}
 use Rattle.std.proofs.Math.Seq.{drop-append_seam, take-append_seam, take-length, drop-length}
 use Rattle.oc_omf_records.specs.declared.iterated.Iterated.{Iterated, Content, Nested, the_lemmas}
@@ -91,10 +91,6 @@ pub size_of-append : (a b : Blocks) → size_of (append a b) ≡ size_of a + siz
 size_of-append none b = omega arith
 size_of-append (content count place bytes rest) b = omega (arith, size_of-append rest b)
 size_of-append (nested count inside rest) b = omega (arith, size_of-append rest b)
-
--- a product that is cut at 2^32 along the way
-pub capped_product : (count size : ℕ) → min (count * min size (2 ^ 32)) (2 ^ 32) ≡ min (count * size + 0) (2 ^ 32)
-capped_product count size = grind arith
 
 -- the size of one block more
 pub size_of-take_more : (blocks : List Iterated) (i total size next : ℕ) (block : Iterated) → i < length blocks → block ≡ get_or blocks i block

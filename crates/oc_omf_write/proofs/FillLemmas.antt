@@ -1,5 +1,5 @@
 -- Names that fill one entry after another.
-use Rattle.std.proofs.Common.{◌≡◌, ℕ, zero, suc, ◌+◌, ◌-◌, ◌<◌, ◌≤◌, true, false, cond, nat_lt, List, [], ◌∷◌, ◌++◌, length, take, drop, map, Some, refl, sym, ◌∙◌, ap, arith, append-nil, append_assoc}
+use Rattle.std.proofs.Common.{◌≡◌, ℕ, zero, suc, ◌+◌, ◌-◌, ◌<◌, ◌≤◌, true, false, cond, nat_lt, List, [], ◌∷◌, ◌++◌, length, take, drop, map, Some, sym, ◌∙◌, ap, arith, append_assoc}
 use Rattle.std.specs.Prelude.{slice_get, slice_range}
 use Rattle.std.specs.List.{AllByRecursion}
 use Rattle.std.proofs.lemmas.Bool.Decides.{nat_tests}
@@ -50,17 +50,6 @@ pub record IsFilling (texts : List (List ℕ)) (old now : List Entry) (from k si
   pub order : from ≤ k
   pub measured : size ≡ names_size (slice_range texts from k)
   pub low : size ≤ 1024
-
-pub filling_begun : (texts : List (List ℕ)) (old : List Entry) → IsFilling texts old old 0 0 0
-filling_begun texts old = record {
-  ranges = [];
-  added = sym (append-nil old);
-  filled = refl;
-  inside = tt;
-  order = omega arith;
-  measured = refl;
-  low = omega arith;
-}
 
 module _ (texts : List (List ℕ)) (short : AreShort texts) (old now : List Entry) (from k size : ℕ) (is : IsFilling texts old now from k size) (x : List ℕ) (here : slice_get texts k ≡ Some x) where
   abbrev held : List (List ℕ)

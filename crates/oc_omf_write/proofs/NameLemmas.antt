@@ -4,7 +4,7 @@ use Rattle.std.specs.Prelude.{slice_get, bytes_eq, fold, codes, ◌||◌}
 use Rattle.std.specs.List.{AllByRecursion, list_any, position_or_len}
 use Rattle.std.specs.Map.{update}
 use Rattle.std.proofs.lemmas.List.{drop_all, length-map}
-use Rattle.std.proofs.lemmas.Option.{none-some, same_Some}
+use Rattle.std.proofs.lemmas.Option.{none-some}
 use Rattle.std.proofs.lemmas.Slice.Eq.{bytes_eq-Decides}
 use Rattle.oc_express.proofs.Steps.{drop_step}
 use Rattle.oc_neutral.specs.declared.section.Section.{Section}
@@ -59,14 +59,6 @@ position_last test (y ∷ xs) x e is = by (test y) (λ h. position_last test xs 
 
 -- ... places
 
--- where a text stands that is among them, and that it is
-pub place_told : (done : List (List ℕ)) (text : List ℕ) (p : ℕ) → place_among done text ≡ Some p → (list_any (bytes_eq text) done ≡ true) × (position_or_len (bytes_eq text) done ≡ p)
-place_told done text p e = by (list_any (bytes_eq text) done) e
-  where
-    by : (b : Bool) → cond b (Some (position_or_len (bytes_eq text) done)) None ≡ Some p → (b ≡ true) × (position_or_len (bytes_eq text) done ≡ p)
-    by true e = (refl, same_Some (position_or_len (bytes_eq text) done) p e)
-    by false e = absurd (none-some p e)
-
 place_none : (done : List (List ℕ)) (text : List ℕ) → place_among done text ≡ None → list_any (bytes_eq text) done ≡ false
 place_none done text e = by (list_any (bytes_eq text) done) e
   where
@@ -100,19 +92,6 @@ place_more done text other new = by (bytes_eq text other) refl
 -- ... names
 
 module _ (sections : List Section) where
-  pub no_names : (names : Names) → names.list.items ≡ [] → ((text : List ℕ) → value_at names.places text ≡ None) → AreNames sections [] names
-  no_names names empty none = record {
-    texts = ap (map (text_by sections)) empty;
-    places = none;
-    of_sections = subst (AllByRecursion (IsNameOf (length sections))) (sym empty) tt;
-  }
-
-  -- a text that is among them is not added
-  pub names_stay : (done : List (List ℕ)) (names : Names) (text : List ℕ) (p : ℕ) → value_at names.places text ≡ Some p → AreNames sections done names → AreNames sections (with_name done text) names
-  names_stay done names text p here are =
-      let is = place_told done text p (sym (are.places text) ∙ here) in
-      subst (λ (xs : List (List ℕ)). AreNames sections xs names) (ap (λ b. cond b done (done ++ text ∷ [])) (sym is.0)) are
-
   -- another is
   pub names_more : (done : List (List ℕ)) (old new : Names) (name : Name) (text : List ℕ) → value_at old.places text ≡ None → IsNameOf (length sections) name → text_by sections name ≡ text
       → new.list.items ≡ old.list.items ++ name ∷ []

@@ -26,18 +26,6 @@ none_below from to (x ∷ fixups) f low =
     let out : nat_lt x.at to ≡ false = grind (arith, nat_tests, first, low) in
     ap (λ b. cond b (x ∷ below to fixups) (below to fixups)) out ∙ none_below (x.at + 4) to fixups f.1 (omega (arith, first, low))
 
--- those below an offset stand first
-pub below_first : (from to : ℕ) (fixups : List Fixup) → Follow from fixups → below to fixups ≡ take (length (below to fixups)) fixups
-below_first from to [] f = refl
-below_first from to (x ∷ fixups) f = by (nat_lt x.at to) refl (below_first (x.at + 4) to fixups f.1)
-  where
-    by : (b : Bool) → nat_lt x.at to ≡ b → below to fixups ≡ take (length (below to fixups)) fixups → cond b (x ∷ below to fixups) (below to fixups) ≡ take (length (cond b (x ∷ below to fixups) (below to fixups))) (x ∷ fixups)
-    by true e later = ap (λ xs. x ∷ xs) later
-    by false e later =
-        let past : to ≤ x.at = grind (arith, nat_tests) in
-        let none : below to fixups ≡ [] = none_below (x.at + 4) to fixups f.1 (omega (arith, past)) in
-        none ∙ ap (λ (xs : List Fixup). take (length xs) (x ∷ fixups)) (sym none)
-
 -- no more stand below a lower offset
 pub below_rises : (from to : ℕ) (fixups : List Fixup) → from ≤ to → length (below from fixups) ≤ length (below to fixups)
 below_rises from to [] range = omega arith

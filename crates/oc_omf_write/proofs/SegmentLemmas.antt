@@ -1,5 +1,5 @@
 -- The indexes of the names of sections.
-use Rattle.std.proofs.Common.{◌≡◌, ℕ, ◌+◌, ◌-◌, ◌^◌, ◌<◌, ◌≤◌, true, cond, None, List, [], length, Some, sym, ◌∙◌, ap, arith}
+use Rattle.std.proofs.Common.{◌≡◌, ℕ, ◌+◌, ◌-◌, ◌^◌, ◌<◌, ◌≤◌, true, cond, None, List, [], length, Some, ◌∙◌, ap, arith}
 use Rattle.std.specs.Prelude.{slice_get, bytes_eq}
 use Rattle.std.specs.List.{list_any, position_or_len}
 use Rattle.oc_neutral.specs.declared.section.Section.{Section}
@@ -8,14 +8,7 @@ use Rattle.oc_base.specs.declared.format.Format.TheVariants.{Omf}
 use Rattle.oc_omf_file.specs.Names.{class_of, names_of}
 use Rattle.oc_omf_file.proofs.NameLaws.{section_named, section_classed, name_within}
 use Rattle.oc_omf_write.specs.declared.names.Names.{Names}
-use Rattle.oc_omf_write.specs.Names.{names_for, value_at, AreNames, IsIndexed, index_in}
-use Rattle.oc_omf_write.proofs.NameLemmas.{place_told}
-
--- where a text stands that is among the names
-pub place_is : (sections : List Section) (names : Names) (text : List ℕ) (p : ℕ) → AreNames sections (names_for sections) names → value_at names.places text ≡ Some p → p + 1 ≡ index_in sections text
-place_is sections names text p are there =
-    let told = place_told (names_for sections) text p (sym (are.places text) ∙ there) in
-    ap (λ k. k + 1) (sym told.1)
+use Rattle.oc_omf_write.specs.Names.{names_for, AreNames, IsIndexed}
 
 -- a text that is among them has an index
 indexed : (sections : List Section) (names : Names) (text : List ℕ) → AreNames sections (names_for sections) names → list_any (bytes_eq text) (names_for sections) ≡ true

@@ -10,7 +10,7 @@ use Rattle.oc_omf_file.specs.Names.{names_size}
 use Rattle.oc_omf_file.specs.Structures.{index_bytes, frame_bytes, name_bytes}
 use Rattle.oc_omf_write.specs.declared.fixups.Fixup.{Fixup}
 use Rattle.oc_omf_write.specs.declared.names.Name.{Name}
-use Rattle.oc_omf_write.specs.Names.{text_by, IsNameOf, AreShort}
+use Rattle.oc_omf_write.specs.Names.{text_by, AreShort}
 use Rattle.oc_omf_write.specs.Written.{fixup_bytes_of}
 
 index_long : (k : ℕ) → length (index_bytes k) ≤ 2
@@ -82,12 +82,6 @@ pub texts_same : (ss sections : List Section) (ns names range : List Name) (from
 texts_same ss sections ns names range from to a b e = rw (e, b, a) (map_range (text_by sections) names from to)
 
 module _ (ss sections : List Section) (ns names range : List Name) (from to : ℕ) (a : ss ≡ sections) (b : ns ≡ names) (e : range ≡ slice_range ns from to) where
-  -- they are of the sections
-  pub range_named : AllByRecursion (IsNameOf (length sections)) names → AllByRecursion (IsNameOf (length ss)) range
-  range_named all =
-      subst (λ (xs : List Section). AllByRecursion (IsNameOf (length xs)) range) (sym a)
-      (subst (AllByRecursion (IsNameOf (length sections))) (sym (e ∙ ap (λ (xs : List Name). slice_range xs from to) b)) (all_in_range (IsNameOf (length sections)) names from to all))
-
   -- and short
   pub range_short : AreShort (map (text_by sections) names) → AreShort (map (text_by ss) range)
   range_short all = subst AreShort (sym (texts_same ss sections ns names range from to a b e)) (all_in_range (λ text. length text ≤ 255) (map (text_by sections) names) from to all)

@@ -43,10 +43,6 @@ read_more None had buffer now at n bound here front read is = absurd read
 read_more (Some file) had buffer now at n bound here front read is =
     read_front had buffer file now at n bound here (front_of had file front) read.bytes is
 
--- bytes above the limit are there only where the file is above it
-pub longer : (limit : ℕ) (bytes file : List ℕ) → IsWholeOrLonger limit bytes file → limit < length bytes → limit < length file
-longer limit bytes file h above = omega (arith, ap length h.front, length-take (length bytes) file)
-
 -- the whole of a file within the limit
 pub within : (limit : ℕ) (bytes file : List ℕ) → IsWholeOrLonger limit bytes file → length file ≤ limit → bytes ≡ file
 within limit bytes file h below = h.whole (omega (arith, ap length h.front, length-take (length bytes) file))

@@ -34,15 +34,6 @@ part_from at (x ∷ parts) (suc k) = part_from (at + length x) parts k
 pub part_is : (parts : List (List ℕ)) (k : ℕ) → (piece_at (pieces_laid parts) k).part ≡ get_or parts k []
 part_is parts k = part_from 0 parts k
 
-place_from : (at : ℕ) (parts : List (List ℕ)) (k : ℕ) → (piece_at (laid_from at parts) k).at ≡ get_or (map (λ (l : Laid (List ℕ)). l.at) (laid_from at parts)) k 0
-place_from at [] k = refl
-place_from at (x ∷ parts) zero = refl
-place_from at (x ∷ parts) (suc k) = place_from (at + length x) parts k
-
--- it begins at place k
-pub place_is : (parts : List (List ℕ)) (k : ℕ) → (piece_at (pieces_laid parts) k).at ≡ get_or (places_of parts) k 0
-place_is parts k = place_from 0 parts k
-
 next_from : (at : ℕ) (parts : List (List ℕ)) (k : ℕ) → k + 1 < length parts
     → end_of (piece_at (laid_from at parts) k) ≡ get_or (map (λ (l : Laid (List ℕ)). l.at) (laid_from at parts)) (suc k) 0
 next_from at [] k low = absurd (omega (arith, low))

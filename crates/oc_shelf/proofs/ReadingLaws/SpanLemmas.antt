@@ -26,14 +26,6 @@ spans_same span n spans are none = record {
   ];
 }
 
--- where a span begins that none meets, there is none yet
-pub span_new : (spans : List (ℕ × ℕ)) (begin end : ℕ) → AreSpans spans → begin < end → (IsMet spans begin end → ⊥) → end_at spans begin ≡ None
-span_new spans begin end are some free = by (end_at spans begin) refl
-  where
-    by : (o : Option ℕ) → end_at spans begin ≡ o → end_at spans begin ≡ None
-    by None e = e
-    by (Some f) e = absurd (free (record { start = begin; stop = f; there = e; before = some; behind = are.some begin f e }))
-
 -- an entry more, whose span was taken
 pub spans_more : (span : ℕ → Option (ℕ × ℕ)) (n begin end : ℕ) (old new : List (ℕ × ℕ)) → AreSpansOf span n old → span n ≡ Some (begin, end) → end_at old begin ≡ None
     → ((q : ℕ) → end_at new q ≡ cond (eqb q begin) (Some end) (end_at old q)) → AreSpansOf span (n + 1) new

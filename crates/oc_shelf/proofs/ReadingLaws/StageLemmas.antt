@@ -1,9 +1,8 @@
 -- Stages of conditions, judged by loops, and running sums.
-use Rattle.std.proofs.Common.{◌≡◌, ℕ, zero, suc, ◌+◌, ◌<◌, ◌≤◌, Bool, true, false, cond, List, [], ◌∷◌, ◌++◌, map, Option, Some, None, refl, sym, ◌∙◌, ap, subst, arith}
+use Rattle.std.proofs.Common.{◌≡◌, ℕ, zero, suc, ◌+◌, ◌<◌, Bool, true, false, cond, List, [], ◌∷◌, ◌++◌, map, Option, Some, None, refl, sym, ◌∙◌, ap, subst, arith}
 use Rattle.std.specs.Prelude.{not, ◌&&◌}
 use Rattle.std.specs.List.{AllByRecursion, range_with_len}
 use Rattle.std.proofs.lemmas.Bool.{true≢false}
-use Rattle.std.proofs.lemmas.Bool.Decides.{nat_tests}
 use Rattle.std.proofs.lemmas.Option.{none-some}
 use Rattle.oc_base.specs.declared.fault.Fault.{Fault}
 use Rattle.oc_linking.specs.Numbers.{or_else, first_upto}
@@ -12,7 +11,7 @@ use Rattle.oc_linking.proofs.Upto.{first_upto_stop}
 use Rattle.oc_linking.proofs.FirstFaultLaws.{first_upto_none}
 use Rattle.oc_shelf.specs.declared.reading.stop.Stop.{Stop}
 use Rattle.oc_shelf.specs.declared.reading.stop.Stop.TheVariants as stop
-use Rattle.oc_shelf.specs.Reading.Stops.{IsStop, sum_upto, passes}
+use Rattle.oc_shelf.specs.Reading.Stops.{IsStop, sum_upto}
 
 -- the first of two lists of conditions
 pub first_broken-append : (cs ds : List Condition) → first_broken (cs ++ ds) ≡ or_else (first_broken cs) (first_broken ds)
@@ -150,8 +149,3 @@ no_first_fault (stage ∷ stages) all = rw (no_stage_fault stage all.0) (no_firs
 -- one structure more in a running sum
 pub sum_more : (worth : ℕ → ℕ) (i : ℕ) → sum_upto worth (i + 1) ≡ sum_upto worth i + worth i
 sum_more worth i = let e : i + 1 ≡ suc i = omega arith in rw e refl
-
--- where no structure lets the sum pass the most, the whole sum does not pass it
-pub sum_kept : (worth : ℕ → ℕ) (most n : ℕ) → ((i : ℕ) → i < n → passes worth most i ≡ false) → sum_upto worth n ≤ most
-sum_kept worth most zero kept = omega arith
-sum_kept worth most (suc n) kept = let last = kept n (omega arith) in grind (arith, nat_tests)

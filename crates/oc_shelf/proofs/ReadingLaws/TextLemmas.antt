@@ -5,7 +5,7 @@ use Rattle.std.proofs.lemmas.Bool.{eqb-true, le-leb}
 use Rattle.std.proofs.lemmas.Bool.Decides.{nat_tests}
 use Rattle.std.proofs.lemmas.List.{take-take, get_or-take, get_or-drop}
 use Rattle.memchr.specs.Find.{is_byte, NoneBefore, Passes}
-use Rattle.oc_base.specs.Texts.{HasNoTextAt, IsTextAt}
+use Rattle.oc_base.specs.Texts.{HasNoTextAt}
 use Rattle.oc_shelf.specs.Reading.Texts.{text_within, text_at, short}
 
 other : (x : ℕ) → (x ≡ 0 → ⊥) → eqb x 0 ≡ false
@@ -61,18 +61,6 @@ short_none xs most m wide none =
     text_longer xs most (λ j low high nul.
     let below : j < m = omega arith in
     none j (omega arith) (omega (arith, length-take m xs)) (eq-eqb (get_or (take m xs) j 0) 0 (get_or-take m xs j 0 below ∙ nul)))
-
--- what a view finds at a place is the text there
-pub view_text : (b : List ℕ) (at : ℕ) (text : List ℕ) → IsTextAt b at text → text_at b at ≡ Some text
-view_text b at text is =
-    let low = is.within in
-    let nul : get_or (drop at b) (length text) 0 ≡ 0 = get_or-drop at b (length text) 0 ∙ is.ended in
-    let wide : length (drop at b) ≡ length b - at = length-drop at b in
-    let long : (at + length text) - at ≡ length text = omega arith in
-    let same : text ≡ take (length text) (drop at b) = is.bytes ∙ ap (λ n. take n (drop at b)) long in
-    text_found (drop at b) (length text) (omega (arith, low, wide)) nul
-    (λ j less e. is.no_nul j less (ap (λ xs. get_or xs j 0) same ∙ get_or-take (length text) (drop at b) j 0 less ∙ e))
-    ∙ ap Some (sym same)
 
 -- and where it finds none, there is none
 pub view_none : (b : List ℕ) (at : ℕ) → HasNoTextAt b at → text_at b at ≡ None

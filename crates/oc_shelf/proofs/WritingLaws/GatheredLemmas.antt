@@ -1,15 +1,12 @@
 -- Lists that are gathered entry by entry, from things that are numbered one by one.
-use Rattle.std.proofs.Common.{◌≡◌, ℕ, zero, suc, ◌+◌, ◌<◌, true, false, cond, eqb, List, [], ◌∷◌, ◌++◌, length, map, Option, Some, None, refl, sym, ◌∙◌, ap, subst, arith, append_assoc, append-nil}
-use Rattle.std.specs.Option.{option_map}
+use Rattle.std.proofs.Common.{◌≡◌, ℕ, zero, suc, ◌+◌, true, false, cond, List, [], ◌∷◌, ◌++◌, length, map, Option, Some, None, refl, sym, ◌∙◌, ap, subst, arith, append_assoc, append-nil}
 use Rattle.std.specs.Prelude.{slice_get, filter_map, find, Bool}
 use Rattle.std.specs.List.{cons_option, range_with_len}
 use Rattle.oc_linking.specs.Numbers.{or_else, first_upto}
-use Rattle.std.proofs.lemmas.Bool.{eq-eqb, ne_eqb}
 use Rattle.std.proofs.lemmas.Option.{none-some, same_Some}
 use Rattle.oc_shelf.specs.Reading.Collected.{with_option, collected}
 use Rattle.oc_shelf.specs.Writing.Parts.{Laid, laid, behind, place_where}
 use Rattle.oc_shelf.proofs.ReadingLaws.StageLemmas.{first_upto-head}
-use Rattle.oc_shelf.proofs.WritingLaws.MemberLemmas.{find_first}
 use Rattle.oc_shelf.proofs.WritingLaws.PartLemmas.{laid_part, place_found}
 
 -- what entries give is what is left of the things that stand at their numbers
@@ -38,11 +35,6 @@ pub collected_all : {X Y : Type 0} (size : X → ℕ) (one : (x : X) → size x 
 collected_all size one item g xs each =
     let e : length xs ≡ 0 + length xs = omega arith in
     ap (collected item) e ∙ collected_laid size one item g 0 xs each
-
--- nothing is left
-pub filter_map_none : {X Y : Type 0} (g : X → Option Y) (xs : List X) → ((k : ℕ) (x : X) → slice_get xs k ≡ Some x → g x ≡ None) → filter_map g xs ≡ []
-filter_map_none g [] none = refl
-filter_map_none g (x ∷ xs) none = ap (λ o. cons_option o (filter_map g xs)) (none 0 x refl) ∙ filter_map_none g xs (λ k y h. none (suc k) y h)
 
 -- a list by its places
 pub map_range : {X : Type 0} (f : ℕ → X) (i : ℕ) (xs : List X) → ((k : ℕ) (x : X) → slice_get xs k ≡ Some x → f (i + k) ≡ x) → map f (range_with_len i (length xs)) ≡ xs
@@ -84,26 +76,3 @@ first_found {X} item test (x ∷ xs) each =
     by false = refl
 
 -- ... fields by their offsets
-
--- entries that are made of a list are found as the list's own are
-pub found_made : {X Y : Type 0} (made : X → Y) (test : Y → Bool) (own : X → Bool) (xs : List X) → ((k : ℕ) (x : X) → slice_get xs k ≡ Some x → test (made x) ≡ own x)
-    → find test (map made xs) ≡ option_map made (find own xs)
-found_made made test own [] each = refl
-found_made {X} made test own (x ∷ xs) each =
-    ap (λ b. cond b (Some (made x)) (find test (map made xs))) (each 0 x refl)
-    ∙ ap (λ o. cond (own x) (Some (made x)) o) (found_made made test own xs (λ k y h. each (suc k) y h))
-    ∙ by (own x)
-  where
-    by : (b : Bool) → cond b (Some (made x)) (option_map made (find own xs)) ≡ option_map made (cond b (Some x) (find own xs))
-    by true = refl
-    by false = refl
-
--- later entries have higher keys
-abbrev pub Ascends : {X : Type 0} → (X → ℕ) → List X → Type 0
-Ascends {X} key xs = (i j : ℕ) (x y : X) → i < j → slice_get xs i ≡ Some x → slice_get xs j ≡ Some y → key x < key y
-
--- in such a list each entry is found by its key
-pub found_ascending : {X : Type 0} (key : X → ℕ) (xs : List X) (k : ℕ) (x : X) → Ascends key xs → slice_get xs k ≡ Some x → find (λ y. eqb (key y) (key x)) xs ≡ Some x
-found_ascending key xs k x ascends here =
-    find_first (λ y. eqb (key y) (key x)) xs k x here (eq-eqb (key x) (key x) refl)
-    (λ j y low there. ne_eqb (key y) (key x) (λ e. let less = ascends j k y x low there here in omega (arith, less, e)))

@@ -1,5 +1,5 @@
 -- Members of lists by their places.
-use Rattle.std.proofs.Common.{◌≡◌, ℕ, zero, suc, ◌+◌, ◌<◌, ◌≤◌, Bool, true, false, cond, List, [], ◌∷◌, ◌++◌, length, map, Option, Some, None, refl, sym, ◌∙◌, ap, subst, inl, inr, arith}
+use Rattle.std.proofs.Common.{◌≡◌, ℕ, zero, suc, ◌+◌, ◌<◌, ◌≤◌, Bool, true, false, List, [], ◌∷◌, ◌++◌, length, map, Option, Some, None, refl, sym, ◌∙◌, ap, subst, inl, inr, arith}
 use Rattle.std.specs.Prelude.{◌⊎◌, slice_get, flat_map, filter_map, find}
 use Rattle.std.specs.List.{enumerate_from, cons_option, list_any, position_or_len}
 use Rattle.std.proofs.lemmas.Bool.{or_right, cases_lt}
@@ -75,12 +75,6 @@ member_flat_map f (z ∷ xs) zero j x y here there =
 member_flat_map f (z ∷ xs) (suc k) j x y here there =
     let m = member_flat_map f xs k j x y here there in (length (f z) + m.0, member_second (f z) (flat_map f xs) m.0 y m.1)
 
--- lists that agree at each place, through a filter
-pub filter_map-alike : {X Y Z : Type 0} (f : X → Option Z) (g : Y → Option Z) (h : X → Y) (xs : List X) → ((k : ℕ) (x : X) → slice_get xs k ≡ Some x → f x ≡ g (h x))
-    → filter_map f xs ≡ filter_map g (map h xs)
-filter_map-alike f g h [] same = refl
-filter_map-alike f g h (x ∷ xs) same = ap (λ o. cons_option o (filter_map f xs)) (same 0 x refl) ∙ ap (cons_option (g (h x))) (filter_map-alike f g h xs (λ k y e. same (suc k) y e))
-
 -- the same of the results
 pub filter_map-results : {X Y Z : Type 0} (f : X → Option Y) (g : X → Option Z) (h : Z → Y) (xs : List X) → ((k : ℕ) (x : X) → slice_get xs k ≡ Some x → f x ≡ option_map h (g x))
     → filter_map f xs ≡ map h (filter_map g xs)
@@ -126,14 +120,6 @@ pub member_map : {X Y : Type 0} (f : X → Y) (xs : List X) (k : ℕ) (x : X) �
 member_map f [] k x here = absurd (none-some x here)
 member_map f (y ∷ xs) zero x here = ap (λ z. Some (f z)) (same_Some y x here)
 member_map f (y ∷ xs) (suc k) x here = member_map f xs k x here
-
-pub find-map : {X Y : Type 0} (test : Y → Bool) (f : X → Y) (xs : List X) → find test (map f xs) ≡ option_map f (find (λ x. test (f x)) xs)
-find-map test f [] = refl
-find-map {X} test f (x ∷ xs) = by (test (f x)) (find-map test f xs)
-  where
-    by : (b : Bool) → find test (map f xs) ≡ option_map f (find (λ x. test (f x)) xs) → cond b (Some (f x)) (find test (map f xs)) ≡ option_map f (cond b (Some x) (find (λ y. test (f y)) xs))
-    by true rest = refl
-    by false rest = rest
 
 -- where a member of a mapped list comes from
 pub of_map : {X Y : Type 0} (f : X → Y) (xs : List X) (k : ℕ) (y : Y) → slice_get (map f xs) k ≡ Some y → (x : X) × (slice_get xs k ≡ Some x) × (f x ≡ y)

@@ -212,17 +212,6 @@ joined_append bytes size at (x ∷ xs) ys sized =
     ∙ sym (append_assoc front (bytes x ++ first) second)
     ∙ ap (λ p. (front ++ (bytes x ++ joined bytes p (laid behind size (at + size x) xs))) ++ second) (sym same)
 
--- the next part begins where this one ends
-pub laid_next : {X : Type 0} (size : X → ℕ) (at : ℕ) (xs : List X) (k : ℕ) (l m : Laid X)
-    → slice_get (laid behind size at xs) k ≡ Some l → slice_get (laid behind size at xs) (suc k) ≡ Some m → m.at ≡ l.at + size l.part
-laid_next size at [] k l m here there = absurd (none-some l here)
-laid_next size at (x ∷ []) k l m here there = absurd (none-some m there)
-laid_next {X} size at (x ∷ y ∷ xs) zero l m here there =
-    let first = same_Some _ l here in
-    let second = same_Some _ m there in
-    ap (λ (z : Laid X). z.at) (sym second) ∙ ap (λ (z : Laid X). z.at + size z.part) first
-laid_next size at (x ∷ y ∷ xs) (suc k) l m here there = laid_next size (at + size x) (y ∷ xs) k l m here there
-
 -- things that are laid behind one another, each of as many rows as its size
 pub length-laid_rows : {X Y : Type 0} (size : X → ℕ) (row : X → List Y) (at : ℕ) (xs : List X) → ((k : ℕ) (x : X) → slice_get xs k ≡ Some x → length (row x) ≡ size x)
     → at + length (flat_map (λ (l : Laid X). row l.part) (laid behind size at xs)) ≡ laid_end behind size at xs

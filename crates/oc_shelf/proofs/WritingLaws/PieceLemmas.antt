@@ -1,7 +1,7 @@
 -- Files of parts in order, cut behind any part.
-use Rattle.std.proofs.Common.{◌≡◌, ℕ, zero, suc, ◌+◌, ◌-◌, ◌<◌, ◌≤◌, List, [], ◌∷◌, ◌++◌, length, get_or, take, drop, map, replicate, refl, sym, ◌∙◌, ap, subst, arith, append_assoc, append-nil, length-append}
+use Rattle.std.proofs.Common.{◌≡◌, ℕ, zero, suc, ◌+◌, ◌-◌, ◌<◌, ◌≤◌, List, [], ◌∷◌, ◌++◌, length, take, drop, replicate, refl, sym, ◌∙◌, ap, arith, append_assoc, append-nil, length-append}
 use Rattle.std.proofs.lemmas.List.{length-replicate}
-use Rattle.oc_shelf.specs.Writing.Parts.{Laid, laid, joined, Pieces, file_of, piece_at, end_of, AreInOrder}
+use Rattle.oc_shelf.specs.Writing.Parts.{Laid, joined, Pieces, file_of, piece_at, end_of, AreInOrder}
 
 -- the bytes of parts from a place on
 abbrev pub bytes_from : ℕ → Pieces → List ℕ
@@ -101,25 +101,3 @@ cut_behind at (l ∷ parts) (suc k) order =
     ap (λ zs. gap ++ (l.part ++ zs)) (cut_behind (end_of l) parts k order.1 ∙ ap (λ p. front ++ bytes_from p (drop k parts)) e)
     ∙ ap (λ zs. gap ++ zs) (sym (append_assoc l.part front back))
     ∙ sym (append_assoc gap (l.part ++ front) back)
-
--- parts of any kind, as parts of bytes
-abbrev pub pieces_of : {X : Type 0} → (X → List ℕ) → List (Laid X) → Pieces
-pieces_of {X} bytes parts = map (λ (l : Laid X). record { at = l.at; part = bytes l.part }) parts
-
-pub joined-pieces : {X : Type 0} (bytes : X → List ℕ) (at : ℕ) (parts : List (Laid X)) → joined (λ x. x) at (pieces_of bytes parts) ≡ joined bytes at parts
-joined-pieces bytes at [] = refl
-joined-pieces bytes at (l ∷ parts) = ap (λ zs. replicate (l.at - at) 0 ++ (bytes l.part ++ zs)) (joined-pieces bytes (l.at + length (bytes l.part)) parts)
-
--- parts that were laid one behind another are in order
-pub laid_in_order : {X : Type 0} (begin : ℕ → X → ℕ) (size : X → ℕ) (bytes : X → List ℕ) (at : ℕ) (xs : List X) → ((p : ℕ) (x : X) → p ≤ begin p x) → ((x : X) → length (bytes x) ≡ size x)
-    → AreInOrder at (pieces_of bytes (laid begin size at xs))
-laid_in_order begin size bytes at [] rises sized = tt
-laid_in_order begin size bytes at (x ∷ xs) rises sized =
-    let e : begin at x + size x ≡ begin at x + length (bytes x) = let own = sized x in omega (arith, own) in
-    (rises at x, subst (λ (p : ℕ). AreInOrder p (pieces_of bytes (laid begin size (begin at x + size x) xs))) e (laid_in_order begin size bytes (begin at x + size x) xs rises sized))
-
--- where part k begins is place k
-pub piece_place : {X : Type 0} (bytes : X → List ℕ) (parts : List (Laid X)) (k : ℕ) → (piece_at (pieces_of bytes parts) k).at ≡ get_or (map (λ (l : Laid X). l.at) parts) k 0
-piece_place bytes [] k = refl
-piece_place bytes (l ∷ parts) zero = refl
-piece_place bytes (l ∷ parts) (suc k) = piece_place bytes parts k

@@ -62,15 +62,6 @@ stands_number file at k x s small =
     let e : at ≡ length s.front + 0 = omega (arith, s.place) in
     ap (λ zs. number_at zs at k) s.is ∙ number_at-shift s.front (bytes_of_number k x ++ s.back) at 0 k e ∙ number_at-bytes k x s.back small
 
--- what stands in a table of entries of any lengths, where its entry begins
-pub stands_entry : {X : Type 0} (entry : X → List ℕ) (xs : List X) (k : ℕ) (x : X) → slice_get xs k ≡ Some x
-    → Stands (flat_map entry xs) (length (flat_map entry (take k xs))) (entry x)
-stands_entry entry [] k x here = absurd (none-some x here)
-stands_entry entry (y ∷ xs) zero x here = subst (λ z. Stands (flat_map entry (y ∷ xs)) 0 (entry z)) (same_Some y x here) (stands_first (entry y) (flat_map entry xs))
-stands_entry entry (y ∷ xs) (suc k) x here =
-    stands_second (entry y) (flat_map entry xs) (entry x) (length (flat_map entry (take k xs))) (length (entry y ++ flat_map entry (take k xs)))
-    (stands_entry entry xs k x here) (length-append (entry y) (flat_map entry (take k xs)))
-
 -- in a table of entries of one length
 pub stands_row : {X : Type 0} (entry : X → List ℕ) (w : ℕ) (xs : List X) (k : ℕ) (x : X) → ((j : ℕ) (y : X) → slice_get xs j ≡ Some y → length (entry y) ≡ w)
     → slice_get xs k ≡ Some x → Stands (flat_map entry xs) (w * k) (entry x)

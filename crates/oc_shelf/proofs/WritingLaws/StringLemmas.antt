@@ -4,7 +4,6 @@ use Rattle.std.specs.Prelude.{slice_get, nat_eq, not, ◌||◌}
 use Rattle.std.specs.List.{list_any, filter}
 use Rattle.std.specs.Cmp.Lexicographic.{pointwise}
 use Rattle.std.specs.Option.{is_some, option_map, unwrap_or}
-use Rattle.std.proofs.lemmas.List.Folds.{list_any-append}
 use Rattle.std.proofs.lemmas.Bool.{true≢false, or_left, or_right, ne_eqb, eqb-false}
 use Rattle.std.proofs.lemmas.Option.{none-some, same_Some}
 use Rattle.oc_base.specs.Strings.{is_given, tops_of, place_from, table_text, table_place}
@@ -31,22 +30,11 @@ text_within-ended (c ∷ name) rest none =
     ap (λ b. cond b (Some []) (option_map (λ (text : List ℕ). c ∷ text) (text_within (name ++ 0 ∷ rest)))) here
     ∙ ap (option_map (λ (text : List ℕ). c ∷ text)) (text_within-ended name rest parts.1)
 
--- there is one
-pub has_nul-ended : (name rest : List ℕ) → has_nul (name ++ 0 ∷ rest) ≡ true
-has_nul-ended [] rest = refl
-has_nul-ended (c ∷ name) rest = or_right (eqb 0 c) (has_nul (name ++ 0 ∷ rest)) (has_nul-ended name rest)
-
 -- a name that is there is given
 pub member_given : (names : List (List ℕ)) (k : ℕ) (name : List ℕ) → slice_get names k ≡ Some name → is_given names name ≡ true
 member_given [] k name here = absurd (none-some name here)
 member_given (m ∷ names) zero name here = subst (λ x. is_given (m ∷ names) x ≡ true) (same_Some m name here) (or_left (pointwise nat_eq m m) (is_given names m) (name_itself m))
 member_given (m ∷ names) (suc k) name here = or_right (pointwise nat_eq name m) (is_given names name) (member_given names k name here)
-
-pub given_second : (xs ys : List (List ℕ)) (name : List ℕ) → is_given ys name ≡ true → is_given (xs ++ ys) name ≡ true
-given_second xs ys name g = list_any-append (pointwise nat_eq name) xs ys ∙ or_right (is_given xs name) (is_given ys name) g
-
-pub given_first : (xs ys : List (List ℕ)) (name : List ℕ) → is_given xs name ≡ true → is_given (xs ++ ys) name ≡ true
-given_first xs ys name g = list_any-append (pointwise nat_eq name) xs ys ∙ or_left (is_given xs name) (is_given ys name) g
 
 -- a name that is given and passes a test is among those that do
 pub given_filtered : (test : List ℕ → Bool) (names : List (List ℕ)) (k : ℕ) (name : List ℕ) → slice_get names k ≡ Some name → test name ≡ true → is_given (filter test names) name ≡ true

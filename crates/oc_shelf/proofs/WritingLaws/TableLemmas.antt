@@ -2,12 +2,6 @@
 use Rattle.std.proofs.Common.{◌≡◌, ℕ, zero, suc, ◌+◌, ◌*◌, ◌/◌, ◌<◌, ◌≤◌, List, [], ◌∷◌, ◌++◌, length, take, drop, refl, sym, ◌∙◌, ap, arith, append_assoc, append-nil, length-append}
 use Rattle.oc_shelf.specs.Writing.Parts.{table_of, row_of, HaveSize}
 
--- entry k has the size
-pub row_sized : (w : ℕ) (rows : List (List ℕ)) (k : ℕ) → HaveSize w rows → k < length rows → length (row_of rows k) ≡ w
-row_sized w [] k have low = absurd (omega (arith, low))
-row_sized w (row ∷ rows) zero have low = have.0
-row_sized w (row ∷ rows) (suc k) have low = row_sized w rows k have.1 (omega (arith, low))
-
 -- how long the first k entries are
 pub rows_long : (w : ℕ) (rows : List (List ℕ)) (k : ℕ) → HaveSize w rows → k ≤ length rows → length (table_of (take k rows)) ≡ w * k
 rows_long w rows zero have le = omega arith

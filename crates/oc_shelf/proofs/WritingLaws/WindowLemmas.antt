@@ -1,10 +1,9 @@
 -- A window of a file made of parts is made of the windows of its parts and of the zeros between them: the file need not be held.
-use Rattle.std.proofs.Common.{◌≡◌, ℕ, zero, suc, ◌+◌, ◌-◌, ◌≤◌, inl, inr, List, [], ◌∷◌, ◌++◌, length, take, drop, replicate, min, Some, refl, sym, ◌∙◌, ap, subst, arith, append-nil, append_assoc, length-append, length-take, length-drop}
-use Rattle.std.specs.Prelude.{slice_get, flat_map}
+use Rattle.std.proofs.Common.{◌≡◌, ℕ, zero, suc, ◌+◌, ◌-◌, ◌≤◌, inl, inr, List, [], ◌∷◌, ◌++◌, length, take, drop, replicate, min, refl, sym, ◌∙◌, ap, subst, arith, append-nil, append_assoc, length-append, length-take, length-drop}
 use Rattle.std.proofs.lemmas.Bool.{cases_lt}
-use Rattle.std.proofs.lemmas.List.{length-replicate, take_at, take_all, drop-drop, drop_at, drop_all}
+use Rattle.std.proofs.lemmas.List.{take_at, take_all, drop-drop, drop_at, drop_all}
 use borrow.Rule.Slice.PartMut.{mid_of, put_mid}
-use Rattle.oc_shelf.specs.Writing.Parts.{Laid, laid, behind, joined}
+use Rattle.oc_shelf.specs.Writing.Parts.{Laid, behind}
 use Rattle.oc_outside.specs.Windows.{IsFilled}
 
 -- the bytes of a file from one place to another, as far as it has them
@@ -29,93 +28,13 @@ drop_append n [] ys = let e : n - 0 ≡ n = omega arith in rw (e, drop_none n) r
 drop_append zero (x ∷ xs) ys = let e : 0 - length (x ∷ xs) ≡ 0 = omega arith in rw e refl
 drop_append (suc n) (x ∷ xs) ys = let e : suc n - length (x ∷ xs) ≡ n - length xs = omega arith in rw e (drop_append n xs ys)
 
--- a window of nothing
-pub window_none : (from to : ℕ) → window from to [] ≡ []
-window_none from to = ap (take (to - from)) (drop_none from) ∙ take_none (to - from)
-
--- a window of two pieces
-pub window_append : (from to : ℕ) (xs ys : List ℕ) → window from to (xs ++ ys) ≡ window from to xs ++ window (from - length xs) (to - length xs) ys
-window_append from to xs ys =
-    let long : length (drop from xs) ≡ length xs - from = length-drop from xs in
-    let left : (to - from) - length (drop from xs) ≡ (to - length xs) - (from - length xs) = omega (arith, long) in
-    ap (take (to - from)) (drop_append from xs ys)
-    ∙ take_append (to - from) (drop from xs) (drop (from - length xs) ys)
-    ∙ ap (λ n. window from to xs ++ take n (drop (from - length xs) ys)) left
-
 -- the windows of parts from a place on, with those of the zeros before each
 abbrev pub windows : {X : Type 0} → (X → ℕ) → (X → List ℕ) → ℕ → ℕ → ℕ → List (Laid X) → List ℕ
 windows size bytes from to at [] = []
 windows size bytes from to at (x ∷ xs) =
     window (from - at) (to - at) (replicate (x.at - at) 0) ++ (window (from - x.at) (to - x.at) (bytes x.part) ++ windows size bytes from to (x.at + size x.part) xs)
 
--- a window of parts, with the zeros between them
-pub window_laid : {X : Type 0} (begin : ℕ → X → ℕ) (size : X → ℕ) (bytes : X → List ℕ) (from to at : ℕ) (xs : List X) → ((p : ℕ) (x : X) → p ≤ begin p x)
-    → ((k : ℕ) (x : X) → slice_get xs k ≡ Some x → length (bytes x) ≡ size x)
-    → window (from - at) (to - at) (joined bytes at (laid begin size at xs)) ≡ windows size bytes from to at (laid begin size at xs)
-window_laid begin size bytes from to at [] rises sized = window_none (from - at) (to - at)
-window_laid {X} begin size bytes from to at (x ∷ xs) rises sized =
-    let start : ℕ = begin at x in
-    let gap : List ℕ = replicate (start - at) 0 in
-    let low : at ≤ start = rises at x in
-    let wide : length gap ≡ start - at = length-replicate {A = ℕ} (start - at) 0 in
-    let own : length (bytes x) ≡ size x = sized 0 x refl in
-    let next : start + length (bytes x) ≡ start + size x = omega (arith, own) in
-    let rest : List ℕ = joined bytes (start + size x) (laid begin size (start + size x) xs) in
-    let a : from - at - length gap ≡ from - start = omega (arith, low, wide) in
-    let b : to - at - length gap ≡ to - start = omega (arith, low, wide) in
-    let c : from - start - length (bytes x) ≡ from - (start + size x) = omega (arith, own) in
-    let d : to - start - length (bytes x) ≡ to - (start + size x) = omega (arith, own) in
-    let first : List ℕ = window (from - at) (to - at) gap in
-    let second : List ℕ = window (from - start) (to - start) (bytes x) in
-    ap (λ p. window (from - at) (to - at) (gap ++ (bytes x ++ joined bytes p (laid begin size (start + size x) xs)))) next
-    ∙ window_append (from - at) (to - at) gap (bytes x ++ rest)
-    ∙ ap (λ p. first ++ window p (to - at - length gap) (bytes x ++ rest)) a
-    ∙ ap (λ p. first ++ window (from - start) p (bytes x ++ rest)) b
-    ∙ ap (λ zs. first ++ zs) (window_append (from - start) (to - start) (bytes x) rest)
-    ∙ ap (λ p. first ++ (second ++ window p (to - start - length (bytes x)) rest)) c
-    ∙ ap (λ p. first ++ (second ++ window (from - (start + size x)) p rest)) d
-    ∙ ap (λ zs. first ++ (second ++ zs)) (window_laid begin size bytes from to (start + size x) xs rises (λ k y h. sized (suc k) y h))
-
--- a window of parts that stand behind one another
-pub window_parts : {X : Type 0} (size : X → ℕ) (bytes : X → List ℕ) (from to at : ℕ) (xs : List X) → ((k : ℕ) (x : X) → slice_get xs k ≡ Some x → length (bytes x) ≡ size x)
-    → window (from - at) (to - at) (joined bytes at (laid behind size at xs)) ≡ flat_map (λ (l : Laid X). window (from - l.at) (to - l.at) (bytes l.part)) (laid behind size at xs)
-window_parts size bytes from to at xs sized = window_laid behind size bytes from to at xs (λ p x. omega arith) sized ∙ without at xs
-  where
-    without : (at : ℕ) (ys : List _) → windows size bytes from to at (laid behind size at ys) ≡ flat_map (λ (l : Laid _). window (from - l.at) (to - l.at) (bytes l.part)) (laid behind size at ys)
-    without at [] = refl
-    without at (y ∷ ys) =
-        let none : at - at ≡ 0 = omega arith in
-        ap (λ n. window (from - at) (to - at) (replicate n 0) ++ (window (from - at) (to - at) (bytes y) ++ windows size bytes from to (at + size y) (laid behind size (at + size y) ys))) none
-        ∙ ap (λ zs. zs ++ (window (from - at) (to - at) (bytes y) ++ windows size bytes from to (at + size y) (laid behind size (at + size y) ys))) (window_none (from - at) (to - at))
-        ∙ ap (λ zs. window (from - at) (to - at) (bytes y) ++ zs) (without (at + size y) ys)
-
 -- ... buffers that are filled part by part
-
--- what is filled is a window, and the buffer stays as long
-pub filled_window : (file old new : List ℕ) (from n : ℕ) → IsFilled file from old new n → take n new ≡ window from (from + length old) file
-filled_window file old new from n is =
-    let count = is.count in
-    let own : length (take n (drop from file)) ≡ n = length-take n (drop from file) ∙ omega (arith, length-drop from file, count) in
-    let wide : from + length old - from ≡ length old = omega arith in
-    ap (take n) is.bytes ∙ take_at (take n (drop from file)) (drop n old) n own
-    ∙ front n (length old) (drop from file) (length-drop from file) count
-    ∙ ap (λ m. take m (drop from file)) (sym wide)
-  where
-    front : (n m : ℕ) (xs : List ℕ) {k : ℕ} → length xs ≡ k → n ≡ min m k → take n xs ≡ take m xs
-    front n m xs {k} long e = elim (cases_lt m k) [
-      | inl less ↦ let same : n ≡ m = omega (arith, e, less) in ap (λ i. take i xs) same
-      | inr le ↦ take_all n xs (omega (arith, long, e, le)) ∙ sym (take_all m xs (omega (arith, long, le)))
-    ]
-
--- a buffer no longer than what is left of the file is filled whole
-pub filled_whole : (file old new : List ℕ) (from n : ℕ) → IsFilled file from old new n → from + length old ≤ length file → new ≡ take (length old) (drop from file)
-filled_whole file old new from n is inside =
-    let count = is.count in
-    let all : n ≡ length old = omega (arith, count, inside) in
-    is.bytes
-    ∙ ap (λ zs. take n (drop from file) ++ zs) (drop_all n old (omega (arith, all)))
-    ∙ append-nil (take n (drop from file))
-    ∙ ap (λ k. take k (drop from file)) all
 
 pub filled_long : (file old new : List ℕ) (from n : ℕ) → IsFilled file from old new n → length new ≡ length old
 filled_long file old new from n is =
