@@ -1,17 +1,20 @@
-//! Runs the command over files and a console in memory: with a device call that fails, with an input
-//! that is cut to each of its lengths, and with inputs whose numbers lie.
+//! Runs the command over files and a console in memory: with each option, with a device call that
+//! fails, with an input that is cut to each of its lengths, and with inputs whose numbers lie.
 //!
 //! A line for each run tells the status, the text on standard error, and what OUT holds. What must be
-//! printed comes from the command's description and from an independent model of the conversion.
+//! printed comes from the command's description, the outputs from an independent model of the
+//! conversion and, for the options, from the layouts of canonical files (`data/layouts.py`).
 #![tactic(auto)]
 
 mod data;
 mod elf32;
 mod hostile;
+mod options;
 mod runs;
 
 use crate::data::bytes_of;
 use crate::hostile::{aliases, functions, long_names, many_relocations};
+use crate::options::options;
 use crate::runs::{Call, Outcome, Run, words_of};
 use anyhow::Result;
 use std::alloc::Global;
@@ -124,6 +127,7 @@ fn hostile_inputs(rt: &HostRuntime, alloc: Global) -> Result<()> {
 
 fn main(rt: HostRuntime) -> Result<()> {
     let alloc = rt.alloc();
+    options(&rt, alloc)?;
     failing_calls(&rt, alloc)?;
     refused_inputs(&rt, alloc)?;
     cut_inputs(&rt, alloc)?;
