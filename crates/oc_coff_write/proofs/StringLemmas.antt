@@ -1,7 +1,7 @@
 -- The names that are given for lines are those that are given for the object.
 use Rattle.std.proofs.Common.{◌≡◌, ℕ, ◌+◌, ◌≤◌, Bool, true, false, cond, List, [], ◌∷◌, ◌++◌, length, map, refl, sym, ◌∙◌, ap, append_assoc, arith}
 use Rattle.std.specs.Prelude.{filter, flat_map, codes, nat_lt}
-use Rattle.std.specs.List.{enumerate_from}
+use Rattle.std.specs.List.{enumerate_from, range_with_len}
 use Rattle.std.proofs.lemmas.List.{length-append}
 use Rattle.std.proofs.lemmas.List.Elements.{filter-append}
 use Rattle.oc_base.specs.declared.format.Word.{Word}
@@ -15,11 +15,11 @@ use Rattle.oc_neutral.specs.Families.{same_format}
 use Rattle.oc_neutral.specs.HomeNames.{output_names, names_across}
 use Rattle.oc_neutral.specs.KeySymbols.{is_key_at}
 use Rattle.oc_neutral.specs.SymbolLines.{needs_default, is_weak_with}
-use Rattle.oc_neutral.specs.Coff.Strings.{is_long, is_tabled, has_default, default_name, defaults_of, names_where, section_strings, coff_strings}
+use Rattle.oc_neutral.specs.Coff.Strings.{is_long, is_tabled, has_default, default_name, defaults_of, names_where, key_strings, coff_strings}
 use Rattle.oc_neutral.specs.CoffMeets.{strings_of}
 use Rattle.oc_coff_read.specs.Fields.{coff_format}
 use Rattle.oc_coff_read.specs.Lines.{Line, LocalLine, DefaultLine, OuterLine, lines_where, section_lines, is_written_local, is_free, lines_of}
-use Rattle.oc_coff_write.specs.Strings.{line_strings}
+use Rattle.oc_coff_write.specs.Strings.{line_strings, table_names}
 
 flat_append : {X Y : Type 0} (f : X → List Y) (xs ys : List X) → flat_map f (xs ++ ys) ≡ flat_map f xs ++ flat_map f ys
 flat_append f [] ys = refl
@@ -47,13 +47,13 @@ named_lines line test same n = by 0 n.symbols
     by i [] = refl
     by i (x ∷ xs) = step i x (test x) _ _ (by (i + 1) xs)
 
--- the names that are given for sections
-section_names : (n : Object) (i : ℕ) (xs : List Section) → flat_map line_strings (flat_map (section_lines n) (enumerate_from i xs)) ≡ flat_map (section_strings n) (enumerate_from i (map (λ (s : Section). s.name) xs))
+-- the names that are given for the lines of sections are those of key symbols
+section_names : (n : Object) (i : ℕ) (xs : List Section) → flat_map line_strings (flat_map (section_lines n) (enumerate_from i xs)) ≡ flat_map (key_strings n) (range_with_len i (length xs))
 section_names n i [] = refl
 section_names n i (x ∷ xs) =
     flat_append line_strings (section_lines n (i, x)) (flat_map (section_lines n) (enumerate_from (i + 1) xs))
-    ∙ ap (λ zs. (filter is_tabled (x.name ∷ []) ++ zs) ++ flat_map line_strings (flat_map (section_lines n) (enumerate_from (i + 1) xs))) (named_lines OuterLine (is_key_at n i) (λ k s. refl) n)
-    ∙ ap (λ zs. section_strings n (i, x.name) ++ zs) (section_names n (i + 1) xs)
+    ∙ ap (λ zs. zs ++ flat_map line_strings (flat_map (section_lines n) (enumerate_from (i + 1) xs))) (named_lines OuterLine (is_key_at n i) (λ k s. refl) n)
+    ∙ ap (λ zs. key_strings n i ++ zs) (section_names n (i + 1) xs)
 
 -- a name of a symbol for a fallback is long
 default_long : (name : List ℕ) → is_long (default_name name) ≡ true
@@ -101,13 +101,15 @@ own_names w n format = ap (λ f. cond (same_format (coff_format w) f) (map (λ (
     by W32 = refl
     by W64 = refl
 
--- the names that are given for all lines
-pub all_given_names : (w : Word) (n : Object) → n.format ≡ coff_format w → flat_map line_strings (lines_of w n) ≡ strings_of (coff_format w) n
+-- the names that are given for section headers and all lines
+pub all_given_names : (w : Word) (n : Object) → n.format ≡ coff_format w → table_names w n ≡ strings_of (coff_format w) n
 unfolding lines_of coff_strings
 all_given_names w n format =
+    ap (λ zs. filter is_tabled zs ++ flat_map line_strings (sections ++ (locals ++ (defaults ++ free)))) (sym (own_names w n format))
+    ∙ ap (λ zs. filter is_tabled (output_names (coff_format w) n) ++ zs) (
     flat_append line_strings sections (locals ++ (defaults ++ free))
-    ∙ ap (λ zs. zs ++ flat_map line_strings (locals ++ (defaults ++ free))) (section_names n 0 n.sections ∙ ap (λ names. flat_map (section_strings n) (enumerate_from 0 names)) (sym (own_names w n format)))
-    ∙ ap (λ zs. flat_map (section_strings n) (enumerate_from 0 (output_names (coff_format w) n)) ++ zs) (
+    ∙ ap (λ zs. zs ++ flat_map line_strings (locals ++ (defaults ++ free))) (section_names n 0 n.sections)
+    ∙ ap (λ zs. flat_map (key_strings n) (range_with_len 0 (length n.sections)) ++ zs) (
     flat_append line_strings locals (defaults ++ free)
     ∙ ap (λ zs. zs ++ flat_map line_strings (defaults ++ free)) (named_lines LocalLine (is_written_local w) (λ k s. refl) n)
     ∙ ap (λ zs. filter is_long (names_where (is_written_local w) n) ++ zs) (
@@ -116,7 +118,7 @@ all_given_names w n format =
     ∙ ap (λ zs. filter is_long (flat_map (λ (s : Symbol). defaults_of s.name s.binding) n.symbols) ++ zs) (named_lines OuterLine (is_free n) (λ k s. refl) n)
     ∙ sym (filter-append is_long (flat_map (λ (s : Symbol). defaults_of s.name s.binding) n.symbols) (names_where (is_free n) n)))
     ∙ sym (filter-append is_long (names_where (is_written_local w) n) (flat_map (λ (s : Symbol). defaults_of s.name s.binding) n.symbols ++ names_where (is_free n) n))
-    ∙ ap (filter is_long) (sym (append_assoc (names_where (is_written_local w) n) (flat_map (λ (s : Symbol). defaults_of s.name s.binding) n.symbols) (names_where (is_free n) n))))
+    ∙ ap (filter is_long) (sym (append_assoc (names_where (is_written_local w) n) (flat_map (λ (s : Symbol). defaults_of s.name s.binding) n.symbols) (names_where (is_free n) n)))))
   where
     sections : List Line
     sections = flat_map (section_lines n) (enumerate_from 0 n.sections)

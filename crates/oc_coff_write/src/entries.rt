@@ -25,7 +25,7 @@ use crate::counts::header_count;
 use crate::lines::Line;
 use crate::names::{default_name, symbol_field};
 use crate::numbers::Numbers;
-use crate::strings::is_given;
+use crate::passed::Passed;
 use crate::structures::{pack_section_aux, pack_symbol, pack_weak_aux};
 use crate::values;
 use oc_base::NoMemory;
@@ -316,11 +316,13 @@ pub(crate) fn entries_of(
     ensures rows { IfOk result (λ entries. map entry_bytes entries.items ≡ canonical.entry_rows (word_for neutral.now.format) neutral.now) }
     ensures count { IfOk result (λ entries. length entries.items ≡ coff_lines.entry_count (word_for neutral.now.format) neutral.now) }
 {
+    neutral.is_object();
     let mut entries = Vec::with_capacity(alloc, made.numbers.count() as usize)?;
-    let mut near = 0;
+    let mut passed = Passed::none(neutral.sections());
     for line in lines {
+        let near = passed.near(*line);
         add_line(alloc, &mut entries, neutral, made, near, *line)?;
-        near += usize::from(is_given(neutral, *line));
+        passed = passed.after(neutral, *line);
     }
     Ok(entries)
 }

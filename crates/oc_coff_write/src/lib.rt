@@ -13,6 +13,7 @@ mod layout;
 mod lines;
 mod names;
 mod numbers;
+mod passed;
 mod plan;
 mod planning;
 mod raw;

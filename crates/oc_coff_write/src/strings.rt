@@ -1,18 +1,20 @@
 //! The string table (PE/COFF, "COFF String Table"; our profile).
-ghost use Rattle.std.specs.Prelude.{◌≡◌, ◌++◌, [], ◌∷◌, if◌then◌else◌, flat_map, Some, IsSome, IfOk, OnOk};
+ghost use Rattle.std.specs.Prelude.{◌≡◌, ◌++◌, [], ◌∷◌, if◌then◌else◌, filter, map, Some, IsSome, IfOk, OnOk};
 ghost use Rattle.oc_base.specs.Formats.{word_for};
+ghost use Rattle.oc_neutral.specs.Coff.Strings as strings;
+ghost use Rattle.oc_neutral.specs.declared.section.Section.{Section as Held};
 ghost use Rattle.oc_neutral.specs.Families.{container_of};
 ghost use Rattle.oc_neutral.specs.Family.{IsCoff};
 ghost use Rattle.oc_neutral.specs.Fitted.{IsFitted};
 ghost use Rattle.oc_coff_read.specs.Lines as coff_lines;
 ghost use Rattle.oc_coff_write.specs.Lines.{line_in, AreLines};
-ghost use Rattle.oc_coff_write.specs.Strings.{line_strings, table_for};
+ghost use Rattle.oc_coff_write.specs.Strings.{line_strings, table_for, table_names};
 
 use crate::lines::Line;
 use crate::names::{default_name, is_long, is_tabled};
 use oc_base::{Bytes, NoMemory};
 use oc_coff_read::STRINGS_HEAD;
-use oc_neutral::Neutral;
+use oc_neutral::{Neutral, Section};
 use oc_strings::Table;
 use std::alloc::Global;
 
@@ -26,18 +28,19 @@ fn give(alloc: Global, given: &mut Vec<Bytes>, name: &[u8], wanted: bool) -> Res
     Ok(())
 }
 
-/// Whether the name of a line stands in the string table. Constant time.
+/// Whether the name of a line is given to the string table after those of the section headers. Constant
+/// time.
 pub(crate) fn is_given(neutral: &Neutral, line: Line) -> bool
     requires { IsSome (line_in neutral.now line) }
 {
     match line {
-        Line::Section(k) => is_tabled(neutral.section(k).name.as_slice()),
+        Line::Section(_) => false,
         Line::Local(k) | Line::Outer(k) => is_long(neutral.symbol(k).name.as_slice()),
         Line::Default(_) => true,
     }
 }
 
-// gives the name of a line, where it stands in the table
+// gives the name of a line that is not a section's, where it stands in the table
 fn give_line(
     alloc: Global,
     given: &mut Vec<Bytes>,
@@ -48,10 +51,7 @@ fn give_line(
     ensures { OnOk result ((is : coff_lines.Line) → line_in neutral.now line ≡ Some is → given.new.items ≡ given.old.items ++ line_strings is) }
 {
     match line {
-        Line::Section(k) => {
-            let name = neutral.section(k).name.as_slice();
-            give(alloc, given, name, is_tabled(name))
-        }
+        Line::Section(_) => Ok(()),
         Line::Local(k) | Line::Outer(k) => {
             let name = neutral.symbol(k).name.as_slice();
             give(alloc, given, name, is_long(name))
@@ -63,12 +63,28 @@ fn give_line(
     }
 }
 
-// the names that are given for these lines
+// gives the names of the sections that stand in the table
+fn give_sections(
+    alloc: Global,
+    given: &mut Vec<Bytes>,
+    sections: &[Section],
+) -> Result<(), NoMemory>
+    ensures { OnOk result (given.new.items ≡ given.old.items ++ filter strings.is_tabled (map (λ (s : Held). s.name) sections.now)) }
+{
+    for section in sections {
+        let name = section.name.as_slice();
+        give(alloc, given, name, is_tabled(name))?;
+    }
+    Ok(())
+}
+
+// the names that are given for the section headers and these lines
 fn given_names(alloc: Global, neutral: &Neutral, lines: &[Line]) -> Result<Vec<Bytes>, NoMemory>
     requires { AreLines (word_for neutral.now.format) neutral.now lines.now }
-    ensures { IfOk result (λ given. given.items ≡ flat_map line_strings (coff_lines.lines_of (word_for neutral.now.format) neutral.now)) }
+    ensures { IfOk result (λ given. given.items ≡ table_names (word_for neutral.now.format) neutral.now) }
 {
     let mut given = Vec::new(alloc);
+    give_sections(alloc, &mut given, neutral.sections())?;
     for line in lines {
         give_line(alloc, &mut given, neutral, *line)?;
     }

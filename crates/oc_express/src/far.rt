@@ -55,7 +55,6 @@ fn far_in_table(
     neutral: &Neutral,
     names: &[Bytes],
 ) -> Result<Vec<bool>, NoMemory>
-    requires { length names.now ≡ length neutral.now.sections }
     ensures { IfOk result (λ far. (i : ℕ) → slice_index_or far.items i false ≡ lies_far_in (family_of target).writes_local names.now neutral.now (get_or names.now i [])) }
 {
     let defaults = default_names(alloc, neutral)?;

@@ -28,18 +28,14 @@ loop-line-preserved c =
     let k = c.loop-line.line-index in
     let x = line_listed w n c.args.lines.now k _ c.requires.lines (slice_get-get_or c.args.lines.now k (line.Section 0) c.loop-line-test.true) in
     record {
-      near = omega (arith, c.loop-line.invariant.near, bit_small _ _ c.from-near.ensures);
+      near = (omega (arith, c.loop-line.invariant.near.0, c.after-passed.ensures.sections), omega (arith, c.loop-line.invariant.near.1, c.after-passed.ensures.names));
       rows =
           more_given (map entry_bytes c.loop-line.entries.items) (map entry_bytes c.add_line.new.entries.items) _ _ (line_rows w n x.0) _
           (c.in_ok-add_line.ensures x.0 x.2) (flat_step (line_rows w n) (lines_of w n) k x.0 x.1) c.loop-line.invariant.rows;
     }
-  where
-    bit_small : (b : Bool) (n : ℕ) → n ≡ bool_byte b → n ≤ 1
-    bit_small true n e = omega (arith, e)
-    bit_small false n e = omega (arith, e)
 
-pub is_given-requires : goal.is_given-requires
-is_given-requires c =
+pub after-passed-requires-clause-line : goal.after-passed-requires-clause-line
+after-passed-requires-clause-line c =
     let k = c.loop-line.line-index in
     let x = line_listed (word_for c.args.neutral.now.format) c.args.neutral.now c.args.lines.now k _ c.requires.lines (slice_get-get_or c.args.lines.now k (line.Section 0) c.loop-line-test.true) in
     ap is_some x.2

@@ -1,4 +1,4 @@
-use Rattle.std.proofs.Common.{◌≡◌, ◌≤◌, ◌++◌, map}
+use Rattle.std.proofs.Common.{◌≡◌, ◌+◌, ◌≤◌, ◌++◌, length, map}
 use Rattle.std.specs.Prelude.{drop, flat_map}
 use Rattle.oc_base.specs.Formats.{word_for}
 use Rattle.oc_coff_read.specs.Lines.{lines_of}
@@ -6,10 +6,10 @@ use Rattle.oc_coff_read.specs.Canonical.{line_rows}
 use Rattle.oc_coff_write.specs.Entries.{entry_bytes}
 use Rattle.oc_coff_write.proofs.entries.entries_of.Given as goal
 
--- the entries so far, and those that are left; no more names were given
+-- the entries so far, and those that are left; no more names were passed than lines
 abbrev pub invariant-loop-line : goal.invariant-loop-line
 invariant-loop-line l = record {
-  near : l.near ≤ l.line-index;
+  near : (l.passed.sections ≤ l.line-index) × (l.passed.names ≤ length l.neutral.sections + l.line-index);
   rows : map entry_bytes l.entries.items ++ flat_map (line_rows (word_for l.neutral.format) l.neutral) (drop l.line-index (lines_of (word_for l.neutral.format) l.neutral))
       ≡ flat_map (line_rows (word_for l.neutral.format) l.neutral) (lines_of (word_for l.neutral.format) l.neutral);
 }
