@@ -4,9 +4,8 @@ ghost use Rattle.oc_neutral.specs.Constants.{LieWithin};
 ghost use Rattle.oc_elf_write.specs.Raws.{with_addends};
 
 use crate::forms::field_number;
-use oc_chains::Chains;
 use oc_elf_read::ElfClass;
-use oc_neutral::{Reloc, Section};
+use oc_neutral::{Reloc, Relocs, Section};
 use oc_plans::{FieldNumbers, with_numbers};
 
 /// The addends of relocations, which the fields of ELF32 hold.
@@ -29,7 +28,7 @@ impl FieldNumbers for Addends {
 /// Linear in the sections and relocations, no memory.
 pub(crate) fn with_addends(
     class: ElfClass,
-    relocs: &Chains<Reloc>,
+    relocs: &Relocs,
     sections: Vec<Section>,
 ) -> Vec<Section>
     requires { LieWithin sections.items relocs.now.lists }

@@ -7,7 +7,7 @@ use crate::calls::calls_of;
 use crate::code::text_section;
 use crate::symbols::symbols_of;
 use oc_base::{Format, NoMemory, Word};
-use oc_neutral::Neutral;
+use oc_neutral::{Neutral, Relocs};
 use std::alloc::Global;
 
 // ELF for a word
@@ -35,5 +35,5 @@ pub fn made(alloc: Global, count: u32, word: Word) -> Result<Neutral, NoMemory>
     sections.push(text_section(alloc, count)?)?;
     let symbols = symbols_of(alloc, count)?;
     let calls = calls_of(alloc, word, count)?;
-    Ok(Neutral::new(elf_format(word), Vec::new(alloc), sections, symbols, calls))
+    Ok(Neutral::new(elf_format(word), Vec::new(alloc), sections, symbols, Relocs::of(calls)))
 }

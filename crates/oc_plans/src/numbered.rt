@@ -8,8 +8,8 @@ ghost use Rattle.oc_neutral.specs.declared.reloc.Reloc.{Reloc as Entry};
 ghost use Rattle.oc_plans.specs.Numbered as numbered;
 ghost use Rattle.oc_plans.specs.Numbered.{AreAll, Numbering, all_with_numbers};
 
-use oc_chains::{Chains, Walk};
-use oc_neutral::{Reloc, Section};
+use oc_chains::Walk;
+use oc_neutral::{Reloc, Relocs, Section};
 
 /// What tells the numbers in the fields of relocations.
 pub trait FieldNumbers {
@@ -46,7 +46,7 @@ fn write_numbers<N: FieldNumbers>(
 }
 
 // writes the numbers of relocations into their fields in the bytes of the sections
-fn write_all<N: FieldNumbers>(numbers: &N, relocs: &Chains<Reloc>, sections: &mut [Section])
+fn write_all<N: FieldNumbers>(numbers: &N, relocs: &Relocs, sections: &mut [Section])
     requires there { (k : ℕ) → k < length relocs.now.lists → AreAll (N.leads numbers.now k) (list_of relocs.now.lists k) }
     requires within { LieWithin sections.old relocs.now.lists }
     ensures long { length sections.new ≡ length sections.old }
@@ -61,7 +61,7 @@ fn write_all<N: FieldNumbers>(numbers: &N, relocs: &Chains<Reloc>, sections: &mu
 /// relocations, no memory.
 pub fn with_numbers<N: FieldNumbers>(
     numbers: &N,
-    relocs: &Chains<Reloc>,
+    relocs: &Relocs,
     mut sections: Vec<Section>,
 ) -> Vec<Section>
     requires there { (k : ℕ) → k < length relocs.now.lists → AreAll (N.leads numbers.now k) (list_of relocs.now.lists k) }
