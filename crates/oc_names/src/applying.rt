@@ -2,17 +2,16 @@
 ghost use Rattle.std.specs.Prelude.{◌≡◌, ◌^◌, ◌<◌, ◌≤◌, Ok, IfErr, IfOk, length};
 ghost use Rattle.oc_names.specs.Edited.{edited};
 ghost use Rattle.oc_names.specs.Naming as naming;
-ghost use Rattle.oc_names.specs.Refusals.{IsStepRefusal};
+ghost use Rattle.oc_drop.specs.Refusals.{IsStepRefusal};
 
 use crate::checks::{keys_are_bytes, names_are_bytes};
-use crate::drop_step::dropped;
 use crate::edit::Edit;
 use crate::edits::Edits;
-use crate::fault::EditFault;
 use crate::keep::keep_for;
 use crate::name_step::named_parts;
 use crate::rebind_step::rebound;
 use oc_base::Format;
+use oc_drop::{EditFault, dropped};
 use oc_neutral::Neutral;
 use std::alloc::Global;
 
@@ -24,6 +23,9 @@ fn named(alloc: Global, edits: &[Edit], to: Format, neutral: Neutral) -> Result<
     ensures refused { IfErr result (IsStepRefusal (naming.named_object edits.now to neutral)) }
 {
     neutral.is_object();
+    if edits.is_empty() && neutral.symbol_count() <= 16_777_216 {
+        return Ok(neutral);
+    }
     let from = neutral.format();
     let (groups, sections, symbols, relocs) = neutral.into_parts();
     let (groups, symbols) = named_parts(

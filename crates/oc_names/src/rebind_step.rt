@@ -1,16 +1,16 @@
 //! The second step: symbols become Weak or Local, and what rests on them is settled.
 ghost use Rattle.std.specs.Prelude.{◌≡◌, Ok, IfErr, IfOk};
-ghost use Rattle.oc_names.specs.Steps.{then_by};
-ghost use Rattle.oc_names.specs.Refusals.{IsStepRefusal};
+ghost use Rattle.oc_drop.specs.Steps.{then_by};
+ghost use Rattle.oc_drop.specs.Refusals.{IsStepRefusal};
 ghost use Rattle.oc_names.specs.Rebinding as rebinding;
 
 use crate::edit::Edit;
 use crate::fallbacks::after_fallbacks;
-use crate::fault::EditFault;
 use crate::places::edit_places;
 use crate::rebinding::after_words;
 use crate::reloc_step::relocs_left;
 use oc_base::word_of;
+use oc_drop::EditFault;
 use oc_neutral::{Neutral, Symbol};
 use std::alloc::Global;
 
@@ -42,6 +42,9 @@ pub(crate) fn rebound(alloc: Global, edits: &[Edit], neutral: Neutral) -> Result
     ensures refused { IfErr result (IsStepRefusal (rebinding.rebound_object edits.now neutral)) }
 {
     neutral.is_object();
+    if edits.is_empty() {
+        return Ok(neutral);
+    }
     let format = neutral.format();
     let (groups, mut sections, symbols, relocs) = neutral.into_parts();
     let symbols = symbols_after(alloc, edits, symbols)?;

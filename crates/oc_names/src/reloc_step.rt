@@ -5,16 +5,16 @@ ghost use Rattle.std.specs.List.{AllByRecursion, filter_map, fold};
 ghost use Rattle.oc_linking.specs.Fits.{bytes_of};
 ghost use Rattle.oc_chains.specs.declared.field.Field.{Field as FieldOf};
 ghost use Rattle.oc_neutral.specs.Objects.{Object};
-ghost use Rattle.oc_names.specs.Steps.{first_field, first_in};
-ghost use Rattle.oc_names.specs.Refusals.{IsRefusal};
+ghost use Rattle.oc_drop.specs.Steps.{first_field, first_in};
+ghost use Rattle.oc_drop.specs.Refusals.{IsRefusal};
 ghost use Rattle.oc_names.specs.Rebinding as rebinding;
 
-use crate::fault::{EditFault, edit_fault};
 use crate::lists::add_list;
 use oc_algebra::fold_difference;
 use oc_base::{Code, NoMemory, Word};
 use oc_chains::{Chains, Field, Walk};
-use oc_neutral::{Normal, Reloc, Section, Symbol, normalize};
+use oc_drop::{EditFault, edit_fault};
+use oc_neutral::{Normal, Reloc, Relocs, Section, Symbol, normalize};
 use std::alloc::Global;
 
 // stores a constant in a field; refused where it does not fit
@@ -108,8 +108,8 @@ pub(crate) fn relocs_left(
     word: Word,
     symbols: &[Symbol],
     sections: &mut [Section],
-    relocs: &Chains<Reloc>,
-) -> Result<Chains<Reloc>, EditFault>
+    relocs: &Relocs,
+) -> Result<Relocs, EditFault>
     requires fields { rebinding.AreStorable sections.old relocs.now.lists }
     ensures relocs { IfOk result (λ left. left.lists ≡ rebinding.lists_left word symbols.now relocs.now.lists) }
     ensures sections { OnOk result (sections.new ≡ rebinding.sections_left word symbols.now relocs.now.lists sections.old) }
@@ -122,5 +122,5 @@ pub(crate) fn relocs_left(
         let fields = fields_left(alloc, word, symbols, at, section, relocs.walk(at))?;
         add_list(&mut out, fields.as_slice())?;
     }
-    Ok(out)
+    Ok(Relocs::of(out))
 }

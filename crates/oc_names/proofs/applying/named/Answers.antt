@@ -1,4 +1,8 @@
-use Rattle.std.proofs.Common.{◌≡◌, List, None, sym, ◌∙◌, ap, subst}
+use Rattle.std.proofs.Common.{[], Ok, length, arith, ◌≤◌, ◌^◌, ◌≡◌, List, None, sym, ◌∙◌, ap, subst}
+use Rattle.std.proofs.lemmas.Bool.Decides.{nat_tests}
+use Rattle.oc_names.specs.declared.edit.Edit.{Edit}
+use Rattle.oc_names.specs.Naming.{named_object, all_named, groups_named, parts_fault}
+use Rattle.oc_names.proofs.Unedited.{named_object_same, no_items}
 use Rattle.std.specs.List.{AllByRecursion}
 use Rattle.oc_base.specs.declared.format.Format.{Format}
 use Rattle.oc_neutral.specs.declared.group.Group.{Group}
@@ -6,7 +10,6 @@ use Rattle.oc_neutral.specs.declared.section.Section.{Section}
 use Rattle.oc_neutral.specs.declared.symbol.Symbol.{Symbol}
 use Rattle.oc_neutral.specs.Objects.{Object}
 use Rattle.oc_neutral.specs.Invariants.{AreBytes, IsObject}
-use Rattle.oc_names.specs.Naming.{all_named, groups_named, parts_fault}
 use Rattle.oc_names.proofs.FieldBounds.{parts_same}
 use Rattle.oc_names.proofs.NamedObject.{named_is_object}
 use Rattle.oc_names.proofs.applying.named.Goals as goal
@@ -39,3 +42,10 @@ new-requires c =
     (sym (parts_same c.format-from.result n.format c.in_ok-groups.groups.items keys c.into_parts-groups.result.1.items n.sections c.in_ok-groups.symbols.items all c.into_parts-groups.result.3.lists n.relocs
     c.format-from.ensures groups c.into_parts-groups.ensures.sections symbols c.into_parts-groups.ensures.relocs))
     (named_is_object c.args.edits.now c.args.to n c.is_object.ensures clean names bytes)
+
+pub returns-then-symbol_count-le16777216-clause-ok : goal.returns-then-symbol_count-le16777216-clause-ok
+returns-then-symbol_count-le16777216-clause-ok c =
+    let empty : length c.args.edits.now ≡ 0 = grind (arith, nat_tests, c.is_empty.ensures, c.if-is_empty.true) in
+    let none : c.args.edits.now ≡ [] = no_items c.args.edits.now empty in
+    let few : length c.args.neutral.symbols ≤ 2 ^ 24 = omega (arith, c.symbol_count.ensures, c.if-symbol_count-le16777216.true) in
+    subst (λ (es : List Edit). named_object es c.args.to c.args.neutral ≡ Ok c.args.neutral) (sym none) (named_object_same c.args.neutral c.is_object.ensures c.args.to few)

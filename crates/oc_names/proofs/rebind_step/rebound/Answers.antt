@@ -1,4 +1,8 @@
-use Rattle.std.proofs.Common.{◌≡◌, List, length, refl, sym, ◌∙◌, ap, subst}
+use Rattle.std.proofs.Common.{[], Ok, arith, ◌≡◌, List, length, refl, sym, ◌∙◌, ap, subst}
+use Rattle.std.proofs.lemmas.Bool.Decides.{nat_tests}
+use Rattle.oc_names.specs.declared.edit.Edit.{Edit}
+use Rattle.oc_names.specs.Rebinding.{rebound_object, AreStorable, after_fallbacks, after_relocs, after_words, lists_left, normalized, sections_left, unfit_fault}
+use Rattle.oc_names.proofs.Unedited.{no_items, rebound_same}
 use Rattle.std.proofs.lemmas.Result.{err_from_is_err_and}
 use Rattle.oc_base.specs.declared.format.Word.{Word}
 use Rattle.oc_base.specs.Formats.{word_for}
@@ -8,14 +12,13 @@ use Rattle.oc_neutral.specs.declared.symbol.Symbol.{Symbol}
 use Rattle.oc_neutral.specs.declared.reloc.Reloc.{Reloc}
 use Rattle.oc_neutral.specs.Objects.{Object}
 use Rattle.oc_neutral.specs.Invariants.{IsObject}
-use Rattle.oc_names.specs.Refusals.{IsRefusal}
-use Rattle.oc_names.specs.Steps.{first_field, then_by}
-use Rattle.oc_names.specs.Rebinding.{AreStorable, after_fallbacks, after_relocs, after_words, lists_left, normalized, sections_left, unfit_fault}
+use Rattle.oc_drop.specs.Refusals.{IsRefusal}
+use Rattle.oc_drop.specs.Steps.{first_field, then_by}
 use Rattle.oc_names.proofs.FieldBounds.{parts_same, storable}
 use Rattle.oc_names.proofs.LeftLists.{sections_long, written_back}
 use Rattle.oc_names.proofs.NormalObject.{normalized_is_object}
 use Rattle.oc_names.proofs.ReboundSymbols.{symbols_after}
-use Rattle.oc_names.proofs.StepLaws.{step_refused, then_step}
+use Rattle.oc_drop.proofs.StepLaws.{step_refused, then_step}
 use Rattle.oc_names.proofs.rebind_step.rebound.Goals as goal
 
 pub relocs_left-requires : goal.relocs_left-requires
@@ -70,3 +73,9 @@ new-requires c =
     (sym (parts_same c.format-format.result n.format c.into_parts-groups.result.0.items n.groups _ (sections_left w symbols n.relocs n.sections) symbols symbols c.in_ok-relocs.relocs.lists
     (lists_left w symbols n.relocs) c.format-format.ensures c.into_parts-groups.ensures.groups (back ∙ made) refl lists))
     (normalized_is_object n symbols c.is_object.ensures (symbols_after n c.is_object.ensures.complete.symbols c.args.edits.now symbols ok))
+
+pub returns-then-is_empty-clause-ok : goal.returns-then-is_empty-clause-ok
+returns-then-is_empty-clause-ok c =
+    let empty : length c.args.edits.now ≡ 0 = grind (arith, nat_tests, c.is_empty.ensures, c.if-is_empty.true) in
+    let none : c.args.edits.now ≡ [] = no_items c.args.edits.now empty in
+    subst (λ (es : List Edit). rebound_object es c.args.neutral ≡ Ok c.args.neutral) (sym none) (rebound_same c.args.neutral c.is_object.ensures)

@@ -10,8 +10,8 @@ use Rattle.oc_chains.specs.Lists.{Lists, held_in, list_of}
 use Rattle.oc_neutral.specs.declared.section.Section.{Section}
 use Rattle.oc_neutral.specs.declared.reloc.Reloc.{Reloc}
 use Rattle.oc_neutral.proofs.Positions.{each_weaker, there_at}
-use Rattle.oc_names.specs.Refusals.{IsRefusal}
-use Rattle.oc_names.specs.Steps.{first_in}
+use Rattle.oc_drop.specs.Refusals.{IsRefusal}
+use Rattle.oc_drop.specs.Steps.{first_in}
 use Rattle.oc_names.specs.Rebinding.{IsInside, kept_field, unfit_fault, with_constant, lists_left}
 use Rattle.oc_names.proofs.FieldBounds.{IsNarrow}
 use Rattle.oc_names.proofs.LeftLists.{fields_at, lists_more, lists_room, lists_all, left_apart, left_narrow, done_more, rest_stays, all_done, clean_more, stopped}
@@ -110,7 +110,7 @@ loop-at-preserved c =
 
 pub returns-clause-relocs : goal.returns-clause-relocs
 returns-clause-relocs c =
-    c.loop-at.invariant.lists
+    c.of.ensures.lists ∙ c.loop-at.invariant.lists
     ∙ lists_all c.args.word c.args.symbols.now c.args.sections.now c.args.relocs.now.lists c.requires.fields c.loop-at.at (omega (arith, c.loop-at-test.false, c.section_count-at-end.ensures))
 
 pub returns-clause-sections : goal.returns-clause-sections
