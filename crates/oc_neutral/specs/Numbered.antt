@@ -31,7 +31,7 @@ pub record AreNumbers {T : Type 0} (numbers : List ℕ) (lists : Lists T) : Type
   pub rising : AreRising 0 (length lists) numbers
   pub held : held_in (lists_by numbers lists) ≡ held_in lists
 
--- what is there of lists of which some are empty
+-- the lists, where those that do not stay are empty
 abbrev pub emptied : {T : Type 0} → List Bool → Lists T → Lists T
 emptied [] lists = lists
 emptied (stays ∷ stay) [] = []
