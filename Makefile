@@ -4,7 +4,12 @@
 
 PREFIX ?= /usr/local
 
+# `rt run` alone proves one library after another. `rt all check` proves those that do not stand on each other side by side, and `rt run`
+# takes what it built. One check more than there are processors keeps them busy, as far as each check has 3 GB.
+JOBS ?= $(shell awk -v most=$$(($$(nproc) + 1)) '/^MemAvailable:/ { n = int($$2 / 3000000); print n < 1 ? 1 : n < most ? n : most }' /proc/meminfo)
+
 build/objconv: $(shell find crates -path '*/out' -prune -o -type f -print) crates.txt
+	cd crates/objconv_main && rt all check --jobs $(JOBS)
 	cd crates/objconv_main && rt run -- -fcoff32 data/a /dev/null
 	mkdir -p build && cp crates/objconv_main/out/objconv_main build/objconv
 
