@@ -10,8 +10,6 @@ mod fault;
 mod format;
 mod messages;
 mod numbers;
-#[cfg(test)]
-mod tests;
 mod view;
 mod words;
 

@@ -11,8 +11,6 @@ mod places;
 mod reading;
 mod records;
 mod seeking;
-#[cfg(test)]
-mod tests;
 
 pub use block::Block;
 pub use faults::{BlockFault, CopyFault};

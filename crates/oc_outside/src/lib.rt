@@ -17,8 +17,6 @@ mod sink;
 mod slot;
 mod slots;
 mod telling;
-#[cfg(test)]
-mod tests;
 mod writing;
 
 pub use console::Console;

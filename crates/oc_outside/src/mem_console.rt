@@ -11,9 +11,6 @@ use oc_base::NoMemory;
 use std::alloc::Global;
 use std::marker::Model;
 
-#[cfg(test)]
-mod tests;
-
 /// The two standard streams in memory, for tests: each text may grow to its room, and calls can be
 /// set to fail.
 ///

@@ -14,9 +14,6 @@ use oc_base::NoMemory;
 use std::alloc::Global;
 use std::marker::Model;
 
-#[cfg(test)]
-mod tests;
-
 /// Files in memory, for tests: each file may grow to the room of its name, and calls can be set to
 /// fail.
 ///

@@ -44,6 +44,7 @@ pub fn write_file<F: Files>(files: &mut F, name: &str, bytes: &[u8]) -> Result<(
     ensures err { OnErr result (HasPart name.now bytes.now (F.held files.old) (F.held files.new)) }
     ensures counts { F.write_faults files.old ≤ F.write_faults files.new }
     ensures reads { F.read_faults files.new ≡ F.read_faults files.old }
+    ensures steady { OnOk result (F.write_faults files.new ≡ F.write_faults files.old) }
     ensures cause { OnErr result (Rose (F.write_faults files.old) (F.write_faults files.new)) }
 {
     files.create(name)?;

@@ -4,8 +4,6 @@ mod rows;
 mod slots;
 mod spans;
 mod stop;
-#[cfg(test)]
-mod tests;
 mod texts;
 
 pub use order::{Placed, sort_by_place};

@@ -3,8 +3,6 @@ mod layout;
 mod packed;
 mod parts;
 mod rows;
-#[cfg(test)]
-mod tests;
 mod windows;
 
 pub use layout::{Layout, aligned_place};

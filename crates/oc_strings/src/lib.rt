@@ -7,8 +7,6 @@ mod parts;
 mod search;
 mod table;
 mod tails;
-#[cfg(test)]
-mod tests;
 
 pub use layout::offsets;
 pub use table::Table;

@@ -1,7 +1,6 @@
 //! Windows of a file of two parts and of a table.
-use crate::writing::parts::{Parts, window_of};
-use crate::writing::rows::{WritesRows, rows_window};
-use crate::writing::windows::copy_window;
+
+use oc_shelf::{Parts, WritesRows, copy_window, rows_window, window_of};
 use std::test::Fail;
 
 /// Three bytes at 1, and again at 6.

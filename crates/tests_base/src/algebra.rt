@@ -1,9 +1,7 @@
 //! Worked cases, and the borders of what fits. Expected values are by hand from the check table of
 //! our profile and from two's complement.
 
-use crate::fields::{AddendTooWide, from_field, to_field};
-use crate::folds::fold_difference;
-use crate::residues::reduce;
+use oc_algebra::{AddendTooWide, fold_difference, from_field, reduce, to_field};
 use oc_base::Word::{self, W32, W64};
 use oc_linking::Check::{self, Either, Signed, Unsigned, Wrap};
 use oc_linking::Width::{self, Eight, Four, One, Two};

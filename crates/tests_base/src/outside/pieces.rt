@@ -4,7 +4,7 @@ ghost use Rattle.std.specs.Prelude.{◌≡◌, ℕ, ◌+◌, ◌-◌, ◌^◌, �
 ghost use Rattle.std.specs.Option.{ForSome};
 ghost use Rattle.oc_outside.specs.Held.{file_of, with_file, beside_of};
 
-use crate::{BUFFER, Failed, Files, ReadFault, Sink, put_all, read_file, write_file};
+use oc_outside::{Failed, Files, Sink, put_all, read_file, write_file};
 use std::alloc::Global;
 use std::test::Fail;
 
@@ -24,7 +24,7 @@ impl Sink for Slow {
 
     ghost borrow = { λ _. None };
 
-    #[tactic(auto, unfolding(crate::specs::Texts::grown))]
+    #[tactic(auto, unfolding(oc_outside::specs::Texts::grown))]
     fn put(&mut self, piece: &[u8]) -> Result<usize, Failed> {
         match self.given.push(piece.len()) {
             Ok(()) => Ok(piece.len().min(3000)),

@@ -1,8 +1,7 @@
 //! Links worked out by hand.
-use crate::plain::{Outcome, PlacedPatch, image, link};
-use crate::residues::minus;
-use crate::terms::{Check, Patch, Width};
+
 use oc_base::{NoMemory, Word};
+use oc_linking::{Check, Outcome, Patch, PlacedPatch, Width, image, link, minus};
 use std::alloc::Global;
 use std::test::Fail;
 
@@ -29,7 +28,7 @@ fn linked_call(
     text: u32,
     foo: u32,
 ) -> Result<Outcome, NoMemory> {
-    // The value is S + A - P, the addend A is -4, and the place P is one byte behind the start.
+    // The value is S + A - P, the addend A is -4, and the place P is one byte after the start.
     let residue = minus(word, u64::from(foo), u64::from(text) + 5);
     let fields = [four_bytes(0, 1, check, residue)];
     let sections = [Vec::from_array(alloc, CALL)?];

@@ -1,6 +1,7 @@
 //! Worked cases. The texts of messages are those of the commands' description; the bytes are the
 //! file header and a name of a small ELF32 object, read by hand.
-use super::*;
+
+use oc_base::{Bytes, Code, OutOfView, Phase, Spot, Text, View, message};
 use std::test::Fail;
 
 /// The first 20 bytes of an ELF32 file header: e_type is 1, e_machine 3 (i386).
@@ -8,7 +9,7 @@ const HEADER: [u8; 20] = [
     0x7F, 0x45, 0x4C, 0x46, 1, 1, 1, 0, 0, 0, 0, 0, 0, 0, 0, 0, 1, 0, 3, 0,
 ];
 
-/// Two names, `main` and `foo`, behind a NUL, and one byte that no NUL follows.
+/// Two names, `main` and `foo`, after a NUL, and one byte that no NUL follows.
 const NAMES: [u8; 11] = [0, 0x6D, 0x61, 0x69, 0x6E, 0, 0x66, 0x6F, 0x6F, 0, 0x78];
 
 /// The numbers of one, two, four and eight bytes at an offset of the header, on both sides of the

@@ -2,12 +2,8 @@
 ghost use Rattle.std.specs.Prelude.{◌≡◌, ◌≤◌, Some, true, length, OnOk, IfOk, IfSome, vec_len};
 ghost use Rattle.oc_outside.specs.Held.{file_of, with_file};
 
-use super::MemFiles;
-use crate::failed::Failed;
-use crate::files::Files;
-use crate::reading::{LIMIT, ReadFault, read_file};
-use crate::writing::write_file;
 use oc_base::NoMemory;
+use oc_outside::{Failed, Files, LIMIT, MemFiles, ReadFault, read_file, write_file};
 use std::alloc::{AllocError, Global};
 use std::process::Abort;
 use std::test::Fail;

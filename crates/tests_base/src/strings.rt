@@ -1,6 +1,7 @@
 //! Names and their tables, by hand from the rule.
-use crate::{Table, offsets};
+
 use oc_base::{Bytes, NoMemory};
+use oc_strings::{Table, offsets};
 use std::alloc::Global;
 use std::process::Abort;
 use std::test::Fail;
@@ -44,7 +45,7 @@ const CHAIN: &[(&[u8], Option<u32>)] = &[(b"cba", Some(1)), (b"ba", Some(2)), (b
 
 const CASES: [Case; 11] = [
     // The string table of a canonical COFF file with these two symbols: the first text stands
-    // behind the four bytes of the size.
+    // after the four bytes of the size.
     (
         4,
         &[b"my_function", b"_my_function"],

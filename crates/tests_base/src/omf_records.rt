@@ -1,6 +1,7 @@
 //! Bytes put together by hand from TIS OMF 1.1, with the answers that it gives.
-use crate::{BadIndex, Block, BlockFault, CopyFault, RecordFault, Records, index};
+
 use oc_base::View;
+use oc_omf_records::{BadIndex, Block, BlockFault, CopyFault, RecordFault, Records, index};
 use std::alloc::{AllocError, Global};
 use std::process::Abort;
 use std::test::Fail;
@@ -39,7 +40,7 @@ const OVER_NO_TIME: [u8; 23] = [
     0xFF, 0xFF, 0xFF, 0xFF, 1, 0, 0xFF, 0xFF, 0xFF, 0xFF, 1, 0, 0, 0, 0, 0, 0, 0, 4, 7, 8, 9, 10,
 ];
 
-/// Twice a row of two contents, `ab` and three times `c`, and behind it `d`, with repeat counts of
+/// Twice a row of two contents, `ab` and three times `c`, and after it `d`, with repeat counts of
 /// two bytes.
 const ROWS: [u8; 23] = [
     2, 0, 2, 0, 1, 0, 0, 0, 2, 0x61, 0x62, 3, 0, 0, 0, 1, 0x63, 1, 0, 0, 0, 1, 0x64,
@@ -75,7 +76,7 @@ const TWICE_IN_TWICE: [u8; 29] = [
     2, 0, 2, 0, 1, 0, 0, 0, 1, 0x79, 2, 0, 2, 0, 1, 0, 0, 0, 1, 0x78, 1, 0, 0, 0, 4, 7, 8, 9, 10,
 ];
 
-/// No time `7 8 9 10`, and behind it `y`. The content stands at place 5.
+/// No time `7 8 9 10`, and after it `y`. The content stands at place 5.
 const NOT_THERE: [u8; 15] = [0, 0, 0, 0, 4, 7, 8, 9, 10, 1, 0, 0, 0, 1, 0x79];
 
 /// One byte in so many levels of blocks, each there once.
@@ -181,7 +182,7 @@ fn sizes_up_to_the_largest(rt: HostRuntime) {
     }
 }
 
-/// So many levels, cut behind so many bytes: the counts of the level too many are not read.
+/// So many levels, cut after so many bytes: the counts of the level too many are not read.
 #[test]
 fn levels_up_to_32(rt: HostRuntime) -> Result<(), Fail> {
     for (levels, len, want) in [
@@ -191,8 +192,8 @@ fn levels_up_to_32(rt: HostRuntime) -> Result<(), Fail> {
         (33, 127, Err(BlockFault::BadBlock)),
     ] {
         let bytes = in_levels(rt.alloc(), levels)?;
-        let front = View::new(&bytes).sub(0, len)?;
-        assert_eq!(rt; size_of(rt.alloc(), front.bytes(), false), want, "{len}");
+        let prefix = View::new(&bytes).sub(0, len)?;
+        assert_eq!(rt; size_of(rt.alloc(), prefix.bytes(), false), want, "{len}");
     }
     Ok(())
 }

@@ -1,8 +1,6 @@
 //! Worked cases at the borders, worked out by hand.
-use crate::reading::order::{Placed, sort_by_place};
-use crate::reading::rows::Rows;
-use crate::reading::spans::Spans;
-use crate::reading::texts::text_at;
+
+use oc_shelf::{Placed, Rows, Spans, sort_by_place, text_at};
 use std::test::Fail;
 
 /// Tables of entries of 10 bytes from 20 on, in a file of 50 bytes, and numbers that lie.

@@ -1,11 +1,8 @@
 //! The borders of the two streams in memory. Expected answers follow from the documentation of each call, by hand.
 ghost use Rattle.std.specs.Prelude.{◌≡◌, ◌++◌, OnOk};
 
-use super::MemConsole;
-use crate::console::Console;
-use crate::failed::Failed;
-use crate::telling::{show_all, tell_all};
 use oc_base::NoMemory;
+use oc_outside::{Console, Failed, MemConsole, show_all, tell_all};
 use std::alloc::Global;
 use std::process::Abort;
 use std::test::Fail;
@@ -95,7 +92,7 @@ fn streams_in_memory(rt: HostRuntime) -> Result<(), Fail> {
 
 /// Tells a text by the call for all kinds of streams. At streams in memory its clauses say what
 /// they hold.
-#[tactic(auto, unfolding(crate::specs::Texts::grown))]
+#[tactic(auto, unfolding(oc_outside::specs::Texts::grown))]
 fn tell(console: &mut MemConsole, text: &[u8]) -> Result<(), Failed>
     ensures told { OnOk result (console.new.told ≡ console.old.told ++ text.now) }
     ensures shown { console.new.shown ≡ console.old.shown }

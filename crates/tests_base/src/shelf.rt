@@ -1,0 +1,3 @@
+//! What readers and writers share.
+mod reading;
+mod writing;
