@@ -7,8 +7,6 @@ mod fault;
 mod first_bytes;
 mod identifying;
 mod steps;
-#[cfg(test)]
-mod tests;
 
 pub use conversion::convert;
 pub use fault::ConvertFault;

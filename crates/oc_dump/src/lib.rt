@@ -4,7 +4,6 @@
 mod line;
 mod lines;
 mod shown;
-#[cfg(test)]
-mod tests;
 
 pub use lines::symbol_lines;
+pub use shown::{put_hex, put_name};

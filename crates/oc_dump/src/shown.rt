@@ -18,8 +18,10 @@ fn put_byte(out: &mut String, byte: u8) -> Result<(), NoMemory>
 }
 
 /// Puts a name behind the text: graphic characters of ASCII but the backslash as they are, every
-/// other byte as `\x` and two digits. Linear in the name.
-pub(crate) fn put_name(out: &mut String, name: &[u8]) -> Result<(), NoMemory>
+/// other byte as `\x` and two digits.
+///
+/// `NoMemory` where memory ran out; then a part may have been put. Linear in the name.
+pub fn put_name(out: &mut String, name: &[u8]) -> Result<(), NoMemory>
     ensures { OnOk result (string_bytes out.new ≡ string_bytes out.old ++ lines.shown_name name.now) }
 {
     for byte in name {
@@ -28,9 +30,12 @@ pub(crate) fn put_name(out: &mut String, name: &[u8]) -> Result<(), NoMemory>
     Ok(())
 }
 
-/// Puts a number behind the text, in hexadecimal of 8 or 16 digits by the word. Constant time.
+/// Puts a number behind the text, in hexadecimal: at least 8 digits for words of 32 bits and 16 for those
+/// of 64, with zeros first.
+///
+/// `NoMemory` where memory ran out; then a part may have been put. Constant time.
 #[tactic(auto, using(crate::proofs::HexLemmas::hex_shown))]
-pub(crate) fn put_hex(out: &mut String, word: Word, x: u64) -> Result<(), NoMemory>
+pub fn put_hex(out: &mut String, word: Word, x: u64) -> Result<(), NoMemory>
     ensures { OnOk result (string_bytes out.new ≡ string_bytes out.old ++ lines.hex (lines.digit_count word) x) }
 {
     match word {

@@ -20,8 +20,6 @@ mod rebind_step;
 mod rebinding;
 mod reloc_step;
 mod renames;
-#[cfg(test)]
-mod tests;
 
 pub use applying::apply;
 pub use edit::{Choice, Edit};

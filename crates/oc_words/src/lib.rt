@@ -10,8 +10,6 @@ mod message;
 mod naming;
 mod option;
 mod reading;
-#[cfg(test)]
-mod tests;
 mod text;
 mod words;
 

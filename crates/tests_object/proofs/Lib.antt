@@ -1,0 +1,2 @@
+pub mod ElfObjects
+pub mod SmallObjects
