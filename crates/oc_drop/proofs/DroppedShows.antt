@@ -49,7 +49,7 @@ use Rattle.oc_drop.specs.KeptShows.{kept_patches, ShowsKept, DroppedShowsKept}
 use Rattle.oc_neutral.proofs.KeptLists.{Stays}
 use Rattle.oc_neutral.proofs.LeftObject.{all_both}
 use Rattle.oc_neutral.proofs.LeftParts.{symbol_there}
-use Rattle.oc_drop.proofs.DroppedSymbols.{carried_back, nonlocal-clear}
+use Rattle.oc_drop.proofs.DroppedSymbols.{carried_back, nonlocal-clear, not_dropped}
 use Rattle.oc_drop.proofs.DroppedSections.{kept_map, map_twice, flags-framed, stay-shown}
 use Rattle.oc_drop.proofs.StepLaws.{unless_ok}
 use Rattle.oc_drop.proofs.Detached.{detached}
@@ -115,13 +115,10 @@ found_moved stay flags (x ∷ xs) at =
       | false ↦ found_moved stay flags xs at
     ]
 
-or_none : (a b : Bool) → (a || b) ≡ false → (a ≡ false) × (b ≡ false)
+-- where neither of two holds
+pub or_none : (a b : Bool) → (a || b) ≡ false → (a ≡ false) × (b ≡ false)
 or_none true b e = absurd (true≢false e)
 or_none false b e = (refl, e)
-
-not_dropped : (b : Bool) → not b ≡ false → b ≡ true
-not_dropped true e = refl
-not_dropped false e = absurd (true≢false e)
 
 module _ (keep : Keep) (n : Object) (is : IsObject n) (none : IsDetached (stays keep n) n) (p : Placement) (v : Valuation) where
   abbrev stay : List Bool

@@ -37,7 +37,8 @@ carried_back (false ∷ stay) (suc k) low is = ap suc (carried_back stay k (omeg
 abbrev pub numbered : List Symbol → Symbol → Symbol
 numbered symbols s = with_binding s (shown_binding symbols s.binding)
 
-not_dropped : (b : Bool) → not b ≡ false → b ≡ true
+-- what is not dropped stays
+pub not_dropped : (b : Bool) → not b ≡ false → b ≡ true
 not_dropped true e = refl
 not_dropped false e = absurd (true≢false e)
 

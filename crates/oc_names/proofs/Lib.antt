@@ -16,6 +16,7 @@ pub mod FiledNames
 pub mod FiledSymbols
 pub mod FixedSymbols
 pub mod KeptFields
+pub mod KeptLooks
 mod KeptRows
 mod KeyRows
 pub mod LeftLists

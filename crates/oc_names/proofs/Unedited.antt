@@ -33,10 +33,14 @@ use Rattle.oc_neutral.proofs.RepeatLemmas.{no_repeat}
 use Rattle.oc_drop.specs.Steps.{first_in, unless, then_by, edit_fault, symbol_fault, fault_in, first_field}
 use Rattle.oc_base.specs.declared.code.Code.TheVariants.{LimitSymbols, EmptyName}
 use Rattle.oc_neutral.specs.Without.{with_binding}
-use Rattle.oc_drop.proofs.NothingDropped.{symbol_is, held, none_first, map_stays, never_and}
+use Rattle.oc_drop.proofs.NothingDropped.{symbol_is, held, none_first, map_stays, never_and, dropped_same}
 use Rattle.oc_names.specs.Rebinding.{bindings_of, fallback_binding, fallback_code, fallback_fault, placed_fallback, settled_binding, settled, after_fallbacks, left_in, kept_field, field_of, unfit_fault, fault_of, with_constant, section_of, lists_left, sections_left, normalized, after_relocs, rebound_object}
 use Rattle.oc_names.specs.Naming.{count_named, count_fault, named, all_named, nonlocal_names, empty_fault, clash_fault, name_fault_at, names_fault, edited_group, groups_named, keys_of, key_clash, keys_fault, parts_fault, with_names, named_object}
 use Rattle.oc_drop.proofs.FirstLaws.{none_upto}
+use Rattle.oc_names.specs.Laws.{NothingIsEdited}
+use Rattle.oc_drop.specs.Dropping.{dropped}
+use Rattle.oc_names.specs.Kept.{keep_for}
+use Rattle.oc_linking.specs.declared.terms.Keep.{Keep}
 
 -- ... lists
 
@@ -232,3 +236,11 @@ module _ (n : Object) (fine : IsObject n) where
 pub no_items : {X : Type 0} (xs : List X) → length xs ≡ 0 → xs ≡ []
 no_items [] e = refl
 no_items (x ∷ xs) e = absurd (omega (arith, e))
+
+pub nothing_edited : NothingIsEdited
+nothing_edited wishes to n fine none kept few =
+    let keep : Keep = keep_for wishes n.format to in
+    ap (λ es. then_by (named_object es to) (then_by (rebound_object es) (dropped keep n))) none
+    ∙ ap (λ r. then_by (named_object [] to) (then_by (rebound_object []) r)) (dropped_same n fine keep kept)
+    ∙ ap (then_by (named_object [] to)) (rebound_same n fine)
+    ∙ named_object_same n fine to few

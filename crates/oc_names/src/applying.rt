@@ -15,7 +15,8 @@ use oc_drop::{EditFault, dropped};
 use oc_neutral::Neutral;
 use std::alloc::Global;
 
-// the object with further symbols, new names and new keys
+// the object with further symbols, new names and new keys; without edits as it is, unless it has too
+// many symbols
 fn named(alloc: Global, edits: &[Edit], to: Format, neutral: Neutral) -> Result<Neutral, EditFault>
     requires { length edits.now < 2 ^ 32 }
     ensures ok { IfOk result (λ out. naming.named_object edits.now to neutral ≡ Ok out) }
@@ -65,7 +66,9 @@ fn named(alloc: Global, edits: &[Edit], to: Format, neutral: Neutral) -> Result<
 ///
 /// `NoMemory` where memory ran out. A refusal gives nothing back. Time is that of a sort of the names
 /// and of looking up each among those of the edits, of a comparison for each symbol and edit of a
-/// front or an end, and else linear in the object.
+/// front or an end, and else linear in the object. What is not asked for is not paid for: where every
+/// section is kept and there is no edit, the object is given back as it is, at the cost of a flag a
+/// section.
 pub fn apply(
     alloc: Global,
     neutral: Neutral,

@@ -37,6 +37,7 @@ pub(crate) fn symbols_after(
 /// Refused with the first of these: a pinned Global that is to become Weak, by words and then by
 /// symbols; a Weak whose fallback became Weak, or a Local with a number, in order of symbols; a
 /// constant that does not fit its field, by sections and offsets. `NoMemory` where memory ran out.
+/// Linear in the object; without edits it is given back as it is.
 pub(crate) fn rebound(alloc: Global, edits: &[Edit], neutral: Neutral) -> Result<Neutral, EditFault>
     ensures ok { IfOk result (λ out. rebinding.rebound_object edits.now neutral ≡ Ok out) }
     ensures refused { IfErr result (IsStepRefusal (rebinding.rebound_object edits.now neutral)) }
