@@ -35,5 +35,16 @@ pub mod ReboundSymbols
 pub mod RenameTables
 pub mod SiteLaws
 pub mod Skipped
+pub mod Turns
+pub mod TurnsBindings
+pub mod TurnsFallbacks
+pub mod TurnsFields
+pub mod TurnsKeys
+pub mod TurnsNames
+pub mod TurnsObjects
+pub mod TurnsOrigins
+mod TurnsRows
+pub mod TurnsSymbols
+pub mod TurnsWords
 pub mod Unedited
 pub mod WordLaws
