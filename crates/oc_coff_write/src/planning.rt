@@ -1,8 +1,14 @@
 //! Planning the canonical COFF file of an object that is ready to be written.
 ghost use Rattle.std.specs.Prelude.{◌≡◌, IfOk, map};
+ghost use Rattle.oc_neutral.specs.Fitted.{IsFitted};
+ghost use Rattle.oc_coff_read.specs.Canonical as canonical;
 ghost use Rattle.oc_coff_read.specs.Fields.{coff_format};
-ghost use Rattle.oc_coff_write.specs.Bodies.{raws_in};
+ghost use Rattle.oc_coff_read.specs.Layout.{parts_of};
+ghost use Rattle.oc_coff_read.specs.Lines.{entry_count};
+ghost use Rattle.oc_coff_write.specs.Bodies.{raws_in, relocations_in};
+ghost use Rattle.oc_coff_write.specs.LaidParts.{AreLaid};
 ghost use Rattle.oc_coff_write.specs.Plans.{coff_parts};
+ghost use Rattle.oc_coff_write.specs.Strings.{table_for};
 
 use crate::headers::{file_header_of, headers_of};
 use crate::layout::layout_of;
@@ -11,8 +17,11 @@ use crate::raw::Addends;
 use crate::relocations::all_relocations;
 use crate::symbols::symbols_of;
 use oc_base::{NoMemory, Word};
+use oc_coff_read::{Relocation, SectionHeader};
 use oc_neutral::{Fitted, Neutral, Section};
 use oc_plans::with_numbers;
+use oc_shelf::Layout;
+use oc_strings::Table;
 use std::alloc::Global;
 
 // the sections of an object, with the numbers in their fields
@@ -22,6 +31,27 @@ fn sections_of(word: Word, neutral: Neutral) -> Vec<Section>
     neutral.is_object();
     let (_groups, sections, _symbols, relocs) = neutral.into_parts();
     with_numbers(&Addends { word }, &relocs, sections)
+}
+
+// the places of the parts and the headers of the sections
+fn laid_of(
+    alloc: Global,
+    word: Word,
+    neutral: &Neutral,
+    relocs: &[Vec<Relocation>],
+    entries: usize,
+    names: &Table,
+) -> Result<(Layout, Vec<SectionHeader>), NoMemory>
+    requires fitted { IsFitted (coff_format word) neutral.now }
+    requires relocs { map (λ v. v.items) relocs.now ≡ relocations_in word neutral.now }
+    requires entries { entries ≡ entry_count word neutral.now }
+    requires names { names.now ≡ table_for word neutral.now }
+    ensures layout { IfOk result (λ made. AreLaid word neutral.now made.0.places.items made.0.end (parts_of neutral.now)) }
+    ensures headers { IfOk result (λ made. made.1.items ≡ canonical.headers_of word neutral.now) }
+{
+    let layout = layout_of(alloc, word, neutral, relocs, entries, names)?;
+    let headers = headers_of(alloc, word, neutral, names, relocs, &layout.places)?;
+    Ok((layout, headers))
 }
 
 /// The plan of the canonical COFF file of an object that is ready to be written. `NoMemory` where memory
@@ -36,8 +66,7 @@ pub(crate) fn plan_object(alloc: Global, word: Word, fitted: Fitted) -> Result<P
     let made = symbols_of(alloc, word, neutral)?;
     let entries = made.entries.len();
     let relocs = all_relocations(alloc, word, neutral, &made.numbers)?;
-    let layout = layout_of(alloc, word, neutral, &relocs, entries, &made.names)?;
-    let headers = headers_of(alloc, word, neutral, &made.names, &relocs, &layout.places)?;
+    let (layout, headers) = laid_of(alloc, word, neutral, &relocs, entries, &made.names)?;
     let header = file_header_of(word, neutral, &layout.places, entries);
     let sections = sections_of(word, fitted.into_neutral());
     Ok(Plan::new(

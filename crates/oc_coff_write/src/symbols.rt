@@ -1,17 +1,22 @@
 //! The symbol table and the string table of an object (PE/COFF, "COFF Symbol Table" and "COFF String
 //! Table"; our profile).
 ghost use Rattle.std.specs.Prelude.{◌≡◌, IfOk, length, map};
+ghost use Rattle.oc_base.specs.Formats.{word_for};
+ghost use Rattle.oc_neutral.specs.Families.{container_of};
+ghost use Rattle.oc_neutral.specs.Family.{IsCoff};
 ghost use Rattle.oc_neutral.specs.Fitted.{IsFitted};
 ghost use Rattle.oc_coff_read.specs.Canonical.{entry_rows};
 ghost use Rattle.oc_coff_read.specs.Fields.{coff_format};
 ghost use Rattle.oc_coff_read.specs.Lines.{entry_count};
 ghost use Rattle.oc_coff_write.specs.Entries.{entry_bytes};
+ghost use Rattle.oc_coff_write.specs.Keys.{AreKeys};
+ghost use Rattle.oc_coff_write.specs.Lines.{AreLines};
 ghost use Rattle.oc_coff_write.specs.Numbers.{IsNumbered};
 ghost use Rattle.oc_coff_write.specs.Strings.{table_for};
 
 use crate::entries::{Entry, Made, entries_of};
 use crate::keys::{keys_of, leaders_of};
-use crate::lines::lines_of;
+use crate::lines::{Line, lines_of};
 use crate::numbers::Numbers;
 use crate::strings::table_of;
 use oc_base::{NoMemory, Word};
@@ -30,6 +35,35 @@ pub(crate) struct Symbols {
     pub(crate) entries: Vec<Entry>,
 }
 
+// the numbers of the symbols, and the entries of these lines
+fn numbered_entries(
+    alloc: Global,
+    neutral: &Neutral,
+    keys: &[Option<u32>],
+    names: &Table,
+    lines: &[Line],
+) -> Result<(Numbers, Vec<Entry>), NoMemory>
+    requires coff { container_of neutral.now.format ≡ IsCoff }
+    requires fitted { IsFitted neutral.now.format neutral.now }
+    requires keys { AreKeys neutral.now keys.now }
+    requires names { names.now ≡ table_for (word_for neutral.now.format) neutral.now }
+    requires lines { AreLines (word_for neutral.now.format) neutral.now lines.now }
+    ensures numbers { IfOk result (λ made. IsNumbered (word_for neutral.now.format) neutral.now made.0) }
+    ensures rows { IfOk result (λ made. map entry_bytes made.1.items ≡ entry_rows (word_for neutral.now.format) neutral.now) }
+    ensures count { IfOk result (λ made. length made.1.items ≡ entry_count (word_for neutral.now.format) neutral.now) }
+{
+    let leaders = leaders_of(alloc, neutral)?;
+    let numbers = Numbers::of(alloc, neutral, lines)?;
+    let made = Made {
+        keys,
+        leaders: &leaders,
+        names,
+        numbers: &numbers,
+    };
+    let entries = entries_of(alloc, neutral, made, lines)?;
+    Ok((numbers, entries))
+}
+
 /// The symbol table of an object that is ready for COFF. `NoMemory` where memory ran out. Linear in the
 /// object, but for the string table and the look-ups in it.
 pub(crate) fn symbols_of(alloc: Global, word: Word, neutral: &Neutral) -> Result<Symbols, NoMemory>
@@ -40,17 +74,9 @@ pub(crate) fn symbols_of(alloc: Global, word: Word, neutral: &Neutral) -> Result
     ensures count { IfOk result (λ made. length made.entries.items ≡ entry_count word neutral.now) }
 {
     let keys = keys_of(alloc, neutral)?;
-    let leaders = leaders_of(alloc, neutral)?;
     let lines = lines_of(alloc, word, neutral, &keys)?;
     let names = table_of(alloc, neutral, &lines)?;
-    let numbers = Numbers::of(alloc, neutral, &lines)?;
-    let made = Made {
-        keys: &keys,
-        leaders: &leaders,
-        names: &names,
-        numbers: &numbers,
-    };
-    let entries = entries_of(alloc, neutral, made, &lines)?;
+    let (numbers, entries) = numbered_entries(alloc, neutral, &keys, &names, &lines)?;
     Ok(Symbols {
         names,
         numbers,

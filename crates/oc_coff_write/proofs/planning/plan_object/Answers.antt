@@ -20,11 +20,11 @@ new-requires c =
     let fit : IsFitted (coff_format w) m
     = subst (λ (x : Object). IsFitted (coff_format w) x) (sym same) (subst (λ f. IsFitted f c.args.fitted) c.requires c.is_fitted.ensures) in
     let raws = c.sections_of-sections.ensures ∙ ap (raws_in w) (c.into_neutral.ensures ∙ sym same) in
-    plan_is w m (for_coff w m fit) c.file_header_of-header.result c.in_ok-headers.headers.items
+    plan_is w m (for_coff w m fit) c.file_header_of-header.result c.in_ok-layout.headers.items
     (map (λ (s : Section). s.bytes) c.sections_of-sections.result.items) (map (λ (v : Vec Relocation Global). v.items) c.in_ok-relocs.relocs.items)
     (map entry_bytes c.in_ok-made.made.entries.items) c.in_ok-made.made.names
-    c.file_header_of-header.ensures c.in_ok-headers.ensures raws c.in_ok-relocs.ensures c.in_ok-made.ensures.rows c.in_ok-made.ensures.names
-    c.in_ok-layout.layout.places.items c.in_ok-layout.layout.end c.in_ok-layout.ensures
+    c.file_header_of-header.ensures c.in_ok-layout.ensures.headers raws c.in_ok-relocs.ensures c.in_ok-made.ensures.rows c.in_ok-made.ensures.names
+    c.in_ok-layout.layout.places.items c.in_ok-layout.layout.end c.in_ok-layout.ensures.layout
 
 pub returns : goal.returns
 returns c =
@@ -33,8 +33,8 @@ returns c =
     let same : m ≡ c.args.fitted = c.neutral-neutral.ensures in
     let raws = c.sections_of-sections.ensures ∙ ap (raws_in w) (c.into_neutral.ensures ∙ sym same) in
     c.new.ensures
-    ∙ parts_same w m c.file_header_of-header.result c.in_ok-headers.headers.items
+    ∙ parts_same w m c.file_header_of-header.result c.in_ok-layout.headers.items
     (map (λ (s : Section). s.bytes) c.sections_of-sections.result.items) (map (λ (v : Vec Relocation Global). v.items) c.in_ok-relocs.relocs.items)
     (map entry_bytes c.in_ok-made.made.entries.items) c.in_ok-made.made.names
-    c.file_header_of-header.ensures c.in_ok-headers.ensures raws c.in_ok-relocs.ensures c.in_ok-made.ensures.rows c.in_ok-made.ensures.names
+    c.file_header_of-header.ensures c.in_ok-layout.ensures.headers raws c.in_ok-relocs.ensures c.in_ok-made.ensures.rows c.in_ok-made.ensures.names
     ∙ ap (coff_parts w) same
