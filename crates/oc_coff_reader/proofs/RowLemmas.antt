@@ -1,9 +1,8 @@
 -- The rows of COFF: none takes a section, and none has a hint.
-use Rattle.std.proofs.Common.{◌≡◌, ℕ, Bool, true, false, cond, ◌+◌, ◌%◌, ◌≤◌, List, [], ◌∷◌, Option, None, Some, refl, sym, ◌∙◌, ap, subst, arith}
-use Rattle.std.specs.Prelude.{ℤ, pos, ◌+ℤ◌, not, ◌&&◌, nat_eq, find}
+use Rattle.std.proofs.Common.{◌≡◌, ℕ, Bool, true, false, cond, ◌≤◌, List, [], ◌∷◌, Option, None, Some, refl, sym, ◌∙◌, ap, subst, arith}
+use Rattle.std.specs.Prelude.{not, ◌&&◌, nat_eq, find}
 use Rattle.std.specs.Option.{option_map}
 use Rattle.std.proofs.lemmas.Bool.{true≢false}
-use Rattle.std.proofs.lemmas.Int.{ints}
 use Rattle.std.proofs.lemmas.Option.{none-some, same_Some}
 use Rattle.oc_base.specs.declared.format.Word.{Word}
 use Rattle.oc_base.specs.declared.format.Word.TheVariants.{W32, W64}
@@ -13,9 +12,6 @@ use Rattle.oc_linking.specs.declared.terms.Less.TheVariants as less
 use Rattle.oc_linking.specs.declared.terms.Width.{Width}
 use Rattle.oc_linking.specs.declared.terms.Width.TheVariants.{One, Two, Four, Eight}
 use Rattle.oc_linking.specs.Fits.{bytes_of}
-use Rattle.oc_linking.specs.Numbers.{modulus}
-use Rattle.oc_algebra.specs.Residues.{reduced_number, residue_of}
-use Rattle.oc_algebra.proofs.Laws.{reduced_same, residue_add, residue_reduced}
 use Rattle.oc_neutral.specs.Rows.{Row, Taken, TakesZero, TakesPlace, TakesGotBase, TakesImageBase, TakesHome, TakesSection, less_of, same_hint, same_taken}
 use Rattle.oc_neutral.specs.RelocTables.{row_of, rows_of}
 use Rattle.oc_coff_read.specs.Fields.{coff_format}

@@ -4,7 +4,6 @@ ghost use Rattle.oc_linking.specs.FirstFault.{first_fault, stage_fault};
 ghost use Rattle.oc_linking.specs.Keeping.{keeps};
 ghost use Rattle.oc_shelf.specs.Reading.Stops.{IsStop};
 ghost use Rattle.oc_coff_read.specs.RelocationFaults.{relocation_stage};
-ghost use Rattle.oc_coff_read.specs.Rules.{fault_of};
 ghost use Rattle.oc_coff_read.specs.SectionFaults.{section_stage};
 ghost use Rattle.oc_coff_read.specs.SymbolFaults.{symbol_stage};
 ghost use Rattle.oc_coff_read.specs.Sections as sections;
@@ -15,7 +14,7 @@ ghost use Rattle.oc_coff_reader.specs.Relocs as relocs;
 
 use crate::aims::aims_of;
 use crate::found::{Found, found_in};
-use crate::frame::{Coff, read_coff};
+use crate::frame::Coff;
 use crate::kind::{is_overflowed, is_stored};
 use crate::relocs::{Aims, Table, check_table};
 use crate::section_stage::check_sections;
@@ -135,8 +134,11 @@ fn check_headers(coff: &Coff, found: &Found) -> Result<(), Stop>
 
 /// Judges what stands behind the file header, under `keep`, and gives what was found on the way.
 ///
-/// Stops exactly where there is a fault, with the first; or where memory ran out. The time is that
-/// of `judge`.
+/// Stops exactly where there is a fault, with the first; or where memory ran out. The time is that of
+/// n log2(n) steps for n symbols or relocations, in any order of names and offsets. Each name is read
+/// a few times for each section and symbol that has it, and compared as `first_repeat` says: a file
+/// whose names are the ends of one long text costs the square of that text. Where no NUL ends a name,
+/// that is known in constant time.
 pub(crate) fn check_rest(alloc: Global, word: Word, coff: &Coff, keep: &Keep) -> Result<Found, Stop>
     ensures clean { OnOk result (first_fault (relocs.rest_stages word coff.now keep.now) ≡ None) }
     ensures stop { IfErr result (IsStop (first_fault (relocs.rest_stages word coff.now keep.now))) }
@@ -160,27 +162,4 @@ pub(crate) fn check_rest(alloc: Global, word: Word, coff: &Coff, keep: &Keep) ->
         Err(stop) => Err(stop),
         Ok(()) => Ok(found),
     }
-}
-
-/// Judges a file of at most 67,108,864 bytes, when it is read under `keep`.
-///
-/// Stops exactly where there is a fault, with the first; or where memory ran out. The time is that of
-/// n log2(n) steps for n symbols or relocations, in any order of names and offsets. Each name is read
-/// a few times for each section and symbol that has it, and compared as `first_repeat` says: a file
-/// whose names are the ends of one long text costs the square of that text. Where no NUL ends a name,
-/// that is known in constant time.
-pub(crate) fn judge(alloc: Global, word: Word, file: &[u8], keep: &Keep) -> Result<(), Stop>
-    requires { length file.now ≤ 67108864 }
-    ensures clean { OnOk result (fault_of word file.now keep.now ≡ None) }
-    ensures stop { IfErr result (IsStop (fault_of word file.now keep.now)) }
-{
-    let coff = match read_coff(file) {
-        Err(fault) => return Err(Stop::Fault(fault)),
-        Ok(coff) => coff,
-    };
-    let _found = match check_rest(alloc, word, &coff, keep) {
-        Err(stop) => return Err(stop),
-        Ok(found) => found,
-    };
-    Ok(())
 }

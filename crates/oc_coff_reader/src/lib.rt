@@ -30,8 +30,6 @@ mod strings;
 mod symbol_stage;
 mod symbols;
 mod tagged;
-#[cfg(test)]
-mod tests;
 
 pub use laws::clean_is_shown;
 pub use meaning::Meaning;

@@ -98,7 +98,9 @@ fn read_bytes(alloc: Global, word: Word, bytes: &[u8], keep: &Keep) -> Result<Ne
 
 /// The reader of COFF objects of 32 bits, for i386.
 ///
-/// The time is that of `judge`, and linear in the bytes of the file.
+/// The time is linear in the bytes of the file, and that of n log2(n) steps for n symbols or relocations,
+/// in any order of names and offsets. A file whose names are the ends of one long text costs the square of
+/// that text.
 #[derive(Clone, Copy, Debug)]
 pub struct CoffReader32;
 
@@ -118,7 +120,7 @@ impl Reads for CoffReader32 {
 
 /// The reader of COFF objects of 64 bits, for x64.
 ///
-/// The time is that of `judge`, and linear in the bytes of the file.
+/// The time is that of `CoffReader32`.
 #[derive(Clone, Copy, Debug)]
 pub struct CoffReader64;
 

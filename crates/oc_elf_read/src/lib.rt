@@ -32,8 +32,6 @@ mod stood;
 mod sym;
 mod symbol_stage;
 mod symbols;
-#[cfg(test)]
-mod tests;
 
 pub use class::ElfClass;
 pub use constants::{

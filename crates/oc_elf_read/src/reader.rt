@@ -7,9 +7,6 @@ ghost use Rattle.oc_shelf.specs.Reading.Stops.{IsStop};
 ghost use Rattle.oc_elf_read.specs.Elf.{elf_dialect, fault_in, rest_stages};
 ghost use Rattle.oc_elf_read.specs.Known.{IsFound};
 
-#[cfg(test)]
-mod tests;
-
 use crate::added_relocs::add_relocations;
 use crate::class::ElfClass;
 use crate::frame::{Frame, read_frame};

@@ -53,6 +53,3 @@ pub use section_header::{SectionHeader, section_header_at, section_header_size};
 pub use segment_command::{SegmentCommand, segment_command_at, segment_command_size};
 pub use symbols::{header_numbered, is_external, is_stab, is_type, name_of};
 pub use symtab_command::{SYMTAB_COMMAND_SIZE, SymtabCommand, symtab_command_at};
-
-#[cfg(test)]
-mod tests;

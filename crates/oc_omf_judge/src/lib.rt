@@ -11,8 +11,6 @@ mod reached;
 mod relocation_loop;
 mod rows;
 mod starts;
-#[cfg(test)]
-mod tests;
 mod threads;
 mod whole;
 

@@ -1,5 +1,5 @@
 -- Data in the contents of an entry, by their head.
-use Rattle.std.proofs.Common.{◌≡◌, ℕ, ◌≤◌, Bool, List, [], ◌∷◌, ◌++◌, length, Some, None, Result, Ok, Err, refl, sym, ◌∙◌, ap, subst, arith, append-nil}
+use Rattle.std.proofs.Common.{◌≡◌, ℕ, ◌≤◌, Bool, List, [], ◌∷◌, ◌++◌, length, Some, Result, Ok, Err, refl, sym, ◌∙◌, ap, subst, arith, append-nil}
 use Rattle.std.specs.Prelude.{drop}
 use Rattle.oc_base.specs.declared.code.Code.TheVariants.{BadTable}
 use Rattle.oc_linking.specs.FirstFault.{first_broken}
@@ -17,7 +17,7 @@ use Rattle.oc_omf_read.specs.Structures.{Piece, blocks_by, long_size, piece_read
 use Rattle.oc_omf_read.specs.Tables.{Tables}
 use Rattle.oc_omf_read.specs.SectionFaults.{conditions_by, conditions_on, own_fault, piece_conditions}
 use Rattle.oc_omf_read.specs.Topics.{said_on}
-use Rattle.oc_omf_read.specs.Defined.{IsDefined, IsPieceStopped, IsPieceTaken, IsStoppedAt, IsTakenUp, and_entry, head_read, part_of, piece_with}
+use Rattle.oc_omf_read.specs.Defined.{IsPieceStopped, IsPieceTaken, IsStoppedAt, IsTakenUp, and_entry, head_read, part_of, piece_with}
 use Rattle.oc_omf_read.proofs.DefinedLemmas.{same_defined}
 use Rattle.oc_omf_read.proofs.EachLemmas.{next_goes, number_goes}
 use Rattle.oc_omf_read.proofs.PieceLemmas.{headed, piece_headed}

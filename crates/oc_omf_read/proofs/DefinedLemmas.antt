@@ -1,26 +1,24 @@
 -- What is kept while names, segments, groups and data are judged.
-use Rattle.std.proofs.Common.{◌≡◌, ℕ, zero, suc, ◌+◌, ◌*◌, ◌-◌, ◌<◌, ◌≤◌, ◌⊎◌, inl, inr, Bool, true, false, cond, ◌&&◌, ◌||◌, not, nat_eq, nat_lt, List, [], ◌∷◌, ◌++◌, length, map, take, Option, Some, None, Ok, Err, refl, sym, ◌∙◌, ap, subst, arith, append-nil}
+use Rattle.std.proofs.Common.{◌≡◌, ℕ, zero, suc, ◌+◌, ◌<◌, ◌≤◌, ◌⊎◌, inl, inr, Bool, true, false, cond, ◌&&◌, ◌||◌, nat_eq, nat_lt, List, [], ◌∷◌, ◌++◌, length, map, Option, Some, refl, sym, ◌∙◌, ap, subst, arith}
 use Rattle.std.specs.Prelude.{get_or, slice_get, filter}
-use Rattle.std.specs.List.{list_any, sum_by, enumerate_from}
-use Rattle.std.specs.Option.{option_and_then, option_map_or}
-use Rattle.std.proofs.lemmas.Bool.{cases_eq, cases_lt}
+use Rattle.std.specs.List.{list_any, sum_by}
+use Rattle.std.proofs.lemmas.Bool.{cases_lt}
 use Rattle.std.proofs.lemmas.Bool.Decides.{nat_tests}
 use Rattle.std.proofs.lemmas.List.{get_or_append_left, length-append, map-append}
 use Rattle.std.proofs.lemmas.List.Elements.{filter-append}
 use Rattle.std.proofs.lemmas.List.Folds.{list_any-append}
 use Rattle.std.proofs.lemmas.List.Sums.{sum_by-append}
-use Rattle.std.proofs.lemmas.Option.{none-some, same_Some, slice_get_within}
+use Rattle.std.proofs.lemmas.Option.{none-some, same_Some}
 use Rattle.std.proofs.Math.Seq.{get_or-append_seam}
-use Rattle.oc_shelf.specs.Reading.Spans.{AreSpansOf, end_at}
-use Rattle.oc_shelf.proofs.ReadingLaws.SpanLemmas.{spans_none, spans_same, spans_more}
+use Rattle.oc_shelf.specs.Reading.Spans.{AreSpansOf}
+use Rattle.oc_shelf.proofs.ReadingLaws.SpanLemmas.{spans_none}
 use Rattle.oc_omf_read.specs.declared.defined.Defined.{Defined}
 use Rattle.oc_omf_read.specs.declared.structures.Segment.{Segment}
-use Rattle.oc_omf_read.specs.Structures.{Group, Piece, Public, External}
-use Rattle.oc_omf_read.specs.Entries.{Entry}
+use Rattle.oc_omf_read.specs.Structures.{Group, Piece}
 use Rattle.oc_omf_read.specs.Tables.{Tables, indexed, tables_of}
 use Rattle.oc_omf_read.specs.Sections.{is_covered, piece_size, pieces_of, segment_size}
 use Rattle.oc_omf_read.specs.Known.{names_of}
-use Rattle.oc_omf_read.specs.Defined.{IsDefined, IsSmall, and_entry, piece_span, span_among}
+use Rattle.oc_omf_read.specs.Defined.{IsDefined, IsSmall, piece_span, span_among}
 
 -- ... tables
 

@@ -1,9 +1,9 @@
 -- Structures with names go forward, and end in the contents.
 use Rattle.std.specs.Prelude.{if◌then◌else◌, nat_eq}
-use Rattle.std.proofs.Common.{◌≡◌, ℕ, ◌+◌, ◌<◌, ◌≤◌, Bool, true, false, List, length, Some, None, Ok, Err, refl, sym, ◌∙◌, ap, arith}
+use Rattle.std.proofs.Common.{◌≡◌, ℕ, ◌≤◌, Bool, true, false, List, length, Some, None, Ok, Err, ap, arith}
 use Rattle.oc_omf_read.specs.Cursor.{Reading, index_read, name_read, next, number_read}
-use Rattle.oc_omf_read.specs.Structures.{Public, External, communal_length, communal_read, communal_width, external_read, long_size, public_read}
-use Rattle.oc_omf_read.proofs.EachLemmas.{Goes, byte_goes, index_goes, name_goes, next_goes, number_goes}
+use Rattle.oc_omf_read.specs.Structures.{communal_length, communal_read, communal_width, external_read, long_size, public_read}
+use Rattle.oc_omf_read.proofs.EachLemmas.{Goes, index_goes, name_goes, next_goes, number_goes}
 
 -- the place after what is read
 abbrev pub after_of : {X : Type 0} → Reading X → ℕ

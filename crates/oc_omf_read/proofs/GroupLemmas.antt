@@ -1,5 +1,5 @@
 -- A group by its name.
-use Rattle.std.proofs.Common.{◌≡◌, ℕ, List, length, None, Some, Ok, Err, refl, sym, ◌∙◌, ap}
+use Rattle.std.proofs.Common.{◌≡◌, ℕ, List, length, None, Some, Ok, Err, sym, ◌∙◌, ap}
 use Rattle.oc_base.specs.declared.code.Code.TheVariants.{BadTable}
 use Rattle.oc_base.specs.declared.fault.Fault.{Fault}
 use Rattle.oc_linking.specs.FirstFault.{Condition, first_broken}

@@ -1,5 +1,5 @@
 -- Entries that the stage of sections does not judge.
-use Rattle.std.proofs.Common.{◌≡◌, ℕ, ◌++◌, false, List, [], refl, sym, ◌∙◌, ap, append-nil}
+use Rattle.std.proofs.Common.{◌≡◌, ℕ, ◌++◌, false, [], ◌∙◌, ap, append-nil}
 use Rattle.oc_omf_read.specs.declared.defined.Defined.{Defined}
 use Rattle.oc_omf_read.specs.Entries.{Entry, all_read}
 use Rattle.oc_omf_read.specs.Defined.{IsTakenUp, and_entry}

@@ -1,21 +1,20 @@
 -- Symbols that follow one another in an entry.
-use Rattle.std.proofs.Common.{◌≡◌, ℕ, zero, suc, ◌+◌, ◌<◌, ◌≤◌, Bool, true, false, cond, not, ◌||◌, nat_eq, nat_lt, List, [], ◌∷◌, ◌++◌, length, map, take, Option, Some, None, Result, Ok, Err, refl, sym, ◌∙◌, ap, subst, arith, append-nil, append_assoc}
-use Rattle.std.specs.Prelude.{bytes_eq, get_or, is_some}
-use Rattle.std.specs.List.{enumerate_from, list_any}
-use Rattle.std.specs.Option.{option_map_or}
+use Rattle.std.proofs.Common.{◌≡◌, ℕ, ◌+◌, Bool, List, [], ◌∷◌, ◌++◌, length, map, take, Option, Some, None, Result, Ok, Err, refl, sym, ◌∙◌, ap, append-nil, append_assoc}
+use Rattle.std.specs.Prelude.{get_or}
+use Rattle.std.specs.List.{enumerate_from}
 use Rattle.std.proofs.Math.Seq.{take-append_seam}
 use Rattle.std.proofs.lemmas.List.{length-append}
 use Rattle.std.proofs.lemmas.List.Elements.{filter_map-append}
 use Rattle.oc_base.specs.declared.fault.Fault.{Fault}
-use Rattle.oc_linking.specs.Numbers.{first_upto, or_else}
-use Rattle.oc_linking.specs.FirstFault.{Condition, Stage, fault_of, first_broken, stage_fault}
+use Rattle.oc_linking.specs.Numbers.{or_else}
+use Rattle.oc_linking.specs.FirstFault.{Condition, first_broken, stage_fault}
 use Rattle.oc_shelf.proofs.ReadingLaws.StageLemmas.{first_upto-head}
 use Rattle.oc_omf_read.specs.declared.cut.Cut.{Cut}
 use Rattle.oc_omf_read.specs.declared.structures.Base.{Base}
 use Rattle.oc_omf_read.specs.declared.topics.Topic.TheVariants as topic
-use Rattle.oc_omf_read.specs.Cursor.{Read, Reading, each_read}
-use Rattle.oc_omf_read.specs.Structures.{Public, External, base_read, public_read}
-use Rattle.oc_omf_read.specs.Entries.{Entry, all_read, in_file, read_of, whole}
+use Rattle.oc_omf_read.specs.Cursor.{Read, Reading}
+use Rattle.oc_omf_read.specs.Structures.{Public, External, base_read}
+use Rattle.oc_omf_read.specs.Entries.{Entry, all_read, read_of, whole}
 use Rattle.oc_omf_read.specs.Tables.{Tables}
 use Rattle.oc_omf_read.specs.SymbolFaults.{Told, base_conditions, code_of, external_conditions, public_conditions, symbol_fault, symbol_stage, symbol_table, told_conditions}
 use Rattle.oc_omf_read.specs.Topics.{publics_on, said_on}

@@ -1,7 +1,7 @@
 -- What an entry is judged by at the stage of sections, by what it is about.
-use Rattle.std.proofs.Common.{◌≡◌, ℕ, ◌+◌, ◌≤◌, Bool, true, false, cond, List, [], ◌∷◌, ◌++◌, map, Option, Some, None, Ok, Err, refl, sym, ◌∙◌, ap, append-nil}
-use Rattle.std.specs.Prelude.{flat_map, filter_map, length, slice_get, take}
-use Rattle.std.specs.List.{cons_option, enumerate_from}
+use Rattle.std.proofs.Common.{◌≡◌, ℕ, ◌+◌, ◌≤◌, Bool, false, List, [], ◌∷◌, ◌++◌, Option, Some, None, Ok, Err, refl, sym, ◌∙◌, ap, append-nil}
+use Rattle.std.specs.Prelude.{flat_map, length, slice_get}
+use Rattle.std.specs.List.{cons_option}
 use Rattle.std.specs.Option.{option_map}
 use Rattle.std.proofs.lemmas.List.{length-map, take_all}
 use Rattle.std.proofs.lemmas.Option.{slice_get-map}
@@ -12,21 +12,18 @@ use Rattle.oc_linking.specs.FirstFault.{Condition, fault_of, first_broken}
 use Rattle.oc_shelf.proofs.ReadingLaws.StageLemmas.{first_broken-append}
 use Rattle.oc_omf_records.specs.declared.records.Entry.{Entry as Record}
 use Rattle.oc_omf_records.specs.NextEntry.{entry_of}
-use Rattle.oc_omf_read.specs.declared.cut.Cut.{Cut}
-use Rattle.oc_omf_read.specs.declared.structures.Base.{Base}
-use Rattle.oc_omf_read.specs.declared.structures.Segment.{Segment}
 use Rattle.oc_omf_read.specs.declared.topics.Topic.{Topic}
 use Rattle.oc_omf_read.specs.declared.topics.Topic.TheVariants as topic
 use Rattle.oc_omf_read.specs.Cursor.{Reading, Read, each_read, name_read}
-use Rattle.oc_omf_read.specs.Structures.{Group, Piece, base_read, group_read, piece_read, segment_read}
-use Rattle.oc_omf_read.specs.Entries.{Entry, all_read, entries_in, in_file, is_wide, places_in, read_of, said_at, said_by, says_nothing, whole}
+use Rattle.oc_omf_read.specs.Structures.{group_read, piece_read, segment_read}
+use Rattle.oc_omf_read.specs.Entries.{Entry, all_read, entries_in, in_file, is_wide, places_in, read_of, said_at, whole}
 use Rattle.oc_omf_read.specs.Tables.{Tables, tables_of}
 use Rattle.oc_omf_read.specs.SectionFaults.{conditions_by, conditions_on, end_conditions, group_conditions, name_conditions, own_fault, piece_conditions, section_stage, segment_conditions, whole_conditions}
-use Rattle.oc_omf_read.specs.Topics.{publics_on, said_on, topic_of}
+use Rattle.oc_omf_read.specs.Topics.{said_on, topic_of}
 use Rattle.oc_omf_read.specs.Defined.{and_entry, before_in, part_of}
 use Rattle.oc_omf_read.proofs.EntryLemmas.{conditions_at}
 use Rattle.oc_omf_read.proofs.StateLaws.{tables_more}
-use Rattle.oc_omf_read.proofs.TopicLemmas.{said_place, said_topic}
+use Rattle.oc_omf_read.proofs.TopicLemmas.{said_topic}
 
 -- ... structures with their places in the file
 

@@ -1,6 +1,6 @@
 -- What an entry says, by what it is about.
-use Rattle.std.proofs.Common.{◌≡◌, ℕ, Bool, true, false, cond, List, Ok, Err, refl, sym, ◌∙◌, ap}
-use Rattle.std.specs.Prelude.{◌||◌, if◌then◌else◌}
+use Rattle.std.proofs.Common.{◌≡◌, ℕ, Bool, true, false, cond, List, Ok, Err, refl, ap}
+use Rattle.std.specs.Prelude.{◌||◌}
 use Rattle.oc_omf_read.specs.declared.constants.TheConstants.{MODEND, EXTDEF, PUBDEF, LNAMES, SEGDEF, GRPDEF, FIXUPP, LEDATA, LIDATA, COMDEF, LEXTDEF, LPUBDEF}
 use Rattle.oc_omf_read.specs.declared.structures.Base.{Base}
 use Rattle.oc_omf_read.specs.declared.topics.Topic.{Topic}
@@ -8,7 +8,7 @@ use Rattle.oc_omf_read.specs.declared.topics.Topic.TheVariants as topic
 use Rattle.oc_omf_read.specs.Cursor.{Reading}
 use Rattle.oc_omf_read.specs.Structures.{base_read}
 use Rattle.oc_omf_read.specs.Entries.{Entry, is_kind, is_wide, publics_of, said_by, says_nothing, whole}
-use Rattle.oc_omf_read.specs.Topics.{data_topic, publics_on, said_on, symbols_topic, topic_of}
+use Rattle.oc_omf_read.specs.Topics.{publics_on, said_on, topic_of}
 
 -- a choice of topics, and of what they say
 chosen : (place : ℕ) (wide : Bool) (b : List ℕ) (test : Bool) (x y : Topic) (e f : Entry) → e ≡ said_on x place wide b → f ≡ said_on y place wide b

@@ -6,7 +6,7 @@ use Rattle.oc_omf_read.specs.declared.topics.Topic.{Topic}
 use Rattle.oc_omf_read.specs.declared.topics.Topic.TheVariants as topic
 use Rattle.oc_omf_read.specs.Cursor.{Reading, Read, name_read, each_read}
 use Rattle.oc_omf_read.specs.Structures.{Public, segment_read, group_read, base_read, public_read, external_read, communal_read, piece_read, subrecord_read}
-use Rattle.oc_omf_read.specs.Entries.{Entry, is_kind, is_wide, says_nothing, in_file, whole}
+use Rattle.oc_omf_read.specs.Entries.{Entry, is_kind, says_nothing, in_file, whole}
 
 -- of data and behind them, by the type
 abbrev pub data_topic : ℕ → Topic

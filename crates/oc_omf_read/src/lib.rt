@@ -12,8 +12,6 @@ mod externals;
 mod groups;
 mod header_stage;
 mod held;
-#[cfg(test)]
-mod judged_tests;
 mod judging;
 mod kind;
 mod laws;
@@ -31,8 +29,6 @@ mod structures;
 mod symbol_loop;
 mod symbol_stage;
 mod symbols;
-#[cfg(test)]
-mod tests;
 mod threads;
 mod topics;
 

@@ -20,8 +20,6 @@ mod reader;
 mod searched;
 mod started;
 mod tables;
-#[cfg(test)]
-mod tests;
 
 pub use class::Class;
 pub use fix::{Fix, Framed, reloc_of};

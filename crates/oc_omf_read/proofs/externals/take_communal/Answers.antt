@@ -1,5 +1,5 @@
 -- A communal without a fault is taken up.
-use Rattle.std.proofs.Common.{◌≡◌, ℕ, List, Bool, true, false, cond, nat_eq, length, Some, None, refl, sym, ◌∙◌, ap, subst, arith}
+use Rattle.std.proofs.Common.{◌≡◌, ℕ, true, false, cond, nat_eq, length, Some, None, refl, sym, ◌∙◌, ap, arith}
 use Rattle.std.specs.Option.{option_map_or}
 use Rattle.std.specs.Prelude.{not}
 use Rattle.std.proofs.lemmas.Bool.Decides.{nat_tests}
@@ -7,8 +7,7 @@ use Rattle.oc_omf_read.specs.Held.{value_at}
 use Rattle.oc_omf_read.specs.Seen.{external_with}
 use Rattle.oc_base.specs.declared.code.Code.TheVariants.{DuplicateName, SymbolKind}
 use Rattle.oc_linking.specs.Numbers.{or_else}
-use Rattle.oc_linking.specs.FirstFault.{first_broken}
-use Rattle.oc_omf_read.specs.SymbolFaults.{communal_conditions, is_empty, is_other_length, symbol_fault}
+use Rattle.oc_omf_read.specs.SymbolFaults.{is_empty, is_other_length, symbol_fault}
 use Rattle.std.specs.List.{list_any}
 use Rattle.oc_omf_read.proofs.SeenSteps.{communal_seen, communal_verdict}
 use Rattle.oc_omf_read.proofs.externals.take_communal.Goals as goal

@@ -1,5 +1,5 @@
 -- One after another.
-use Rattle.std.proofs.Common.{◌≡◌, ℕ, ◌<◌, ◌≤◌, false, List, ◌++◌, length, Ok, Err, None, Some, refl, sym, ◌∙◌, ap, subst, arith}
+use Rattle.std.proofs.Common.{◌≡◌, ◌<◌, ◌≤◌, false, List, ◌++◌, length, None, Some, sym, ◌∙◌, ap, subst, arith}
 use Rattle.oc_shelf.specs.Reading.Stops.{IsStop}
 use Rattle.oc_omf_read.specs.declared.seen.Seen.{Seen}
 use Rattle.oc_omf_read.specs.Structures.{External, communal_read}

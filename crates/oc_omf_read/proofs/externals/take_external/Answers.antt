@@ -1,5 +1,5 @@
 -- An external without a fault is taken up.
-use Rattle.std.proofs.Common.{◌≡◌, ℕ, Bool, false, cond, nat_eq, length, Some, None, refl, sym, ◌∙◌, ap, arith}
+use Rattle.std.proofs.Common.{◌≡◌, false, nat_eq, length, None, refl, sym, ◌∙◌, arith}
 use Rattle.std.proofs.lemmas.Bool.Decides.{nat_tests}
 use Rattle.oc_omf_read.specs.Seen.{external_with}
 use Rattle.oc_omf_read.proofs.SeenSteps.{clean_external, external_seen, undefined_is}

@@ -1,9 +1,8 @@
 -- A group without a fault is taken up.
-use Rattle.std.proofs.Common.{◌≡◌, ℕ, ◌++◌, ◌∷◌, [], length, Some, None, refl, sym, ◌∙◌, ap, subst, append-nil}
+use Rattle.std.proofs.Common.{ℕ, ◌++◌, ◌∷◌, [], length, Some, refl, sym, ◌∙◌, ap, append-nil}
 use Rattle.oc_base.specs.declared.code.Code.TheVariants.{BadTable}
-use Rattle.oc_linking.specs.FirstFault.{first_broken}
 use Rattle.oc_omf_read.specs.Structures.{group_read}
-use Rattle.oc_omf_read.specs.SectionFaults.{conditions_by, group_conditions, own_fault}
+use Rattle.oc_omf_read.specs.SectionFaults.{group_conditions, own_fault}
 use Rattle.oc_omf_read.specs.Defined.{and_entry}
 use Rattle.oc_omf_read.specs.Topics.{said_on}
 use Rattle.oc_omf_read.specs.declared.topics.Topic.TheVariants as topic

@@ -1,9 +1,9 @@
 -- Names are judged and taken up by themselves.
-use Rattle.std.proofs.Common.{◌≡◌, ◌++◌, refl, sym, ◌∙◌, ap, subst, append-nil}
+use Rattle.std.proofs.Common.{◌++◌, refl, sym, ◌∙◌, ap, subst, append-nil}
 use Rattle.oc_shelf.specs.Reading.Stops.{IsStop}
 use Rattle.oc_omf_read.specs.Cursor.{each_read, name_read}
 use Rattle.oc_omf_read.specs.Entries.{all_read}
-use Rattle.oc_omf_read.specs.Defined.{IsDefined, and_entry}
+use Rattle.oc_omf_read.specs.Defined.{and_entry}
 use Rattle.oc_omf_read.specs.Topics.{said_on}
 use Rattle.oc_omf_read.specs.declared.topics.Topic.TheVariants as topic
 use Rattle.oc_omf_read.proofs.DefinedLemmas.{names_taken, same_defined}

@@ -1,7 +1,5 @@
 -- Data nested too deep, of a segment that is there or not.
-use Rattle.std.proofs.Common.{◌≡◌, Some, None, Err, refl, sym, ◌∙◌, ap}
-use Rattle.oc_omf_records.specs.declared.faults.BlockFault.{BlockFault}
-use Rattle.oc_omf_records.specs.declared.faults.BlockFault.TheVariants as block
+use Rattle.std.proofs.Common.{Some, None, sym, ◌∙◌, ap}
 use Rattle.oc_omf_read.proofs.DefinedLemmas.{looked_up}
 use Rattle.oc_omf_read.proofs.PieceLemmas.{deep_lost, deep_piece}
 use Rattle.oc_omf_read.proofs.pieces.deep_fault.Goals as goal

@@ -1,8 +1,7 @@
 -- Data by their head.
-use Rattle.std.proofs.Common.{◌≡◌, ℕ, ◌^◌, min, Some, None, Ok, Err, refl, sym, ◌∙◌, ap, subst}
+use Rattle.std.proofs.Common.{◌≡◌, ℕ, ◌^◌, min, Some, Ok, Err, sym, ◌∙◌, ap}
 use Rattle.std.specs.Prelude.{drop}
 use Rattle.std.proofs.lemmas.Result.{IfErr-weaker, on_ok_weaker}
-use Rattle.oc_shelf.specs.declared.reading.stop.Stop.{Stop}
 use Rattle.oc_shelf.specs.declared.reading.stop.Stop.TheVariants as stop
 use Rattle.oc_omf_records.specs.declared.faults.BlockFault.TheVariants as block
 use Rattle.oc_omf_records.specs.Blocks.{Blocks, size_of}
@@ -10,7 +9,7 @@ use Rattle.oc_omf_read.specs.Known.{row_of}
 use Rattle.oc_omf_read.specs.Structures.{blocks_by}
 use Rattle.oc_omf_read.specs.declared.topics.Topic.TheVariants as topic
 use Rattle.oc_omf_read.specs.Topics.{said_on}
-use Rattle.oc_omf_read.specs.Defined.{IsPieceStopped, IsPieceTaken, IsStoppedAt, piece_with}
+use Rattle.oc_omf_read.specs.Defined.{IsPieceStopped, IsStoppedAt, piece_with}
 use Rattle.oc_omf_read.proofs.DataLemmas.{data_bad, data_cut, data_stopped, data_taken, head_inside}
 use Rattle.oc_omf_read.proofs.pieces.take_data.Goals as goal
 

@@ -1,5 +1,5 @@
 -- A definition without a fault is taken up.
-use Rattle.std.proofs.Common.{◌≡◌, ℕ, Bool, false, cond, nat_eq, nat_lt, length, Some, None, refl, sym, ◌∙◌, ap, arith}
+use Rattle.std.proofs.Common.{◌≡◌, false, nat_eq, nat_lt, length, refl, sym, ◌∙◌, arith}
 use Rattle.std.proofs.lemmas.Bool.Decides.{nat_tests}
 use Rattle.oc_omf_read.specs.Sections.{size_at}
 use Rattle.oc_omf_read.specs.Seen.{public_with}

@@ -1,5 +1,5 @@
 -- The base, and then the definitions.
-use Rattle.std.proofs.Common.{◌≡◌, ℕ, ◌++◌, [], length, Ok, Err, None, Some, refl, sym, ◌∙◌, ap, subst, append-nil}
+use Rattle.std.proofs.Common.{◌≡◌, ◌++◌, Ok, Some, sym, ◌∙◌, ap, subst, append-nil}
 use Rattle.oc_linking.specs.Numbers.{or_else}
 use Rattle.oc_shelf.specs.Reading.Stops.{IsStop}
 use Rattle.oc_omf_read.specs.Cursor.{Reading}

@@ -1,6 +1,5 @@
 -- One definition after another.
-use Rattle.std.proofs.Common.{◌≡◌, ℕ, ◌<◌, ◌≤◌, List, ◌++◌, length, Ok, Err, None, Some, refl, sym, ◌∙◌, ap, subst, arith}
-use Rattle.oc_shelf.specs.declared.reading.stop.Stop.TheVariants as stop
+use Rattle.std.proofs.Common.{◌≡◌, ◌<◌, ◌≤◌, List, ◌++◌, length, None, Some, sym, ◌∙◌, ap, subst, arith}
 use Rattle.oc_shelf.specs.Reading.Stops.{IsStop}
 use Rattle.oc_omf_read.specs.declared.seen.Seen.{Seen}
 use Rattle.oc_omf_read.specs.Structures.{Public, public_read}

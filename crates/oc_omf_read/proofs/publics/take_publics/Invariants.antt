@@ -1,8 +1,7 @@
 -- The definitions so far have no fault, and are taken up.
 use Rattle.std.proofs.Common.{◌-◌, length}
 use Rattle.oc_omf_read.specs.Tables.{Tables}
-use Rattle.oc_omf_read.specs.Structures.{Public, public_read}
-use Rattle.oc_omf_read.specs.declared.seen.Seen.{Seen}
+use Rattle.oc_omf_read.specs.Structures.{public_read}
 use Rattle.oc_omf_read.specs.Seen.{IsSeen, public_behind}
 use Rattle.oc_omf_read.proofs.WalkLemmas.{Walk}
 use Rattle.oc_omf_read.proofs.publics.take_publics.Given as goal

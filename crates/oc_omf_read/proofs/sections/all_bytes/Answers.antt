@@ -1,5 +1,5 @@
 -- One segment after another.
-use Rattle.std.proofs.Common.{◌≡◌, ◌+◌, ◌≤◌, length, refl, sym, ◌∙◌, ap, arith}
+use Rattle.std.proofs.Common.{◌≡◌, ◌+◌, length, ◌∙◌, ap, arith}
 use Rattle.oc_shelf.specs.Reading.Stops.{sum_upto}
 use Rattle.oc_shelf.proofs.ReadingLaws.StageLemmas.{sum_more}
 use Rattle.oc_omf_read.specs.Defined.{bytes_in}

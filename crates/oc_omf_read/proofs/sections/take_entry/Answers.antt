@@ -1,5 +1,5 @@
 -- Symbols, threads and fixups are judged later.
-use Rattle.std.proofs.Common.{◌≡◌, ℕ, refl, sym, subst}
+use Rattle.std.proofs.Common.{ℕ, refl, sym, subst}
 use Rattle.oc_omf_read.specs.declared.topics.Topic.{Topic}
 use Rattle.oc_omf_read.specs.declared.topics.Topic.TheVariants as topic
 use Rattle.oc_omf_read.specs.Topics.{said_on}

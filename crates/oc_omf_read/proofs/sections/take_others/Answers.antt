@@ -1,5 +1,5 @@
 -- Nothing is taken up.
-use Rattle.std.proofs.Common.{◌≡◌, ℕ, refl, sym, ◌∙◌, append-nil}
+use Rattle.std.proofs.Common.{ℕ, sym, ◌∙◌, append-nil}
 use Rattle.oc_omf_read.specs.Defined.{and_entry}
 use Rattle.oc_omf_read.specs.Topics.{said_on}
 use Rattle.oc_omf_read.specs.declared.topics.Topic.TheVariants as topic

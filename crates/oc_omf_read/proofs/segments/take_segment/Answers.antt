@@ -1,5 +1,5 @@
 -- A segment without a fault is taken up.
-use Rattle.std.proofs.Common.{◌≡◌, ℕ, ◌+◌, ◌++◌, [], ◌∷◌, length, Some, None, refl, sym, ◌∙◌, ap, subst, append-nil}
+use Rattle.std.proofs.Common.{ℕ, ◌+◌, ◌++◌, [], ◌∷◌, refl, ◌∙◌, ap, append-nil}
 use Rattle.oc_omf_read.specs.Structures.{segment_read}
 use Rattle.oc_omf_read.specs.Defined.{and_entry}
 use Rattle.oc_omf_read.specs.Topics.{said_on}

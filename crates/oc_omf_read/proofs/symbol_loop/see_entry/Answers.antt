@@ -1,7 +1,6 @@
 -- What an entry is about decides what is judged.
-use Rattle.std.proofs.Common.{◌≡◌, ℕ, refl, sym, subst}
+use Rattle.std.proofs.Common.{refl, sym, subst}
 use Rattle.std.proofs.lemmas.Result.{IfErr-weaker, on_ok_weaker}
-use Rattle.oc_shelf.specs.declared.reading.stop.Stop.{Stop}
 use Rattle.oc_omf_read.specs.declared.topics.Topic.{Topic}
 use Rattle.oc_omf_read.specs.declared.topics.Topic.TheVariants as topic
 use Rattle.oc_omf_read.specs.Cursor.{each_read}

@@ -1,8 +1,5 @@
 -- One that is read is taken up.
-use Rattle.std.proofs.Common.{◌≡◌, Ok, Err, refl, sym, ◌∙◌, ap}
-use Rattle.oc_omf_read.specs.Cursor.{Reading}
-use Rattle.oc_omf_read.specs.declared.structures.Segment.{Segment}
-use Rattle.oc_omf_read.specs.Defined.{part_of}
+use Rattle.std.proofs.Common.{refl, sym, ◌∙◌}
 use Rattle.oc_omf_read.proofs.SeenEntry.{group_lost, group_seen}
 use Rattle.oc_omf_read.proofs.symbol_loop.see_group.Goals as goal
 

@@ -1,5 +1,5 @@
 -- One that is read is taken up.
-use Rattle.std.proofs.Common.{◌≡◌, Ok, Err, refl, sym, ◌∙◌, ap}
+use Rattle.std.proofs.Common.{refl, sym, ◌∙◌, ap}
 use Rattle.oc_omf_read.specs.Cursor.{Reading}
 use Rattle.oc_omf_read.specs.declared.structures.Segment.{Segment}
 use Rattle.oc_omf_read.specs.Defined.{part_of}

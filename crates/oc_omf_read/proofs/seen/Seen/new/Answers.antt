@@ -1,5 +1,5 @@
 -- Nothing stood before.
-use Rattle.std.proofs.Common.{refl, rules}
+use Rattle.std.proofs.Common.{rules}
 use Rattle.oc_omf_read.specs.Tables.{tables_of}
 use Rattle.oc_omf_read.proofs.seen.Seen.new.Goals as goal
 

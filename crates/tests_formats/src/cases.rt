@@ -1,0 +1,45 @@
+//! What the tests of readers share: files into which bytes are put, and the faults that they have then.
+use oc_base::{Code, Fault, Phase};
+use oc_neutral::{Keep, ReadFault};
+
+/// What is put into a file, and where.
+pub(crate) type Edits = &'static [(usize, &'static [u8])];
+
+/// How many bytes of a file are left, what is put into it, and the fault that it has then: its index, code and place.
+pub(crate) type Case = (usize, Edits, (u32, Code, u64));
+
+/// What is kept: all.
+pub(crate) const KEEP: Keep = Keep {
+    debug: true,
+    exceptions: true,
+    notes: true,
+};
+
+/// Puts bytes into a file.
+pub(crate) fn put(file: &mut [u8], edits: Edits) {
+    for (at, bytes) in edits {
+        for (slot, byte) in file.iter_mut().skip(*at).zip(bytes.iter()) {
+            *slot = *byte;
+        }
+    }
+}
+
+/// The fault of a file that was not read, if memory sufficed.
+pub(crate) fn fault_in(read: ReadFault) -> Option<Fault> {
+    match read {
+        ReadFault::Malformed(fault) | ReadFault::Outside(fault) | ReadFault::Limit(fault) => {
+            Some(fault)
+        }
+        ReadFault::NoMemory => None,
+    }
+}
+
+/// The fault of a case.
+pub(crate) fn expected(phase: Phase, (index, code, place): (u32, Code, u64)) -> Option<Fault> {
+    Some(Fault {
+        phase,
+        index,
+        code,
+        place,
+    })
+}
