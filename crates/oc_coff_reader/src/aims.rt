@@ -16,7 +16,7 @@ use oc_neutral::{Binding, Fallback, Value};
 use std::alloc::Global;
 
 /// What a field can have of the symbol of its relocation entry.
-#[derive(Clone, Copy, Debug, PartialEq, Eq)]
+#[derive(Clone, Copy)]
 pub(crate) enum Aim {
     /// Nothing: no field can name the symbol.
     Nothing,

@@ -18,7 +18,7 @@ use oc_shelf::{Spans, Stop};
 use std::alloc::Global;
 
 /// The relocation table of a section that is carried.
-#[derive(Clone, Copy, Debug, PartialEq, Eq)]
+#[derive(Clone, Copy)]
 pub(crate) struct Table {
     /// How many bytes the section has.
     pub(crate) size: u32,

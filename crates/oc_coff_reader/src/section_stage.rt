@@ -120,7 +120,7 @@ fn form_fault(coff: &Coff, i: u16, h: &SectionHeader) -> Option<Fault>
 }
 
 /// What the sections so far are worth against the limits.
-#[derive(Clone, Copy, Debug, PartialEq, Eq)]
+#[derive(Clone, Copy)]
 pub(crate) struct Sums {
     /// The bytes that they take.
     pub(crate) sizes: u64,

@@ -16,7 +16,7 @@ use oc_neutral::{Binding, Fallback, Neutral, Symbol, Value};
 use std::alloc::Global;
 
 /// A line of the symbol table, by the position of its section or symbol in the object.
-#[derive(Clone, Copy, Debug)]
+#[derive(Clone, Copy)]
 pub(crate) enum Line {
     /// The symbol of a section.
     Section(u32),

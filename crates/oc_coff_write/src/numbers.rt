@@ -21,7 +21,7 @@ use std::alloc::Global;
 
 /// The numbers of lines, by the positions of their sections and symbols in the object; 0 where there is
 /// no line.
-#[derive(Debug, Drop)]
+#[derive(Drop)]
 pub(crate) struct Numbers {
     /// Of the symbols of sections.
     sections: Vec<u32>,

@@ -25,7 +25,7 @@ use oc_strings::Table;
 use std::alloc::Global;
 
 /// The symbol table of an object.
-#[derive(Debug, Drop)]
+#[derive(Drop)]
 pub(crate) struct Symbols {
     /// The string table.
     pub(crate) names: Table,

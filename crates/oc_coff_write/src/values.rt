@@ -11,7 +11,7 @@ use oc_coff_read::{
 use oc_neutral::{Binding, Fallback, Mark, Value};
 
 /// A value, and the number of the section that it counts from.
-#[derive(Clone, Copy, Debug)]
+#[derive(Clone, Copy)]
 pub(crate) struct Numbers {
     /// An offset in the section, a size or a number.
     pub(crate) value: u32,

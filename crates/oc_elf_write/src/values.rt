@@ -14,7 +14,7 @@ use oc_elf_read::{SHN_ABS, SHN_COMMON, SHN_UNDEF, STB_LOCAL, STB_WEAK, STT_FUNC,
 use oc_neutral::{Binding, Fallback, Mark, Neutral, Value, Visibility};
 
 /// A value, and the section header that it counts from.
-#[derive(Clone, Copy, Debug)]
+#[derive(Clone, Copy)]
 pub(crate) struct Stood {
     /// An offset in the section, an absolute number or an alignment.
     pub(crate) st_value: u64,

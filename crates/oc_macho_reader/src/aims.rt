@@ -15,7 +15,7 @@ use oc_neutral::{Keep, Target};
 use oc_shelf::Slots;
 
 /// What an entry refers to.
-#[derive(Clone, Copy, Debug, PartialEq, Eq)]
+#[derive(Clone, Copy)]
 pub(crate) struct Aim {
     /// What the relocation of a field is against.
     pub(crate) target: Target,

@@ -13,7 +13,7 @@ use oc_shelf::aligned_place;
 use std::alloc::Global;
 
 /// The addresses of the sections of an object.
-#[derive(Debug, Drop)]
+#[derive(Drop)]
 pub(crate) struct Addresses {
     /// Of each section, by its position.
     pub(crate) sections: Vec<u64>,

@@ -15,7 +15,7 @@ use oc_neutral::{Binding, Fallback, Neutral, Symbol, Value};
 use std::alloc::Global;
 
 /// A line of the symbol table, by the position of its section or symbol in the object.
-#[derive(Clone, Copy, Debug)]
+#[derive(Clone, Copy)]
 pub(crate) enum Line {
     /// The symbol `l_section_k` of a section.
     Own(u32),
@@ -26,7 +26,7 @@ pub(crate) enum Line {
 }
 
 /// What a symbol is that is not Local.
-#[derive(Clone, Copy, Debug)]
+#[derive(Clone, Copy)]
 pub(crate) enum Outer {
     /// It is defined here: a Global, or a Weak with a place or a Name.
     Defined,
@@ -147,7 +147,7 @@ fn add_outers(lines: &mut Vec<Line>, neutral: &Neutral, outer: Outer) -> Result<
 }
 
 /// The lines of a symbol table.
-#[derive(Debug, Drop)]
+#[derive(Drop)]
 pub(crate) struct Lines {
     /// All of them.
     pub(crate) all: Vec<Line>,

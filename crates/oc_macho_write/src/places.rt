@@ -13,7 +13,7 @@ use oc_neutral::Neutral;
 use std::alloc::Global;
 
 /// Where parts begin, offsets in the file; 0 where there is no part.
-#[derive(Debug, Drop)]
+#[derive(Drop)]
 pub(crate) struct Places {
     /// Of each section its bytes.
     pub(crate) raws: Vec<u64>,

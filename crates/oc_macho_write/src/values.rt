@@ -14,7 +14,7 @@ use oc_macho_read::{
 use oc_neutral::{Binding, Fallback, Neutral, Value, Visibility};
 
 /// A value, and the section that it counts from.
-#[derive(Clone, Copy, Debug)]
+#[derive(Clone, Copy)]
 pub(crate) struct Stood {
     /// One of the constants `N_UNDF`, `N_ABS` and `N_SECT`.
     pub(crate) n_type: u8,

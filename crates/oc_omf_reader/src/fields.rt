@@ -22,7 +22,7 @@ use oc_omf_records::Entry;
 use std::alloc::Global;
 
 /// A field of a fixup.
-#[derive(Clone, Copy, Debug, PartialEq, Eq, Drop)]
+#[derive(Clone, Copy, Drop)]
 pub struct Field {
     /// The position of its section.
     pub section: u32,

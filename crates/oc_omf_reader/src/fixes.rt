@@ -12,7 +12,7 @@ use oc_neutral::{Keep, Target};
 use oc_omf_read::{Datum, Fixup, Method, Module, OFFSET_32, Threads};
 
 /// What a frame or a target names: a symbol by its number, or a section by its position.
-#[derive(Clone, Copy, Debug, PartialEq, Eq)]
+#[derive(Clone, Copy, PartialEq, Eq)]
 pub enum Named {
     /// A symbol.
     Symbol(u32),
@@ -21,7 +21,7 @@ pub enum Named {
 }
 
 /// What a method names: as the object has it, and as frames are compared with it.
-#[derive(Clone, Copy, Debug, PartialEq, Eq)]
+#[derive(Clone, Copy)]
 pub struct Aim {
     /// As the object has it.
     pub target: Target,

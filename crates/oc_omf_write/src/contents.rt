@@ -12,7 +12,7 @@ use std::marker::Model;
 pub const ROOM: usize = 2048;
 
 /// The contents of an entry so far. Contracts see their bytes. No call takes memory.
-#[derive(Debug, Drop)]
+#[derive(Drop)]
 pub(crate) struct Contents {
     bytes: [u8; ROOM],
     len: usize,

@@ -11,7 +11,7 @@ use oc_names::Edit;
 use std::alloc::Global;
 
 /// The head of an option that takes an old and a new name.
-#[derive(Clone, Copy, Debug, PartialEq, Eq)]
+#[derive(Clone, Copy)]
 pub enum PairHead {
     /// `-nr`
     Rename,
@@ -28,7 +28,7 @@ pub enum PairHead {
 }
 
 /// The head of an option that takes one name.
-#[derive(Clone, Copy, Debug, PartialEq, Eq)]
+#[derive(Clone, Copy)]
 pub enum NameHead {
     /// `-nw`
     Weaken,
@@ -37,7 +37,7 @@ pub enum NameHead {
 }
 
 /// The head of an option that names symbols.
-#[derive(Clone, Copy, Debug, PartialEq, Eq)]
+#[derive(Clone, Copy)]
 pub enum Head {
     /// An old and a new name follow.
     OfPair(PairHead),

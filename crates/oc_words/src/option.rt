@@ -11,7 +11,7 @@ use oc_names::{Choice, Edit};
 use std::alloc::Global;
 
 /// What one word of a conversion says by itself.
-#[derive(Debug, Drop)]
+#[derive(Drop)]
 pub enum Said {
     /// It is the name of a file.
     Operand,

@@ -12,7 +12,7 @@ use oc_names::{Choice, Edit, Edits};
 use std::alloc::Global;
 
 /// The names of files that were taken up.
-#[derive(Debug, Drop)]
+#[derive(Drop)]
 pub enum Names {
     /// None yet.
     NoName,
@@ -23,7 +23,7 @@ pub enum Names {
 }
 
 /// What a conversion's words say that were taken up.
-#[derive(Debug, Drop)]
+#[derive(Drop)]
 pub struct Reading {
     /// The target.
     pub to: Option<Format>,
