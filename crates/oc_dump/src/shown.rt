@@ -4,7 +4,7 @@ ghost use Rattle.oc_dump.specs.Lines as lines;
 
 use oc_base::{NoMemory, Word};
 
-// puts a byte of a name behind the text
+// puts a byte of a name after the text
 #[tactic(auto, using(crate::proofs::HexLemmas::hex_shown))]
 fn put_byte(out: &mut String, byte: u8) -> Result<(), NoMemory>
     ensures { OnOk result (string_bytes out.new ≡ string_bytes out.old ++ lines.shown_byte byte) }
@@ -17,7 +17,7 @@ fn put_byte(out: &mut String, byte: u8) -> Result<(), NoMemory>
     Ok(())
 }
 
-/// Puts a name behind the text: graphic characters of ASCII but the backslash as they are, every
+/// Puts a name after the text: graphic characters of ASCII but the backslash as they are, every
 /// other byte as `\x` and two digits.
 ///
 /// `NoMemory` where memory ran out; then a part may have been put. Linear in the name.
@@ -30,7 +30,7 @@ pub fn put_name(out: &mut String, name: &[u8]) -> Result<(), NoMemory>
     Ok(())
 }
 
-/// Puts a number behind the text, in hexadecimal: at least 8 digits for words of 32 bits and 16 for those
+/// Puts a number after the text, in hexadecimal: at least 8 digits for words of 32 bits and 16 for those
 /// of 64, with zeros first.
 ///
 /// `NoMemory` where memory ran out; then a part may have been put. Constant time.

@@ -59,3 +59,42 @@ impl<O: Print, E: Print> Console for RealConsole<O, E> {
         }
     }
 }
+
+#[cfg(test)]
+mod tests {
+    use super::*;
+    use crate::telling::{show_all, tell_all};
+    use std::fmt::Display;
+    use std::io;
+    use std::test::Fail;
+
+    /// A stream that is closed.
+    #[derive(Drop)]
+    struct Closed;
+
+    impl Print for Closed {
+        fn print<D: Display + Drop>(&self, _value: D) -> io::Result<()> {
+            Err(io::Error::from(io::ErrorKind::BrokenPipe))
+        }
+
+        fn println<D: Display + Drop>(&self, _value: D) -> io::Result<()> {
+            Err(io::Error::from(io::ErrorKind::BrokenPipe))
+        }
+
+        fn write_all(&self, _bytes: &[u8]) -> io::Result<()> {
+            Err(io::Error::from(io::ErrorKind::BrokenPipe))
+        }
+    }
+
+    #[test]
+    fn each_stream_counts_its_faults(rt: HostRuntime) -> Result<(), Fail> {
+        let mut console = RealConsole::new(rt.stdout(), Closed);
+        show_all(&mut console, b"shown\n")?;
+        let told = tell_all(&mut console, b"told\n");
+        assert_eq!(rt;
+            (told, console.out_faults, console.err_faults),
+            (Err(Failed), 0, 1)
+        );
+        Ok(())
+    }
+}

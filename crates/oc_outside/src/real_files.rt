@@ -165,3 +165,40 @@ impl<R: rt::Files> Files for RealFiles<'_, R> {
         }
     }
 }
+
+#[cfg(test)]
+mod tests {
+    use super::*;
+    use crate::reading::{LIMIT, ReadFault, read_file};
+    use std::process;
+    use std::test::Fail;
+
+    // the path of a file that no other test has
+    fn path(rt: &HostRuntime, word: &str) -> Result<String, Fail> {
+        let id = process::id(rt.process());
+        let path = format!(in rt.alloc(); "/tmp/oc_outside-{id}-{word}")?;
+        Ok(path)
+    }
+
+    /// A file that is not there is a fault of each kind.
+    #[test]
+    fn real_file_that_is_absent(rt: HostRuntime) -> Result<(), Fail> {
+        let path = path(&rt, "absent")?;
+        let name = path.as_str();
+        let mut files = RealFiles::new(rt.alloc(), &rt);
+        let absent = read_file(rt.alloc(), &mut files, name, LIMIT).err();
+        let appended = files.append(name, b"a");
+        let created = files.create("/tmp/oc_outside/no/such/folder");
+        assert_eq!(rt;
+            (
+                absent,
+                appended,
+                created,
+                files.read_faults,
+                files.write_faults
+            ),
+            (Some(ReadFault::Input), Err(Failed), Err(Failed), 1, 2)
+        );
+        Ok(())
+    }
+}

@@ -2,5 +2,4 @@
 mod mem_console;
 mod mem_files;
 mod pieces;
-mod real_console;
 mod real_files;

@@ -42,36 +42,6 @@ fn real_file_there_and_back(rt: HostRuntime) -> Result<(), Fail> {
     Ok(())
 }
 
-/// Reads one file, appends to it and creates another. Its clauses say which faults are counted.
-fn each_kind_of_call<R: rt::Files>(
-    alloc: Global,
-    files: &mut RealFiles<'_, R>,
-    name: &str,
-    other: &str,
-) -> (Option<ReadFault>, Result<usize, Failed>, Result<(), Failed>)
-    requires reads { files.old.read_faults ≡ 0 }
-    requires writes { files.old.write_faults ≡ 0 }
-    ensures read { result.0 ≡ Some ReadFault.Input → 1 ≤ files.new.read_faults }
-    ensures written { OnErr result.1 (OnErr result.2 (2 ≤ files.new.write_faults)) }
-{
-    let read = read_file(alloc, files, name, LIMIT).err();
-    let appended = files.append(name, b"a");
-    let created = files.create(other);
-    (read, appended, created)
-}
-
-/// A file that is not there is a fault of each kind.
-#[test]
-fn real_file_that_is_absent(rt: HostRuntime) -> Result<(), Fail> {
-    let path = path(&rt, "absent")?;
-    let name = path.as_str();
-    let mut files = RealFiles::new(rt.alloc(), &rt);
-    let other = "/tmp/oc_outside/no/such/folder";
-    let answers = each_kind_of_call(rt.alloc(), &mut files, name, other);
-    assert_eq!(rt; answers, (Some(ReadFault::Input), Err(Failed), Err(Failed)));
-    Ok(())
-}
-
 /// A call on the file, with the answer that is due.
 #[derive(Clone, Copy)]
 enum Step {
