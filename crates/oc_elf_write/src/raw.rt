@@ -26,11 +26,7 @@ impl FieldNumbers for Addends {
 
 /// The sections with the addends of relocations in their bytes, where the entries of the class have none.
 /// Linear in the sections and relocations, no memory.
-pub(crate) fn with_addends(
-    class: ElfClass,
-    relocs: &Relocs,
-    sections: Vec<Section>,
-) -> Vec<Section>
+pub(crate) fn with_addends(class: ElfClass, relocs: &Relocs, sections: Vec<Section>) -> Vec<Section>
     requires { LieWithin sections.items relocs.now.lists }
     ensures { result.items ≡ with_addends class relocs.now.lists sections.items }
 {

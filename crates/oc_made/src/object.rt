@@ -35,5 +35,11 @@ pub fn made(alloc: Global, count: u32, word: Word) -> Result<Neutral, NoMemory>
     sections.push(text_section(alloc, count)?)?;
     let symbols = symbols_of(alloc, count)?;
     let calls = calls_of(alloc, word, count)?;
-    Ok(Neutral::new(elf_format(word), Vec::new(alloc), sections, symbols, Relocs::of(calls)))
+    Ok(Neutral::new(
+        elf_format(word),
+        Vec::new(alloc),
+        sections,
+        symbols,
+        Relocs::of(calls),
+    ))
 }
