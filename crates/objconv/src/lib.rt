@@ -5,8 +5,14 @@ mod command;
 mod conversion;
 mod input;
 mod listing;
+#[cfg(test)]
+mod made_files;
 mod making;
 mod report;
+#[cfg(test)]
+mod tests;
+#[cfg(test)]
+mod windows;
 mod writing;
 
 pub use command::run;

@@ -1,10 +1,11 @@
 //! Objects that are made, over files and a console in memory. The file is one that another program wrote.
 ghost use Rattle.std.specs.Prelude.{◌<◌};
 
-use crate::hexadecimal::bytes_of;
-use objconv::{Words, run};
+use crate::run;
+use crate::windows::bytes_of;
 use oc_base::NoMemory;
 use oc_outside::{MemConsole, MemFiles};
+use oc_words::Words;
 use std::alloc::Global;
 use std::test::Fail;
 

@@ -2,7 +2,7 @@
 //! those that the command's description states, byte for byte.
 ghost use Rattle.std.specs.Prelude.{◌-◌, ◌^◌, None};
 
-use objconv::{Words, run};
+use super::*;
 use oc_base::NoMemory;
 use oc_outside::{Failed, Files, MemConsole, MemFiles};
 use std::alloc::Global;

@@ -2,8 +2,7 @@
 //! files from an independent model of the conversion.
 ghost use Rattle.std.specs.Prelude.{◌<◌};
 
-use crate::hexadecimal::bytes_of;
-use oc_base::Format;
+use oc_base::{Format, NoMemory};
 use oc_dispatch::{AnyPlan, dispatch};
 use oc_names::Edits;
 use oc_neutral::Emits;
@@ -61,6 +60,30 @@ const GROUP_COFF: &[&str] = &[
 
 /// A place, in bytes, behind the end of each file; windows begin before it and are shorter.
 const BEHIND: usize = 250;
+
+/// The number of a digit in lower-case hexadecimal; 0 for any other byte.
+fn digit(byte: u8) -> u8
+    ensures { result < 16 }
+{
+    match byte {
+        b'0'..=b'9' => byte - b'0',
+        b'a'..=b'f' => byte - b'a' + 10,
+        _ => 0,
+    }
+}
+
+/// The bytes that these lines give, two digits each.
+pub(crate) fn bytes_of(alloc: Global, lines: &[&str]) -> Result<Vec<u8>, NoMemory> {
+    let mut bytes = Vec::new(alloc);
+    for line in lines {
+        for pair in line.as_bytes().chunks(2) {
+            if let [high, low] = pair {
+                bytes.push(digit(*high) * 16 + digit(*low))?;
+            }
+        }
+    }
+    Ok(bytes)
+}
 
 /// The plan of the file of an object as COFF for i386.
 fn plan_of(alloc: Global, lines: &[&str]) -> Result<AnyPlan, Fail> {
