@@ -8,7 +8,7 @@ use crate::checks::{keys_are_bytes, names_are_bytes};
 use crate::edit::Edit;
 use crate::edits::Edits;
 use crate::keep::keep_for;
-use crate::name_step::named_parts;
+use crate::name_step::{MOST_SYMBOLS, named_parts};
 use crate::rebind_step::rebound;
 use oc_base::Format;
 use oc_drop::{EditFault, dropped};
@@ -24,7 +24,7 @@ fn named(alloc: Global, edits: &[Edit], to: Format, neutral: Neutral) -> Result<
     ensures refused { IfErr result (IsStepRefusal (naming.named_object edits.now to neutral)) }
 {
     neutral.is_object();
-    if edits.is_empty() && neutral.symbol_count() <= 16_777_216 {
+    if edits.is_empty() && u64::from(neutral.symbol_count()) <= MOST_SYMBOLS {
         return Ok(neutral);
     }
     let from = neutral.format();

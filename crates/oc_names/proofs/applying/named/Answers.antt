@@ -43,9 +43,9 @@ new-requires c =
     c.format-from.ensures groups c.into_parts-groups.ensures.sections symbols c.into_parts-groups.ensures.relocs))
     (named_is_object c.args.edits.now c.args.to n c.is_object.ensures clean names bytes)
 
-pub returns-then-symbol_count-le16777216-clause-ok : goal.returns-then-symbol_count-le16777216-clause-ok
-returns-then-symbol_count-le16777216-clause-ok c =
+pub returns-then-from-le-MOST_SYMBOLS-clause-ok : goal.returns-then-from-le-MOST_SYMBOLS-clause-ok
+returns-then-from-le-MOST_SYMBOLS-clause-ok c =
     let empty : length c.args.edits.now ≡ 0 = grind (arith, nat_tests, c.is_empty.ensures, c.if-is_empty.true) in
     let none : c.args.edits.now ≡ [] = no_items c.args.edits.now empty in
-    let few : length c.args.neutral.symbols ≤ 2 ^ 24 = omega (arith, c.symbol_count.ensures, c.if-symbol_count-le16777216.true) in
+    let few : length c.args.neutral.symbols ≤ 2 ^ 24 = omega (arith, c.symbol_count.ensures, c.from.ensures, c.if-from-le-MOST_SYMBOLS.true) in
     subst (λ (es : List Edit). named_object es c.args.to c.args.neutral ≡ Ok c.args.neutral) (sym none) (named_object_same c.args.neutral c.is_object.ensures c.args.to few)
