@@ -4,7 +4,7 @@ use Rattle.std.specs.Prelude.{slice_get, filter_map, not}
 use Rattle.std.specs.List.{count_by, sum_by, enumerate_from, filter, range_with_len, list_any, cons_option, AllByRecursion}
 use Rattle.std.proofs.lemmas.Bool.{true≢false, or_left}
 use Rattle.std.proofs.lemmas.List.{length-map}
-use Rattle.std.proofs.lemmas.List.FromFn.{length-enumerate_from}
+use Rattle.std.proofs.lemmas.List.FromFn.{length-enumerate_from, length-range_with_len}
 use Rattle.std.proofs.lemmas.List.Sums.{sum_by-cons, sum_by-append, length-filter, count_by-le-length}
 use Rattle.oc_chains.specs.declared.field.Field as chains
 use Rattle.oc_chains.specs.Lists.{list_of}
@@ -108,6 +108,13 @@ module _ (class : ElfClass) (n : Object) (is : IsForElf class n) where
       let b = tables_counted 0 n.sections in
       let few = is.meets.headers in
       omega (arith, a, b, few)
+
+  -- at most one of relocations for each section
+  few_reloc_heads : length (reloc_heads n) ≤ length n.sections
+  few_reloc_heads =
+      let tables = tables_counted 0 n.sections in
+      let counted = count_by-le-length (is_relocated (format_of class) n) (range_with_len 0 (length n.sections)) in
+      omega (arith, tables, counted, length-range_with_len 0 (length n.sections))
 
   -- ... symbols
 
@@ -300,7 +307,9 @@ module _ (class : ElfClass) (n : Object) (is : IsForElf class n) where
   ehdr_low Class32 = omega arith
   ehdr_low Class64 = omega arith
 
-  heads_size : sum_by head_size_of (heads_of n) ≤ 0xF000_0000
+  -- what the parts of headers take at most, by counts and sums of the object
+  heads_size : sum_by head_size_of (heads_of n)
+      ≤ 1000 + 100 * length n.sections + 100 * length n.groups + stored_sum n.sections + 26 * length n.symbols + 2 * symbol_text + 3 * section_text + key_text + 24 * sum_by length n.relocs
   unfolding heads_of head_names line_names
   heads_size =
       let a = sum_by-cons head_size_of NullHead (group_heads n ++ (section_heads n ++ (reloc_heads n ++ table_heads))) in
@@ -322,13 +331,15 @@ module _ (class : ElfClass) (n : Object) (is : IsForElf class n) where
       let tables_c = sum_by-cons head_size_of ShstrtabHead [] in
       let text = line_text in
       let names = head_text in
-      let bounds = is.meets.bounds in
       let all = length-heads in
-      omega (arith, a, b, c, d, groups, members, heads, few, sections, relocs, symtab, lines, strtab, shstrtab, tables_a, tables_b, tables_c, text, names, all, bounds.stored, bounds.symbols, bounds.texts, bounds.fields)
+      let tables = few_reloc_heads in
+      omega (arith, a, b, c, d, groups, members, heads, few, sections, relocs, symtab, lines, strtab, shstrtab, tables_a, tables_b, tables_c, text, names, all, tables)
 
-  pub small_file : length (elf_file class n) < 2 ^ 32
+  -- and the file
+  pub file_size : length (elf_file class n)
+      ≤ 2000 + 300 * length n.sections + 200 * length n.groups + stored_sum n.sections + 26 * length n.symbols + 2 * symbol_text + 3 * section_text + key_text + 24 * sum_by length n.relocs
   unfolding parts_of
-  small_file =
+  file_size =
       let long = length-elf_file class n in
       let end = end_low (part_begin class) (part_size class n) 16 0 (parts_of n) (λ p x. gap_low (part_align class x) p (align_low class x)) in
       let a = sum_by-cons size_of FileHead (map Body (heads_of n) ++ HeadTable ∷ []) in
@@ -338,5 +349,13 @@ module _ (class : ElfClass) (n : Object) (is : IsForElf class n) where
       let heads = heads_size in
       let head = ehdr_low class in
       let table = shdr_low class (length (heads_of n)) in
+      let all = length-heads in
+      let tables = few_reloc_heads in
+      omega (arith, long, end, a, b, c, d, heads, head, table, all, tables)
+
+  pub small_file : length (elf_file class n) < 2 ^ 32
+  small_file =
+      let size = file_size in
       let few = few_heads in
-      omega (arith, long, end, a, b, c, d, heads, head, table, few)
+      let bounds = is.meets.bounds in
+      omega (arith, size, few, bounds.stored, bounds.symbols, bounds.texts, bounds.fields)
