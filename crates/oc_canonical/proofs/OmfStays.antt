@@ -1,0 +1,132 @@
+-- What is seen of an object that is ready for OMF is ready for OMF.
+use Rattle.std.proofs.Common.{◌≡◌, ℕ, ◌+◌, ◌-◌, ◌^◌, ◌<◌, ◌≤◌, Bool, true, false, cond, not, ◌&&◌, ◌||◌, eqb, nat_lt, nat_le, List, [], length, map, is_none, is_err, Option, Some, None, ℤ, refl, sym, ◌∙◌, ap, subst, arith}
+use Rattle.std.specs.Prelude.{slice_get, nat_eq, count_by}
+use Rattle.std.specs.Option.{option_map, option_map_or}
+use Rattle.std.proofs.lemmas.Bool.{true≢false, eq-eqb}
+use Rattle.std.proofs.lemmas.Option.{none-some}
+use Rattle.oc_base.specs.declared.format.Format.TheVariants.{Omf}
+use Rattle.oc_base.specs.declared.fault.Spot.{Spot}
+use Rattle.oc_base.specs.Formats.{word_for}
+use Rattle.oc_linking.specs.declared.terms.Kind.{Kind}
+use Rattle.oc_linking.specs.declared.terms.Kind.TheVariants.{Code, ReadOnly, Data, Zero, Init, Fini, Debug, Exception, Note}
+use Rattle.oc_linking.specs.declared.terms.Fallback.{Fallback}
+use Rattle.oc_linking.specs.declared.terms.Binding.{Binding}
+use Rattle.oc_linking.specs.declared.terms.Binding.TheVariants.{Local, Global, Undefined, Common, Weak}
+use Rattle.oc_linking.specs.declared.terms.Hint.TheVariants.{Plain}
+use Rattle.oc_linking.specs.Parts.{is_local}
+use Rattle.oc_algebra.specs.declared.form.Form.{Form}
+use Rattle.oc_algebra.specs.Fields.{to_field_of}
+use Rattle.oc_neutral.specs.declared.section.Section.{Section}
+use Rattle.oc_neutral.specs.declared.symbol.Symbol.{Symbol}
+use Rattle.oc_neutral.specs.declared.reloc.Reloc.{Reloc}
+use Rattle.oc_neutral.specs.Objects.{Object, reloc_at}
+use Rattle.oc_neutral.specs.Bindings.{is_external}
+use Rattle.oc_neutral.specs.Fitted.{IsFitted}
+use Rattle.oc_neutral.specs.Invariants.{IsObject}
+use Rattle.oc_neutral.specs.KindRules.{same_kind}
+use Rattle.oc_neutral.specs.Manners.{omf_manner}
+use Rattle.oc_neutral.specs.Omf.Family.{omf_gives, is_too_long}
+use Rattle.oc_neutral.specs.Omf.Kinds.{omf_class}
+use Rattle.oc_neutral.specs.Rows.{Row}
+use Rattle.oc_neutral.specs.Seen.{seen, seen_section, seen_symbol, seen_symbols, seen_binding, seen_fallback, seen_reloc}
+use Rattle.oc_neutral.specs.Shifts.{field_shift}
+use Rattle.oc_neutral.specs.Spelling.{numbers_in, spelling_of, written_row}
+use Rattle.oc_neutral.specs.TargetRelocations.{reloc_conditions}
+use Rattle.oc_neutral.proofs.MeetsConditions.{AreMet, reloc_met, neither}
+use Rattle.oc_neutral.proofs.SeenLaws.{seen_is_object_law}
+use Rattle.oc_neutral.proofs.SeenLines.{IsShown}
+use Rattle.oc_neutral.proofs.SeenAlike.{seen_local}
+use Rattle.oc_neutral.proofs.SeenReady.{IsReady, omf_ready}
+use Rattle.oc_omf_file.proofs.CodedLaws.{IsForOmf, for_omf}
+use Rattle.oc_omf_file.proofs.SeenLaws.{shown, again, again_is, are_shown}
+use Rattle.oc_canonical.proofs.OmfAgain.{plain_rows, form_same}
+use Rattle.oc_canonical.proofs.SeenSums.{seen_count}
+use Rattle.oc_canonical.proofs.SeenFitted.{FamilyStays, seen_fitted}
+use Rattle.oc_canonical.proofs.StaysLemmas.{or_false, low_not, sections_long, target_stays, plain_row}
+
+-- a kind that has a class
+pub record IsClassed (kind : Kind) : Type 0 where
+  pub debug : same_kind kind Debug ≡ false
+  pub there : (same_kind kind Init || same_kind kind Fini) ≡ false
+  pub given : omf_gives kind ≡ true
+
+pub classed : (kind : Kind) (class : List ℕ) → omf_class kind ≡ Some class → IsClassed kind
+classed Code class e = record { debug = refl; there = refl; given = refl }
+classed ReadOnly class e = record { debug = refl; there = refl; given = refl }
+classed Data class e = record { debug = refl; there = refl; given = refl }
+classed Zero class e = record { debug = refl; there = refl; given = refl }
+classed Init class e = absurd (none-some class e)
+classed Fini class e = absurd (none-some class e)
+classed Debug class e = absurd (none-some class e)
+classed Exception class e = absurd (none-some class e)
+classed Note class e = absurd (none-some class e)
+
+external_same : (n : Object) (shown : List (ℕ × ℕ)) (b : Binding) → is_external (seen_binding omf_manner n shown b) ≡ is_external b
+external_same n shown (Local v) = refl
+external_same n shown (Global v) = refl
+external_same n shown Undefined = refl
+external_same n shown (Common size align) = refl
+external_same n shown (Weak f) = refl
+
+module _ (n : Object) (fits : IsFitted Omf n) where
+  is : IsForOmf n
+  is = for_omf n fits
+
+  shows : IsShown n (shown n)
+  shows = are_shown n is
+
+  abbrev a : Object
+  a = again n
+
+  ready : IsReady omf_manner n
+  ready = omf_ready n is.object is.meets
+
+  pub object : IsObject a
+  object = subst IsObject (again_is n is.format) (seen_is_object_law Omf n fits)
+
+  kind_of : (k : ℕ) (s : Section) → slice_get n.sections k ≡ Some s → IsClassed s.kind
+  kind_of k s here = let m = is.meets.sections k s here in classed s.kind m.class m.classed
+
+  few : nat_lt 32767 (count_by (λ (s : Symbol). is_external s.binding) a.symbols) ≡ false
+  few =
+      let low = is.meets.externals in
+      let le = seen_count omf_manner n (shown n) shows (λ s. is_external s.binding) (λ s. is_external s.binding) (λ k number s h. external_same n (shown n) s.binding) in
+      low_not 32767 _ (omega (arith, low, le))
+
+  symbol : (k number : ℕ) (s : Symbol) → slice_get n.symbols k ≡ Some s → (not (is_local (seen_symbol omf_manner n (shown n) number s).binding) && is_too_long s.name) ≡ false
+  symbol k number s here = ap (λ b. not b && is_too_long s.name) (seen_local omf_manner n (shown n) shows s.binding) ∙ by (is_local s.binding) refl
+    where
+      by : (b : Bool) → is_local s.binding ≡ b → (not b && is_too_long s.name) ≡ false
+      by true e = refl
+      by false e = low_not 255 (length s.name) ((is.meets.symbols k s here).name e)
+
+  reloc : (s at : ℕ) (r : Reloc) (spot : Spot) → reloc_at n s at ≡ Some r → AreMet (reloc_conditions Omf a at (seen_reloc omf_manner n (shown n) r) spot)
+  unfolding reloc_conditions field_shift
+  reloc s at r spot here =
+      let q : Reloc = seen_reloc omf_manner n (shown n) r in
+      let met = reloc_met Omf n fits s at r here in
+      let formed : is_none (spelling_of Omf q.form Plain) ≡ false
+      = ap (λ (f : Form). is_none (spelling_of Omf f Plain)) (form_same n is object s at r here)
+      ∙ ap (λ o. is_none (option_map (λ (x : Row). numbers_in x.number x.second) o)) (plain_row Omf plain_rows r.form r.hint)
+      ∙ (neither (is_none (spelling_of Omf r.form r.hint)) _ met.1.0).0 in (
+        target_stays omf_manner n (shown n) shows ready s at r here met.0,
+        (or_false (is_none (spelling_of Omf q.form Plain)) false formed refl, (refl, (refl, (refl, tt)))),
+      )
+
+  omf_stays : FamilyStays Omf omf_manner n (shown n)
+  omf_stays = record {
+    counted = (let long = sections_long omf_manner n (shown n) shows in let low = is.meets.few in (low_not 30000 (length a.sections) (omega (arith, long, low)), tt));
+    debug = λ k s here. ap (λ b. b && true) (kind_of k s here).debug;
+    kind = λ k s here. (kind_of k s here).there;
+    gives = λ k s here. ap (λ b. b && omf_gives s.kind) (eq-eqb s.tag 0 (is.meets.sections k s here).tag) ∙ (kind_of k s here).given;
+    name = λ k s here. low_not 255 (length s.name) (is.meets.sections k s here).name;
+    member = λ k s here. ap (λ o. option_map_or (λ (g : ℕ). true) o false) (is.meets.sections k s here).alone;
+    few = (few, tt);
+    symbol = symbol;
+    weak = λ k s f here own. absurd ((is.meets.symbols k s here).strong f own);
+    reloc = reloc;
+    stored = λ s r e. refl;
+  }
+
+  pub omf_seen_fitted : IsFitted Omf (seen n)
+  omf_seen_fitted = subst (IsFitted Omf) (sym (again_is n is.format)) (seen_fitted Omf omf_manner n (shown n) fits shows object omf_stays)

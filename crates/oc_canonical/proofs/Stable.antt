@@ -1,0 +1,149 @@
+-- The canonical file of each object that is ready is given again by a conversion to its own format.
+use Rattle.std.proofs.Common.{◌≡◌, ℕ, ◌≤◌, ◌^◌, true, List, [], length, Option, Some, None, Ok, refl, sym, ◌∙◌, ap, subst}
+use Rattle.std.specs.Prelude.{slice_get}
+use Rattle.oc_base.specs.declared.fault.Fault.{Fault}
+use Rattle.oc_base.specs.declared.format.Format.{Format}
+use Rattle.oc_linking.specs.declared.terms.Kind.{Kind}
+use Rattle.oc_linking.specs.declared.terms.Kind.TheVariants.{Code, ReadOnly, Data, Zero, Init, Fini, Debug, Exception, Note}
+use Rattle.oc_linking.specs.declared.terms.Keep.{Keep}
+use Rattle.oc_linking.specs.Keeping.{all, keeps}
+use Rattle.oc_linking.specs.Numbers.{or_else}
+use Rattle.oc_neutral.specs.declared.section.Section.{Section}
+use Rattle.oc_neutral.specs.Objects.{Object}
+use Rattle.oc_neutral.specs.Computed.{object_in}
+use Rattle.oc_neutral.specs.Dialects.{Dialect}
+use Rattle.oc_neutral.specs.Fitted.{IsFitted, first_unfit}
+use Rattle.oc_neutral.specs.Fitting.{fit_of}
+use Rattle.oc_neutral.specs.Seen.{seen}
+use Rattle.oc_neutral.specs.Targets.{WritesCanonical}
+use Rattle.oc_neutral.proofs.SeenLaws.{seen_is_object_law}
+use Rattle.oc_neutral.proofs.ShownComputed.{shown_is_computed}
+use Rattle.oc_names.specs.Wishes.{no_wishes}
+use Rattle.oc_names.specs.Edited.{edited}
+use Rattle.oc_names.specs.Kept.{keep_for}
+use Rattle.oc_convert.specs.Refusals.{first_refusal, object_refusal, edited_refusal, kept_of_file}
+use Rattle.oc_convert.specs.Converted.{planned_file, converted, on_ok, IsReady}
+use Rattle.oc_elf_read.specs.declared.class.ElfClass.{ElfClass}
+use Rattle.oc_elf_read.specs.declared.class.ElfClass.TheVariants.{Class32, Class64}
+use Rattle.oc_elf_read.specs.Classes.{format_of}
+use Rattle.oc_elf_read.specs.Elf.{elf_dialect}
+use Rattle.oc_elf_file.specs.Canonical.{elf_file}
+use Rattle.oc_elf_file.proofs.CodedLaws.{for_elf}
+use Rattle.oc_elf_file.proofs.WrittenLaw.{elf_is_written}
+use Rattle.oc_drop.proofs.NothingDropped.{dropped_same}
+use Rattle.oc_names.proofs.Unedited.{rebound_same, named_object_same}
+use Rattle.oc_names.specs.Rebinding.{rebound_object}
+use Rattle.oc_names.specs.Naming.{named_object}
+use Rattle.oc_drop.specs.Steps.{then_by}
+use Rattle.oc_canonical.proofs.FittedStays.{fitted_stays}
+use Rattle.oc_canonical.proofs.ElfAgain.{elf_file_again}
+use Rattle.oc_canonical.proofs.ElfStays.{elf_seen_fitted}
+use Rattle.oc_base.specs.declared.format.Word.{Word}
+use Rattle.oc_base.specs.declared.format.Word.TheVariants.{W32, W64}
+use Rattle.oc_coff_read.specs.Rules.{coff_dialect}
+use Rattle.oc_coff_read.specs.Canonical.{coff_file}
+use Rattle.oc_coff_read.proofs.CodedLaws.{for_coff}
+use Rattle.oc_coff_read.proofs.WrittenLaw.{coff_is_written}
+use Rattle.oc_canonical.proofs.CoffAgain.{coff_file_again}
+use Rattle.oc_canonical.proofs.CoffStays.{coff_seen_fitted}
+use Rattle.oc_macho_read.specs.Rules.{mach_dialect}
+use Rattle.oc_macho_file.specs.Canonical.{mach_file}
+use Rattle.oc_macho_file.proofs.CodedLaws.{for_mach}
+use Rattle.oc_macho_file.proofs.WrittenLaw.{mach_is_written}
+use Rattle.oc_canonical.proofs.MachAgain.{mach_file_again}
+use Rattle.oc_canonical.proofs.MachStays.{mach_seen_fitted}
+use Rattle.oc_canonical.specs.Stable.{IsStable, IsReadBack, ReadsBack, CanonicalIsStable, ElfReadsBack, CoffReadsBack, MachReadsBack}
+
+module _ (g : Dialect) (canonical : Object → List ℕ) (laws : ReadsBack g canonical) (n : Object) (fits : IsFitted g.format n) where
+  abbrev c : List ℕ
+  c = canonical n
+
+  abbrev keep : Keep
+  keep = kept_of_file no_wishes g g.format
+
+  abbrev m : Object
+  m = seen n
+
+  ready : IsFitted g.format m
+  ready = laws.fitted n fits
+
+  own : IsReadBack g n c
+  own = laws.own n fits
+
+  unedited : edited no_wishes g.format m ≡ Ok m
+  unedited =
+      ap (λ r. then_by (named_object [] g.format) (then_by (rebound_object []) r))
+      (dropped_same m ready.object (keep_for no_wishes m.format g.format) (λ k s here. ap (λ f. keeps (keep_for no_wishes f g.format) s.kind) ready.format ∙ own.kept k s here))
+      ∙ ap (then_by (named_object [] g.format)) (rebound_same m ready.object) ∙ named_object_same m ready.object g.format ready.few_symbols
+
+  object : edited no_wishes g.format (object_in g c keep) ≡ Ok m
+  object = ap (edited no_wishes g.format) own.object ∙ unedited
+
+  pub stable : IsStable g canonical c
+  stable = record {
+    accepted =
+        ap (λ o. or_else o (object_refusal no_wishes g.format (object_in g c keep))) own.well_formed
+        ∙ ap (edited_refusal g.format) object
+        ∙ ready.expressible;
+    planned =
+        ap (λ r. on_ok canonical (on_ok (fit_of g.format) r)) object
+        ∙ ap (λ x. Ok (canonical x)) (fitted_stays g.format m ready)
+        ∙ ap Ok (laws.file n fits);
+  }
+
+pub canonical_is_stable : CanonicalIsStable
+canonical_is_stable g canonical laws n fits = stable g canonical laws n fits
+
+all_kept : (k : Kind) → keeps all k ≡ true
+all_kept Code = refl
+all_kept ReadOnly = refl
+all_kept Data = refl
+all_kept Zero = refl
+all_kept Init = refl
+all_kept Fini = refl
+all_kept Debug = refl
+all_kept Exception = refl
+all_kept Note = refl
+
+-- where everything is kept on the way to the same format
+pub own_of_all : (g : Dialect) (canonical : Object → List ℕ) → WritesCanonical g canonical → kept_of_file no_wishes g g.format ≡ all → (n : Object) → IsFitted g.format n → IsReadBack g n (canonical n)
+own_of_all g canonical law every n fits =
+    let written = law.written n fits in
+    record {
+      well_formed = ap (g.rules.fault (canonical n)) every ∙ written.well_formed;
+      object = ap (object_in g (canonical n)) every ∙ sym (shown_is_computed g (canonical n) all (seen n) (seen_is_object_law g.format n fits) written.shows);
+      kept = λ k s here. ap (λ keep. keeps keep s.kind) every ∙ all_kept s.kind;
+    }
+
+elf_keeps : (class : ElfClass) → kept_of_file no_wishes (elf_dialect class) (elf_dialect class).format ≡ all
+elf_keeps Class32 = refl
+elf_keeps Class64 = refl
+
+pub elf_reads_back : ElfReadsBack
+elf_reads_back class = record {
+  fitted = λ n fits. elf_seen_fitted class n fits;
+  file = λ n fits. elf_file_again class n (for_elf class n fits);
+  own = λ n fits. own_of_all (elf_dialect class) (elf_file class) (elf_is_written class) (elf_keeps class) n fits;
+}
+
+coff_keeps : (w : Word) → kept_of_file no_wishes (coff_dialect w) (coff_dialect w).format ≡ all
+coff_keeps W32 = refl
+coff_keeps W64 = refl
+
+pub coff_reads_back : CoffReadsBack
+coff_reads_back w = record {
+  fitted = λ n fits. coff_seen_fitted w n fits;
+  file = λ n fits. coff_file_again w n (for_coff w n fits);
+  own = λ n fits. own_of_all (coff_dialect w) (coff_file w) (coff_is_written w) (coff_keeps w) n fits;
+}
+
+mach_keeps : (w : Word) → kept_of_file no_wishes (mach_dialect w) (mach_dialect w).format ≡ all
+mach_keeps W32 = refl
+mach_keeps W64 = refl
+
+pub mach_reads_back : MachReadsBack
+mach_reads_back w = record {
+  fitted = λ n fits. mach_seen_fitted w n fits;
+  file = λ n fits. mach_file_again w n (for_mach w n fits);
+  own = λ n fits. own_of_all (mach_dialect w) (mach_file w) (mach_is_written w) (mach_keeps w) n fits;
+}

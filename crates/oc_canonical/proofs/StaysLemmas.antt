@@ -1,0 +1,177 @@
+-- What stays of the conditions of all families where an object is seen.
+use Rattle.std.proofs.Common.{◌≡◌, ℕ, suc, ◌+◌, ◌≤◌, Bool, true, false, cond, not, ◌&&◌, ◌||◌, nat_lt, List, [], ◌∷◌, length, map, count_by, is_none, is_err, Option, Some, None, refl, sym, ◌∙◌, ap, arith}
+use mathlib.Core.Path.{fun_ext}
+use Rattle.std.specs.Prelude.{slice_get, find}
+use Rattle.std.specs.List.{AllByRecursion, enumerate_from, list_any, range_with_len}
+use Rattle.std.specs.Option.{option_map, option_map_or, option_and_then}
+use Rattle.std.proofs.lemmas.Bool.Decides.{nat_tests}
+use Rattle.std.proofs.lemmas.List.{length-map}
+use Rattle.oc_base.specs.declared.format.Format.{Format}
+use Rattle.oc_base.specs.Formats.{word_for}
+use Rattle.oc_linking.specs.declared.terms.Kind.{Kind}
+use Rattle.oc_linking.specs.declared.terms.Kind.TheVariants.{Code, ReadOnly, Data, Zero, Init, Fini, Debug, Exception, Note}
+use Rattle.oc_linking.specs.declared.terms.Base.{Base}
+use Rattle.oc_linking.specs.declared.terms.Base.TheVariants as base
+use Rattle.oc_linking.specs.declared.terms.Fallback.{Fallback}
+use Rattle.oc_linking.specs.declared.terms.Fallback.TheVariants as fallback
+use Rattle.oc_linking.specs.declared.terms.Binding.{Binding}
+use Rattle.oc_linking.specs.declared.terms.Binding.TheVariants.{Local, Global, Undefined, Common, Weak}
+use Rattle.oc_linking.specs.Parts.{is_local}
+use Rattle.oc_algebra.specs.declared.form.Form.{Form}
+use Rattle.oc_chains.specs.declared.field.Field.{Field}
+use Rattle.oc_chains.specs.Lists.{list_of}
+use Rattle.oc_neutral.specs.declared.section.Section.{Section}
+use Rattle.oc_neutral.specs.declared.symbol.Symbol.{Symbol}
+use Rattle.oc_neutral.specs.declared.reloc.Reloc.{Reloc}
+use Rattle.oc_neutral.specs.declared.reloc.Target.{Target}
+use Rattle.oc_neutral.specs.declared.reloc.Target.TheVariants as target
+use Rattle.oc_neutral.specs.Objects.{Object, reloc_at}
+use Rattle.oc_neutral.specs.Bindings.{is_zero}
+use Rattle.oc_neutral.specs.Families.{family_of}
+use Rattle.oc_neutral.specs.KindRules.{same_kind}
+use Rattle.oc_neutral.specs.Manners.{Manner}
+use Rattle.oc_neutral.specs.Normal.{Place, at_section}
+use Rattle.oc_neutral.specs.Relocated.{stays, is_relocated}
+use Rattle.oc_neutral.specs.Rows.{Row, Taken, TakesPlace, TakesSection, taken_of, same_base, same_width, same_check, same_taken, same_hint}
+use Rattle.oc_neutral.specs.RelocTables.{rows_of}
+use Rattle.oc_neutral.specs.Spelling.{is_written, row_taking, row_for, written_row}
+use Rattle.oc_linking.specs.declared.terms.Hint.{Hint}
+use Rattle.oc_linking.specs.declared.terms.Hint.TheVariants.{Plain, Call}
+use Rattle.oc_linking.specs.Numbers.{or_else}
+use Rattle.oc_neutral.specs.Seen.{place_at, new_position, section_place, seen_with, seen_section, seen_symbol, seen_binding, seen_fallback, seen_target, seen_reloc, seen_field}
+use Rattle.oc_neutral.specs.Stored.{is_stored}
+use Rattle.oc_neutral.specs.TargetRelocations.{is_local_number, is_homeless, is_nonlocal, is_target, needs_slot, needs_home, is_wrong_target}
+use Rattle.oc_neutral.proofs.SeenAlike.{stands, seen_local}
+use Rattle.oc_neutral.proofs.SeenLines.{IsShown}
+use Rattle.oc_neutral.proofs.SeenRelocs.{list_map}
+use Rattle.oc_neutral.proofs.SeenReady.{IsReady}
+use Rattle.oc_canonical.proofs.MapLemmas.{any_mapped}
+
+pub same_kind-self : (k : Kind) → same_kind k k ≡ true
+same_kind-self Code = refl
+same_kind-self ReadOnly = refl
+same_kind-self Data = refl
+same_kind-self Zero = refl
+same_kind-self Init = refl
+same_kind-self Fini = refl
+same_kind-self Debug = refl
+same_kind-self Exception = refl
+same_kind-self Note = refl
+
+pub and_false : (b : Bool) → (b && false) ≡ false
+and_false true = refl
+and_false false = refl
+
+pub or_false : (a b : Bool) → a ≡ false → b ≡ false → (a || b) ≡ false
+or_false a b e f = ap (λ x. x || b) e ∙ f
+
+pub low_not : (most counted : ℕ) → counted ≤ most → nat_lt most counted ≡ false
+low_not most counted le = grind (arith, nat_tests, le)
+
+pub none_member : {X : Type 0} (o : Option X) → option_map_or (λ x. false) o false ≡ false
+none_member None = refl
+none_member (Some x) = refl
+
+module _ (m : Manner) (n : Object) (shown : List (ℕ × ℕ)) (is : IsShown n shown) where
+  abbrev a : Object
+  a = seen_with m n shown
+
+  -- ... sections
+
+  pub sections_long : length a.sections ≡ length n.sections
+  sections_long = long 0 n.sections
+    where
+      long : (i : ℕ) (xs : List Section) → length (map (seen_section m n) (enumerate_from i xs)) ≡ length xs
+      long i [] = refl
+      long i (x ∷ xs) = ap suc (long (i + 1) xs)
+
+  -- a section has relocations where it had some, if those that are stored are the same
+  pub relocated_same : (target : Format) → ((s : ℕ) (r : Reloc) → is_stored target s (seen_reloc m n shown r) ≡ is_stored target s r) → (k : ℕ) → is_relocated target a k ≡ is_relocated target n k
+  unfolding is_relocated
+  relocated_same target same k =
+      ap (list_any (stays target k)) (list_map (seen_field m n shown) n.relocs k)
+      ∙ any_mapped (seen_field m n shown) (stays target k) (stays target k) (list_of n.relocs k) (λ x. ap not (same k x.item))
+
+  -- ... targets
+
+  zero_same : (f : Fallback) → is_zero (seen_fallback m n shown f) ≡ is_zero f
+  zero_same (fallback.Place k offset) = refl
+  zero_same fallback.Zero = refl
+  zero_same (fallback.Name k) = by (cond m.places (place_at n k) None)
+    where
+      by : (o : Option Place) → is_zero (option_map_or (λ (place : Place). fallback.Place place.0 place.1) o (fallback.Name (new_position shown k))) ≡ false
+      by None = refl
+      by (Some place) = refl
+
+  homeless_same : (b : Binding) → is_homeless (seen_binding m n shown b) ≡ is_homeless b
+  homeless_same (Local v) = refl
+  homeless_same (Global v) = refl
+  homeless_same Undefined = refl
+  homeless_same (Common size align) = refl
+  homeless_same (Weak f) = zero_same f
+
+  number_same : (b : Binding) → is_local_number (seen_binding m n shown b) ≡ is_local_number b
+  number_same (Local v) = refl
+  number_same (Global v) = refl
+  number_same Undefined = refl
+  number_same (Common size align) = refl
+  number_same (Weak f) = refl
+
+  nonlocal_same : (b : Binding) → is_nonlocal (seen_binding m n shown b) ≡ is_nonlocal b
+  nonlocal_same b = ap not (seen_local m n shown is b)
+
+  module _ (ready : IsReady m n) (s at : ℕ) (r : Reloc) (here : reloc_at n s at ≡ Some r) where
+    tested : (test : Binding → Bool) → ((b : Binding) → test (seen_binding m n shown b) ≡ test b) → (t : Target) → r.target ≡ t → is_target a test (seen_target shown t) ≡ is_target n test t
+    tested test same (target.Section k) own = refl
+    tested test same (target.Symbol k) own =
+        let y = ready.targets s at r k here own in
+        let z = stands m n shown is k y.0 y.1 y.2 in
+        ap (λ o. option_map_or (λ (x : Symbol). test x.binding) o false) z.1
+        ∙ same y.0.binding
+        ∙ sym (ap (λ o. option_map_or (λ (x : Symbol). test x.binding) o false) y.1)
+
+    no_slot : (b : Base) → b ≡ base.Address → (form : Form) → form.base ≡ b → needs_slot form ≡ false
+    no_slot base.Address e form own = ap (λ x. same_base x base.Slot || same_base x base.GotBase) own
+    no_slot base.Slot e form own = absurd (cc)
+    no_slot base.GotBase e form own = absurd (cc)
+    no_slot base.HomeNumber e form own = absurd (cc)
+
+    -- a target that no form can have is none where it was none
+    pub target_stays : is_wrong_target n r ≡ false → is_wrong_target a (seen_reloc m n shown r) ≡ false
+    target_stays right = by (section_place m n r) refl
+      where
+        by : (o : Option Place) → section_place m n r ≡ o
+            → (is_target a is_local_number (seen_target shown (at_section (word_for n.format) r o).target)
+            || (needs_slot (at_section (word_for n.format) r o).form && not (is_target a is_nonlocal (seen_target shown (at_section (word_for n.format) r o).target)))
+            || (needs_home (at_section (word_for n.format) r o).form && is_target a is_homeless (seen_target shown (at_section (word_for n.format) r o).target))) ≡ false
+        by None e =
+            ap (λ b. b || (needs_slot r.form && not (is_target a is_nonlocal (seen_target shown r.target))) || (needs_home r.form && is_target a is_homeless (seen_target shown r.target))) (tested is_local_number number_same r.target refl)
+            ∙ ap (λ b. is_target n is_local_number r.target || (needs_slot r.form && not b) || (needs_home r.form && is_target a is_homeless (seen_target shown r.target))) (tested is_nonlocal nonlocal_same r.target refl)
+            ∙ ap (λ b. is_target n is_local_number r.target || (needs_slot r.form && not (is_target n is_nonlocal r.target)) || (needs_home r.form && b)) (tested is_homeless homeless_same r.target refl)
+            ∙ right
+        by (Some place) e =
+            ap (λ b. (b && true) || (needs_home r.form && false)) (no_slot base.Address refl r.form (ready.sectional s at r place here e).base)
+            ∙ and_false (needs_home r.form)
+
+-- ... formats without types for calls write a call as the plain form
+
+or_twice : {X : Type 0} (o : Option X) → or_else o o ≡ o
+or_twice None = refl
+or_twice (Some x) = refl
+
+no_call : (form : Form) (t : Taken) (rows : List Row) → AllByRecursion (λ (r : Row). same_hint r.hint Call ≡ false) rows → find (is_written form Call t) rows ≡ None
+no_call form t [] plain = refl
+no_call form t (r ∷ rows) plain =
+    let fails : is_written form Call t r ≡ false
+    = ap (λ b. r.canonical && same_width r.width form.width && same_check r.check form.check && same_base r.base form.base && same_taken r.taken t && b) plain.0
+    ∙ and_false (r.canonical && same_width r.width form.width && same_check r.check form.check && same_base r.base form.base && same_taken r.taken t) in
+    ap (λ b. cond b (Some r) (find (is_written form Call t) rows)) fails ∙ no_call form t rows plain.1
+
+pub plain_row : (format : Format) → AllByRecursion (λ (r : Row). same_hint r.hint Call ≡ false) (rows_of format) → (form : Form) (hint : Hint) → written_row format form Plain ≡ written_row format form hint
+unfolding written_row
+plain_row format plain form Plain = refl
+plain_row format plain form Call = ap (λ o. or_else o (cond (same_taken (taken_of form.less) TakesPlace) (row_taking format form Plain TakesSection) None)) (taking (taken_of form.less))
+    ∙ ap (λ o. or_else (row_taking format form Call (taken_of form.less)) (cond (same_taken (taken_of form.less) TakesPlace) o None)) (taking TakesSection)
+  where
+    taking : (t : Taken) → row_taking format form Plain t ≡ row_taking format form Call t
+    taking t = or_twice (find (is_written form Plain t) (rows_of format)) ∙ sym (ap (λ o. or_else o (find (is_written form Plain t) (rows_of format))) (no_call form t (rows_of format) plain))
