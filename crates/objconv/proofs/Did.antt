@@ -67,7 +67,7 @@ module _ (before after : State) (status : ℕ) where
     made_memory count to output = record {
       words = λ three. omega (arith, seven, three);
       unread = λ four. omega (arith, seven, four);
-      refused = λ is. absurd (elim is [ inl e ↦ omega (arith, seven, e) | inr (inl e) ↦ omega (arith, seven, e) | inr (inr e) ↦ omega (arith, seven, e) ]);
+      accepted = λ is. (elim is [ inl e ↦ omega (arith, seven, e) | inr (inl e) ↦ omega (arith, seven, e) | inr (inr e) ↦ omega (arith, seven, e) ]);
       exact = λ writes outs. inl seven;
       made = λ e. absurd (omega (arith, seven, e));
       partly = λ e. absurd (omega (arith, seven, e));

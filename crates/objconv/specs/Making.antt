@@ -4,9 +4,7 @@ use Rattle.std.specs.Fmt.{decimal}
 use Rattle.std.specs.Option.{option_map}
 use Rattle.oc_base.specs.declared.fault.Fault.{Fault}
 use Rattle.oc_base.specs.declared.format.Format.{Format}
-use Rattle.oc_base.specs.Codes.{class_of}
 use Rattle.oc_base.specs.Formats.{word_for}
-use Rattle.oc_base.specs.Messages.{message_of}
 use Rattle.oc_names.specs.Wishes.{no_wishes}
 use Rattle.oc_outside.specs.Causes.{IsSteady}
 use Rattle.oc_outside.specs.Held.{with_file, HasPart}
@@ -14,8 +12,7 @@ use Rattle.oc_outside.specs.Texts.{grown, TakesPrefix}
 use Rattle.oc_made.specs.Files.{made_bytes}
 use Rattle.oc_convert.specs.Dispatched.{IsDispatched}
 use Rattle.oc_dispatch.specs.Built.{built}
-use Rattle.objconv.specs.States.{State, IsRefusal, status_by, status_of}
-use Rattle.objconv.specs.Texts.{Tells}
+use Rattle.objconv.specs.States.{State, IsRefusal}
 use Rattle.objconv.specs.Refusals.{conversion_refusal}
 
 -- `made N functions, R relocations, B bytes` and a newline: two relocations for each function, and the length of the output
@@ -27,7 +24,7 @@ module _ (count : ℕ) (to : Format) where
   abbrev pub made : List ℕ
   made = made_bytes count (word_for to)
 
-  -- its first refusal on its way to the target, with no edits, or none
+  -- its first refusal on its way to the target, with no edits, or none; there is none
   abbrev pub making_refusal : Option Fault
   making_refusal = conversion_refusal no_wishes to made
 
@@ -35,13 +32,6 @@ module _ (count : ℕ) (to : Format) where
   pub record IsMadeFile (c : List ℕ) : Type 0 where
     pub accepted : making_refusal ≡ None
     pub dispatched : IsDispatched built no_wishes to made c
-
-  -- the status is that of a refusal, which is the first, and whose message was told
-  pub record TellsMadeRefusal (before : State) (status : ℕ) (after : State) : Type 0 where
-    pub fault : Fault
-    pub refusal : making_refusal ≡ Some fault
-    pub by_class : status ≡ status_by (class_of fault.code)
-    pub told : Tells (message_of fault) before.told after.told before.err_faults after.err_faults
 
   module _ (output : List ℕ) where
     -- the output holds the file, and all other files stay; the summary was shown
@@ -65,12 +55,12 @@ module _ (count : ℕ) (to : Format) where
       pub files : after.held ≡ option_map (with_file output file) before.held
       pub shown : TakesPrefix (summary_of count (length file)) before.shown after.shown
 
-    -- an object of so many functions is made in the output: the words are at no fault, and nothing is read; 1, 2 and 8 come by the first refusal
+    -- an object of so many functions is made in the output: the words are at no fault, nothing is read, and nothing is refused
     pub record IsMaking (before : State) (status : ℕ) (after : State) : Type 0 where
       pub words : status ≡ 3 → ⊥
       pub unread : status ≡ 4 → ⊥
-      pub refused : IsRefusal status → TellsMadeRefusal before status after
-      pub exact : IsSteady before.write_faults after.write_faults → IsSteady before.out_faults after.out_faults → (status ≡ 7) ⊎ (status ≡ status_of making_refusal)
+      pub accepted : IsRefusal status → ⊥
+      pub exact : IsSteady before.write_faults after.write_faults → IsSteady before.out_faults after.out_faults → (status ≡ 7) ⊎ (status ≡ 0)
       pub made : status ≡ 0 → IsMade before after
       pub partly : status ≡ 5 → IsPartlyMade before after
       pub listing : status ≡ 6 → IsPartlyTold before after

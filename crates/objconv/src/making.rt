@@ -1,13 +1,11 @@
 //! An object that is made.
-ghost use Rattle.std.specs.Prelude.{◌≡◌, ◌+◌, ◌-◌, ◌^◌, ◌<◌, ◌≤◌, length, IfOk, IfErr};
+ghost use Rattle.std.specs.Prelude.{◌≡◌, ◌+◌, ◌-◌, ◌^◌, ◌<◌, ◌≤◌, length, IfOk};
 ghost use Rattle.oc_base.specs.Formats.{word_for};
-ghost use Rattle.oc_convert.specs.Refusals.{IsFaultOf};
 ghost use Rattle.objconv.specs.Making as making;
 ghost use Rattle.objconv.specs.Runs.{IsEnd};
 ghost use Rattle.objconv.specs.States.{state_of};
 
-use crate::input::{InputFault, too_long};
-use crate::report::{output_words, report, report_memory, tell};
+use crate::report::{output_words, report_memory, tell};
 use crate::writing::write_output;
 use oc_base::{Bytes, Format, NoMemory, word_of};
 use oc_convert::ConvertFault;
@@ -15,7 +13,7 @@ use oc_dispatch::{AnyPlan, dispatch};
 use oc_made::made_file;
 use oc_names::Edits;
 use oc_neutral::Emits;
-use oc_outside::{Console, Files, LIMIT, show_all};
+use oc_outside::{Console, Files, show_all};
 use std::alloc::Global;
 
 /// What is written and shown of an object that is made.
@@ -46,38 +44,28 @@ fn summed<P: Emits + Drop>(alloc: Global, count: u32, plan: P) -> Result<Made<P>
     Ok(Made { plan, summary })
 }
 
-// the plan of the object of so many functions as a file in the format `to`
-fn plan(alloc: Global, count: u32, to: Format) -> Result<AnyPlan, ConvertFault>
+// the plan of the object of so many functions as a file in the format `to`, which no format refuses
+fn plan(alloc: Global, count: u32, to: Format) -> Result<AnyPlan, NoMemory>
     requires { count ≤ 100000 }
-    ensures planned { IfOk result (λ plan. making.IsMadeFile count to (⟦<AnyPlan as Emits>⟧.file plan)) }
-    ensures refused { IfErr result (IsFaultOf (making.making_refusal count to)) }
+    ensures { IfOk result (λ plan. making.IsMadeFile count to (⟦<AnyPlan as Emits>⟧.file plan)) }
 {
-    let bytes = match made_file(alloc, count, word_of(to)) {
-        Ok(bytes) => bytes,
-        Err(NoMemory) => return Err(ConvertFault::NoMemory),
-    };
-    if bytes.len() as u64 > LIMIT {
-        return Err(ConvertFault::Refused(too_long()));
-    }
+    let bytes = made_file(alloc, count, word_of(to))?;
     let edits = Edits::new(alloc);
-    dispatch(alloc, to, bytes.as_slice(), &edits)
+    match dispatch(alloc, to, bytes.as_slice(), &edits) {
+        Ok(plan) => Ok(plan),
+        Err(ConvertFault::NoMemory) => Err(NoMemory),
+        Err(ConvertFault::Refused(_)) => unreachable!(),
+    }
 }
 
 // the same, with the line that says how much was made
-fn prepared(alloc: Global, count: u32, to: Format) -> Result<Made<AnyPlan>, ConvertFault>
+fn prepared(alloc: Global, count: u32, to: Format) -> Result<Made<AnyPlan>, NoMemory>
     requires { count ≤ 100000 }
     ensures planned { IfOk result (λ made. making.IsMadeFile count to (⟦<AnyPlan as Emits>⟧.file made.plan)) }
     ensures summary { IfOk result (λ made. made.summary ≡ making.summary_of count (length (⟦<AnyPlan as Emits>⟧.file made.plan))) }
-    ensures refused { IfErr result (IsFaultOf (making.making_refusal count to)) }
 {
-    let plan = match plan(alloc, count, to) {
-        Ok(plan) => plan,
-        Err(fault) => return Err(fault),
-    };
-    match summed(alloc, count, plan) {
-        Ok(made) => Ok(made),
-        Err(NoMemory) => Err(ConvertFault::NoMemory),
-    }
+    let plan = plan(alloc, count, to)?;
+    summed(alloc, count, plan)
 }
 
 /// Makes the object of `count` functions in the file `output` in the format `to`, shows how much was
@@ -99,14 +87,10 @@ pub fn make_file<F: Files, C: Console>(
         (state_of F.held F.read_faults F.write_faults C.shown C.told C.out_faults C.err_faults files.old console.old) result
         (state_of F.held F.read_faults F.write_faults C.shown C.told C.out_faults C.err_faults files.new console.new) }
 {
-    let made = match prepared(alloc, count, to) {
+    let Made { plan, summary } = match prepared(alloc, count, to) {
         Ok(made) => made,
-        Err(ConvertFault::Refused(fault)) => {
-            return report(alloc, console, InputFault::Refused(fault));
-        }
-        Err(ConvertFault::NoMemory) => return report_memory(console),
+        Err(NoMemory) => return report_memory(console),
     };
-    let Made { plan, summary } = made;
     match write_output(files, output, plan) {
         Ok(()) => match show_all(console, summary.as_slice()) {
             Ok(()) => 0,

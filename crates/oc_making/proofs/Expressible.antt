@@ -1,0 +1,249 @@
+-- What is made can be written in every format.
+use Rattle.std.proofs.Common.{◌≡◌, ◌≢◌, ℕ, zero, suc, ◌+◌, ◌*◌, ◌%◌, ◌<◌, ◌≤◌, Bool, true, false, cond, ◌||◌, List, [], ◌∷◌, ◌++◌, length, map, min, Option, Some, None, refl, ◌∙◌, ap, subst, arith}
+use Rattle.std.specs.Fmt.{decimal}
+use Rattle.std.specs.List.{AllByRecursion, range_with_len}
+use Rattle.std.specs.Option.{option_map_or}
+use Rattle.std.proofs.lemmas.Bool.{le-ltb}
+use Rattle.std.proofs.lemmas.Option.{none-some, same_Some}
+use Rattle.oc_base.specs.declared.format.Word.{Word}
+use Rattle.oc_base.specs.declared.format.Word.TheVariants.{W32, W64}
+use Rattle.oc_base.specs.declared.format.Format.{Format}
+use Rattle.oc_base.specs.declared.format.Format.TheVariants.{Elf32, Elf64, Coff32, Coff64, Mac32, Mac64, Omf}
+use Rattle.oc_base.specs.Formats.{word_for}
+use Rattle.oc_base.specs.declared.fault.Fault.{Fault}
+use Rattle.oc_linking.specs.FirstFault.{first_broken}
+use Rattle.oc_linking.specs.Numbers.{or_else, first_upto}
+use Rattle.oc_algebra.specs.Fields.{to_field_of, field_for}
+use Rattle.oc_algebra.specs.Residues.{reduced_number, residue_of}
+use Rattle.oc_chains.specs.declared.field.Field.{Field}
+use Rattle.oc_neutral.specs.declared.reloc.Reloc.{Reloc}
+use Rattle.oc_neutral.specs.declared.reloc.Target.TheVariants as target
+use Rattle.oc_neutral.specs.declared.section.Section.{Section}
+use Rattle.oc_neutral.specs.declared.symbol.Symbol.{Symbol}
+use Rattle.oc_neutral.specs.Alignments.{output_align}
+use Rattle.oc_neutral.specs.Elf.Family.{elf_symbol_count, header_count}
+use Rattle.oc_neutral.specs.Fitted.{first_unfit, fitted_binding, IsFitted, IsNamed}
+use Rattle.oc_neutral.specs.HomeNames.{is_home, output_names, wanted_names}
+use Rattle.oc_neutral.specs.KindRules.{has_nul}
+use Rattle.oc_neutral.specs.Objects.{Object}
+use Rattle.oc_neutral.specs.Readable.{IsBlankWhereTyped}
+use Rattle.oc_neutral.specs.Relocated.{is_relocated}
+use Rattle.oc_neutral.specs.Shifts.{field_shift}
+use Rattle.oc_neutral.specs.Spelling.{written_row}
+use Rattle.oc_neutral.specs.Stored.{is_stored}
+use Rattle.oc_neutral.specs.TargetRelocations.{is_local_number, is_target, is_wrong_target, reloc_conditions, standing, standing_conditions, standing_in, Standing}
+use Rattle.oc_neutral.specs.TargetSections.{conditions_at, each_of, section_conditions, section_count, section_stages}
+use Rattle.oc_neutral.specs.TargetSymbols.{names_length, symbol_conditions, symbol_count, symbol_stages}
+use Rattle.oc_made.specs.Functions.{call, calls_of, elf_format, function_symbol, made_object, outside_symbol, symbols_of, text_section}
+use Rattle.oc_made.proofs.CallLemmas.{all_calls}
+use Rattle.oc_made.proofs.Lists.{all_joined, all_mapped, none_broken, none_upto, sum_range}
+use Rattle.oc_made.proofs.NameLemmas.{number_short, number_uncut}
+use Rattle.oc_made.proofs.SymbolLemmas.{all_symbols, at_symbol, length-symbols_of, names_short}
+use Rattle.oc_made.proofs.WholeObject.{made_is_object}
+use Rattle.oc_neutral.specs.Mach.Family.{mach_symbol_count, mach_writes}
+use Rattle.oc_neutral.specs.Mach.SectionSymbols.{needed_sections, needs_section_symbol}
+use Rattle.oc_neutral.specs.Bindings.{is_external, is_written_by}
+use Rattle.oc_made.proofs.ReadyElf.{made_is_fitted}
+use Rattle.oc_making.specs.Making.{MadeIsExpressible}
+use Rattle.std.specs.Prelude.{slice_get, codes, sum_by, count_by}
+use Rattle.std.proofs.lemmas.List.Sums.{count_by-le-length, sum_by-append, sum_by-cons}
+use Rattle.oc_neutral.specs.Omf.Family.{is_too_long}
+
+-- a condition that is not broken
+met : (b : Bool) (f : Fault) → b ≡ false → cond b (Some f) None ≡ None
+met b f e = ap (λ c. cond c (Some f) None) e
+
+-- and two of them
+both_met : (b c : Bool) (f g : Fault) → b ≡ false → c ≡ false → cond b (Some f) (cond c (Some g) None) ≡ None
+both_met b c f g d e = ap (λ x. cond x (Some f) (cond c (Some g) None)) d ∙ met c g e
+
+-- where none of five is there, none is first
+five_none : (a b c d e : Option Fault) → a ≡ None → b ≡ None → c ≡ None → d ≡ None → e ≡ None → or_else a (or_else b (or_else c (or_else d (or_else e None)))) ≡ None
+five_none a b c d e p q r s t =
+    ap (λ o. or_else o (or_else b (or_else c (or_else d (or_else e None))))) p
+    ∙ ap (λ o. or_else o (or_else c (or_else d (or_else e None)))) q
+    ∙ ap (λ o. or_else o (or_else d (or_else e None))) r
+    ∙ ap (λ o. or_else o (or_else e None)) s
+    ∙ ap (λ o. or_else o None) t
+
+one_filter : (b : Bool) → length {A = ℕ} (cond b (0 ∷ []) []) ≤ 1
+one_filter true = omega arith
+one_filter false = omega arith
+
+none_range : {X : Type 0} (g : X → ℕ) (f : ℕ → X) (a n : ℕ) → ((i : ℕ) → g (f i) ≡ 0) → sum_by g (map f (range_with_len a n)) ≡ 0
+none_range g f a zero each = refl
+none_range g f a (suc n) each =
+    let one : g (f a) ≡ 0 = each a in
+    let rest : sum_by g (map f (range_with_len (a + 1) n)) ≡ 0 = none_range g f (a + 1) n each in
+    let both : sum_by g (f a ∷ map f (range_with_len (a + 1) n)) ≡ g (f a) + sum_by g (map f (range_with_len (a + 1) n)) = sum_by-cons g (f a) (map f (range_with_len (a + 1) n)) in
+    omega (arith, one, rest, both)
+
+module _ (count : ℕ) (few : count ≤ 100000) where
+  -- the object, part by part
+  abbrev n : Word → Object
+  n w = record {
+    format = elf_format w;
+    groups = [];
+    sections = text_section count ∷ [];
+    symbols = symbols_of count;
+    relocs = calls_of w count ∷ [];
+  }
+
+  -- ... sections
+
+  sections_few : (to : Format) → to ≢ Elf32 → to ≢ Elf64 → first_broken (section_count to (n (word_for to))) ≡ None
+  sections_few Elf32 a b = absurd (a refl)
+  sections_few Elf64 a b = absurd (b refl)
+  sections_few Coff32 a b = refl
+  sections_few Coff64 a b = refl
+  sections_few Mac32 a b = refl
+  sections_few Mac64 a b = refl
+  sections_few Omf a b = refl
+
+  section_met : (to : Format) → to ≢ Elf32 → to ≢ Elf64 → (i : ℕ) → first_broken (conditions_at to (n (word_for to)) i) ≡ None
+  unfolding section_conditions output_names wanted_names
+  section_met Elf32 a b i = absurd (a refl)
+  section_met Elf64 a b i = absurd (b refl)
+  section_met Coff32 a b zero = refl
+  section_met Coff32 a b (suc i) = refl
+  section_met Coff64 a b zero = refl
+  section_met Coff64 a b (suc i) = refl
+  section_met Mac32 a b zero = refl
+  section_met Mac32 a b (suc i) = refl
+  section_met Mac64 a b zero = refl
+  section_met Mac64 a b (suc i) = refl
+  section_met Omf a b zero = refl
+  section_met Omf a b (suc i) = refl
+
+  -- ... symbols
+
+  names_few : (to : Format) → to ≢ Elf32 → to ≢ Elf64 → names_length to (n (word_for to)) ≤ 268435456
+  unfolding output_names wanted_names
+  names_few Elf32 a b = absurd (a refl)
+  names_few Elf64 a b = absurd (b refl)
+  names_few Coff32 a b = let e = names_short count few in omega (arith, e)
+  names_few Coff64 a b = let e = names_short count few in omega (arith, e)
+  names_few Mac32 a b = let e = names_short count few in omega (arith, e)
+  names_few Mac64 a b = let e = names_short count few in omega (arith, e)
+  names_few Omf a b = let e = names_short count few in omega (arith, e)
+
+  mach_few : (w : Word) → length (needed_sections (n w)) ≤ 1 → mach_symbol_count w (n w) ≤ 0xFFFFFF
+  mach_few W32 low =
+      let e = length-symbols_of count in
+      let c = count_by-le-length (λ (s : Symbol). is_written_by (mach_writes W32) s.name s.binding) (symbols_of count) in
+      omega (arith, c, e, few)
+  mach_few W64 low =
+      let e = length-symbols_of count in
+      let c = count_by-le-length (λ (s : Symbol). is_written_by (mach_writes W64) s.name s.binding) (symbols_of count) in
+      omega (arith, c, e, few, low)
+
+  needed_low : (w : Word) → length (needed_sections (n w)) ≤ 1
+  unfolding needed_sections
+  needed_low w = one_filter (needs_section_symbol (n w) 0)
+
+  externals : count_by (λ (s : Symbol). is_external s.binding) (symbols_of count) ≤ 32767
+  unfolding symbols_of
+  externals =
+      let g : Symbol → ℕ = λ s. cond (is_external s.binding) 1 0 in
+      let a = sum_by-append g (map function_symbol (range_with_len 0 count)) (map (outside_symbol count) (range_with_len 0 (min count 10))) in
+      let b = none_range g function_symbol 0 count (λ i. refl) in
+      let c = sum_range g (outside_symbol count) 0 (min count 10) (λ i l. omega arith) in
+      omega (arith, a, b, c)
+
+  symbols_few : (to : Format) → to ≢ Elf32 → to ≢ Elf64 → first_broken (symbol_count to (n (word_for to))) ≡ None
+  symbols_few Elf32 a b = absurd (a refl)
+  symbols_few Elf64 a b = absurd (b refl)
+  symbols_few Coff32 a b = met _ _ (le-ltb 268435456 (names_length Coff32 (n W32)) (names_few Coff32 a b))
+  symbols_few Coff64 a b = met _ _ (le-ltb 268435456 (names_length Coff64 (n W64)) (names_few Coff64 a b))
+  symbols_few Mac32 a b =
+      both_met _ _ _ _ (le-ltb 0xFFFFFF (mach_symbol_count W32 (n W32)) (mach_few W32 (needed_low W32))) (le-ltb 268435456 (names_length Mac32 (n W32)) (names_few Mac32 a b))
+  symbols_few Mac64 a b =
+      both_met _ _ _ _ (le-ltb 0xFFFFFF (mach_symbol_count W64 (n W64)) (mach_few W64 (needed_low W64))) (le-ltb 268435456 (names_length Mac64 (n W64)) (names_few Mac64 a b))
+  symbols_few Omf a b =
+      both_met _ _ _ _ (le-ltb 32767 (count_by (λ (s : Symbol). is_external s.binding) (symbols_of count)) externals) (le-ltb 268435456 (names_length Omf (n W32)) (names_few Omf a b))
+
+  -- each meets its conditions
+  abbrev AreMet : Format → Type 0
+  AreMet to = AllByRecursion (λ (s : Symbol). first_broken (symbol_conditions to (n (word_for to)) s) ≡ None) (symbols_of count)
+
+  symbols_met : (to : Format) → to ≢ Elf32 → to ≢ Elf64 → AreMet to
+  unfolding symbol_conditions
+  symbols_met Elf32 a b = absurd (a refl)
+  symbols_met Elf64 a b = absurd (b refl)
+  symbols_met Coff32 a b =
+      all_symbols count (λ (s : Symbol). first_broken (symbol_conditions Coff32 (n W32) s) ≡ None)
+      (λ i l. met (has_nul (decimal i)) _ (number_uncut i (omega (arith, l, few))))
+      (λ k l. met (has_nul (decimal k)) _ (number_uncut k (omega (arith, l))))
+  symbols_met Coff64 a b =
+      all_symbols count (λ (s : Symbol). first_broken (symbol_conditions Coff64 (n W64) s) ≡ None)
+      (λ i l. met (has_nul (decimal i)) _ (number_uncut i (omega (arith, l, few))))
+      (λ k l. met (has_nul (decimal k)) _ (number_uncut k (omega (arith, l))))
+  symbols_met Mac32 a b =
+      all_symbols count (λ (s : Symbol). first_broken (symbol_conditions Mac32 (n W32) s) ≡ None)
+      (λ i l. met (has_nul (decimal i)) _ (number_uncut i (omega (arith, l, few))))
+      (λ k l. met (has_nul (decimal k)) _ (number_uncut k (omega (arith, l))))
+  symbols_met Mac64 a b =
+      all_symbols count (λ (s : Symbol). first_broken (symbol_conditions Mac64 (n W64) s) ≡ None)
+      (λ i l. met (has_nul (decimal i)) _ (number_uncut i (omega (arith, l, few))))
+      (λ k l. met (has_nul (decimal k)) _ (number_uncut k (omega (arith, l))))
+  symbols_met Omf a b =
+      all_symbols count (λ (s : Symbol). first_broken (symbol_conditions Omf (n W32) s) ≡ None)
+      (λ i l. met (is_too_long (codes "f_" ++ decimal i)) _ (let e = number_short i (omega (arith, l, few)) in le-ltb 255 (length (codes "f_" ++ decimal i)) (omega (arith, e))))
+      (λ k l. met (is_too_long (codes "x_" ++ decimal k)) _ (let e = number_short k (omega (arith, l)) in le-ltb 255 (length (codes "x_" ++ decimal k)) (omega (arith, e))))
+
+  -- ... relocations
+
+  no_number : (w : Word) (k : ℕ) → is_target (n w) is_local_number (target.Symbol k) ≡ false
+  no_number w k = by (slice_get (symbols_of count) k) refl
+    where
+      by : (o : Option Symbol) → slice_get (symbols_of count) k ≡ o → option_map_or (λ (s : Symbol). is_local_number s.binding) o false ≡ false
+      by None e = refl
+      by (Some s) e = at_symbol count (λ i (t : Symbol). is_local_number t.binding ≡ false) (λ i l. refl) (λ j l. refl) k s e
+
+  call_met : (to : Format) → to ≢ Elf32 → to ≢ Elf64 → (k at : ℕ) → first_broken (standing_conditions to (n (word_for to)) (record { section = 0; at = at; reloc = call (word_for to) k })) ≡ None
+  unfolding reloc_conditions field_shift written_row to_field_of field_for reduced_number residue_of
+  call_met Elf32 a b k at = absurd (a refl)
+  call_met Elf64 a b k at = absurd (b refl)
+  call_met Coff32 a b k at = met (is_wrong_target (n W32) (call W32 k)) _ (ap (λ b. b || false || false) (no_number W32 k))
+  call_met Coff64 a b k at = met (is_wrong_target (n W64) (call W64 k)) _ (ap (λ b. b || false || false) (no_number W64 k))
+  call_met Mac32 a b k at = met (is_wrong_target (n W32) (call W32 k)) _ (ap (λ b. b || false || false) (no_number W32 k))
+  call_met Mac64 a b k at = met (is_wrong_target (n W64) (call W64 k)) _ (ap (λ b. b || false || false) (no_number W64 k))
+  call_met Omf a b k at = met (is_wrong_target (n W32) (call W32 k)) _ (ap (λ b. b || false || false) (no_number W32 k))
+
+  calls_met : (to : Format) → to ≢ Elf32 → to ≢ Elf64 → AllByRecursion (λ (x : Standing). first_broken (standing_conditions to (n (word_for to)) x) ≡ None) (standing (n (word_for to)))
+  calls_met to a b =
+      let w : Word = word_for to in
+      all_joined (λ (x : Standing). first_broken (standing_conditions to (n w) x) ≡ None) (standing_in 0 (calls_of w count)) []
+      (all_mapped (λ (x : Standing). first_broken (standing_conditions to (n w) x) ≡ None) (λ (x : Field Reloc). record { section = 0; at = x.at; reloc = x.item }) (calls_of w count)
+      (all_calls w count (λ (x : Field Reloc). first_broken (standing_conditions to (n w) (record { section = 0; at = x.at; reloc = x.item })) ≡ None)
+      (λ i l. (call_met to a b ((5 * i + 1) % count) (16 * i + 1), call_met to a b (count + i % 10) (16 * i + 6)))))
+      tt
+
+  -- ... all together
+
+  expressible : (to : Format) → to ≢ Elf32 → to ≢ Elf64 → first_unfit to (n (word_for to)) ≡ None
+  unfolding first_unfit section_stages symbol_stages
+  expressible to a b =
+      let w : Word = word_for to in
+      five_none
+      (first_broken (section_count to (n w)))
+      (first_upto (λ i. first_broken (conditions_at to (n w) i)) 1)
+      (first_broken (symbol_count to (n w)))
+      (first_upto (λ i. first_broken (each_of (symbol_conditions to (n w)) (symbols_of count) i)) (length (symbols_of count)))
+      (first_upto (λ i. first_broken (option_map_or (standing_conditions to (n w)) (slice_get (standing (n w)) i) [])) (length (standing (n w))))
+      (sections_few to a b)
+      (none_upto (λ i. first_broken (conditions_at to (n w) i)) 1 (section_met to a b))
+      (symbols_few to a b)
+      (none_upto (λ i. first_broken (each_of (symbol_conditions to (n w)) (symbols_of count) i)) (length (symbols_of count)) (none_broken (symbol_conditions to (n w)) (symbols_of count) (symbols_met to a b)))
+      (none_upto (λ i. first_broken (option_map_or (standing_conditions to (n w)) (slice_get (standing (n w)) i) [])) (length (standing (n w)))
+      (none_broken (standing_conditions to (n w)) (standing (n w)) (calls_met to a b)))
+
+pub made_is_expressible : MadeIsExpressible
+unfolding made_object
+made_is_expressible Elf32 count few = (made_is_fitted count few W32).expressible
+made_is_expressible Elf64 count few = (made_is_fitted count few W64).expressible
+made_is_expressible Coff32 count few = expressible count few Coff32 (λ e. absurd (cc e)) (λ e. absurd (cc e))
+made_is_expressible Coff64 count few = expressible count few Coff64 (λ e. absurd (cc e)) (λ e. absurd (cc e))
+made_is_expressible Mac32 count few = expressible count few Mac32 (λ e. absurd (cc e)) (λ e. absurd (cc e))
+made_is_expressible Mac64 count few = expressible count few Mac64 (λ e. absurd (cc e)) (λ e. absurd (cc e))
+made_is_expressible Omf count few = expressible count few Omf (λ e. absurd (cc e)) (λ e. absurd (cc e))

@@ -1,0 +1,4 @@
+pub mod ElfOwn
+pub mod Expressible
+pub mod Making
+pub mod SeenMade

@@ -1,0 +1,147 @@
+-- What is made is refused by no conversion.
+use Rattle.std.proofs.Common.{◌≡◌, ℕ, suc, zero, ◌<◌, ◌≤◌, true, cond, List, [], ◌∷◌, length, Option, Some, None, Ok, refl, sym, ◌∙◌, ap, subst, arith}
+use Rattle.std.proofs.lemmas.Option.{none-some, same_Some}
+use Rattle.oc_base.specs.declared.fault.Fault.{Fault}
+use Rattle.oc_base.specs.declared.code.Code.TheVariants.{WordSize}
+use Rattle.oc_base.specs.declared.format.Word.{Word}
+use Rattle.oc_base.specs.declared.format.Word.TheVariants.{W32, W64}
+use Rattle.oc_base.specs.declared.format.Format.{Format}
+use Rattle.oc_base.specs.declared.format.Format.TheVariants.{Elf32, Elf64, Coff32, Coff64, Mac32, Mac64, Omf}
+use Rattle.oc_base.specs.Formats.{word_for}
+use Rattle.oc_base.specs.Numbers.{bytes_of_number}
+use Rattle.oc_linking.specs.declared.terms.Keep.{Keep}
+use Rattle.oc_linking.specs.Keeping.{keeps}
+use Rattle.oc_linking.specs.Numbers.{or_else}
+use Rattle.oc_neutral.specs.declared.section.Section.{Section}
+use Rattle.oc_neutral.specs.Dialects.{Dialect}
+use Rattle.oc_neutral.specs.Computed.{object_in}
+use Rattle.oc_neutral.specs.Families.{same_word}
+use Rattle.oc_neutral.specs.Fitted.{IsFitted, first_unfit}
+use Rattle.oc_neutral.specs.Objects.{Object}
+use Rattle.oc_neutral.specs.Seen.{seen}
+use Rattle.oc_names.specs.Wishes.{no_wishes}
+use Rattle.oc_names.specs.Edited.{edited}
+use Rattle.oc_names.specs.Kept.{keep_for}
+use Rattle.oc_convert.specs.Refusals.{first_refusal, object_refusal, edited_refusal, kept_of_file}
+use Rattle.oc_convert.specs.Dispatched.{dispatch_refusal, refusal_from, header_refusal}
+use Rattle.oc_convert.specs.Identified.{identified}
+use Rattle.oc_dispatch.specs.Built.{built, reader_of}
+use Rattle.oc_elf_read.specs.declared.class.ElfClass.{ElfClass}
+use Rattle.oc_elf_read.specs.declared.class.ElfClass.TheVariants.{Class32, Class64}
+use Rattle.oc_elf_read.specs.Classes.{format_of}
+use Rattle.oc_elf_read.specs.Elf.{elf_dialect}
+use Rattle.oc_elf_file.specs.Structures.{ehdr_bytes}
+use Rattle.oc_elf_file.specs.Layout.{parts_of}
+use Rattle.oc_elf_file.specs.Canonical.{part_bytes, file_header, elf_file}
+use Rattle.oc_made.specs.Files.{class_for, made_bytes}
+use Rattle.oc_made.specs.Functions.{calls_of, elf_format, made_object, symbols_of, text_section}
+use Rattle.oc_made.proofs.ReadyElf.{made_is_fitted}
+use Rattle.oc_drop.proofs.NothingDropped.{dropped_same}
+use Rattle.oc_drop.specs.Steps.{then_by}
+use Rattle.oc_names.proofs.Unedited.{rebound_same, named_object_same}
+use Rattle.oc_names.specs.Naming.{named_object}
+use Rattle.oc_names.specs.Rebinding.{rebound_object}
+use Rattle.std.specs.Prelude.{slice_get, sum_by}
+use Rattle.std.proofs.lemmas.List.Sums.{sum_by-cons}
+use Rattle.oc_chains.specs.declared.field.Field.{Field}
+use Rattle.oc_neutral.specs.declared.reloc.Reloc.{Reloc}
+use Rattle.oc_neutral.specs.Building.{stored_size, stored_sum}
+use Rattle.oc_elf_file.proofs.CodedLaws.{for_elf}
+use Rattle.oc_made.proofs.CallLemmas.{length-calls_of}
+use Rattle.oc_made.proofs.SymbolLemmas.{length-symbols_of, names_short}
+use Rattle.oc_elf_file.proofs.FileSize.{file_size}
+use Rattle.oc_making.specs.Making.{MadeIsAccepted, MadeIsShort}
+use Rattle.oc_making.proofs.Expressible.{made_is_expressible}
+use Rattle.oc_making.proofs.ElfOwn.{elf_good, elf_object}
+use Rattle.oc_making.proofs.SeenMade.{seen_made}
+
+elf_known : (class : ElfClass) (n : Object) → identified (elf_file class n) ≡ Some (format_of class)
+unfolding identified elf_file parts_of part_bytes ehdr_bytes file_header bytes_of_number
+elf_known Class32 n = refl
+elf_known Class64 n = refl
+
+module _ (to : Format) (count : ℕ) (few : count ≤ 100000) (class : ElfClass) (same : made_bytes count (word_for to) ≡ elf_file class (made_object count (word_for to))) (own : elf_format (word_for to) ≡ format_of class)
+    (reader : reader_of (format_of class) ≡ elf_dialect class) (words : same_word (word_for (format_of class)) (word_for to) ≡ true) (code : keeps (kept_of_file no_wishes (elf_dialect class) to) (text_section count).kind ≡ true) where
+  abbrev n : Object
+  n = made_object count (word_for to)
+
+  abbrev b : List ℕ
+  b = elf_file class n
+
+  abbrev keep : Keep
+  keep = kept_of_file no_wishes (elf_dialect class) to
+
+  fits : IsFitted (format_of class) n
+  fits = subst (λ f. IsFitted f n) own (made_is_fitted count few (word_for to))
+
+  kept : (k : ℕ) (s : Section) → slice_get n.sections k ≡ Some s → keeps keep s.kind ≡ true
+  unfolding made_object
+  kept zero s here = ap (λ (x : Section). keeps keep x.kind) (sym (same_Some (text_section count) s here)) ∙ code
+  kept (suc k) s here = absurd (none-some s here)
+
+  kept_seen : (k : ℕ) (s : Section) → slice_get (seen n).sections k ≡ Some s → keeps keep s.kind ≡ true
+  kept_seen k s here = kept k s (sym (ap (λ (m : Object). slice_get m.sections k) (seen_made count (word_for to) few)) ∙ here)
+
+  unedited : edited no_wishes to n ≡ Ok n
+  unedited =
+      ap (λ r. then_by (named_object [] to) (then_by (rebound_object []) r))
+      (dropped_same n fits.object (keep_for no_wishes n.format to) (λ k s here. ap (λ f. keeps (keep_for no_wishes f to) s.kind) fits.format ∙ kept k s here))
+      ∙ ap (then_by (named_object [] to)) (rebound_same n fits.object) ∙ named_object_same n fits.object to fits.few_symbols
+
+  object : object_in (elf_dialect class) b keep ≡ n
+  object = elf_object class n fits keep kept_seen ∙ seen_made count (word_for to) few
+
+  accepted : first_refusal no_wishes (elf_dialect class) to b ≡ None
+  accepted =
+      ap (λ o. or_else o (object_refusal no_wishes to (object_in (elf_dialect class) b keep))) (elf_good class n fits keep kept_seen)
+      ∙ ap (object_refusal no_wishes to) object
+      ∙ ap (edited_refusal to) unedited
+      ∙ made_is_expressible to count few
+
+  all_accepted : dispatch_refusal built no_wishes to (made_bytes count (word_for to)) ≡ None
+  unfolding built
+  all_accepted =
+      ap (dispatch_refusal built no_wishes to) same
+      ∙ ap (refusal_from built no_wishes to b) (elf_known class n)
+      ∙ ap (λ t. or_else (cond t None (Some (header_refusal WordSize))) (first_refusal no_wishes (reader_of (format_of class)) to b)) words
+      ∙ ap (λ (f : Dialect). first_refusal no_wishes f to b) reader
+      ∙ accepted
+
+pub made_is_accepted : MadeIsAccepted
+made_is_accepted Elf32 count few = all_accepted Elf32 count few Class32 refl refl refl refl refl
+made_is_accepted Elf64 count few = all_accepted Elf64 count few Class64 refl refl refl refl refl
+made_is_accepted Coff32 count few = all_accepted Coff32 count few Class32 refl refl refl refl refl
+made_is_accepted Coff64 count few = all_accepted Coff64 count few Class64 refl refl refl refl refl
+made_is_accepted Mac32 count few = all_accepted Mac32 count few Class32 refl refl refl refl refl
+made_is_accepted Mac64 count few = all_accepted Mac64 count few Class64 refl refl refl refl refl
+made_is_accepted Omf count few = all_accepted Omf count few Class32 refl refl refl refl refl
+
+class_is : (v : Word) → format_of (class_for v) ≡ elf_format v
+class_is W32 = refl
+class_is W64 = refl
+
+module _ (w : Word) (count : ℕ) (few : count ≤ 100000) where
+  abbrev made : Object
+  made = record { format = elf_format w; groups = []; sections = text_section count ∷ []; symbols = symbols_of count; relocs = calls_of w count ∷ [] }
+
+  fitted : IsFitted (format_of (class_for w)) made
+  unfolding made_object
+  fitted = subst (λ f. IsFitted f made) (sym (class_is w)) (made_is_fitted count few w)
+
+  stored_few : stored_sum (text_section count ∷ []) ≤ 1600000
+  stored_few = let a = sum_by-cons stored_size (text_section count) [] in omega (arith, a, few)
+
+  calls_few : sum_by length (calls_of w count ∷ []) ≤ 200000
+  calls_few = let a = sum_by-cons {X = List (Field Reloc)} length (calls_of w count) [] in let b = length-calls_of w count in omega (arith, a, b, few)
+
+  symbols_few : length (symbols_of count) ≤ 100010
+  symbols_few = let s = length-symbols_of count in omega (arith, s, few)
+
+  short : length (elf_file (class_for w) made) ≤ 67108864
+  short =
+      let size = file_size (class_for w) made (for_elf (class_for w) made fitted) in
+      omega (arith, size, stored_few, symbols_few, names_short count few, calls_few)
+
+pub made_is_short : MadeIsShort
+unfolding made_object
+made_is_short w count few = short w count few
