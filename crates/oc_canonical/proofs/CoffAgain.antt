@@ -1,8 +1,8 @@
 -- The canonical COFF file of what is seen of an object is that of the object.
-use Rattle.std.proofs.Common.{◌≡◌, ◌≢◌, ℕ, zero, suc, ◌+◌, ◌*◌, ◌<◌, ◌≤◌, Bool, true, false, cond, not, eqb, ◌&&◌, ◌||◌, List, [], ◌∷◌, ◌++◌, length, map, min, Option, Some, None, inl, inr, refl, sym, ◌∙◌, ap, subst, arith, append-nil}
+use Rattle.std.proofs.Common.{◌≡◌, ◌≢◌, ℕ, zero, suc, ◌+◌, ◌*◌, ◌<◌, ◌≤◌, Bool, true, false, cond, not, ◌&&◌, List, [], ◌∷◌, ◌++◌, length, map, min, Option, Some, None, inl, inr, refl, sym, ◌∙◌, ap, arith, append-nil}
 use mathlib.Core.Path.{fun_ext}
-use Rattle.std.specs.Prelude.{slice_get, slice_index_or, filter, filter_map, flat_map, replicate, bytes_eq, nat_eq, decimal}
-use Rattle.std.specs.List.{AllByRecursion, enumerate_from, list_any, range_with_len}
+use Rattle.std.specs.Prelude.{slice_get, filter, flat_map, nat_eq, decimal}
+use Rattle.std.specs.List.{AllByRecursion, enumerate_from, range_with_len}
 use Rattle.std.specs.Option.{option_map, option_map_or, option_and_then, unwrap_or}
 use Rattle.std.proofs.lemmas.Bool.{true≢false, cases_lt}
 use Rattle.std.proofs.lemmas.List.{length-map}
@@ -10,15 +10,12 @@ use Rattle.std.proofs.lemmas.List.FromFn.{length-enumerate_from}
 use Rattle.std.proofs.lemmas.Option.{none-some, same_Some, slice_get_within}
 use Rattle.oc_base.specs.declared.format.Word.{Word}
 use Rattle.oc_base.specs.declared.format.Word.TheVariants.{W32, W64}
-use Rattle.oc_base.specs.declared.format.Format.{Format}
-use Rattle.oc_base.specs.Formats.{word_for}
 use Rattle.oc_base.specs.Numbers.{bytes_of_number}
 use Rattle.oc_base.specs.Strings.{table_place, table_text}
 use Rattle.oc_linking.specs.declared.terms.Mark.{Mark}
 use Rattle.oc_linking.specs.declared.terms.Mark.TheVariants.{NoType, Function, Object as ObjectMark}
-use Rattle.oc_linking.specs.declared.terms.Hint.TheVariants.{Plain, Call}
+use Rattle.oc_linking.specs.declared.terms.Hint.TheVariants.{Call}
 use Rattle.oc_linking.specs.declared.terms.Value.{Value}
-use Rattle.oc_linking.specs.declared.terms.Value.TheVariants as value
 use Rattle.oc_linking.specs.declared.terms.Fallback.{Fallback}
 use Rattle.oc_linking.specs.declared.terms.Fallback.TheVariants as fallback
 use Rattle.oc_linking.specs.declared.terms.Binding.{Binding}
@@ -29,7 +26,6 @@ use Rattle.oc_linking.specs.Parts.{is_local}
 use Rattle.oc_algebra.specs.Fields.{to_field_of}
 use Rattle.oc_chains.specs.declared.field.Field as chains
 use Rattle.oc_chains.specs.Lists.{list_of}
-use Rattle.oc_neutral.specs.declared.group.Group.{Group}
 use Rattle.oc_neutral.specs.declared.section.Section.{Section}
 use Rattle.oc_neutral.specs.declared.symbol.Symbol.{Symbol}
 use Rattle.oc_neutral.specs.declared.reloc.Reloc.{Reloc}
@@ -42,17 +38,17 @@ use Rattle.oc_neutral.specs.Coff.Strings.{is_long, is_tabled, has_default, defau
 use Rattle.oc_neutral.specs.CoffMeets.{strings_of, offset_of}
 use Rattle.oc_neutral.specs.Families.{family_of}
 use Rattle.oc_neutral.specs.HomeNames.{output_names}
-use Rattle.oc_neutral.specs.KeySymbols.{global_place, group_at, is_key_name, is_key_at, is_key, lies_in}
+use Rattle.oc_neutral.specs.KeySymbols.{global_place, group_at, is_key_name, is_key_at, is_key}
 use Rattle.oc_neutral.specs.Manners.{coff_manner, coff_mark}
 use Rattle.oc_neutral.specs.Meets.{HasKeySymbol}
 use Rattle.oc_neutral.specs.Normal.{Place}
 use Rattle.oc_neutral.specs.Rows.{Row, shift_of, same_hint}
 use Rattle.oc_neutral.specs.RelocTables.{rows_of}
-use Rattle.oc_neutral.specs.Seen.{new_position, seen, seen_section, seen_symbol, seen_symbols, seen_binding, seen_fallback, seen_field, seen_reloc, seen_target}
+use Rattle.oc_neutral.specs.Seen.{new_position, seen, seen_section, seen_symbol, seen_binding, seen_fallback, seen_field, seen_reloc, seen_target}
 use Rattle.oc_neutral.specs.Spelling.{written_row}
 use Rattle.oc_neutral.specs.SymbolLines as table
 use Rattle.oc_neutral.specs.SymbolLines.{silent, one, coff_lines, coff_section_lines, coff_entries, needs_default, is_weak_with, is_outer, local_lines}
-use Rattle.oc_neutral.specs.WrittenSymbols.{is_written, is_written_as}
+use Rattle.oc_neutral.specs.WrittenSymbols.{is_written}
 use Rattle.oc_neutral.specs.Bindings.{is_written_by}
 use Rattle.oc_neutral.proofs.MeetsConditions.{own_names}
 use Rattle.oc_neutral.proofs.MeetsRelocs.{normal_of}
@@ -60,13 +56,12 @@ use Rattle.oc_neutral.proofs.SeenAlike.{relocs_same, seen_local, stands}
 use Rattle.oc_neutral.proofs.SeenLines.{IsShown}
 use Rattle.oc_neutral.proofs.SeenReady.{IsReady, coff_ready}
 use Rattle.oc_shelf.specs.Writing.Parts.{Laid, laid, laid_end, behind, joined, place_where}
-use Rattle.oc_shelf.proofs.WritingLaws.MemberLemmas.{map-map, map-alike, member_map}
+use Rattle.oc_shelf.proofs.WritingLaws.MemberLemmas.{map-map, map-alike}
 use Rattle.oc_coff_read.specs.declared.constants.TheConstants.{IMAGE_SYM_CLASS_STATIC, IMAGE_COMDAT_SELECT_ANY, IMAGE_COMDAT_SELECT_ASSOCIATIVE, IMAGE_WEAK_EXTERN_SEARCH_ALIAS, OVERFLOWED_COUNT, IMAGE_REL_I386_ABSOLUTE}
 use Rattle.oc_coff_read.specs.declared.section_header.TheConstants.{SECTION_HEADER_SIZE}
 use Rattle.oc_coff_read.specs.declared.relocation.TheConstants.{RELOCATION_SIZE}
 use Rattle.oc_coff_read.specs.declared.file_header.FileHeader.{FileHeader}
 use Rattle.oc_coff_read.specs.declared.section_header.SectionHeader.{SectionHeader}
-use Rattle.oc_coff_read.specs.declared.symbol.SymbolEntry.{SymbolEntry}
 use Rattle.oc_coff_read.specs.declared.section_aux.SectionAux.{SectionAux}
 use Rattle.oc_coff_read.specs.declared.weak_aux.WeakAux.{WeakAux}
 use Rattle.oc_coff_read.specs.declared.relocation.Relocation.{Relocation}
@@ -79,17 +74,17 @@ use Rattle.oc_coff_read.specs.Relocation.{relocation_bytes}
 use Rattle.oc_coff_read.specs.Tables.{usual_sizes}
 use Rattle.oc_coff_read.specs.Fields.{coff_format}
 use Rattle.oc_coff_read.specs.Names.{padded}
-use Rattle.oc_coff_read.specs.Lines.{Line, SectionLine, LocalLine, DefaultLine, OuterLine, placed_symbols, lines_where, section_lines, is_written_local, is_free, lines_of, line_size, numbered_lines, entry_count, is_section_line, is_default_line, is_outer_line, section_number, default_number, outer_number}
-use Rattle.oc_coff_read.specs.Bodies.{number_or, field_number, field_patch, field_patches, raw_of, target_number, type_of, relocation_of, relocs_of, is_crowded, with_count}
-use Rattle.oc_coff_read.specs.Layout.{Part, FileHead, SectionHeads, Raw, Relocs, SymbolTable, StringTable, section_parts, parts_of, text_of, reloc_entries, part_size, laid_parts, is_raw, is_relocs, is_symbol_table, pointer_to}
-use Rattle.oc_coff_read.specs.Canonical.{symbol_field, section_field, leader_number, leads, selection_of, kept_with, section_flags, section_header, header_at, headers_of, numbers_by, numbers_for, default_numbers, type_by, class_by, aux_by, entry, line_entry, section_aux, tag_of, weak_aux, outer_aux, line_aux, line_rows, entry_rows, machine_of, file_header, string_table, part_bytes, coff_file}
-use Rattle.oc_coff_read.proofs.CodedLaws.{IsForCoff, for_coff}
-use Rattle.oc_coff_read.proofs.GroupLaws.{IsKeyOf, key_is, IsLeader, leader_of, first_passing}
+use Rattle.oc_coff_read.specs.Lines.{Line, SectionLine, LocalLine, DefaultLine, OuterLine, lines_where, section_lines, is_written_local, is_free, lines_of, line_size, numbered_lines, entry_count, is_section_line, is_default_line, is_outer_line, section_number, default_number, outer_number}
+use Rattle.oc_coff_read.specs.Bodies.{number_or, field_number, field_patch, field_patches, raw_of, target_number, type_of, relocation_of, relocs_of, with_count}
+use Rattle.oc_coff_read.specs.Layout.{Part, FileHead, SectionHeads, Raw, Relocs, SymbolTable, StringTable, section_parts, parts_of, text_of, part_size, laid_parts, is_raw, is_relocs, is_symbol_table, pointer_to}
+use Rattle.oc_coff_read.specs.Canonical.{symbol_field, section_field, leader_number, leads, selection_of, kept_with, section_flags, header_at, headers_of, numbers_by, default_numbers, type_by, class_by, aux_by, entry, line_entry, tag_of, outer_aux, line_aux, line_rows, entry_rows, machine_of, file_header, part_bytes, coff_file}
+use Rattle.oc_coff_read.proofs.CodedLaws.{IsForCoff}
+use Rattle.oc_coff_read.proofs.GroupLaws.{key_is, leader_of, first_passing}
 use Rattle.oc_coff_read.proofs.LineLaws.{IsLineOf, numbered_is_of}
 use Rattle.oc_coff_read.proofs.SeenLaws.{shown, again, again_is, are_shown}
 use Rattle.oc_elf_file.proofs.RelocLaws.{found_in}
-use Rattle.oc_canonical.proofs.MapLemmas.{enumerate_map, filter-append, filter-within, filter-apart, filter-same, flat_map-mapped, lists_map, map_append, filter-flat_map, flat_map-none, flat_map-filter, map-flat_map, laid_as, laid_map, laid_end_map, place_map, place_map_in, joined_map}
-use Rattle.oc_canonical.proofs.SeenSymbols.{shown_ones, gathered, ones_gathered, gathered_append, gathered_silent, gathered_where, number_in, moved, all_moved, any_same, outer_tell, listed, listed_flat}
+use Rattle.oc_canonical.proofs.MapLemmas.{enumerate_map, filter-append, filter-within, filter-apart, flat_map-mapped, lists_map, map_append, filter-flat_map, flat_map-none, flat_map-filter, map-flat_map, laid_as, laid_map, laid_end_map, place_map, place_map_in, joined_map}
+use Rattle.oc_canonical.proofs.SeenSymbols.{shown_ones, gathered, ones_gathered, gathered_append, gathered_silent, gathered_where, moved, all_moved, any_same, outer_tell, listed, listed_flat}
 use Rattle.oc_canonical.proofs.StaysLemmas.{sections_long, plain_row}
 
 is_not : (b : Bool) → not b ≡ true → b ≡ false

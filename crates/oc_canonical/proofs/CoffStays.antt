@@ -1,8 +1,7 @@
 -- What is seen of an object that is ready for COFF is ready for COFF.
-use Rattle.std.proofs.Common.{◌≡◌, ℕ, ◌+◌, ◌-◌, ◌^◌, ◌<◌, ◌≤◌, Bool, true, false, cond, not, ◌&&◌, ◌||◌, eqb, nat_lt, nat_le, List, [], length, map, is_none, is_err, Option, Some, None, ℤ, refl, sym, ◌∙◌, ap, subst, arith}
+use Rattle.std.proofs.Common.{◌≡◌, ℕ, ◌^◌, true, false, cond, not, ◌&&◌, ◌||◌, eqb, nat_lt, nat_le, [], length, is_none, is_err, Option, Some, None, ℤ, refl, sym, ◌∙◌, ap, subst, arith}
 use Rattle.std.specs.Prelude.{slice_get, bytes_eq, nat_eq}
-use Rattle.std.specs.List.{AllByRecursion, list_any}
-use Rattle.std.specs.Option.{option_map, option_map_or, option_and_then, unwrap_or}
+use Rattle.std.specs.Option.{option_map, option_map_or, unwrap_or}
 use Rattle.std.proofs.lemmas.Bool.{eq-eqb, lt-ltb}
 use Rattle.std.proofs.lemmas.Slice.Eq.{bytes_eq-Decides}
 use Rattle.oc_base.specs.declared.format.Word.{Word}
@@ -12,8 +11,6 @@ use Rattle.oc_base.specs.declared.fault.Spot.{Spot}
 use Rattle.oc_base.specs.Formats.{word_for}
 use Rattle.oc_linking.specs.declared.terms.Kind.{Kind}
 use Rattle.oc_linking.specs.declared.terms.Kind.TheVariants.{Debug}
-use Rattle.oc_linking.specs.declared.terms.Fallback.{Fallback}
-use Rattle.oc_linking.specs.declared.terms.Binding.TheVariants.{Weak}
 use Rattle.oc_linking.specs.declared.terms.Hint.TheVariants.{Plain}
 use Rattle.oc_algebra.specs.Fields.{to_field_of}
 use Rattle.oc_neutral.specs.declared.section.Section.{Section}
@@ -21,16 +18,15 @@ use Rattle.oc_neutral.specs.declared.symbol.Symbol.{Symbol}
 use Rattle.oc_neutral.specs.declared.reloc.Reloc.{Reloc}
 use Rattle.oc_neutral.specs.declared.coff.TheConstants.{IMAGE_SYM_SECTION_MAX}
 use Rattle.oc_neutral.specs.Objects.{Object, reloc_at}
-use Rattle.oc_neutral.specs.Coff.Family.{coff_gives, coff_family, coff_lacks_name, coff_writes, is_far}
+use Rattle.oc_neutral.specs.Coff.Family.{coff_gives, coff_family, is_far}
 use Rattle.oc_neutral.specs.Coff.Kinds.{coff_kind, coff_tag}
 use Rattle.oc_neutral.specs.Coff.Strings.{is_tabled, string_offset}
-use Rattle.oc_neutral.specs.CoffMeets.{offset_of}
 use Rattle.oc_neutral.specs.Families.{family_of}
 use Rattle.oc_neutral.specs.Family.{Family}
 use Rattle.oc_neutral.specs.Fitted.{IsFitted}
 use Rattle.oc_neutral.specs.HomeNames.{output_names}
 use Rattle.oc_neutral.specs.Invariants.{IsObject}
-use Rattle.oc_neutral.specs.KeySymbols.{global_place, group_at, is_key_name, lies_in, has_key_symbol}
+use Rattle.oc_neutral.specs.KeySymbols.{group_at, is_key_name, lies_in, has_key_symbol}
 use Rattle.oc_neutral.specs.KindRules.{same_kind}
 use Rattle.oc_neutral.specs.Mach.SelfReferences.{is_self_reference}
 use Rattle.oc_neutral.specs.Manners.{coff_manner}
@@ -40,8 +36,7 @@ use Rattle.oc_neutral.specs.Relocated.{is_relocated}
 use Rattle.oc_neutral.specs.Rows.{Row}
 use Rattle.oc_neutral.specs.Seen.{seen, seen_section, seen_symbol, seen_fallback, seen_reloc}
 use Rattle.oc_neutral.specs.Shifts.{field_shift, written_shift}
-use Rattle.oc_neutral.specs.Spelling.{Spelled, numbers_in, spelling_of, written_row}
-use Rattle.oc_neutral.specs.Stored.{is_stored}
+use Rattle.oc_neutral.specs.Spelling.{numbers_in, spelling_of, written_row}
 use Rattle.oc_neutral.specs.TargetSections.{section_count, section_conditions}
 use Rattle.oc_neutral.specs.TargetSymbols.{bounded}
 use Rattle.oc_neutral.specs.TargetRelocations.{reloc_conditions, is_too_wide, section_taken, taken_end, lacks_difference, fixed_end, has_empty_end}
@@ -57,7 +52,7 @@ use Rattle.oc_coff_read.proofs.CodedLaws.{IsForCoff, for_coff}
 use Rattle.oc_coff_read.proofs.SeenLaws.{shown, again, again_is, are_shown}
 use Rattle.oc_canonical.proofs.CoffAgain.{plain_rows, offset_same, key_again}
 use Rattle.oc_canonical.proofs.SeenFitted.{FamilyStays, seen_fitted}
-use Rattle.oc_canonical.proofs.StaysLemmas.{same_kind-self, and_false, or_false, low_not, none_member, sections_long, target_stays, plain_row}
+use Rattle.oc_canonical.proofs.StaysLemmas.{same_kind-self, and_false, or_false, low_not, sections_long, target_stays, plain_row}
 
 family_whole : (w : Word) → family_of (coff_format w) ≡ coff_family w
 family_whole W32 = refl

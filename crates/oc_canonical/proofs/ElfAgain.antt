@@ -1,5 +1,5 @@
 -- The canonical ELF file of what is seen of an object is that of the object.
-use Rattle.std.proofs.Common.{◌≡◌, ℕ, zero, suc, ◌+◌, ◌*◌, Bool, true, false, cond, not, eqb, ◌&&◌, ◌||◌, List, [], ◌∷◌, ◌++◌, length, map, Option, Some, None, refl, sym, ◌∙◌, ap, arith, append-nil}
+use Rattle.std.proofs.Common.{◌≡◌, ℕ, ◌*◌, Bool, true, false, cond, not, eqb, ◌&&◌, List, [], ◌∷◌, ◌++◌, length, map, Option, Some, None, refl, sym, ◌∙◌, ap, append-nil}
 use mathlib.Core.Path.{fun_ext}
 use Rattle.std.specs.Prelude.{slice_get, filter, filter_map, flat_map, replicate, bytes_eq}
 use Rattle.std.specs.List.{enumerate_from}
@@ -8,7 +8,6 @@ use Rattle.std.proofs.lemmas.Bool.{true≢false}
 use Rattle.std.proofs.lemmas.List.{length-map}
 use Rattle.oc_base.specs.declared.format.Word.TheVariants.{W32, W64}
 use Rattle.oc_base.specs.declared.format.Format.TheVariants.{Elf32}
-use Rattle.oc_base.specs.Formats.{word_for}
 use Rattle.oc_linking.specs.declared.terms.Mark.{Mark}
 use Rattle.oc_linking.specs.declared.terms.Value.{Value}
 use Rattle.oc_linking.specs.declared.terms.Value.TheVariants as value
@@ -60,7 +59,7 @@ use Rattle.oc_elf_read.specs.Sym.{sym_size}
 use Rattle.oc_elf_read.specs.Rel.{rel_size}
 use Rattle.oc_elf_file.specs.Structures.{ehdr_bytes, shdr_bytes, sym_bytes, rel_bytes}
 use Rattle.oc_elf_file.specs.Heads.{Head, NullHead, GroupHead, SectionHead, RelocHead, SymtabHead, StrtabHead, ShstrtabHead, placed_sections, group_head, section_head, reloc_head, group_heads, section_heads, reloc_heads, table_heads, heads_of, head_size, numbered_heads, head_where, is_group_head, is_section_head, is_symtab_head, is_strtab_head, is_shstrtab_head, group_number, section_number, head_name}
-use Rattle.oc_elf_file.specs.Lines.{Line, NullLine, SectionLine, SignatureLine, LocalLine, OuterLine, section_lines, signature_lines, lines_where, inner_lines, outer_lines, lines_of, line_size, numbered_lines, is_section_line, is_symbol_line, is_signature_line, own_number, symbol_number, signature_number, line_name}
+use Rattle.oc_elf_file.specs.Lines.{Line, NullLine, SectionLine, SignatureLine, LocalLine, OuterLine, section_lines, signature_lines, lines_where, inner_lines, outer_lines, lines_of, line_size, numbered_lines, is_section_line, is_signature_line, own_number, symbol_number, signature_number, line_name}
 use Rattle.oc_elf_file.specs.Groups.{is_member_head, member_number, group_words, group_bytes}
 use Rattle.oc_elf_file.specs.Bodies.{number_or, field_number, field_patch, field_patches, raw_of, target_number, type_of, addend_of, rel_of, rels_of}
 use Rattle.oc_elf_file.specs.Layout.{Part, FileHead, Body, HeadTable, parts_of, is_named, head_names, line_names, strings_of, body_size, part_size, part_align, part_begin, laid_parts, is_head_table}

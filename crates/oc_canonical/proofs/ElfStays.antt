@@ -1,9 +1,9 @@
 -- What is seen of an object that is ready for ELF is ready for ELF.
-use Rattle.std.proofs.Common.{◌≡◌, ℕ, ◌+◌, ◌-◌, ◌^◌, ◌<◌, ◌≤◌, Bool, true, false, cond, not, ◌&&◌, ◌||◌, nat_lt, nat_le, List, [], length, map, count_by, is_none, is_err, Option, Some, None, ℤ, refl, sym, ◌∙◌, ap, subst, arith}
+use Rattle.std.proofs.Common.{◌≡◌, ℕ, ◌+◌, ◌-◌, ◌^◌, ◌<◌, ◌≤◌, Bool, true, false, cond, not, ◌&&◌, ◌||◌, nat_lt, nat_le, [], length, count_by, is_none, is_err, Some, None, ℤ, refl, sym, ◌∙◌, ap, subst, arith}
 use mathlib.Core.Path.{fun_ext}
 use Rattle.std.specs.Prelude.{slice_get}
 use Rattle.std.specs.List.{range_with_len}
-use Rattle.std.specs.Option.{option_map, option_map_or, option_and_then}
+use Rattle.std.specs.Option.{option_map_or, option_and_then}
 use Rattle.oc_base.specs.declared.format.Format.{Format}
 use Rattle.oc_base.specs.declared.format.Format.TheVariants.{Elf32}
 use Rattle.oc_base.specs.declared.fault.Spot.{Spot}
@@ -12,10 +12,8 @@ use Rattle.oc_linking.specs.declared.terms.Kind.{Kind}
 use Rattle.oc_linking.specs.declared.terms.Kind.TheVariants.{Debug}
 use Rattle.oc_linking.specs.declared.terms.Fallback.{Fallback}
 use Rattle.oc_linking.specs.declared.terms.Fallback.TheVariants as fallback
-use Rattle.oc_linking.specs.declared.terms.Binding.{Binding}
 use Rattle.oc_linking.specs.declared.terms.Binding.TheVariants.{Weak}
 use Rattle.oc_algebra.specs.Fields.{to_field_of}
-use Rattle.oc_neutral.specs.declared.group.Group.{Group}
 use Rattle.oc_neutral.specs.declared.section.Section.{Section}
 use Rattle.oc_neutral.specs.declared.symbol.Symbol.{Symbol}
 use Rattle.oc_neutral.specs.declared.reloc.Reloc.{Reloc}
@@ -35,13 +33,12 @@ use Rattle.oc_neutral.specs.Manners.{elf_manner}
 use Rattle.oc_neutral.specs.Meets.{IsSteadyAt}
 use Rattle.oc_neutral.specs.Normal.{Place}
 use Rattle.oc_neutral.specs.Relocated.{is_relocated}
-use Rattle.oc_neutral.specs.Seen.{place_at, new_position, seen, seen_section, seen_symbol, seen_symbols, seen_fallback, seen_reloc}
+use Rattle.oc_neutral.specs.Seen.{place_at, new_position, seen, seen_section, seen_symbol, seen_fallback, seen_reloc}
 use Rattle.oc_neutral.specs.Shifts.{field_shift}
 use Rattle.oc_neutral.specs.Stored.{is_stored}
-use Rattle.oc_neutral.specs.SymbolLines.{needs_signature}
 use Rattle.oc_neutral.specs.TargetSections.{section_count, section_conditions}
 use Rattle.oc_neutral.specs.TargetSymbols.{bounded}
-use Rattle.oc_neutral.specs.TargetRelocations.{reloc_conditions, is_wrong_target, has_no_form, is_too_far, ends_in_nothing, is_too_wide, section_taken, taken_end, lacks_difference, fixed_end, has_empty_end, spot_of}
+use Rattle.oc_neutral.specs.TargetRelocations.{reloc_conditions, is_too_wide, section_taken, taken_end, lacks_difference, fixed_end, has_empty_end}
 use Rattle.oc_neutral.specs.Spelling.{spelling_of}
 use Rattle.oc_neutral.proofs.MeetsConditions.{AreMet, section_met, reloc_met, neither}
 use Rattle.oc_neutral.proofs.MeetsRelocs.{normal_of}

@@ -1,19 +1,18 @@
 -- The canonical Mach-O file of what is seen of an object is that of the object.
-use Rattle.std.proofs.Common.{◌≡◌, ◌≢◌, ℕ, zero, suc, ◌+◌, ◌-◌, ◌*◌, ◌%◌, ◌<◌, ◌≤◌, Bool, true, false, cond, not, eqb, ◌&&◌, ◌||◌, List, [], ◌∷◌, ◌++◌, length, map, Option, Some, None, ℤ, pos, inl, inr, ◌⊎◌, refl, sym, ◌∙◌, ap, subst, arith, append-nil}
+use Rattle.std.proofs.Common.{◌≡◌, ◌≢◌, ℕ, ◌+◌, ◌-◌, ◌*◌, ◌%◌, Bool, true, false, cond, not, ◌&&◌, ◌||◌, List, [], ◌∷◌, ◌++◌, length, map, Option, Some, None, ℤ, pos, inl, inr, ◌⊎◌, refl, sym, ◌∙◌, ap, arith, append-nil}
 use mathlib.Core.Path.{fun_ext}
-use Rattle.std.specs.Prelude.{slice_get, filter, filter_map, flat_map, replicate, nat_eq, neg_ℤ, ◌-ℤ◌, ◌+ℤ◌}
+use Rattle.std.specs.Prelude.{slice_get, filter, flat_map, replicate, nat_eq, neg_ℤ, ◌-ℤ◌, ◌+ℤ◌}
 use Rattle.std.specs.List.{AllByRecursion, enumerate_from, list_any, range_with_len}
-use Rattle.std.specs.Option.{option_map, option_map_or, option_and_then, unwrap_or}
+use Rattle.std.specs.Option.{option_map, option_map_or, option_and_then}
 use Rattle.std.proofs.lemmas.Bool.{true≢false}
 use Rattle.std.proofs.lemmas.Int.{ints}
 use Rattle.std.proofs.lemmas.List.{length-map}
-use Rattle.std.proofs.lemmas.Option.{none-some, same_Some}
+use Rattle.std.proofs.lemmas.Option.{none-some}
 use Rattle.oc_base.specs.declared.format.Word.{Word}
 use Rattle.oc_base.specs.declared.format.Word.TheVariants.{W32, W64}
-use Rattle.oc_base.specs.declared.format.Format.{Format}
 use Rattle.oc_base.specs.Formats.{word_for}
 use Rattle.oc_linking.specs.declared.terms.Hint.{Hint}
-use Rattle.oc_linking.specs.declared.terms.Hint.TheVariants.{Plain, Call}
+use Rattle.oc_linking.specs.declared.terms.Hint.TheVariants.{Call}
 use Rattle.oc_linking.specs.declared.terms.Less.{Less}
 use Rattle.oc_linking.specs.declared.terms.Less.TheVariants as less
 use Rattle.oc_linking.specs.declared.terms.Visibility.{Visibility}
@@ -42,7 +41,6 @@ use Rattle.oc_neutral.specs.declared.reloc.Target.{Target}
 use Rattle.oc_neutral.specs.declared.reloc.Target.TheVariants as target
 use Rattle.oc_neutral.specs.Bindings as weak
 use Rattle.oc_neutral.specs.Bindings.{is_written_by}
-use Rattle.oc_neutral.specs.Building as kinds
 use Rattle.oc_neutral.specs.Dressing.{is_common}
 use Rattle.oc_neutral.specs.Families.{family_of}
 use Rattle.oc_neutral.specs.KeySymbols.{global_place}
@@ -53,8 +51,8 @@ use Rattle.oc_neutral.specs.Normal.{Place, moved_addend, at_section, takes_secti
 use Rattle.oc_neutral.specs.Objects.{Object, reloc_at}
 use Rattle.oc_neutral.specs.RelocTables.{rows_of}
 use Rattle.oc_neutral.specs.Rows.{Row, TakesPlace, TakesSection, same_taken, taken_of, same_hint}
-use Rattle.oc_neutral.specs.Seen.{place_at, target_place, section_place, new_position, seen, seen_section, seen_symbol, seen_symbols, seen_binding, seen_fallback, seen_field, seen_reloc, seen_target}
-use Rattle.oc_neutral.specs.Shifts.{Said, Symbolic, Sectional, said_shift, sectdiff_shift, written_shift}
+use Rattle.oc_neutral.specs.Seen.{place_at, target_place, section_place, new_position, seen, seen_section, seen_symbol, seen_binding, seen_fallback, seen_field, seen_reloc, seen_target}
+use Rattle.oc_neutral.specs.Shifts.{Sectional, said_shift, sectdiff_shift, written_shift}
 use Rattle.oc_neutral.specs.Spelling.{written_row}
 use Rattle.oc_neutral.specs.SymbolLines as table
 use Rattle.oc_neutral.specs.SymbolLines.{silent, one, is_defined, is_undefined, is_weak_with, mach_lines}
@@ -74,7 +72,6 @@ use Rattle.oc_macho_read.specs.declared.symtab_command.TheConstants.{SYMTAB_COMM
 use Rattle.oc_macho_read.specs.declared.name.TheConstants.{NAME_SIZE}
 use Rattle.oc_macho_read.specs.SegmentCommand.{segment_number, segment_command_size}
 use Rattle.oc_macho_read.specs.declared.relocation_info.TheConstants.{RELOCATION_INFO_SIZE}
-use Rattle.oc_macho_read.specs.declared.relocation_info.Reference.{Reference}
 use Rattle.oc_macho_read.specs.declared.relocation_info.Reference.TheVariants as reference
 use Rattle.oc_macho_read.specs.declared.relocation_info.RelocationInfo.{RelocationInfo}
 use Rattle.oc_macho_read.specs.declared.mach_header.MachHeader.{MachHeader}
@@ -89,9 +86,9 @@ use Rattle.oc_macho_file.specs.declared.constants.TheConstants.{COMMAND_COUNT, C
 use Rattle.oc_macho_file.specs.Structures.{magic_of, padded, mach_header_bytes, symtab_bytes, section_bytes, nlist_bytes, relocation_bytes}
 use Rattle.oc_macho_file.specs.Addresses.{Numbered, is_blank, stored_sections, blank_sections, section_begin, size_of, mapped, is_at, address_of, memory_end, stored_end}
 use Rattle.oc_macho_file.specs.Lines.{Line, OwnLine, LocalLine, OuterLine, own_lines, lines_where, local_lines, inner_lines, defined_lines, undefined_lines, lines_of, line_size, numbered_lines, is_own_line, is_symbol_line, own_number, symbol_number, line_name}
-use Rattle.oc_macho_file.specs.Bodies.{Standing, taken_section, end_place, end_address, end_section_address, said_of, alone_shift, pair_shift, field_shift, number_or, field_number, standing_at, field_patch, field_patches, raw_of, reference_to, plain_entry, scattered_entry, pair_entries, standing_entries, entries_at, entries_of}
-use Rattle.oc_macho_file.specs.Layout.{Part, FileHead, SegmentHead, SectionHeads, SymtabHead, DysymtabHead, Raw, Relocs, SymbolTable, StringTable, raw_part, relocs_part, head_parts, table_parts, parts_of, segment_length, commands_length, contents_begin, relocs_of, line_names, offset_in, strings_of, filled, string_table, part_size, entries_align, part_begin, laid_parts, part_where, is_raw, is_relocs, is_symbol_table, is_string_table}
-use Rattle.oc_macho_file.specs.Symbols.{exponent_of, Stood, stood_at, stood_elsewhere, stood_by, stood_for, stood_of, external_flag, private_flag, desc_by, symbol_entry, own_entry, line_entry}
+use Rattle.oc_macho_file.specs.Bodies.{Standing, taken_section, end_address, end_section_address, said_of, alone_shift, pair_shift, field_shift, number_or, field_number, standing_at, field_patch, field_patches, raw_of, reference_to, plain_entry, scattered_entry, pair_entries, standing_entries, entries_at, entries_of}
+use Rattle.oc_macho_file.specs.Layout.{Part, FileHead, SegmentHead, SectionHeads, SymtabHead, DysymtabHead, Raw, Relocs, SymbolTable, StringTable, raw_part, relocs_part, head_parts, table_parts, parts_of, commands_length, contents_begin, relocs_of, line_names, offset_in, strings_of, filled, string_table, part_size, entries_align, part_begin, laid_parts, part_where, is_raw, is_relocs, is_symbol_table, is_string_table}
+use Rattle.oc_macho_file.specs.Symbols.{exponent_of, Stood, stood_at, stood_by, stood_for, stood_of, external_flag, private_flag, desc_by, symbol_entry, line_entry}
 use Rattle.oc_macho_file.specs.Canonical.{file_header, segment_numbers, pointer_to, section_header, section_headers, symtab_command, words, dysymtab_numbers, part_bytes, mach_file}
 use Rattle.oc_macho_file.proofs.CodedLaws.{IsForMach, IsPlaced, word_back, fallback_is}
 use Rattle.oc_macho_file.proofs.LineLaws.{IsLine, line_at}

@@ -1,9 +1,9 @@
 -- What is seen of an object that is ready for Mach-O is ready for Mach-O.
-use Rattle.std.proofs.Common.{◌≡◌, ℕ, zero, suc, ◌+◌, ◌-◌, ◌^◌, ◌<◌, ◌≤◌, ◌⊎◌, inl, inr, Bool, true, false, cond, not, ◌&&◌, ◌||◌, eqb, nat_lt, nat_le, List, [], ◌∷◌, ◌++◌, length, map, is_none, is_err, Option, Some, None, ℤ, refl, sym, ◌∙◌, ap, subst, arith}
-use Rattle.std.specs.Prelude.{slice_get, nat_eq, count_by}
+use Rattle.std.proofs.Common.{◌≡◌, ℕ, zero, suc, ◌+◌, ◌^◌, ◌<◌, ◌≤◌, ◌⊎◌, inl, inr, Bool, true, false, cond, not, ◌&&◌, ◌||◌, nat_lt, nat_le, List, [], ◌∷◌, ◌++◌, length, map, is_none, is_err, Option, Some, None, ℤ, refl, sym, ◌∙◌, ap, subst, arith}
+use Rattle.std.specs.Prelude.{slice_get, nat_eq}
 use Rattle.std.specs.List.{enumerate_from, list_any}
 use Rattle.std.specs.Option.{option_map, option_map_or, option_and_then}
-use Rattle.std.proofs.lemmas.Bool.{true≢false, eq-eqb, lt-ltb}
+use Rattle.std.proofs.lemmas.Bool.{eq-eqb, lt-ltb}
 use Rattle.std.proofs.lemmas.Bool.Decides.{nat_tests}
 use Rattle.std.proofs.lemmas.Option.{none-some, same_Some}
 use Rattle.oc_base.specs.declared.format.Word.{Word}
@@ -35,19 +35,18 @@ use Rattle.oc_neutral.specs.Invariants.{IsObject}
 use Rattle.oc_neutral.specs.KeySymbols.{global_place}
 use Rattle.oc_neutral.specs.KindRules.{same_kind}
 use Rattle.oc_neutral.specs.Mach.Family.{mach_family, mach_gives, mach_writes, mach_needed, mach_symbol_count}
-use Rattle.oc_neutral.specs.Mach.Kinds.{is_comma, segment_of, section_of, mach_name, mach_kind, mach_tag, is_read_type}
+use Rattle.oc_neutral.specs.Mach.Kinds.{is_comma, segment_of, section_of, mach_kind, mach_tag, is_read_type}
 use Rattle.oc_neutral.specs.Mach.SelfReferences.{is_self_reference}
 use Rattle.oc_neutral.specs.Manners.{Manner, mach_manner}
 use Rattle.oc_neutral.specs.Normal.{Place, at_section}
 use Rattle.oc_neutral.specs.Relocated.{is_relocated}
 use Rattle.oc_neutral.specs.Rows.{Row}
-use Rattle.oc_neutral.specs.Seen.{place_at, section_place, seen, seen_section, seen_symbol, seen_symbols, seen_binding, seen_fallback, seen_reloc, seen_target}
+use Rattle.oc_neutral.specs.Seen.{place_at, section_place, seen, seen_section, seen_symbol, seen_binding, seen_fallback, seen_reloc, seen_target}
 use Rattle.oc_neutral.specs.Shifts.{field_shift, written_shift}
 use Rattle.oc_neutral.specs.Spelling.{numbers_in, spelling_of, written_row}
 use Rattle.oc_neutral.specs.Stored.{is_stored}
 use Rattle.oc_neutral.specs.TargetSections.{section_count, section_conditions}
 use Rattle.oc_neutral.specs.TargetSymbols.{bounded}
-use Rattle.oc_neutral.specs.TargetRelocations as ends
 use Rattle.oc_neutral.specs.TargetRelocations.{reloc_conditions, is_too_wide, taken_end, lacks_difference, fixed_end, global_section, has_empty_end, is_empty, is_symbol}
 use Rattle.oc_neutral.proofs.MeetsConditions.{AreMet, section_met, reloc_met, neither}
 use Rattle.oc_neutral.proofs.SeenLaws.{seen_is_object_law}

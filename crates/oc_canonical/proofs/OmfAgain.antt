@@ -1,18 +1,15 @@
 -- The canonical OMF module of what is seen of an object is that of the object.
-use Rattle.std.proofs.Common.{◌≡◌, ℕ, zero, suc, ◌+◌, ◌-◌, ◌<◌, ◌≤◌, Bool, true, false, cond, not, eqb, ◌&&◌, ◌||◌, nat_le, nat_lt, List, [], ◌∷◌, ◌++◌, length, map, fold, Option, Some, None, ℤ, refl, sym, ◌∙◌, ap, subst, arith, append-nil}
+use Rattle.std.proofs.Common.{◌≡◌, ℕ, suc, ◌+◌, ◌-◌, Bool, true, false, cond, eqb, ◌&&◌, nat_le, nat_lt, List, [], ◌∷◌, ◌++◌, length, map, fold, Option, Some, None, ℤ, refl, sym, ◌∙◌, ap, append-nil}
 use mathlib.Core.Path.{fun_ext}
 use Rattle.std.specs.Prelude.{slice_get, filter, filter_map, flat_map, bytes_eq, nat_eq, codes, slice_range}
 use Rattle.std.specs.List.{AllByRecursion, enumerate_from, cons_option, position_or_len}
-use Rattle.std.specs.Option.{option_map, option_map_or, option_and_then, unwrap_or}
+use Rattle.std.specs.Option.{option_map, option_map_or, option_and_then}
 use Rattle.std.proofs.lemmas.Bool.{true≢false}
 use Rattle.std.proofs.lemmas.List.{length-map}
-use Rattle.std.proofs.lemmas.Option.{none-some, same_Some}
 use Rattle.oc_base.specs.declared.format.Word.TheVariants.{W32}
-use Rattle.oc_base.specs.declared.format.Format.{Format}
 use Rattle.oc_base.specs.declared.format.Format.TheVariants.{Omf}
 use Rattle.oc_base.specs.Formats.{word_for}
 use Rattle.oc_linking.specs.declared.terms.Hint.TheVariants.{Plain, Call}
-use Rattle.oc_linking.specs.declared.terms.Less.{Less}
 use Rattle.oc_linking.specs.declared.terms.Binding.{Binding}
 use Rattle.oc_linking.specs.declared.terms.Binding.TheVariants.{Local, Global, Undefined, Common, Weak}
 use Rattle.oc_linking.specs.declared.terms.Patch.{Patch}
@@ -34,34 +31,33 @@ use Rattle.oc_neutral.specs.Invariants.{IsObject}
 use Rattle.oc_neutral.specs.KeySymbols.{global_place}
 use Rattle.oc_neutral.specs.Manners.{omf_manner}
 use Rattle.oc_neutral.specs.Normal.{Place, at_section, takes_section}
-use Rattle.oc_neutral.specs.Omf.Relocs.{Framed, ByTarget, BySelf}
+use Rattle.oc_neutral.specs.Omf.Relocs.{BySelf}
 use Rattle.oc_neutral.specs.Rows.{Row, shift_of, same_hint}
 use Rattle.oc_neutral.specs.RelocTables.{rows_of}
-use Rattle.oc_neutral.specs.Seen.{place_at, target_place, section_place, new_position, seen, seen_section, seen_symbol, seen_symbols, seen_binding, seen_field, seen_reloc, seen_target}
+use Rattle.oc_neutral.specs.Seen.{place_at, target_place, section_place, new_position, seen, seen_section, seen_binding, seen_field, seen_reloc, seen_target}
 use Rattle.oc_neutral.specs.Spelling.{written_row}
-use Rattle.oc_neutral.specs.SymbolLines as table
 use Rattle.oc_neutral.specs.SymbolLines.{omf_lines, lines_of, is_undefined, is_global, one}
 use Rattle.oc_neutral.proofs.MeetsRelocs.{normal_of}
-use Rattle.oc_neutral.proofs.SeenAlike.{relocs_same, seen_local, stands}
+use Rattle.oc_neutral.proofs.SeenAlike.{relocs_same, stands}
 use Rattle.oc_neutral.proofs.SeenLines.{IsShown}
 use Rattle.oc_neutral.proofs.SeenReady.{IsReady, omf_ready}
 use Rattle.oc_shelf.proofs.WritingLaws.MemberLemmas.{map-map, map-alike}
 use Rattle.oc_omf_read.specs.declared.structures.Method.{Method}
 use Rattle.oc_omf_read.specs.declared.structures.Segment as read
-use Rattle.oc_omf_file.specs.declared.constants.TheConstants.{METHOD_SEGMENT, METHOD_EXTERNAL}
-use Rattle.oc_omf_file.specs.Structures.{entry_bytes, index_bytes, segment_bytes, communal_bytes, data_bytes, fixup_bytes}
-use Rattle.oc_omf_file.specs.Names.{class_of, with_name, names_of, name_index, filled_from}
+use Rattle.oc_omf_file.specs.declared.constants.TheConstants.{METHOD_EXTERNAL}
+use Rattle.oc_omf_file.specs.Structures.{entry_bytes, segment_bytes, communal_bytes, data_bytes, fixup_bytes}
+use Rattle.oc_omf_file.specs.Names.{class_of, with_name, names_of, filled_from}
 use Rattle.oc_omf_file.specs.Pieces.{offsets_of, pieces_upto, pieces_of, fields_between}
-use Rattle.oc_omf_file.specs.Outputs.{Output, Header, Names, Segment, Group, External, Communal, Public, Data, Fixups, End, external_by, communal_by, public_by, external_output, communal_output, public_output, indexed_outputs, symbol_outputs, is_of_symbol, symbol_number, piece_outputs, data_outputs, segment_output, outputs_of}
+use Rattle.oc_omf_file.specs.Outputs.{Output, Header, Names, Segment, Group, External, Communal, Public, Data, Fixups, End, external_by, communal_by, public_by, external_output, communal_output, public_output, symbol_outputs, is_of_symbol, symbol_number, piece_outputs, data_outputs, segment_output, outputs_of}
 use Rattle.oc_omf_file.specs.Fixups.{written_reloc, row_by, number_or, number_by, field_number, field_patch, field_patches, raw_of, target_method, is_row, frame_method, fixup_by, field_fixup}
-use Rattle.oc_omf_file.specs.Canonical.{attributes_of, segment_of, size_by, public_at, output_type, output_contents, output_bytes, omf_file}
-use Rattle.oc_omf_file.proofs.CodedLaws.{IsForOmf, for_omf}
+use Rattle.oc_omf_file.specs.Canonical.{attributes_of, size_by, public_at, output_type, output_contents, output_bytes, omf_file}
+use Rattle.oc_omf_file.proofs.CodedLaws.{IsForOmf}
 use Rattle.oc_omf_file.proofs.LineLaws.{key_of, listed_at}
 use Rattle.oc_omf_file.proofs.SeenLaws.{shown, again, again_is, are_shown}
 use Rattle.oc_elf_file.proofs.RelocLaws.{found_in}
 use Rattle.oc_elf_file.proofs.LineLaws.{of_filter}
 use Rattle.oc_canonical.proofs.MapLemmas.{enumerate_map, filter-append, filter-within, filter-apart, filter-mapped, flat_map-mapped, lists_map, map_append, map-flat_map}
-use Rattle.oc_canonical.proofs.SeenSymbols.{shown_ones, gathered, ones_gathered, gathered_append, gathered_where, number_in, moved, all_moved, outer_tell}
+use Rattle.oc_canonical.proofs.SeenSymbols.{shown_ones, gathered, ones_gathered, gathered_append, gathered_where, moved, all_moved, outer_tell}
 use Rattle.oc_canonical.proofs.StaysLemmas.{plain_row}
 
 fails : (b : Bool) → (b ≡ true → ⊥) → b ≡ false

@@ -1,16 +1,15 @@
 -- What of OMF is read where Debug sections are not kept, of a module that has none: the same.
-use Rattle.std.proofs.Common.{◌≡◌, ℕ, zero, suc, ◌+◌, ◌<◌, Bool, true, false, cond, List, [], ◌∷◌, ◌++◌, map, take, filter_map, Option, Some, None, Result, Ok, Err, refl, sym, ◌∙◌, ap, subst, arith}
+use Rattle.std.proofs.Common.{◌≡◌, ℕ, zero, suc, ◌+◌, Bool, true, false, cond, List, [], ◌∷◌, ◌++◌, map, take, filter_map, Option, Some, None, Result, Ok, Err, refl, sym, ◌∙◌, ap, subst}
 use mathlib.Core.Path.{fun_ext}
 use Rattle.std.specs.Prelude.{slice_get}
-use Rattle.std.specs.List.{AllByRecursion, enumerate_from, position_or_len, range_with_len}
+use Rattle.std.specs.List.{AllByRecursion, enumerate_from, range_with_len}
 use Rattle.std.specs.Option.{option_map, option_map_or, option_and_then, unwrap_or}
 use Rattle.std.proofs.lemmas.Option.{none-some, same_Some, slice_get-map}
 use Rattle.oc_linking.specs.declared.terms.Kind.{Kind}
 use Rattle.oc_linking.specs.declared.terms.Kind.TheVariants.{Code, ReadOnly, Data, Zero, Init, Fini, Debug, Exception, Note}
 use Rattle.oc_linking.specs.declared.terms.Keep.{Keep}
 use Rattle.oc_linking.specs.declared.terms.Patch.{Patch}
-use Rattle.oc_linking.specs.FirstFault.{Condition, Stage}
-use Rattle.oc_linking.specs.Images.{Patches, overlay}
+use Rattle.oc_linking.specs.Images.{overlay}
 use Rattle.oc_linking.specs.Keeping.{all, keeps}
 use Rattle.oc_linking.specs.Linking.{flags_in}
 use Rattle.oc_linking.specs.Parts as parts
@@ -21,11 +20,10 @@ use Rattle.oc_neutral.specs.declared.section.Section.{Section}
 use Rattle.oc_neutral.specs.declared.reloc.Reloc.{Reloc}
 use Rattle.oc_neutral.specs.Objects.{Object}
 use Rattle.oc_neutral.specs.Building.{is_zero}
-use Rattle.oc_neutral.specs.Computed.{zero_values, zero_patches, keys_in, computed_section, computed_symbol, reloc_for, computed_field, computed_fields, object_in}
-use Rattle.oc_neutral.specs.Dialects.{Dialect, Look, is_kept, kept_fields, is_difference, is_folded, look_of, looks_in, patches_in}
+use Rattle.oc_neutral.specs.Computed.{zero_values, zero_patches, computed_section, computed_symbol, reloc_for, computed_field, computed_fields, object_in}
+use Rattle.oc_neutral.specs.Dialects.{Look, kept_fields, is_difference, is_folded, look_of, looks_in, patches_in}
 use Rattle.oc_neutral.specs.Faces.{shown_sections, shown_section}
 use Rattle.oc_neutral.specs.Fitted.{IsFitted}
-use Rattle.oc_neutral.specs.KindRules.{same_kind}
 use Rattle.oc_neutral.specs.Seen.{seen, seen_section}
 use Rattle.oc_neutral.specs.Manners.{omf_manner}
 use Rattle.oc_neutral.specs.Shows.{Shows, frame_of}
@@ -46,7 +44,7 @@ use Rattle.oc_omf_read.specs.Entries.{Entry, entries_in}
 use Rattle.oc_omf_read.specs.Fields.{fields_in}
 use Rattle.oc_omf_read.specs.Fixups.{Placed, placed_by, placed_upto, Fixed, fixed_of, fixed_in}
 use Rattle.oc_omf_read.specs.Targets.{Meaning, meaning_of}
-use Rattle.oc_omf_read.specs.Tables.{Tables, tables_of, indexed}
+use Rattle.oc_omf_read.specs.Tables.{Tables, indexed}
 use Rattle.oc_omf_read.specs.Structures.{Piece}
 use Rattle.oc_omf_read.specs.declared.structures.Segment.{Segment}
 use Rattle.oc_omf_read.specs.Sections.{segment_kind}

@@ -1,10 +1,4 @@
 -- Canonical OMF modules are read back.
-use Rattle.std.proofs.Common.{◌≡◌}
-use Rattle.oc_base.specs.declared.format.Format.TheVariants.{Omf}
-use Rattle.oc_neutral.specs.Objects.{Object}
-use Rattle.oc_neutral.specs.Fitted.{IsFitted}
-use Rattle.oc_omf_read.specs.Rules.{omf_dialect}
-use Rattle.oc_omf_file.specs.Canonical.{omf_file}
 use Rattle.oc_omf_file.proofs.CodedLaws.{for_omf}
 use Rattle.oc_canonical.proofs.OmfAgain.{omf_file_again}
 use Rattle.oc_canonical.proofs.OmfStays.{object, omf_seen_fitted}

@@ -1,21 +1,18 @@
 -- What is seen of an object that is ready for OMF is ready for OMF.
-use Rattle.std.proofs.Common.{◌≡◌, ℕ, ◌+◌, ◌-◌, ◌^◌, ◌<◌, ◌≤◌, Bool, true, false, cond, not, ◌&&◌, ◌||◌, eqb, nat_lt, nat_le, List, [], length, map, is_none, is_err, Option, Some, None, ℤ, refl, sym, ◌∙◌, ap, subst, arith}
-use Rattle.std.specs.Prelude.{slice_get, nat_eq, count_by}
+use Rattle.std.proofs.Common.{◌≡◌, ℕ, Bool, true, false, not, ◌&&◌, ◌||◌, nat_lt, List, length, is_none, Some, refl, sym, ◌∙◌, ap, subst, arith}
+use Rattle.std.specs.Prelude.{slice_get, count_by}
 use Rattle.std.specs.Option.{option_map, option_map_or}
-use Rattle.std.proofs.lemmas.Bool.{true≢false, eq-eqb}
+use Rattle.std.proofs.lemmas.Bool.{eq-eqb}
 use Rattle.std.proofs.lemmas.Option.{none-some}
 use Rattle.oc_base.specs.declared.format.Format.TheVariants.{Omf}
 use Rattle.oc_base.specs.declared.fault.Spot.{Spot}
-use Rattle.oc_base.specs.Formats.{word_for}
 use Rattle.oc_linking.specs.declared.terms.Kind.{Kind}
 use Rattle.oc_linking.specs.declared.terms.Kind.TheVariants.{Code, ReadOnly, Data, Zero, Init, Fini, Debug, Exception, Note}
-use Rattle.oc_linking.specs.declared.terms.Fallback.{Fallback}
 use Rattle.oc_linking.specs.declared.terms.Binding.{Binding}
 use Rattle.oc_linking.specs.declared.terms.Binding.TheVariants.{Local, Global, Undefined, Common, Weak}
 use Rattle.oc_linking.specs.declared.terms.Hint.TheVariants.{Plain}
 use Rattle.oc_linking.specs.Parts.{is_local}
 use Rattle.oc_algebra.specs.declared.form.Form.{Form}
-use Rattle.oc_algebra.specs.Fields.{to_field_of}
 use Rattle.oc_neutral.specs.declared.section.Section.{Section}
 use Rattle.oc_neutral.specs.declared.symbol.Symbol.{Symbol}
 use Rattle.oc_neutral.specs.declared.reloc.Reloc.{Reloc}
@@ -28,9 +25,9 @@ use Rattle.oc_neutral.specs.Manners.{omf_manner}
 use Rattle.oc_neutral.specs.Omf.Family.{omf_gives, is_too_long}
 use Rattle.oc_neutral.specs.Omf.Kinds.{omf_class}
 use Rattle.oc_neutral.specs.Rows.{Row}
-use Rattle.oc_neutral.specs.Seen.{seen, seen_section, seen_symbol, seen_symbols, seen_binding, seen_fallback, seen_reloc}
+use Rattle.oc_neutral.specs.Seen.{seen, seen_symbol, seen_binding, seen_reloc}
 use Rattle.oc_neutral.specs.Shifts.{field_shift}
-use Rattle.oc_neutral.specs.Spelling.{numbers_in, spelling_of, written_row}
+use Rattle.oc_neutral.specs.Spelling.{numbers_in, spelling_of}
 use Rattle.oc_neutral.specs.TargetRelocations.{reloc_conditions}
 use Rattle.oc_neutral.proofs.MeetsConditions.{AreMet, reloc_met, neither}
 use Rattle.oc_neutral.proofs.SeenLaws.{seen_is_object_law}

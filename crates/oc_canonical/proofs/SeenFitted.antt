@@ -1,28 +1,25 @@
 -- What is seen of an object that is ready for a target is ready for it, where the family's conditions stay.
-use Rattle.std.proofs.Common.{◌≡◌, ◌≢◌, ℕ, zero, suc, ◌+◌, ◌^◌, ◌<◌, ◌≤◌, Bool, true, false, cond, not, ◌&&◌, ◌||◌, nat_lt, List, [], ◌∷◌, ◌++◌, length, map, get_or, sum_by, Option, Some, None, inl, inr, refl, sym, ◌∙◌, ap, subst, arith}
+use Rattle.std.proofs.Common.{◌≡◌, ℕ, zero, suc, ◌+◌, ◌<◌, ◌≤◌, Bool, true, false, cond, not, ◌&&◌, ◌||◌, nat_lt, List, [], ◌∷◌, ◌++◌, length, map, get_or, sum_by, Option, Some, None, inl, inr, refl, sym, ◌∙◌, ap, subst, arith}
 use Rattle.std.specs.Prelude.{slice_get}
-use Rattle.std.specs.List.{AllByRecursion, enumerate_from, list_any}
-use Rattle.std.specs.Option.{option_map, option_map_or, option_and_then}
-use Rattle.std.proofs.lemmas.Bool.{true≢false, or_right}
+use Rattle.std.specs.List.{AllByRecursion, enumerate_from}
+use Rattle.std.specs.Option.{option_map, option_map_or}
+use Rattle.std.proofs.lemmas.Bool.{or_right}
 use Rattle.std.proofs.lemmas.Bool.Decides.{nat_tests}
 use Rattle.std.proofs.lemmas.List.Sums.{sum_by-cons}
-use Rattle.std.proofs.lemmas.Option.{none-some, same_Some, slice_get-map, slice_get_within, get_or_from_slice_get}
+use Rattle.std.proofs.lemmas.Option.{none-some, same_Some, slice_get-map, get_or_from_slice_get}
 use Rattle.oc_base.specs.declared.format.Format.{Format}
 use Rattle.oc_base.specs.declared.fault.Spot.{Spot}
 use Rattle.oc_linking.specs.declared.terms.Fallback.{Fallback}
 use Rattle.oc_linking.specs.declared.terms.Kind.TheVariants.{Debug, Exception}
 use Rattle.oc_linking.specs.declared.terms.Binding.{Binding}
 use Rattle.oc_linking.specs.declared.terms.Binding.TheVariants.{Local, Global, Undefined, Common, Weak}
-use Rattle.oc_linking.specs.FirstFault.{Stage}
-use Rattle.oc_linking.specs.Parts.{is_local}
 use Rattle.oc_chains.specs.declared.field.Field.{Field}
 use Rattle.oc_chains.specs.Lists.{Lists, list_of}
-use Rattle.oc_neutral.specs.declared.group.Group.{Group}
 use Rattle.oc_neutral.specs.declared.section.Section.{Section}
 use Rattle.oc_neutral.specs.declared.symbol.Symbol.{Symbol}
 use Rattle.oc_neutral.specs.declared.reloc.Reloc.{Reloc}
 use Rattle.oc_neutral.specs.Objects.{Object, reloc_at}
-use Rattle.oc_neutral.specs.Alignments.{most_align, output_align}
+use Rattle.oc_neutral.specs.Alignments.{output_align}
 use Rattle.oc_neutral.specs.Families.{family_of, container_of, same_format}
 use Rattle.oc_neutral.specs.Fitted.{IsFitted, IsNamed, first_unfit, fitted_binding}
 use Rattle.oc_neutral.specs.GivenTags.{can_have}
@@ -31,8 +28,7 @@ use Rattle.oc_neutral.specs.Invariants.{IsObject}
 use Rattle.oc_neutral.specs.KindRules.{same_kind}
 use Rattle.oc_neutral.specs.Manners.{Manner}
 use Rattle.oc_neutral.specs.Readable.{IsBlankWhereTyped}
-use Rattle.oc_neutral.specs.Relocated.{stays, is_relocated}
-use Rattle.oc_neutral.specs.Seen.{shown_from, new_position, seen_with, seen_section, seen_symbol, seen_symbols, seen_binding, seen_fallback, seen_reloc, seen_field}
+use Rattle.oc_neutral.specs.Seen.{seen_with, seen_section, seen_symbol, seen_binding, seen_fallback, seen_reloc, seen_field}
 use Rattle.oc_neutral.specs.Stored.{is_stored}
 use Rattle.oc_neutral.specs.TargetSections.{judged, section_counts, section_count, is_debug_kept, is_exception_kept, section_spot, section_conditions, conditions_at, section_stages}
 use Rattle.oc_neutral.specs.TargetSymbols.{bounded, limited, names_length, symbol_count, is_absolute_form, is_common_form, is_weak_form, symbol_conditions, symbol_stages}
@@ -41,10 +37,10 @@ use Rattle.oc_neutral.specs.TargetRelocations.{Standing, standing_in, standing_f
 use Rattle.oc_neutral.proofs.MeetsConditions.{AreMet, section_met, symbol_met, symbol_count_met, own_names, same_format-self}
 use Rattle.oc_neutral.proofs.MeetsCounts.{met_parts, sum_map}
 use Rattle.oc_neutral.proofs.Positions.{each_at, there_at}
-use Rattle.oc_neutral.proofs.SeenAlike.{symbol_from, relocs_same, seen_local}
+use Rattle.oc_neutral.proofs.SeenAlike.{symbol_from, relocs_same}
 use Rattle.oc_neutral.proofs.SeenLines.{IsShown}
 use Rattle.oc_neutral.proofs.SeenRelocs.{all_from, list_map}
-use Rattle.oc_shelf.proofs.ReadingLaws.StageLemmas.{Unbroken, unbroken_append, IsUnbroken, no_first_fault}
+use Rattle.oc_shelf.proofs.ReadingLaws.StageLemmas.{Unbroken, unbroken_append, no_first_fault}
 use Rattle.oc_shelf.proofs.WritingLaws.MemberLemmas.{of_map, of_append}
 use Rattle.oc_elf_file.proofs.RelocLaws.{found_in}
 use Rattle.oc_canonical.proofs.SeenSums.{seen_sum, seen_few}

@@ -1,7 +1,7 @@
 -- Sums over the symbols that are seen are at most those over the symbols of the object.
-use Rattle.std.proofs.Common.{◌≡◌, ◌≢◌, ℕ, zero, suc, ◌+◌, ◌<◌, ◌≤◌, cond, List, [], ◌∷◌, length, map, sum_by, count_by, Option, Some, None, refl, sym, ◌∙◌, ap, arith, Bool}
-use Rattle.std.specs.Prelude.{slice_get, filter_map}
-use Rattle.std.specs.List.{AllByRecursion, enumerate_from, cons_option}
+use Rattle.std.proofs.Common.{◌≡◌, ◌≢◌, ℕ, suc, ◌+◌, ◌<◌, ◌≤◌, cond, List, [], ◌∷◌, length, sum_by, count_by, Option, Some, None, refl, sym, ◌∙◌, ap, arith, Bool}
+use Rattle.std.specs.Prelude.{slice_get}
+use Rattle.std.specs.List.{enumerate_from, cons_option}
 use Rattle.std.specs.Option.{option_map}
 use Rattle.std.proofs.lemmas.List.Sums.{sum_by-cons}
 use Rattle.std.proofs.lemmas.Option.{none-some, same_Some}

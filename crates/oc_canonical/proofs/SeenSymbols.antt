@@ -1,5 +1,5 @@
 -- The symbols that are seen of an object with their positions are those of its lines, moved: so what passes a test stands in the same order.
-use Rattle.std.proofs.Common.{◌≡◌, ℕ, zero, suc, ◌+◌, Bool, true, false, cond, eqb, List, [], ◌∷◌, ◌++◌, length, map, get_or, Option, Some, None, refl, sym, ◌∙◌, ap, arith}
+use Rattle.std.proofs.Common.{◌≡◌, ℕ, zero, suc, ◌+◌, Bool, true, false, eqb, List, [], ◌∷◌, ◌++◌, map, get_or, Option, Some, None, refl, sym, ◌∙◌, ap, arith}
 use Rattle.std.specs.Prelude.{slice_get, filter, filter_map, flat_map, nat_eq, replicate}
 use Rattle.std.specs.List.{enumerate_from, cons_option, list_any}
 use Rattle.std.specs.Option.{option_map, option_map_or, option_and_then}
@@ -9,7 +9,7 @@ use Rattle.std.proofs.lemmas.Option.{none-some, same_Some, get_or_from_slice_get
 use Rattle.oc_neutral.specs.declared.symbol.Symbol.{Symbol}
 use Rattle.oc_neutral.specs.Objects.{Object}
 use Rattle.oc_neutral.specs.Manners.{Manner}
-use Rattle.oc_neutral.specs.Seen.{shown_from, new_position, seen_symbol, seen_symbols, seen_with}
+use Rattle.oc_neutral.specs.Seen.{shown_from, new_position, seen_symbol, seen_symbols}
 use Rattle.oc_neutral.specs.SymbolLines.{Line, silent, lines_where}
 use Rattle.oc_neutral.proofs.SeenLines.{IsShown}
 use Rattle.oc_shelf.proofs.WritingLaws.MemberLemmas.{position_first, filter_map-map, of_filter_map, map-map, map-alike}

@@ -1,18 +1,14 @@
 -- The canonical file of each object that is ready is given again by a conversion to its own format.
-use Rattle.std.proofs.Common.{◌≡◌, ℕ, ◌≤◌, ◌^◌, true, List, [], length, Option, Some, None, Ok, refl, sym, ◌∙◌, ap, subst}
-use Rattle.std.specs.Prelude.{slice_get}
-use Rattle.oc_base.specs.declared.fault.Fault.{Fault}
-use Rattle.oc_base.specs.declared.format.Format.{Format}
+use Rattle.std.proofs.Common.{◌≡◌, ℕ, true, List, Ok, refl, sym, ◌∙◌, ap}
 use Rattle.oc_linking.specs.declared.terms.Kind.{Kind}
 use Rattle.oc_linking.specs.declared.terms.Kind.TheVariants.{Code, ReadOnly, Data, Zero, Init, Fini, Debug, Exception, Note}
 use Rattle.oc_linking.specs.declared.terms.Keep.{Keep}
 use Rattle.oc_linking.specs.Keeping.{all, keeps}
 use Rattle.oc_linking.specs.Numbers.{or_else}
-use Rattle.oc_neutral.specs.declared.section.Section.{Section}
 use Rattle.oc_neutral.specs.Objects.{Object}
 use Rattle.oc_neutral.specs.Computed.{object_in}
 use Rattle.oc_neutral.specs.Dialects.{Dialect}
-use Rattle.oc_neutral.specs.Fitted.{IsFitted, first_unfit}
+use Rattle.oc_neutral.specs.Fitted.{IsFitted}
 use Rattle.oc_neutral.specs.Fitting.{fit_of}
 use Rattle.oc_neutral.specs.Seen.{seen}
 use Rattle.oc_neutral.specs.Targets.{WritesCanonical}
@@ -21,20 +17,15 @@ use Rattle.oc_neutral.proofs.ShownComputed.{shown_is_computed}
 use Rattle.oc_names.specs.Wishes.{no_wishes}
 use Rattle.oc_names.specs.Edited.{edited}
 use Rattle.oc_names.specs.Kept.{keep_for}
-use Rattle.oc_convert.specs.Refusals.{first_refusal, object_refusal, edited_refusal, kept_of_file}
-use Rattle.oc_convert.specs.Converted.{planned_file, converted, on_ok, IsReady}
+use Rattle.oc_convert.specs.Refusals.{object_refusal, edited_refusal, kept_of_file}
+use Rattle.oc_convert.specs.Converted.{on_ok}
 use Rattle.oc_elf_read.specs.declared.class.ElfClass.{ElfClass}
 use Rattle.oc_elf_read.specs.declared.class.ElfClass.TheVariants.{Class32, Class64}
-use Rattle.oc_elf_read.specs.Classes.{format_of}
 use Rattle.oc_elf_read.specs.Elf.{elf_dialect}
 use Rattle.oc_elf_file.specs.Canonical.{elf_file}
 use Rattle.oc_elf_file.proofs.CodedLaws.{for_elf}
 use Rattle.oc_elf_file.proofs.WrittenLaw.{elf_is_written}
-use Rattle.oc_drop.proofs.NothingDropped.{dropped_same}
-use Rattle.oc_names.proofs.Unedited.{rebound_same, named_object_same}
-use Rattle.oc_names.specs.Rebinding.{rebound_object}
-use Rattle.oc_names.specs.Naming.{named_object}
-use Rattle.oc_drop.specs.Steps.{then_by}
+use Rattle.oc_names.proofs.Unedited.{nothing_edited}
 use Rattle.oc_canonical.proofs.FittedStays.{fitted_stays}
 use Rattle.oc_canonical.proofs.ElfAgain.{elf_file_again}
 use Rattle.oc_canonical.proofs.ElfStays.{elf_seen_fitted}
@@ -71,10 +62,7 @@ module _ (g : Dialect) (canonical : Object → List ℕ) (laws : ReadsBack g can
   own = laws.own n fits
 
   unedited : edited no_wishes g.format m ≡ Ok m
-  unedited =
-      ap (λ r. then_by (named_object [] g.format) (then_by (rebound_object []) r))
-      (dropped_same m ready.object (keep_for no_wishes m.format g.format) (λ k s here. ap (λ f. keeps (keep_for no_wishes f g.format) s.kind) ready.format ∙ own.kept k s here))
-      ∙ ap (then_by (named_object [] g.format)) (rebound_same m ready.object) ∙ named_object_same m ready.object g.format ready.few_symbols
+  unedited = nothing_edited no_wishes g.format m ready.object refl (λ k s here. ap (λ f. keeps (keep_for no_wishes f g.format) s.kind) ready.format ∙ own.kept k s here) ready.few_symbols
 
   object : edited no_wishes g.format (object_in g c keep) ≡ Ok m
   object = ap (edited no_wishes g.format) own.object ∙ unedited

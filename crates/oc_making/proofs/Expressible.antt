@@ -1,10 +1,9 @@
 -- What is made can be written in every format.
-use Rattle.std.proofs.Common.{◌≡◌, ◌≢◌, ℕ, zero, suc, ◌+◌, ◌*◌, ◌%◌, ◌<◌, ◌≤◌, Bool, true, false, cond, ◌||◌, List, [], ◌∷◌, ◌++◌, length, map, min, Option, Some, None, refl, ◌∙◌, ap, subst, arith}
+use Rattle.std.proofs.Common.{◌≡◌, ◌≢◌, ℕ, zero, suc, ◌+◌, ◌*◌, ◌%◌, ◌≤◌, Bool, true, false, cond, ◌||◌, [], ◌∷◌, ◌++◌, length, map, min, Option, Some, None, refl, ◌∙◌, ap, arith}
 use Rattle.std.specs.Fmt.{decimal}
 use Rattle.std.specs.List.{AllByRecursion, range_with_len}
 use Rattle.std.specs.Option.{option_map_or}
 use Rattle.std.proofs.lemmas.Bool.{le-ltb}
-use Rattle.std.proofs.lemmas.Option.{none-some, same_Some}
 use Rattle.oc_base.specs.declared.format.Word.{Word}
 use Rattle.oc_base.specs.declared.format.Word.TheVariants.{W32, W64}
 use Rattle.oc_base.specs.declared.format.Format.{Format}
@@ -18,19 +17,13 @@ use Rattle.oc_algebra.specs.Residues.{reduced_number, residue_of}
 use Rattle.oc_chains.specs.declared.field.Field.{Field}
 use Rattle.oc_neutral.specs.declared.reloc.Reloc.{Reloc}
 use Rattle.oc_neutral.specs.declared.reloc.Target.TheVariants as target
-use Rattle.oc_neutral.specs.declared.section.Section.{Section}
 use Rattle.oc_neutral.specs.declared.symbol.Symbol.{Symbol}
-use Rattle.oc_neutral.specs.Alignments.{output_align}
-use Rattle.oc_neutral.specs.Elf.Family.{elf_symbol_count, header_count}
-use Rattle.oc_neutral.specs.Fitted.{first_unfit, fitted_binding, IsFitted, IsNamed}
-use Rattle.oc_neutral.specs.HomeNames.{is_home, output_names, wanted_names}
+use Rattle.oc_neutral.specs.Fitted.{first_unfit}
+use Rattle.oc_neutral.specs.HomeNames.{output_names, wanted_names}
 use Rattle.oc_neutral.specs.KindRules.{has_nul}
 use Rattle.oc_neutral.specs.Objects.{Object}
-use Rattle.oc_neutral.specs.Readable.{IsBlankWhereTyped}
-use Rattle.oc_neutral.specs.Relocated.{is_relocated}
 use Rattle.oc_neutral.specs.Shifts.{field_shift}
 use Rattle.oc_neutral.specs.Spelling.{written_row}
-use Rattle.oc_neutral.specs.Stored.{is_stored}
 use Rattle.oc_neutral.specs.TargetRelocations.{is_local_number, is_target, is_wrong_target, reloc_conditions, standing, standing_conditions, standing_in, Standing}
 use Rattle.oc_neutral.specs.TargetSections.{conditions_at, each_of, section_conditions, section_count, section_stages}
 use Rattle.oc_neutral.specs.TargetSymbols.{names_length, symbol_conditions, symbol_count, symbol_stages}
@@ -39,7 +32,6 @@ use Rattle.oc_made.proofs.CallLemmas.{all_calls}
 use Rattle.oc_made.proofs.Lists.{all_joined, all_mapped, none_broken, none_upto, sum_range}
 use Rattle.oc_made.proofs.NameLemmas.{number_short, number_uncut}
 use Rattle.oc_made.proofs.SymbolLemmas.{all_symbols, at_symbol, length-symbols_of, names_short}
-use Rattle.oc_made.proofs.WholeObject.{made_is_object}
 use Rattle.oc_neutral.specs.Mach.Family.{mach_symbol_count, mach_writes}
 use Rattle.oc_neutral.specs.Mach.SectionSymbols.{needed_sections, needs_section_symbol}
 use Rattle.oc_neutral.specs.Bindings.{is_external, is_written_by}

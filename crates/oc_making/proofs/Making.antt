@@ -1,7 +1,6 @@
 -- What is made is refused by no conversion.
-use Rattle.std.proofs.Common.{◌≡◌, ℕ, suc, zero, ◌<◌, ◌≤◌, true, cond, List, [], ◌∷◌, length, Option, Some, None, Ok, refl, sym, ◌∙◌, ap, subst, arith}
+use Rattle.std.proofs.Common.{◌≡◌, ℕ, suc, zero, ◌≤◌, true, cond, List, [], ◌∷◌, length, Some, None, Ok, refl, sym, ◌∙◌, ap, subst, arith}
 use Rattle.std.proofs.lemmas.Option.{none-some, same_Some}
-use Rattle.oc_base.specs.declared.fault.Fault.{Fault}
 use Rattle.oc_base.specs.declared.code.Code.TheVariants.{WordSize}
 use Rattle.oc_base.specs.declared.format.Word.{Word}
 use Rattle.oc_base.specs.declared.format.Word.TheVariants.{W32, W64}
@@ -16,7 +15,7 @@ use Rattle.oc_neutral.specs.declared.section.Section.{Section}
 use Rattle.oc_neutral.specs.Dialects.{Dialect}
 use Rattle.oc_neutral.specs.Computed.{object_in}
 use Rattle.oc_neutral.specs.Families.{same_word}
-use Rattle.oc_neutral.specs.Fitted.{IsFitted, first_unfit}
+use Rattle.oc_neutral.specs.Fitted.{IsFitted}
 use Rattle.oc_neutral.specs.Objects.{Object}
 use Rattle.oc_neutral.specs.Seen.{seen}
 use Rattle.oc_names.specs.Wishes.{no_wishes}
@@ -36,11 +35,7 @@ use Rattle.oc_elf_file.specs.Canonical.{part_bytes, file_header, elf_file}
 use Rattle.oc_made.specs.Files.{class_for, made_bytes}
 use Rattle.oc_made.specs.Functions.{calls_of, elf_format, made_object, symbols_of, text_section}
 use Rattle.oc_made.proofs.ReadyElf.{made_is_fitted}
-use Rattle.oc_drop.proofs.NothingDropped.{dropped_same}
-use Rattle.oc_drop.specs.Steps.{then_by}
-use Rattle.oc_names.proofs.Unedited.{rebound_same, named_object_same}
-use Rattle.oc_names.specs.Naming.{named_object}
-use Rattle.oc_names.specs.Rebinding.{rebound_object}
+use Rattle.oc_names.proofs.Unedited.{nothing_edited}
 use Rattle.std.specs.Prelude.{slice_get, sum_by}
 use Rattle.std.proofs.lemmas.List.Sums.{sum_by-cons}
 use Rattle.oc_chains.specs.declared.field.Field.{Field}
@@ -83,10 +78,7 @@ module _ (to : Format) (count : ℕ) (few : count ≤ 100000) (class : ElfClass)
   kept_seen k s here = kept k s (sym (ap (λ (m : Object). slice_get m.sections k) (seen_made count (word_for to) few)) ∙ here)
 
   unedited : edited no_wishes to n ≡ Ok n
-  unedited =
-      ap (λ r. then_by (named_object [] to) (then_by (rebound_object []) r))
-      (dropped_same n fits.object (keep_for no_wishes n.format to) (λ k s here. ap (λ f. keeps (keep_for no_wishes f to) s.kind) fits.format ∙ kept k s here))
-      ∙ ap (then_by (named_object [] to)) (rebound_same n fits.object) ∙ named_object_same n fits.object to fits.few_symbols
+  unedited = nothing_edited no_wishes to n fits.object refl (λ k s here. ap (λ f. keeps (keep_for no_wishes f to) s.kind) fits.format ∙ kept k s here) fits.few_symbols
 
   object : object_in (elf_dialect class) b keep ≡ n
   object = elf_object class n fits keep kept_seen ∙ seen_made count (word_for to) few
