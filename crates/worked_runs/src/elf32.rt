@@ -1,4 +1,5 @@
 //! Objects of ELF for i386 that are too big to be kept as files, built apart from objconv's own code.
+use crate::numbers::{half, word};
 use anyhow::Result;
 use oc_base::NoMemory;
 use std::alloc::Global;
@@ -34,18 +35,6 @@ pub struct Sym {
     pub st_value: u32,
     pub st_info: u8,
     pub st_shndx: u16,
-}
-
-/// Appends two bytes.
-fn half(bytes: &mut Vec<u8>, number: u16) -> Result<(), NoMemory> {
-    bytes.extend_from_slice(number.to_le_bytes().as_slice())?;
-    Ok(())
-}
-
-/// Appends four bytes.
-fn word(bytes: &mut Vec<u8>, number: u32) -> Result<(), NoMemory> {
-    bytes.extend_from_slice(number.to_le_bytes().as_slice())?;
-    Ok(())
 }
 
 /// Appends a symbol of size 0.

@@ -1,5 +1,5 @@
-//! Inputs that ask for much: 70,000 relocations of one section, names that are tails of one text, and
-//! aliases of many functions.
+//! Inputs that ask for much: 70,000 relocations of one section, names that are tails of one text, many
+//! undefined names, and aliases of many functions.
 use crate::elf32::{Object, SHT_PROGBITS, SHT_REL, Shdr, Sym, put_relocation, put_symbol};
 use crate::runs::{add_word, words_of};
 use anyhow::Result;
@@ -78,6 +78,19 @@ fn put_named(symbols: &mut Vec<u8>, strings: &mut Vec<u8>, name: &str, sym: Sym)
     strings.push(0)?;
     put_symbol(symbols, Sym { st_name, ..sym })?;
     Ok(())
+}
+
+/// The undefined names `u_0`, `u_1` and so on, `count` of them.
+pub fn outside_names(alloc: Global, count: u32) -> Result<Vec<u8>> {
+    let object = Object::new(alloc, b"\0")?;
+    let mut symbols = Vec::new(alloc);
+    put_symbol(&mut symbols, Sym::default())?;
+    let mut strings = vec![in alloc; 0u8]?;
+    for k in 0..count {
+        let name = format!(in alloc; "u_{k}")?;
+        put_named(&mut symbols, &mut strings, name.as_str(), OUTSIDE)?;
+    }
+    object.finish(symbols.as_slice(), 1, strings.as_slice())
 }
 
 /// 100,000 functions `f_0`, `f_1` and so on, and ten outside names.

@@ -1,21 +1,38 @@
-//! Runs the command over files and a console in memory: with each option, with a device call that
-//! fails, with an input that is cut to each of its lengths, and with inputs whose numbers lie.
+//! Runs the command over files and a console in memory: with each option, between every two formats of one
+//! word, with every refusal, `--make` in each format, with a device call that fails, with inputs that are
+//! cut to each of their lengths, and with inputs whose numbers lie or that are big.
 //!
-//! A line for each run tells the status, the text on standard error, and what OUT holds. What must be
-//! printed comes from the command's description, the outputs from an independent model of the
-//! conversion and, for the options, from the layouts of canonical files (`data/layouts.py`).
+//! A line for each run tells the status, the text on standard error, what OUT holds, and what was shown. What
+//! must be printed comes from the command's description, the outputs from an independent model of the
+//! conversion and, for the options, `--make` and the sums (FNV-1a), from the layouts of canonical files
+//! (`data/layouts.py`, `data/made.py`); the inputs of refusals are made by `data/refusals.py`.
 #![tactic(auto)]
 
+mod coff32;
+mod conversions;
+mod crowds;
+mod cuts;
 mod data;
 mod elf32;
 mod hostile;
+mod making;
+mod numbers;
 mod options;
+mod pairs;
+mod refusals;
+mod rows;
 mod runs;
 
+use crate::conversions::conversions;
+use crate::crowds::crowds;
+use crate::cuts::cuts;
 use crate::data::bytes_of;
-use crate::hostile::{aliases, functions, long_names, many_relocations};
+use crate::making::making;
 use crate::options::options;
-use crate::runs::{Call, Outcome, Run, words_of};
+use crate::pairs::pairs;
+use crate::refusals::refusals;
+use crate::rows::{show, show_rows};
+use crate::runs::{Call, Run, words_of};
 use anyhow::Result;
 use std::alloc::Global;
 
@@ -54,11 +71,6 @@ const REFUSED: [(&str, &[&str]); 4] = [
     (CALL, &["-fcoff64", "a", "b"]),
 ];
 
-fn show(rt: &impl Print, name: &str, outcome: &Outcome) -> Result<()> {
-    println!(rt; "{name}: {outcome}")?;
-    Ok(())
-}
-
 // each call fails
 fn failing_calls(rt: &HostRuntime, alloc: Global) -> Result<()> {
     let (input, want) = (bytes_of(rt, CALL)?, bytes_of(rt, CALL_COFF)?);
@@ -86,50 +98,15 @@ fn refused_inputs(rt: &HostRuntime, alloc: Global) -> Result<()> {
     Ok(())
 }
 
-// an object that is cut to each length below its own, a line for each stretch of lengths with one outcome
-fn cut_inputs(rt: &HostRuntime, alloc: Global) -> Result<()> {
-    let input = bytes_of(rt, CALL)?;
-    let words = words_of(alloc, TO_COFF32)?;
-    let (mut first, mut end) = (0, 0);
-    let mut before = Run::of(&words, &[]).outcome(alloc)?;
-    for len in 0..input.len() {
-        let this = Run::of(&words, &input.as_slice()[..len]).outcome(alloc)?;
-        if this != before {
-            println!(rt; "cut to {first} to {end} bytes: {before}")?;
-            (first, before) = (len, this);
-        }
-        end = len;
-    }
-    println!(rt; "cut to {first} to {end} bytes: {before}")?;
-    Ok(())
-}
-
-// inputs that are big for what they say
-fn hostile_inputs(rt: &HostRuntime, alloc: Global) -> Result<()> {
-    let words = words_of(alloc, TO_COFF32)?;
-    let input = many_relocations(alloc)?;
-    let want = bytes_of(rt, "fifth_append_fails.obj")?;
-    let run = Run {
-        words: &words,
-        input: input.as_slice(),
-        failing: Some(Call::File(20)),
-        want: want.as_slice(),
-    };
-    show(rt, "the fifth append fails", &run.outcome(alloc)?)?;
-    let input = long_names(alloc)?;
-    let run = Run::of(&words, input.as_slice());
-    show(rt, "300 names in one text", &run.outcome(alloc)?)?;
-    let words = aliases(alloc)?;
-    let input = functions(alloc)?;
-    let run = Run::of(&words, input.as_slice());
-    show(rt, "167 aliases of 100,000 names", &run.outcome(alloc)?)
-}
-
 fn main(rt: HostRuntime) -> Result<()> {
     let alloc = rt.alloc();
-    options(&rt, alloc)?;
+    show_rows(&rt, alloc, options())?;
+    pairs(&rt, alloc)?;
+    show_rows(&rt, alloc, conversions())?;
+    making(&rt, alloc)?;
     failing_calls(&rt, alloc)?;
     refused_inputs(&rt, alloc)?;
-    cut_inputs(&rt, alloc)?;
-    hostile_inputs(&rt, alloc)
+    refusals(&rt, alloc)?;
+    cuts(&rt, alloc)?;
+    crowds(&rt, alloc)
 }

@@ -1,21 +1,7 @@
 //! The options of a conversion, each on a small object, with the whole output or the refusal.
-use crate::data::bytes_of;
-use crate::runs::{Run, words_of};
-use anyhow::Result;
-use std::alloc::Global;
+use crate::rows::Row;
 
-/// A conversion of a file, and what it is to give.
-#[derive(Clone, Copy)]
-struct Row {
-    /// What the row shows.
-    name: &'static str,
-    words: &'static [&'static str],
-    input: &'static str,
-    /// The output; an empty name where there is none.
-    want: &'static str,
-}
-
-const ROWS: [Row; 22] = [
+static ROWS: [Row; 22] = [
     Row {
         name: "a function gets another name",
         words: &["-felf32", "-nr:main:start", "a", "b"],
@@ -150,28 +136,7 @@ const ROWS: [Row; 22] = [
     },
 ];
 
-// the bytes of the file `name`; none for an empty name
-fn wanted(rt: &HostRuntime, name: &str) -> Result<Vec<u8>> {
-    if name.is_empty() {
-        return Ok(Vec::new(rt.alloc()));
-    }
-    bytes_of(rt, name)
-}
-
-/// Runs each row, and prints a line for it.
-pub fn options(rt: &HostRuntime, alloc: Global) -> Result<()> {
-    for row in ROWS {
-        let words = words_of(alloc, row.words)?;
-        let input = bytes_of(rt, row.input)?;
-        let want = wanted(rt, row.want)?;
-        let run = Run {
-            words: &words,
-            input: input.as_slice(),
-            failing: None,
-            want: want.as_slice(),
-        };
-        let (name, outcome) = (row.name, run.outcome(alloc)?);
-        println!(rt; "{name}: {outcome}")?;
-    }
-    Ok(())
+/// The rows.
+pub fn options() -> &'static [Row] {
+    &ROWS
 }

@@ -13,8 +13,11 @@ const IN: &str = "a";
 /// The output.
 const OUT: &str = "b";
 
-/// How many bytes the output, and each text on the console, may grow to.
-const ROOM: u64 = 1_000_000;
+/// How many bytes the output may grow to.
+const ROOM: u64 = 6_000_000;
+
+/// How many bytes each text on the console may grow to.
+const TEXT_ROOM: u64 = 1_000_000;
 
 /// A call of a device, by its number, counted from 1.
 #[derive(Clone, Copy)]
@@ -52,7 +55,7 @@ impl<'a> Run<'a> {
         files.set(IN, self.input)?;
         files.room(OUT, ROOM)?;
         let mut console = MemConsole::new(alloc);
-        console.room(ROOM, ROOM)?;
+        console.room(TEXT_ROOM, TEXT_ROOM)?;
         match self.failing {
             Some(Call::File(call)) => files.fail_at(call)?,
             Some(Call::Console(call)) => console.fail_at(call)?,
@@ -62,8 +65,9 @@ impl<'a> Run<'a> {
         Ok(Outcome {
             status,
             told: String::from_utf8(console.told().to_vec(alloc)?)?,
+            shown: String::from_utf8(console.shown().to_vec(alloc)?)?,
             out: output_of(&files, self.want),
-            calm: files.file(IN) == Some(self.input) && console.shown().is_empty(),
+            calm: files.file(IN) == Some(self.input),
         })
     }
 }
@@ -74,18 +78,18 @@ enum Output {
     Absent,
     Empty,
     Wanted,
-    Other,
+    /// So many other bytes, with their sum.
+    Other(usize, u64),
 }
 
 impl Display for Output {
     fn fmt<W: Write>(&self, f: &mut Formatter<W>) -> fmt::Result {
-        let text = match self {
-            Output::Absent => "no OUT",
-            Output::Empty => "OUT empty",
-            Output::Wanted => "OUT as wanted",
-            Output::Other => "OUT is another",
-        };
-        write!(f, "{text}")
+        match *self {
+            Output::Absent => write!(f, "no OUT"),
+            Output::Empty => write!(f, "OUT empty"),
+            Output::Wanted => write!(f, "OUT as wanted"),
+            Output::Other(len, sum) => write!(f, "OUT of {len} bytes with the sum {sum:016x}"),
+        }
     }
 }
 
@@ -94,8 +98,9 @@ impl Display for Output {
 pub struct Outcome {
     status: u8,
     told: String,
+    shown: String,
     out: Output,
-    /// Whether IN is as it was, and nothing was shown.
+    /// Whether IN is as it was.
     calm: bool,
 }
 
@@ -104,7 +109,10 @@ impl Display for Outcome {
         let (status, told, out) = (self.status, self.told.as_str().trim_end(), self.out);
         write!(f, "status {status}, \"{told}\", {out}")?;
         if !self.calm {
-            write!(f, ", and more changed")?;
+            write!(f, ", and IN changed")?;
+        }
+        if !self.shown.is_empty() {
+            write!(f, ", and shown\n{}", self.shown.as_str().trim_end())?;
         }
         Ok(())
     }
@@ -133,6 +141,15 @@ fn output_of(files: &MemFiles, want: &[u8]) -> Output {
         None => Output::Absent,
         Some([]) => Output::Empty,
         Some(out) if out == want => Output::Wanted,
-        Some(_) => Output::Other,
+        Some(out) => Output::Other(out.len(), sum_of(out)),
     }
+}
+
+// FNV-1a of 64 bits
+fn sum_of(bytes: &[u8]) -> u64 {
+    let mut sum = 0xCBF2_9CE4_8422_2325_u64;
+    for byte in bytes {
+        sum = (sum ^ u64::from(*byte)).wrapping_mul(0x0100_0000_01B3);
+    }
+    sum
 }
