@@ -1,6 +1,7 @@
 # make: proves and builds the program; make check: the whole gate; make install PREFIX=/usr/local
 # make examples: runs the examples of docs/; make compare: times the program beside objcopy
 # make tools: lets other tools read and link what is converted to COFF and back
+# make refuse-memory: runs jobs with each of their allocations refused in turn, with all later ones
 
 PREFIX ?= /usr/local
 
@@ -13,7 +14,7 @@ build/objconv: $(shell find crates -path '*/out' -prune -o -type f -print) crate
 	cd crates/objconv_main && rt run -- -fcoff32 data/a /dev/null
 	mkdir -p build && cp crates/objconv_main/out/objconv_main build/objconv
 
-.PHONY: check examples compare tools install clean
+.PHONY: check examples compare tools refuse-memory install clean
 check:
 	.ci/run
 
@@ -25,6 +26,9 @@ compare: build/objconv
 
 tools: build/objconv
 	bench/check-tools build/objconv
+
+refuse-memory: build/objconv
+	bench/refuse-memory build/objconv
 
 install: build/objconv
 	install -D build/objconv $(DESTDIR)$(PREFIX)/bin/objconv
