@@ -1,9 +1,9 @@
 #!/usr/bin/env python3
-"""Writes what `--make=2` is to give of each format, and prints the lines that `--make` of more functions is to give.
+"""Writes what `--make=2` is to give of each format, and prints the lines and the sums of outputs that are big.
 
 The object (docs/COMMANDS.md, "An object to try tools on") is laid out by `layouts.py`; no byte comes from objconv.
 """
-from layouts import FUNC, GLOBAL, coff, elf, mach, omf
+from layouts import FUNC, GLOBAL, coff, coff32, elf, mach, omf
 
 FORMATS = ("elf32", "elf64", "coff32", "coff64", "mac32", "mac64", "omf")
 OFFSET, PRIME = 0xCBF29CE484222325, 0x100000001B3
@@ -75,15 +75,32 @@ def make(n, target):
     return make_omf(n)
 
 
-def line(n, target):
-    data = make(n, target)
-    return f"made {n} functions, {2 * n} relocations, {len(data)} bytes", len(data), fnv(data)
+def addresses_in_coff(n):
+    """A section that is nothing but addresses of the undefined `x`."""
+    return coff32([(".data", 0xC0500040, bytes(4 * n), [(4 * i, "x", 6) for i in range(n)])], [("x", 0, 0, 0)])
+
+
+def addresses_in_elf(n):
+    relocs = [(4 * i, "x", 1) for i in range(n)]
+    return elf(32, [(".data", 3, 16, bytes(4 * n), relocs)], [], [("x", GLOBAL << 4, 0, 0, 0)])
+
+
+def told(n, data):
+    """The line of `--make`."""
+    return f"made {n} functions, {2 * n} relocations, {len(data)} bytes"
+
+
+def summed(data):
+    """What worked_runs prints of an output that is not stored."""
+    return f"OUT of {len(data)} bytes with the sum {fnv(data):016x}"
 
 
 if __name__ == "__main__":
     for target in FORMATS:
         with open("two." + target, "wb") as out:
             out.write(make(2, target))
-    for target in FORMATS:
-        print(target, "%s; OUT of %d bytes, sum %016x" % line(1000, target))
-    print("coff32", "%s; OUT of %d bytes, sum %016x" % line(100_000, "coff32"))
+    for n, target in [(1000, target) for target in FORMATS] + [(100_000, "coff32")]:
+        data = make(n, target)
+        print(f"--make={n} {target}: {summed(data)}, {told(n, data)}")
+    print("70,000 relocations are written:", summed(addresses_in_coff(70_000)))
+    print("65,536 relocations are read:", summed(addresses_in_elf(65_536)))

@@ -88,7 +88,8 @@ pub fn many_sections(alloc: Global, count: u16) -> Result<Vec<u8>> {
     Ok(file)
 }
 
-/// Two sections whose names stand among the strings: behind one of 9,999,995 letters the other's offset takes eight digits.
+/// Two sections whose names stand among the strings: after one of 9,999,995 letters, the offset of the
+/// other takes eight digits.
 pub fn far_names(alloc: Global) -> Result<Vec<u8>> {
     let mut file = Vec::new(alloc);
     put_header(&mut file, 2, HEADER_SIZE + 2 * SECTION_SIZE, 0)?;

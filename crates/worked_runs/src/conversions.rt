@@ -1,8 +1,6 @@
 //! Conversions, listings and words that are at fault, one of each kind.
 use crate::rows::Row;
-
-/// The words of a conversion.
-const TO_ELF32: &[&str] = &["-felf32", "a", "b"];
+use crate::targets::{LISTED, TO_ELF32};
 
 static ROWS: [Row; 9] = [
     Row {
@@ -37,7 +35,7 @@ static ROWS: [Row; 9] = [
     },
     Row {
         name: "symbols",
-        words: &["-ds", "a"],
+        words: LISTED,
         input: "elf32_call_to_coff32.o",
         want: "",
     },

@@ -16,13 +16,7 @@ const SECTIONS: [(&str, &str); 4] = [
 ];
 
 // converts these bytes, and prints what came of it
-fn convert(
-    rt: &HostRuntime,
-    alloc: Global,
-    name: &str,
-    target: &str,
-    input: &[u8],
-) -> Result<()> {
+fn convert(rt: &HostRuntime, alloc: Global, name: &str, target: &str, input: &[u8]) -> Result<()> {
     let words = words_of(alloc, &[target, "a", "b"])?;
     show(rt, name, &Run::of(&words, input).outcome(alloc)?)
 }
@@ -55,7 +49,7 @@ fn relocations(rt: &HostRuntime, alloc: Global) -> Result<()> {
     convert(rt, alloc, name, target, input.as_slice())
 }
 
-// many names, long names and names that stand far behind
+// many names, long names, and a name far from the start of the strings
 fn names(rt: &HostRuntime, alloc: Global) -> Result<()> {
     let input = outside_names(alloc, 32_768)?;
     let name = "32,768 undefined names in omf";

@@ -1,6 +1,7 @@
 //! Objects that are cut to each of their lengths.
 use crate::data::bytes_of;
 use crate::runs::{Run, words_of};
+use crate::targets::{TO_COFF32, TO_ELF32};
 use anyhow::Result;
 use std::alloc::Global;
 
@@ -15,17 +16,17 @@ struct CutInput {
 static CUTS: [CutInput; 3] = [
     CutInput {
         input: "elf32_call_to_coff32.o",
-        words: &["-fcoff32", "a", "b"],
+        words: TO_COFF32,
         want: "elf32_call_to_coff32.obj",
     },
     CutInput {
         input: "elf32_call_to_coff32.obj",
-        words: &["-felf32", "a", "b"],
+        words: TO_ELF32,
         want: "elf32_call_to_coff32.o",
     },
     CutInput {
         input: "empty.obj",
-        words: &["-felf32", "a", "b"],
+        words: TO_ELF32,
         want: "empty.o",
     },
 ];

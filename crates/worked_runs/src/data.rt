@@ -10,3 +10,11 @@ pub fn bytes_of(rt: &HostRuntime, name: &str) -> Result<Vec<u8>> {
         Err(fault) => Err(anyhow!("{name}: {fault}")),
     }
 }
+
+/// The bytes of the file `name`; none for an empty name.
+pub fn stored(rt: &HostRuntime, name: &str) -> Result<Vec<u8>> {
+    if name.is_empty() {
+        return Ok(Vec::new(rt.alloc()));
+    }
+    bytes_of(rt, name)
+}

@@ -22,6 +22,7 @@ mod pairs;
 mod refusals;
 mod rows;
 mod runs;
+mod targets;
 
 use crate::conversions::conversions;
 use crate::crowds::crowds;
@@ -33,6 +34,7 @@ use crate::pairs::pairs;
 use crate::refusals::refusals;
 use crate::rows::{show, show_rows};
 use crate::runs::{Call, Run, words_of};
+use crate::targets::{LISTED, TO_COFF32};
 use anyhow::Result;
 use std::alloc::Global;
 
@@ -41,12 +43,6 @@ const CALL: &str = "elf32_call_to_coff32.o";
 
 /// The same as COFF.
 const CALL_COFF: &str = "elf32_call_to_coff32.obj";
-
-/// The words of a conversion to COFF for i386.
-const TO_COFF32: &[&str] = &["-fcoff32", "a", "b"];
-
-/// The words of a listing.
-const LISTED: &[&str] = &["-ds", "a"];
 
 /// Calls that fail, each in a run of its own: the two reads, the create and the append that a
 /// conversion of `CALL` makes, one more, which it does not make, and the write of a listing.
@@ -61,14 +57,6 @@ const CALLS: [(&str, &[&str], Call); 6] = [
     ("the append fails", TO_COFF32, Call::File(4)),
     ("a fifth call would fail", TO_COFF32, Call::File(5)),
     ("the listing fails", LISTED, Call::Console(1)),
-];
-
-/// Inputs whose numbers lie, and one of another word than the target.
-const REFUSED: [(&str, &[&str]); 4] = [
-    ("field_past_its_section.o", TO_COFF32),
-    ("fields_that_meet.o", TO_COFF32),
-    ("section_too_big.o", TO_COFF32),
-    (CALL, &["-fcoff64", "a", "b"]),
 ];
 
 // each call fails
@@ -87,17 +75,6 @@ fn failing_calls(rt: &HostRuntime, alloc: Global) -> Result<()> {
     Ok(())
 }
 
-// each input is refused
-fn refused_inputs(rt: &HostRuntime, alloc: Global) -> Result<()> {
-    for (name, words) in REFUSED {
-        let words = words_of(alloc, words)?;
-        let input = bytes_of(rt, name)?;
-        let run = Run::of(&words, input.as_slice());
-        show(rt, name, &run.outcome(alloc)?)?;
-    }
-    Ok(())
-}
-
 fn main(rt: HostRuntime) -> Result<()> {
     let alloc = rt.alloc();
     show_rows(&rt, alloc, options())?;
@@ -105,7 +82,6 @@ fn main(rt: HostRuntime) -> Result<()> {
     show_rows(&rt, alloc, conversions())?;
     making(&rt, alloc)?;
     failing_calls(&rt, alloc)?;
-    refused_inputs(&rt, alloc)?;
     refusals(&rt, alloc)?;
     cuts(&rt, alloc)?;
     crowds(&rt, alloc)

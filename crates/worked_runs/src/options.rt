@@ -100,7 +100,14 @@ static ROWS: [Row; 22] = [
     },
     Row {
         name: "underscores, a prefix and a further name",
-        words: &["-fmac64", "-nu", "-np:my_:your_", "-ar:my_f:start", "a", "b"],
+        words: &[
+            "-fmac64",
+            "-nu",
+            "-np:my_:your_",
+            "-ar:my_f:start",
+            "a",
+            "b",
+        ],
         input: "underscores_prefix_and_alias.o",
         want: "underscores_prefix_and_alias.out.o",
     },

@@ -1,25 +1,11 @@
 //! Every ordered pair of formats of one word, on the object of one call: the conversion, the symbols of its
 //! output, and the output converted to its own format, which is to give it again.
 use crate::rows::{Row, show_rows};
+use crate::targets::{
+    LISTED, TO_COFF32, TO_COFF64, TO_ELF32, TO_ELF64, TO_MAC32, TO_MAC64, TO_OMF,
+};
 use anyhow::Result;
 use std::alloc::Global;
-
-/// The words of a conversion to each format, and of a listing.
-const TO_ELF32: &[&str] = &["-felf32", "a", "b"];
-
-const TO_COFF32: &[&str] = &["-fcoff32", "a", "b"];
-
-const TO_MAC32: &[&str] = &["-fmac32", "a", "b"];
-
-const TO_OMF: &[&str] = &["-fomf", "a", "b"];
-
-const TO_ELF64: &[&str] = &["-felf64", "a", "b"];
-
-const TO_COFF64: &[&str] = &["-fcoff64", "a", "b"];
-
-const TO_MAC64: &[&str] = &["-fmac64", "a", "b"];
-
-const LISTED: &[&str] = &["-ds", "a"];
 
 /// The object in each format.
 const ELF32: &str = "elf32_call_to_coff32.o";
@@ -44,7 +30,7 @@ type Pair = (
     &'static str,
 );
 
-/// Where Mach-O and OMF do not say that `main` is a function, or OMF names `foo` first, the output is another one.
+/// Mach-O and OMF do not say that `main` is a function, and OMF names `foo` first: so what comes of them differs.
 static PAIRS: [Pair; 25] = [
     ("elf32 to elf32", TO_ELF32, ELF32, ELF32),
     ("elf32 to coff32", TO_COFF32, ELF32, COFF32),

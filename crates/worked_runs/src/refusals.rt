@@ -1,27 +1,13 @@
 //! What is refused of small inputs, one of each kind (docs/COMMANDS.md, "Messages for objects").
 use crate::rows::{Row, show};
+use crate::targets::{TO_COFF32, TO_COFF64, TO_ELF32, TO_ELF64, TO_MAC32, TO_MAC64, TO_OMF};
 use anyhow::Result;
 use std::alloc::Global;
 
 /// What is refused, the words of the conversion, and the input.
 type Refusal = (&'static str, &'static [&'static str], &'static str);
 
-/// The words of a conversion to each format.
-const TO_ELF32: &[&str] = &["-felf32", "a", "b"];
-
-const TO_COFF32: &[&str] = &["-fcoff32", "a", "b"];
-
-const TO_MAC32: &[&str] = &["-fmac32", "a", "b"];
-
-const TO_OMF: &[&str] = &["-fomf", "a", "b"];
-
-const TO_ELF64: &[&str] = &["-felf64", "a", "b"];
-
-const TO_COFF64: &[&str] = &["-fcoff64", "a", "b"];
-
-const TO_MAC64: &[&str] = &["-fmac64", "a", "b"];
-
-/// The same, with debug sections or exception sections kept or stripped.
+/// The words of a conversion with debug sections or exception sections kept or stripped.
 const DEBUG_TO_COFF32: &[&str] = &["-fcoff32", "--keep-debug", "a", "b"];
 
 const DEBUG_TO_OMF: &[&str] = &["-fomf", "--keep-debug", "a", "b"];
@@ -32,7 +18,14 @@ const EXCEPTIONS_TO_OMF: &[&str] = &["-fomf", "--keep-exceptions", "a", "b"];
 
 const STRIPPED: &[&str] = &["-felf32", "--strip-debug", "a", "b"];
 
-static REFUSALS: [Refusal; 45] = [
+static REFUSALS: [Refusal; 48] = [
+    (
+        "a field past its section",
+        TO_COFF32,
+        "field_past_its_section.o",
+    ),
+    ("fields that meet", TO_COFF32, "fields_that_meet.o"),
+    ("a section of 2^31 bytes", TO_COFF32, "section_too_big.o"),
     ("256 sections in mac32", TO_MAC32, "sections_256.o"),
     ("debug sections in coff32", DEBUG_TO_COFF32, "call_debug.o"),
     ("debug sections in omf", DEBUG_TO_OMF, "debug_segment.obj"),
@@ -61,29 +54,29 @@ static REFUSALS: [Refusal; 45] = [
     ("a group in mac32", TO_MAC32, "elf32_group.o"),
     ("a group in omf", TO_OMF, "elf32_group.o"),
     ("a name of 256 bytes in omf", TO_OMF, "name_of_256.o"),
-    (
-        "a name with a NUL in elf32",
-        TO_ELF32,
-        "name_with_nul.obj",
-    ),
+    ("a name with a NUL in elf32", TO_ELF32, "name_with_nul.obj"),
     (
         "a name with a NUL in coff32",
         TO_COFF32,
         "name_with_nul.obj",
     ),
-    (
-        "a name with a NUL in mac32",
-        TO_MAC32,
-        "name_with_nul.obj",
-    ),
+    ("a name with a NUL in mac32", TO_MAC32, "name_with_nul.obj"),
     ("an absolute symbol in omf", TO_OMF, "absolute.o"),
     (
         "an absolute symbol of 33 bits in coff64",
         TO_COFF64,
         "absolute_of_33_bits.o",
     ),
-    ("a common without a byte in coff32", TO_COFF32, "common_of_0.o"),
-    ("a common without a byte in mac32", TO_MAC32, "common_of_0.o"),
+    (
+        "a common without a byte in coff32",
+        TO_COFF32,
+        "common_of_0.o",
+    ),
+    (
+        "a common without a byte in mac32",
+        TO_MAC32,
+        "common_of_0.o",
+    ),
     ("a common without a byte in omf", TO_OMF, "common_of_0.o"),
     (
         "a common aligned above its size in coff32",
@@ -136,14 +129,18 @@ static REFUSALS: [Refusal; 45] = [
         TO_ELF32,
         "byte_to_200.o",
     ),
-    ("an addend of 2^31 - 3 before the end of a field in coff64", TO_COFF64, "addend_too_wide.o"),
     (
-        "an addend of 2^31 after the end of a field in coff64",
+        "an addend of 2^31 + 1 from the end of a field in coff64",
+        TO_COFF64,
+        "addend_too_wide.o",
+    ),
+    (
+        "an addend of 2^31 from the end of a field in coff64",
         TO_COFF64,
         "addend_of_pc32.o",
     ),
     (
-        "an addend of 2^31 after the end of a field in mac64",
+        "an addend of 2^31 from the end of a field in mac64",
         TO_MAC64,
         "addend_of_pc32.o",
     ),
@@ -154,7 +151,11 @@ static REFUSALS: [Refusal; 45] = [
         TO_COFF32,
         "symbol_in_debug.o",
     ),
-    ("a symbol in what is stripped", STRIPPED, "symbol_in_debug.o"),
+    (
+        "a symbol in what is stripped",
+        STRIPPED,
+        "symbol_in_debug.o",
+    ),
     (
         "a reference to what is dropped across formats",
         TO_COFF32,
@@ -187,7 +188,7 @@ static REFUSALS: [Refusal; 45] = [
     ),
     (
         "an object of another word",
-        TO_ELF64,
+        TO_COFF64,
         "elf32_call_to_coff32.o",
     ),
 ];

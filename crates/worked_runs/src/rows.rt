@@ -1,5 +1,5 @@
 //! Rows of a table: a run of the command over a stored file, and the stored output that it is to give.
-use crate::data::bytes_of;
+use crate::data::stored;
 use crate::runs::{Outcome, Run, words_of};
 use anyhow::Result;
 use std::alloc::Global;
@@ -44,14 +44,6 @@ impl Row {
         };
         run.outcome(alloc)
     }
-}
-
-// the bytes of the file `name`; none for an empty name
-fn stored(rt: &HostRuntime, name: &str) -> Result<Vec<u8>> {
-    if name.is_empty() {
-        return Ok(Vec::new(rt.alloc()));
-    }
-    bytes_of(rt, name)
 }
 
 /// Prints what came of a run.
