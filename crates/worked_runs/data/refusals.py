@@ -34,6 +34,10 @@ EMPTY_END = mach(32, [
     ("__DATA", "__part", 2, 0, bytes(4), []),
     ("__DATA", "__none", 4, 0, b"", [])], [])
 
+# eight bytes: the undefined `x` less the global `base`, by an entry SUBTRACTOR and the UNSIGNED after it
+PINNED = mach(64, [("__DATA", "__data", 3, 0, bytes(8), [(0, 0 | 3 << 25 | 1 << 27 | 5 << 28), (0, 1 | 3 << 25 | 1 << 27)])],
+              [("base", 0xF, 1, 0), ("x", 1, 0, 0)])
+
 FILES = {
     "aligned_to_65536.o": elf(32, [(".data", 3, 65536, bytes(8), [])], [], []),
     "sections_256.o": elf(32, [(f".d{i}", 3, 1, b"", []) for i in range(256)], [], []),
@@ -42,11 +46,13 @@ FILES = {
     "name_with_nul.obj": omf([("_TEXT", "CODE", 16, b"\xc3", [])], [], [("a\0b", 1, 0)]),
     "debug_segment.obj": omf([("_TEXT", "CODE", 16, b"\xc3", []), ("$$SYMBOLS", "DEBSYM", 1, b"\1", [])], [], []),
     "absolute.o": with_symbols(32, ("a", GLOBAL << 4, ABSOLUTE, 7, 0)),
+    "address_of_absolute.o": elf(32, [DATA + ([(4, "a", 1)],)], [], [("a", GLOBAL << 4, ABSOLUTE, 7, 0)]),
     "absolute_of_33_bits.o": with_symbols(64, ("a", GLOBAL << 4, ABSOLUTE, 1 << 32, 0)),
     "common_of_0.o": common(0, 4),
     "common_to_65536.o": common(65536, 65536),
     "weak.o": with_symbols(32, ("w", WEAK << 4 | FUNC, 1, 0, 0)),
     "empty_end.mac.o": EMPTY_END,
+    "pinned.mac.o": PINNED,
     # the local name is 200 bytes from the start, and the field, of type R_386_8, has one
     "byte_to_200.o": in_data(32, bytes(256), (3, "far", 22), local=[("far", OBJECT, 1, 200, 0)]),
     # R_X86_64_PC32 and R_X86_64_32 with what only a field of its own holds

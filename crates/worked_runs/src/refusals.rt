@@ -18,7 +18,7 @@ const EXCEPTIONS_TO_OMF: &[&str] = &["-fomf", "--keep-exceptions", "a", "b"];
 
 const STRIPPED: &[&str] = &["-felf32", "--strip-debug", "a", "b"];
 
-static REFUSALS: [Refusal; 48] = [
+static REFUSALS: [Refusal; 50] = [
     (
         "a field past its section",
         TO_COFF32,
@@ -165,6 +165,16 @@ static REFUSALS: [Refusal; 48] = [
         "a reference to what is stripped",
         STRIPPED,
         "call_of_debug.o",
+    ),
+    (
+        "a reference to an absolute symbol that becomes local",
+        &["-fcoff32", "-nl:a", "a", "b"],
+        "address_of_absolute.o",
+    ),
+    (
+        "a symbol that a difference takes becomes weak",
+        &["-fmac64", "-nw:base", "a", "b"],
+        "pinned.mac.o",
     ),
     (
         "an edit that takes a whole name",
