@@ -6,8 +6,9 @@ use Rattle.oc_words.specs.declared.job.Job.{Job}
 use Rattle.oc_words.specs.declared.job.Job.TheVariants.{Convert, Symbols, Make}
 use Rattle.oc_words.specs.Faults.{BadWord}
 use Rattle.oc_words.specs.Messages.{word_message_of}
-use Rattle.objconv.specs.States.{State}
-use Rattle.objconv.specs.Refusals.{IsJudged, conversion_refusal, listing_refusal}
+use Rattle.oc_runs.specs.States.{State}
+use Rattle.oc_runs.specs.Refusals.{IsJudged}
+use Rattle.objconv.specs.Refusals.{conversion_refusal, listing_refusal}
 use Rattle.objconv.specs.Conversions.{IsConversion}
 use Rattle.objconv.specs.Listings.{IsSymbols}
 use Rattle.objconv.specs.Making.{IsMaking}

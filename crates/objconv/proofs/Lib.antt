@@ -1,4 +1,3 @@
 pub mod Counted
 pub mod Did
 pub mod Made
-pub mod Refused

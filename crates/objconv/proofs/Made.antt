@@ -10,7 +10,7 @@ use Rattle.oc_making.proofs.Making.{made_is_accepted, made_is_short}
 use Rattle.oc_convert.specs.Dispatched.{dispatch_refusal, IsDispatched}
 use Rattle.oc_dispatch.specs.Built.{built}
 use Rattle.objconv.specs.Making.{IsMadeFile, making_refusal}
-use Rattle.objconv.proofs.Refused.{rest_next}
+use Rattle.oc_runs.proofs.Refused.{rest_next}
 
 module _ (count : ℕ) (to : Format) (few : count ≤ 100000) where
   -- it is refused nowhere

@@ -7,8 +7,9 @@ use Rattle.oc_outside.specs.Causes.{IsSteady}
 use Rattle.oc_outside.specs.Held.{Held, file_of, with_file, HasPart}
 use Rattle.oc_convert.specs.Dispatched.{IsDispatched}
 use Rattle.oc_dispatch.specs.Built.{built}
-use Rattle.objconv.specs.States.{State}
-use Rattle.objconv.specs.Refusals.{HasRefusal, IsExact, IsJudged, conversion_refusal}
+use Rattle.oc_runs.specs.States.{State}
+use Rattle.oc_runs.specs.Refusals.{HasRefusal, IsExact, IsJudged}
+use Rattle.objconv.specs.Refusals.{conversion_refusal}
 
 module _ (to : Format) (wishes : Wishes) (input : List ℕ) where
   -- c is the output for the input: where files are told, the input is held and is not refused, c is the file that the writer of the target has for its object,

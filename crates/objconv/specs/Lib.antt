@@ -4,5 +4,3 @@ pub mod Making
 pub mod Refusals
 pub mod Reports
 pub mod Runs
-pub mod States
-pub mod Texts

@@ -7,8 +7,9 @@ use Rattle.oc_outside.specs.Causes.{IsSteady}
 use Rattle.oc_outside.specs.Held.{Held, file_of}
 use Rattle.oc_outside.specs.Texts.{grown, TakesPrefix}
 use Rattle.oc_dispatch.specs.Built.{IsRead}
-use Rattle.objconv.specs.States.{State}
-use Rattle.objconv.specs.Refusals.{HasRefusal, IsExact, IsJudged, listing_refusal, none}
+use Rattle.oc_runs.specs.States.{State}
+use Rattle.oc_runs.specs.Refusals.{HasRefusal, IsExact, IsJudged}
+use Rattle.objconv.specs.Refusals.{listing_refusal, none}
 
 -- the text is the lines of the symbols of the file's object, read with nothing kept that may be left out
 pub record IsListed (b : List ℕ) (text : List ℕ) : Type 0 where

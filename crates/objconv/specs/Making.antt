@@ -12,7 +12,7 @@ use Rattle.oc_outside.specs.Texts.{grown, TakesPrefix}
 use Rattle.oc_made.specs.Files.{made_bytes}
 use Rattle.oc_convert.specs.Dispatched.{IsDispatched}
 use Rattle.oc_dispatch.specs.Built.{built}
-use Rattle.objconv.specs.States.{State, IsRefusal}
+use Rattle.oc_runs.specs.States.{State, IsRefusal}
 use Rattle.objconv.specs.Refusals.{conversion_refusal}
 
 -- `made N functions, R relocations, B bytes` and a newline: two relocations for each function, and the length of the output

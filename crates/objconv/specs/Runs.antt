@@ -6,8 +6,9 @@ use Rattle.oc_words.specs.declared.job.Job.TheVariants.{Convert, Symbols, Make}
 use Rattle.oc_words.specs.Faults.{BadWord}
 use Rattle.oc_words.specs.Jobs.{job_of}
 use Rattle.oc_words.specs.Messages.{word_message_of}
-use Rattle.objconv.specs.States.{State, IsStatus}
-use Rattle.objconv.specs.Texts.{Tells, input_text, output_text, memory_text}
+use Rattle.oc_runs.specs.Ends as ends
+use Rattle.oc_runs.specs.States.{State}
+use Rattle.oc_runs.specs.Texts.{Tells}
 use Rattle.objconv.specs.Conversions.{IsConversion}
 use Rattle.objconv.specs.Listings.{IsSymbols}
 use Rattle.objconv.specs.Making.{IsMaking}
@@ -33,43 +34,14 @@ DoesJob (Ok (Make count to output)) = IsMaking count to output
 
 -- ... what holds of every run
 
--- no write failed in a run that ended with the status
-abbrev pub LeavesFiles : ℕ → Type 0
-LeavesFiles status = (status ≡ 0 → ⊥) × (status ≡ 5 → ⊥)
-
--- the status leaves all files as they were, whatever the job. With 6 a file may have been made; a listing changes none with any status (`IsSymbols`), and a conversion has no 6 (`IsConversion`)
-abbrev pub KeepsFiles : ℕ → Type 0
-KeepsFiles status = (status ≡ 0 → ⊥) × (status ≡ 5 → ⊥) × (status ≡ 6 → ⊥)
-
--- the status leaves standard output as it was
-abbrev pub LeavesOutput : ℕ → Type 0
-LeavesOutput status = (status ≡ 0 → ⊥) × (status ≡ 6 → ⊥)
+-- the status is one that a run answers
+abbrev pub IsStatus : ℕ → Type 0
+IsStatus status =
+    (status ≡ 0) ⊎ (status ≡ 1) ⊎ (status ≡ 2) ⊎ (status ≡ 3) ⊎ (status ≡ 4) ⊎ (status ≡ 5) ⊎ (status ≡ 6) ⊎ (status ≡ 7) ⊎ (status ≡ 8)
 
 -- a run that ends with the status
-pub record IsEnd (before : State) (status : ℕ) (after : State) : Type 0 where
-  -- when each status comes
-  pub named : IsStatus status
-  pub output : status ≡ 5 → Rose before.write_faults after.write_faults
-  pub listing : status ≡ 6 → Rose before.out_faults after.out_faults
-  -- a failed call on a file, or on standard output, ends the run
-  pub read_failed : before.read_faults < after.read_faults → status ≡ 4
-  pub write_failed : before.write_faults < after.write_faults → status ≡ 5
-  pub out_failed : before.out_faults < after.out_faults → status ≡ 6
-  -- what becomes of the files and of standard output
-  pub kept : KeepsFiles status → after.held ≡ before.held
-  pub unwritten : LeavesFiles status → after.write_faults ≡ before.write_faults
-  pub shown : LeavesOutput status → after.shown ≡ before.shown
-  pub unshown : LeavesOutput status → after.out_faults ≡ before.out_faults
-  -- what is told
-  pub quiet : (status ≡ 0) ⊎ (status ≡ 6) → after.told ≡ before.told
-  pub told_input : status ≡ 4 → Tells input_text before.told after.told before.err_faults after.err_faults
-  pub told_output : status ≡ 5 → Tells output_text before.told after.told before.err_faults after.err_faults
-  pub told_memory : status ≡ 7 → Tells memory_text before.told after.told before.err_faults after.err_faults
-  -- no count of a failed call falls
-  pub reads : before.read_faults ≤ after.read_faults
-  pub writes : before.write_faults ≤ after.write_faults
-  pub outs : before.out_faults ≤ after.out_faults
-  pub errs : before.err_faults ≤ after.err_faults
+abbrev pub IsEnd : State → ℕ → State → Type 0
+IsEnd = ends.IsEnd IsStatus
 
 -- a run of these words that ends with the status
 pub record IsRun (words : List (List ℕ)) (before : State) (status : ℕ) (after : State) : Type 0 where

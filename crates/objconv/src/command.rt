@@ -1,13 +1,14 @@
 //! One run of the command.
 ghost use Rattle.std.specs.Prelude.{◌+◌, ◌-◌, ◌^◌};
 ghost use Rattle.objconv.specs.Runs.{IsRun};
-ghost use Rattle.objconv.specs.States.{state_of};
+ghost use Rattle.oc_runs.specs.States.{state_of};
 
 use crate::conversion::convert_file;
 use crate::listing::list_file;
 use crate::making::make_file;
-use crate::report::{report_memory, report_word};
+use crate::report::report_word;
 use oc_outside::{Console, Files};
+use oc_runs::report_memory;
 use oc_words::{Job, WordFault, Words, read_words};
 use std::alloc::Global;
 

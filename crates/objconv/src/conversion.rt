@@ -3,12 +3,10 @@ ghost use Rattle.std.specs.Prelude.{◌≡◌, ◌+◌, ◌-◌, ◌^◌, ◌<�
 ghost use Rattle.oc_outside.specs.Causes.{Counts};
 ghost use Rattle.objconv.specs.Conversions as conversions;
 ghost use Rattle.objconv.specs.Refusals.{conversion_refusal};
-ghost use Rattle.objconv.specs.Reports as reports;
+ghost use Rattle.oc_runs.specs.Reports as reports;
 ghost use Rattle.objconv.specs.Runs.{IsEnd};
-ghost use Rattle.objconv.specs.States.{state_of};
+ghost use Rattle.oc_runs.specs.States.{state_of};
 
-use crate::input::{InputFault, read_input};
-use crate::report::{output_words, report, tell};
 use crate::writing::write_output;
 use oc_base::Format;
 use oc_convert::ConvertFault;
@@ -16,6 +14,7 @@ use oc_dispatch::{AnyPlan, dispatch};
 use oc_names::Edits;
 use oc_neutral::Emits;
 use oc_outside::{Console, Files};
+use oc_runs::{InputFault, output_words, read_input, report, tell};
 use std::alloc::Global;
 
 // reads and converts the input

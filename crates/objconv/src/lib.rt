@@ -3,7 +3,6 @@
 
 mod command;
 mod conversion;
-mod input;
 mod listing;
 #[cfg(test)]
 mod made_files;

@@ -3,18 +3,17 @@ ghost use Rattle.std.specs.Prelude.{◌≡◌, ◌+◌, ◌-◌, ◌^◌, ◌<�
 ghost use Rattle.oc_outside.specs.Causes.{Counts};
 ghost use Rattle.objconv.specs.Listings as listings;
 ghost use Rattle.objconv.specs.Refusals.{listing_refusal};
-ghost use Rattle.objconv.specs.Reports as reports;
+ghost use Rattle.oc_runs.specs.Reports as reports;
 ghost use Rattle.objconv.specs.Runs.{IsEnd};
-ghost use Rattle.objconv.specs.States.{state_of};
+ghost use Rattle.oc_runs.specs.States.{state_of};
 
-use crate::input::{InputFault, read_input};
-use crate::report::report;
 use oc_base::Bytes;
 use oc_convert::ConvertFault;
 use oc_dispatch::read_any;
 use oc_dump::symbol_lines;
 use oc_neutral::Keep;
 use oc_outside::{Console, Files, show_all};
+use oc_runs::{InputFault, read_input, report};
 use std::alloc::Global;
 
 /// Nothing is kept that may be left out.

@@ -3,9 +3,8 @@ ghost use Rattle.std.specs.Prelude.{◌≡◌, ◌+◌, ◌-◌, ◌^◌, ◌<�
 ghost use Rattle.oc_base.specs.Formats.{word_for};
 ghost use Rattle.objconv.specs.Making as making;
 ghost use Rattle.objconv.specs.Runs.{IsEnd};
-ghost use Rattle.objconv.specs.States.{state_of};
+ghost use Rattle.oc_runs.specs.States.{state_of};
 
-use crate::report::{output_words, report_memory, tell};
 use crate::writing::write_output;
 use oc_base::{Bytes, Format, NoMemory, word_of};
 use oc_convert::ConvertFault;
@@ -14,6 +13,7 @@ use oc_made::made_file;
 use oc_names::Edits;
 use oc_neutral::Emits;
 use oc_outside::{Console, Files, show_all};
+use oc_runs::{output_words, report_memory, tell};
 use std::alloc::Global;
 
 /// What is written and shown of an object that is made.

@@ -1,7 +1,7 @@
 -- Groups, begun one after the other in the order of their first members.
 use Rattle.std.proofs.Common.{◌≡◌, ℕ, zero, suc, ◌+◌, ◌*◌, ◌<◌, ◌≤◌, Bool, true, false, cond, List, [], ◌∷◌, ◌++◌, length, map, replicate, set, Option, None, Some, refl, sym, ◌∙◌, ap, subst, arith, inl, inr}
 use Rattle.std.specs.Prelude.{not, ◌||◌, bytes_eq, is_some, slice_get, slice_index_or}
-use Rattle.std.specs.List.{list_any, position_or_len}
+use Rattle.std.specs.List.{position_or_len}
 use Rattle.std.specs.Option.{option_map, option_and_then, unwrap_or}
 use Rattle.std.proofs.lemmas.Bool.{cases_eq, true≢false}
 use Rattle.std.proofs.lemmas.Option.{none-some, same_Some}
@@ -16,6 +16,7 @@ use Rattle.oc_neutral.specs.declared.group.Group.{Group}
 use Rattle.oc_neutral.specs.Building.{Draft, group_added}
 use Rattle.oc_neutral.specs.Computed.{keys_after}
 use Rattle.oc_neutral.specs.Started.{groups_by, plain_draft}
+use Rattle.oc_neutral.proofs.KeyListLemmas.{new_last}
 use Rattle.oc_neutral.proofs.KeysMore.{keys_none, keys_some, position_stays}
 use Rattle.oc_neutral.proofs.StartedLaws.{group_more}
 use Rattle.oc_shelf.specs.Reading.Collected.{collected}
@@ -127,16 +128,6 @@ length_empty (suc n) = ap suc (length_empty n)
 pub begun_start : (t : Tables) (n : ℕ) → n ≡ length t.sections + 1 → AreBegunGroups t (keys_upto t 0) (replicate n None)
 begun_start t n is = record { long = length_empty n ∙ is; each = λ g key has. empty_at n g }
 
--- the position of a key behind others
-position_last : (keys : List (List ℕ)) (key : List ℕ) → is_given keys key ≡ false → position_or_len (bytes_eq key) (keys ++ key ∷ []) ≡ length keys
-position_last [] key new = ap (λ b. cond (not b) (1 + 0) 0) ((bytes_eq-Decides key key).1 refl)
-position_last (k ∷ keys) key new = by (bytes_eq key k) new (position_last keys key)
-  where
-    by : (c : Bool) → (c || list_any (bytes_eq key) keys) ≡ false → (list_any (bytes_eq key) keys ≡ false → position_or_len (bytes_eq key) (keys ++ key ∷ []) ≡ length keys)
-        → cond (not c) (1 + position_or_len (bytes_eq key) (keys ++ key ∷ [])) 0 ≡ suc (length keys)
-    by true e rest = absurd (true≢false e)
-    by false e rest = let r = rest e in omega (arith, r)
-
 given_more : (keys : List (List ℕ)) (key other : List ℕ) → is_given (keys ++ key ∷ []) other ≡ (is_given keys other || bytes_eq other key)
 given_more [] key other = or_none (bytes_eq other key)
   where
@@ -181,7 +172,7 @@ module _ (t : Tables) (symbols : stage_fault (symbol_stage t) ≡ None) (keys : 
             let one : key ≡ other = same_Some key other (sym is ∙ ap (led_key t) same ∙ is_h) in
             subst (λ (j : ℕ). slice_index_or (set slots g (Some (length keys))) j None ≡ place_in (keys ++ key ∷ []) other) same
             (get_or-set_here slots g (Some (length keys)) None low
-            ∙ ap Some (sym (position_last keys key new))
+            ∙ ap Some (sym (new_last keys key new))
             ∙ sym (ap (λ b. cond b (Some (position_or_len (bytes_eq key) (keys ++ key ∷ []))) None) (given_more keys key key ∙ ap (λ b. is_given keys key || b) ((bytes_eq-Decides key key).1 refl) ∙ or_true (is_given keys key)))
             ∙ ap (place_in (keys ++ key ∷ [])) one)
         | inr ne ↦

@@ -3,10 +3,12 @@
 #![tactic(auto)]
 
 mod any_plan;
+mod any_reader;
 mod dispatching;
 mod header;
 mod reading;
 
 pub use any_plan::AnyPlan;
+pub use any_reader::{AnyReader, ReadsAny};
 pub use dispatching::dispatch;
 pub use reading::read_any;

@@ -3,6 +3,7 @@ ghost use Rattle.std.specs.Prelude.{◌≡◌, ◌≤◌, length, None, IfErr, I
 ghost use Rattle.oc_neutral.specs.Computed.{object_in};
 ghost use Rattle.oc_neutral.specs.Readable.{IsReadable};
 ghost use Rattle.oc_neutral.specs.Shows.{Shows};
+ghost use Rattle.oc_neutral.specs.Targets.{IsDialect};
 ghost use Rattle.oc_convert.specs.Dispatched.{reading_refusal};
 ghost use Rattle.oc_convert.specs.Refusals.{IsFaultOf};
 ghost use Rattle.oc_dispatch.specs.Built.{IsRead, built};
@@ -30,6 +31,7 @@ fn read_by<R: Reads>(
     ensures computed { IfOk result (λ n. n ≡ object_in R.dialect bytes.now keep.now) }
     ensures shows { IfOk result (Shows R.dialect bytes.now keep.now) }
     ensures readable { IfOk result IsReadable }
+    ensures dialect { OnOk result (IsDialect R.dialect) }
 {
     shown_object_is_computed();
     match reader.read(alloc, bytes, keep) {

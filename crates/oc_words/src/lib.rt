@@ -9,6 +9,7 @@ mod job;
 mod message;
 mod naming;
 mod option;
+mod process;
 mod reading;
 mod text;
 mod words;

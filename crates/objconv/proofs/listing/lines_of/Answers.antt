@@ -3,8 +3,9 @@ use Rattle.std.proofs.Common.{◌≡◌, ℕ, List, Option, None, Some, sym, sub
 use Rattle.oc_base.specs.declared.fault.Fault.{Fault}
 use Rattle.oc_convert.specs.Dispatched.{reading_refusal}
 use Rattle.oc_dispatch.specs.Built.{built}
-use Rattle.objconv.specs.Refusals.{HasRefusal, listing_refusal, none}
-use Rattle.objconv.proofs.Refused.{decided, holds_of}
+use Rattle.oc_runs.specs.Refusals.{HasRefusal}
+use Rattle.objconv.specs.Refusals.{listing_refusal, none}
+use Rattle.oc_runs.proofs.Refused.{decided, holds_of}
 use Rattle.objconv.proofs.listing.lines_of.Goals as goal
 
 pub returns-in-Err-Refused-clause-fault : goal.returns-in-Err-Refused-clause-fault

@@ -1,0 +1,29 @@
+//! Reading any file, as a trait: what is proved over it needs no reader's proofs.
+ghost use Rattle.std.specs.Prelude.{◌≡◌, ◌≤◌, length, None, IfErr, IfOk, OnOk};
+ghost use Rattle.oc_convert.specs.Dispatched.{reading_refusal};
+ghost use Rattle.oc_convert.specs.Refusals.{IsFaultOf};
+ghost use Rattle.oc_dispatch.specs.Built.{IsRead, built};
+
+use crate::reading::read_any;
+use oc_convert::ConvertFault;
+use oc_neutral::{Keep, Neutral};
+use std::alloc::Global;
+
+/// What reads a file of any format.
+pub trait ReadsAny {
+    /// The object of a file of at most 67,108,864 bytes, as `read_any` gives it.
+    fn read(&self, alloc: Global, bytes: &[u8], keep: &Keep) -> Result<Neutral, ConvertFault>
+        requires { length bytes.now ≤ 67108864 }
+        ensures well_formed { OnOk result (reading_refusal built keep.now bytes.now ≡ None) }
+        ensures refused { IfErr result (IsFaultOf (reading_refusal built keep.now bytes.now)) }
+        ensures read { IfOk result (IsRead keep.now bytes.now) };
+}
+
+/// The readers of all formats.
+pub struct AnyReader;
+
+impl ReadsAny for AnyReader {
+    fn read(&self, alloc: Global, bytes: &[u8], keep: &Keep) -> Result<Neutral, ConvertFault> {
+        read_any(alloc, bytes, keep)
+    }
+}

@@ -1,0 +1,5 @@
+pub mod Ends
+pub mod Refusals
+pub mod Reports
+pub mod States
+pub mod Texts
