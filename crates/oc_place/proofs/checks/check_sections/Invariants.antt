@@ -1,0 +1,9 @@
+use Rattle.std.proofs.Common.{◌≡◌, None}
+use Rattle.oc_linking.specs.Numbers.{first_upto}
+use Rattle.oc_place.specs.Placings.{section_bad}
+use Rattle.oc_place.specs.Footprints.{footprint_of}
+use Rattle.oc_place.proofs.checks.check_sections.Given as goal
+
+-- none so far is at fault
+abbrev pub invariant-loop-k : goal.invariant-loop-k
+invariant-loop-k l = first_upto (section_bad (footprint_of l.object) l.notebook) l.k ≡ None

@@ -1,0 +1,12 @@
+use Rattle.std.proofs.Common.{◌∙◌, ◌+◌, ap, arith, length}
+use Rattle.oc_linking.proofs.Upto.{first_upto_stop}
+use Rattle.oc_place.specs.Placings.{symbol_bad, at_position}
+use Rattle.oc_place.specs.Footprints.{footprint_of}
+use Rattle.oc_place.proofs.checks.check_symbols.Goals as goal
+
+pub returns-in-Some : goal.returns-in-Some
+returns-in-Some c =
+    let n = c.args.object.now in
+    let inside = c.loop-k-test.true in
+    let end = c.symbol_count-k-end.ensures in
+    first_upto_stop (symbol_bad (footprint_of n) c.args.notebook.now) c.loop-k.k (length n.symbols) (record { line = c.loop-k.k + 1; code = c.in-Some.code }) c.loop-k.invariant (c.symbol_code.ensures ∙ ap (at_position c.loop-k.k) c.in-Some.is) (omega (arith, inside, end))

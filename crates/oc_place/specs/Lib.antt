@@ -1,0 +1,10 @@
+pub mod Digits
+pub mod Entries
+pub mod Faults
+pub mod Footprints
+pub mod Indexes
+pub mod Laws
+pub mod NameTexts
+pub mod Parts
+pub mod Placings
+pub mod Written
