@@ -1,0 +1,10 @@
+pub mod ExportLemmas
+pub mod FieldLemmas
+pub mod FillLemmas
+pub mod HexLemmas
+pub mod LawLemmas
+pub mod OrderLemmas
+pub mod PatchedBytes
+pub mod ScanLemmas
+pub mod TextLemmas
+pub mod ValueLemmas
