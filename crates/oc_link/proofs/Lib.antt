@@ -5,6 +5,7 @@ pub mod HexLemmas
 pub mod LawLemmas
 pub mod OrderLemmas
 pub mod PatchedBytes
+pub mod Rows
 pub mod ScanLemmas
 pub mod TextLemmas
 pub mod ValueLemmas
