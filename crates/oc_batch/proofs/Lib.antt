@@ -1,0 +1,4 @@
+pub mod BatchLaws
+pub mod ListLaws
+mod Rows
+pub mod RunLaws

@@ -1,0 +1,5 @@
+pub mod Batches
+pub mod Faults
+pub mod Lists
+pub mod Runs
+pub mod Texts

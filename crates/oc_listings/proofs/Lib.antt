@@ -1,0 +1,5 @@
+pub mod DigitLaws
+pub mod RestLaws
+pub mod LineLaws
+pub mod ListingLaws
+mod Steps
