@@ -75,7 +75,26 @@ int start(void) { return run(); }
 /* by itself, since gcc 12 for Windows fails to compile a start that calls in the way of Linux */
 static __attribute__((noinline)) int begin(void) { return run(); }
 #ifdef BARE
-void start(void) { ExitProcess(begin()); }
+/* the functions to run before and after, as the start-up code of MSVC finds them */
+typedef CALL void function(void);
+#define EDGE(name, section_name) static function *const name[1] __attribute__((section(section_name), used))
+EDGE(before, ".CRT$XCA") = {0};
+EDGE(before_end, ".CRT$XCZ") = {0};
+EDGE(after, ".CRT$XTA") = {0};
+EDGE(after_end, ".CRT$XTZ") = {0};
+static __attribute__((noinline)) void run_all(function *const *from, function *const *to)
+{
+    while (++from < to)
+        if (*from)
+            (*from)();
+}
+void start(void)
+{
+    run_all(before, before_end);
+    int status = begin();
+    run_all(after, after_end);
+    ExitProcess(status);
+}
 #else
 int main(void) { return begin(); }
 #endif

@@ -1,8 +1,8 @@
 """Faults of five kinds, planted in an object: an addend, a lost relocation, a type, a symbol's value, an alignment.
 
 Each function takes the bytes of an object that objconv wrote and gives changed bytes, or none where it finds no place.
-What is changed is the first place that a linker would notice: a relocation of code, a symbol that has room, the
-largest alignment.
+What is changed is a relocation of code (the last, in OMF the first), the first symbol that has room, the largest
+alignment.
 """
 import struct
 
@@ -25,11 +25,12 @@ def added(data, at, form, number):
 # ELF
 
 def elf_relocation(data, wide):
-    """Of the first relocation of code: the place of its entry, and that of its field."""
+    """Of the last relocation of code: the place of its entry, and that of its field."""
     headers, _ = elf_headers(data, wide)
     table = next(it for it in headers if it.type in (4, 9) and headers[it.info].flags & 4)
-    offset, = struct.unpack_from("<Q" if wide else "<I", data, table.offset)
-    return table.offset, headers[table.info].offset + offset
+    entry = table.offset + table.size - table.entry
+    offset, = struct.unpack_from("<Q" if wide else "<I", data, entry)
+    return entry, headers[table.info].offset + offset
 
 
 def elf_fault(data, kind):
@@ -70,7 +71,8 @@ def coff_fault(data, kind):
     """A COFF object with a fault."""
     heads, wide = coff_headers(data), data[:2] == b"\x64\x86"
     code = next(it for it in heads if struct.unpack_from("<H", data, it + 32)[0])
-    raw, entry = struct.unpack_from("<II", data, code + 20)
+    raw, entry, _, count = struct.unpack_from("<IIIH", data, code + 20)
+    entry += 10 * (count - 1)
     if kind == "addend":
         return added(data, raw + struct.unpack_from("<I", data, entry)[0], "<I", 4)
     if kind == "relocation":
@@ -114,6 +116,7 @@ def mach_fault(data, kind):
     rest = 48 if wide else 40
     code = next(it for it in heads if struct.unpack_from("<I", data, it + rest + 12)[0])
     raw, _, table, count = struct.unpack_from("<IIII", data, code + rest)
+    table += 8 * (count - 1)
     where, word = struct.unpack_from("<II", data, table)
     if kind == "addend":
         return added(data, raw + (where & 0xffffff), "<I", 4)

@@ -45,8 +45,9 @@ DRIVERS = {
 }
 CALLS = {"sysv": "__attribute__((sysv_abi))", "ms": "__attribute__((ms_abi))", "cdecl": ""}
 
-# fields that no program has that lies anywhere in 64 bits; in 32 bits, none that a loader could fill
+# fields that no loader fills where a program may lie anywhere, and those that it fills only in data
 FIXED = re.compile(r"R_X86_64_(32S?|16|8|PC16|PC8)\b|R_386_(16|8|PC16|PC8)\b")
+IN_DATA = re.compile(r"R_X86_64_64\b")
 
 
 def tools():
@@ -86,8 +87,12 @@ class Bench:
             return self.drivers[key]
 
     def is_open(self, way, path):
-        """Whether a way is for this object: a program that may lie anywhere has no field of fixed size for addresses."""
-        return "PIE" not in way.name or not FIXED.search(said(["readelf", "-rW", path])[0])
+        """Whether a way is for this object: some fields are for a program alone that lies where it was linked."""
+        if "PIE" not in way.name:
+            return True
+        tables = re.split(r"Relocation section ", said(["readelf", "-rW", path])[0])
+        code = (it for it in tables if re.match(r"'\.rela?\.(text|init|fini)", it))
+        return not any(map(FIXED.search, tables)) and not any(map(IN_DATA.search, code))
 
     def link(self, way, path, build):
         """Links an object with the driver, and runs the program."""
