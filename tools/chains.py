@@ -31,7 +31,7 @@ class Trial:
         self.build, self.bench, self.tools, self.folder = build, bench, tools, folder
         self.text = builds.text_of(build.source)
         self.stages, self.views, self.judged, self.complaints, self.said = {}, {}, {}, set(), {}
-        self.outcomes, self.count = [], 0
+        self.outcomes, self.count, self.form = [], 0, ""
 
     def stage(self, path, chain):
         """A file as a stage; the one that has these bytes already, where there is one."""
@@ -55,6 +55,7 @@ class Trial:
         if done.returncode:
             raise names.Failed(f"{self.build.name}: {done.stderr.decode('latin-1').strip()}")
         first = self.stage(path, ())
+        self.form = first.form
         self.complaints = readers.complaints(first.form, path)
         for it in self.bench.links(first.form, path, self.build):
             self.said[it.way.name] = self.fault_of(it)
@@ -69,21 +70,20 @@ class Trial:
             return f"status {linked.status}, printed {linked.printed!r}"
         return message or None
 
-    def entry_or_wrong(self, source, stage, way, fault):
+    def entry_or_wrong(self, stage, way, fault):
         """A difference as a known or a wrong one."""
-        name = known.entry(self.build, source, stage, way, fault)
+        name = known.entry(self.build, (self.form, *stage.chain), way, fault)
         return (KNOWN, name) if name else (WRONG, f"{way}: {fault}")
 
-    def examine(self, source, stage):
+    def examine(self, stage):
         """How an object that was written fares with other tools."""
         found = []
         for it in sorted(readers.complaints(stage.form, stage.path) - self.complaints):
-            found.append(self.entry_or_wrong(source, stage, "reading", it))
+            found.append(self.entry_or_wrong(stage, "reading", it))
         for it in self.bench.links(stage.form, stage.path, self.build):
             fault = self.fault_of(it)
-            first = self.stages[next(iter(self.stages))].form
-            if fault and not (first == stage.form and self.said.get(it.way.name) == fault):
-                found.append(self.entry_or_wrong(source, stage, it.way.name, fault))
+            if fault and not (self.form == stage.form and self.said.get(it.way.name) == fault):
+                found.append(self.entry_or_wrong(stage, it.way.name, fault))
         return next((it for it in found if it[0] == WRONG), found[0] if found else (RIGHT, ""))
 
     def judge(self, source, stage, target):
@@ -95,7 +95,7 @@ class Trial:
         except links.Differs as found:
             return WRONG, f"compare-links: {found}"
         if stage.key not in self.judged:
-            self.judged[stage.key] = self.examine(source, stage)
+            self.judged[stage.key] = self.examine(stage)
         return self.judged[stage.key]
 
     def convert(self, source, target):
@@ -107,8 +107,8 @@ class Trial:
         stage, end = None, (WRONG, f"status {done.returncode}: {message}")
         if done.returncode == 2:
             end = REFUSED, re.sub(r".*: (\w+) at \d+$", r"\1", message)
-        elif done.returncode == 1 and known.entry(self.build, source, None, "objconv", message):
-            end = KNOWN, known.entry(self.build, source, None, "objconv", message)
+        elif done.returncode == 1:
+            end = self.entry_or_wrong(source, "objconv", message)
         elif done.returncode == 0:
             stage = self.stage(path, (*source.chain, target))
             end = self.judge(source, stage, target)

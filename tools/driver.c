@@ -19,7 +19,7 @@ unsigned outside[2] = {1234, 1235};
 extern int floats NAMED(_fltused);
 int floats = 1;
 #ifdef __ELF__
-__asm__(".globl small\n.set small, 77");
+__asm__(".globl seventy_seven\n.set seventy_seven, 77");
 #endif
 
 #if defined(SILENT)
@@ -82,6 +82,11 @@ EDGE(before, ".CRT$XCA") = {0};
 EDGE(before_end, ".CRT$XCZ") = {0};
 EDGE(after, ".CRT$XTA") = {0};
 EDGE(after_end, ".CRT$XTZ") = {0};
+/* and as mingw's does, where this object is linked first */
+EDGE(old, ".ctors") = {0};
+EDGE(old_end, ".ctors$z") = {0};
+EDGE(late, ".dtors") = {0};
+EDGE(late_end, ".dtors$z") = {0};
 static __attribute__((noinline)) void run_all(function *const *from, function *const *to)
 {
     while (++from < to)
@@ -91,7 +96,9 @@ static __attribute__((noinline)) void run_all(function *const *from, function *c
 void start(void)
 {
     run_all(before, before_end);
+    run_all(old, old_end);
     int status = begin();
+    run_all(late, late_end);
     run_all(after, after_end);
     ExitProcess(status);
 }

@@ -70,6 +70,9 @@ class Bench:
     def __init__(self, folder):
         self.folder, self.drivers, self.lock = folder, {}, threading.Lock()
         self.env = {**os.environ, "WINEDEBUG": "-all", "WINEPREFIX": os.path.join(folder, "wine")}
+        if WINE:
+            # the first run of wine makes its folder, and says so
+            said([WINE, "wineboot", "--init"], env=self.env)
         self.ways = [it for it in WAYS if shutil.which(it.before[0]) and shutil.which(DRIVERS[it.system][0])]
         self.ways = [it for it in self.ways if "lld" not in it.name or shutil.which("ld.lld")]
 

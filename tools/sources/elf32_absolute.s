@@ -6,8 +6,8 @@
 # prints: short 5
 	.section .rodata
 address:	.long	outside
-two:	.word	small
-one:	.byte	small
+two:	.word	seventy_seven
+one:	.byte	seventy_seven
 	.balign	4
 near:	.long	outside - .
 	.text

@@ -8,8 +8,8 @@
 	.section .rodata
 wide:	.quad	outside
 low:	.long	outside + 4
-two:	.word	small
-one:	.byte	small
+two:	.word	seventy_seven
+one:	.byte	seventy_seven
 	.balign	8
 far:	.quad	outside - .
 near:	.long	outside - .
