@@ -1,14 +1,18 @@
 """The objects to try: which source, by which tool, with which flags.
 
 A build tells of its object what a driver must know: what names of C begin with (`prefix`), and how it calls
-(`call`: "sysv" or "ms" in 64 bits, "cdecl" in 32). A tool that is not on the machine is skipped.
+(`call`: "sysv" or "ms" in 64 bits, "cdecl" in 32). A tool that is not on the machine is skipped. The objects of
+crates/worked_conversions/data are tried as they are: what no tool of today writes is among them, as iterated data of
+OMF. They are no programs, and are not linked with the driver: their `call` is "none".
 """
 import collections
 import os
 import re
 import shutil
 
-SOURCES = os.path.join(os.path.dirname(os.path.abspath(__file__)), "sources")
+HERE = os.path.dirname(os.path.abspath(__file__))
+SOURCES = os.path.join(HERE, "sources")
+GIVEN = os.path.join(HERE, "..", "crates", "worked_conversions", "data")
 
 # a source, the words that make the object (the object's name comes last), and what a driver must know
 Build = collections.namedtuple("Build", "name source words prefix call")
@@ -71,9 +75,9 @@ ASSEMBLED = [
 ]
 
 
-def text_of(source):
-    """What a source prints, by its own words."""
-    with open(os.path.join(SOURCES, source), encoding="ascii") as file:
+def text_of(build):
+    """What the source of a build prints, by its own words."""
+    with open(os.path.join(SOURCES, build.source), encoding="ascii") as file:
         return "".join(it + "\n" for it in re.findall(r"prints: (\w+ \d+)", file.read()))
 
 
@@ -113,6 +117,8 @@ def builds(most):
              for compiler in COMPILERS for number in range(min(most, len(compiler.flags)))
              for source in sources if source.endswith((".c", ".cpp")) and fits(source, compiler)]
     found += [assembled(*it) for it in ASSEMBLED]
+    found += [Build(f"{name}-given", name, ["cp", os.path.join(GIVEN, name)], "", "none")
+              for name in sorted(os.listdir(GIVEN)) if name.endswith((".o", ".obj"))]
     return [it for it in found if shutil.which(it.words[0])]
 
 

@@ -29,7 +29,7 @@ class Trial:
 
     def __init__(self, build, bench, tools, folder):
         self.build, self.bench, self.tools, self.folder = build, bench, tools, folder
-        self.text = builds.text_of(build.source)
+        self.text = None if build.call == "none" else builds.text_of(build)
         self.stages, self.views, self.judged, self.complaints, self.said = {}, {}, {}, set(), {}
         self.outcomes, self.count, self.form = [], 0, ""
 
@@ -67,7 +67,8 @@ class Trial:
         if not linked.ok:
             return message or "not linked"
         if linked.printed is not None and (linked.printed, linked.status) != (self.text, 0):
-            return f"status {linked.status}, printed {linked.printed!r}"
+            # behind that, wine prints what its registers held
+            return f"status {linked.status}, printed {linked.printed.split('Unhandled exception')[0]!r}"
         return message or None
 
     def entry_or_wrong(self, stage, way, fault):

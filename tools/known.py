@@ -20,7 +20,8 @@ RULES = [
     Rule("an address of four bytes", r"", r"mac64$", "ld64.lld", r"^(ld64\.lld\S* error: relocation UNSIGNED is out of range[^\n]*\n?)+$"),
     Rule("a weak name that nothing defines", r"^(weak\.c|elf_groups)", r"mac64$", "ld64.lld", r"^ld64\.lld\S* error: undefined symbol: _?(absent|maybe)"),
     Rule("Functions that run before and after main", r"^(constructors\.c|locals\.cpp)-(clang-)?mingw", r"^coff\d\d-", r"", r"printed '(before 0|made 0)\\n"),
-    Rule("an address in read-only data", r"", r"^(coff|mac)\w+-(\w+-)*elf64$", "PIE", r"DT_TEXTREL|cannot be used against|recompile with -fPI"),
+    Rule("an address in read-only data", r"", r"^(coff|mac)\w+-(\w+-)*elf64$", "PIE",
+         r"DT_TEXTREL|cannot be used against|recompile with -fPI|^status -11, printed ''"),
     Rule("exceptions of C++", r"^throw\.cpp", r"coff|mac", r"", r"undefined (reference|symbol)|^status -6, printed ''$"),
 ]
 

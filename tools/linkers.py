@@ -114,5 +114,7 @@ class Bench:
         return Linked(way, True, message, printed, ended)
 
     def links(self, form, path, build):
-        """What each way of a format came to."""
+        """What each way of a format came to; nothing where the object is no program."""
+        if build.call == "none":
+            return []
         return [self.link(way, path, build) for way in self.ways if way.form == form and self.is_open(way, path)]
