@@ -31,7 +31,7 @@ compare: build/objconv
 
 tools: build/objconv build/objlink
 	tools/plant-faults build/objconv build/objlink
-	tools/try-tools --table=build/tried.md build/objconv build/objlink
+	tools/try-tools --seconds=1200 --table=build/tried.md build/objconv build/objlink
 
 refuse-memory: build/objconv
 	bench/refuse-memory build/objconv

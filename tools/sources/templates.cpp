@@ -16,10 +16,11 @@ template <typename T, int N> int Stack<T, N>::made = 0;
 template <int N> struct Factorial { static const int value = N * Factorial<N - 1>::value; };
 template <> struct Factorial<0> { static const int value = 1; };
 
+static Stack<int, 8> numbers;
+static Stack<char, 4> letters;
+
 int run()
 {
-    Stack<int, 8> numbers{};
-    Stack<char, 4> letters{};
     numbers.push(3);
     letters.push('c');
     Stack<int, 8>::made += 2;
