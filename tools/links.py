@@ -40,6 +40,7 @@ class Differs(Exception):
 def same(left, right, what):
     """`Differs` where two things differ."""
     if left != right:
+        left, right = ("none" if it is None else it for it in (left, right))
         raise Differs(f"{what}: {left} of the input, {right} of the output")
 
 
@@ -59,7 +60,9 @@ class Pair:
         self.keys = {it: names.plain(self.names.get(names.printed(it), names.printed(it))) for it in self.same_keys}
         same(left.object.word, right.object.word, "words")
         self.aligns = self.outline(target)
-        same(self.known(left, self.names), self.known(right, None), "symbols")
+        before, after = self.known(left, self.names), self.known(right, None)
+        for name in sorted({**before, **after}):
+            same(before.get(name), after.get(name), f"symbol {name}")
 
     def outline(self, target):
         """`Differs` where sections do; else the alignment of each that stays, by its position in the input."""
@@ -77,7 +80,7 @@ class Pair:
     @staticmethod
     def known(view, to):
         """What each nonlocal name is, with the size of a common; names by a map, or as they are."""
-        return {to[it.name] if to else it.name: (it.letter, it.value if it.letter == "C" else None)
+        return {to[it.name] if to else it.name: f"C {it.value}" if it.letter == "C" else it.letter
                 for it in view.nonlocals()}
 
 
