@@ -92,7 +92,8 @@ class Trial:
         if source.chain and source.form == target and source.key != stage.key:
             return WRONG, "an output is not given again"
         try:
-            links.compare(self.tools, self.view(source), self.view(stage))
+            if not links.compare(self.tools, self.view(source), self.view(stage)):
+                return WRONG, "compare-links: there was no placement to compare at"
         except links.Differs as found:
             return WRONG, f"compare-links: {found}"
         if stage.key not in self.judged:
