@@ -39,8 +39,8 @@ COMPILERS = [
     Compiler("clang-msvc32", "clang", "clang++", ["--target=i686-pc-windows-msvc"], TWO, "_", "cdecl"),
     Compiler("clang-mingw64", "clang", "clang++", ["--target=x86_64-w64-mingw32"], TWO, "", "ms"),
     Compiler("clang-mingw32", "clang", "clang++", ["--target=i686-w64-mingw32"], TWO, "_", "cdecl"),
-    Compiler("clang-apple64", "clang", "clang++", ["--target=x86_64-apple-macosx10.12"], TWO, "_", "sysv"),
-    Compiler("clang-apple32", "clang", "clang++", ["--target=i386-apple-macosx10.12"], TWO, "_", "cdecl"),
+    Compiler("clang-apple64", "clang", "clang++", ["--target=x86_64-apple-macosx10.12", "-fno-register-global-dtors-with-atexit"], TWO, "_", "sysv"),
+    Compiler("clang-apple32", "clang", "clang++", ["--target=i386-apple-macosx10.12", "-fno-register-global-dtors-with-atexit"], TWO, "_", "cdecl"),
 ]
 
 APPLE_MINGW_MSVC = ("mingw", "msvc", "apple")
