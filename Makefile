@@ -1,6 +1,6 @@
 # make: proves and builds the program; make check: the whole gate; make install PREFIX=/usr/local
 # make examples: runs the examples of docs/; make compare: times the program beside objcopy
-# make tools: lets other tools read and link what is converted to COFF and back
+# make tools: tries the program with the tools on the machine (docs/TRIED.md)
 # make refuse-memory: runs jobs with each of their allocations refused in turn, with all later ones
 
 PREFIX ?= /usr/local
@@ -14,6 +14,11 @@ build/objconv: $(shell find crates -path '*/out' -prune -o -type f -print) crate
 	cd crates/objconv_main && rt run -- -fcoff32 data/a /dev/null
 	mkdir -p build && cp crates/objconv_main/out/objconv_main build/objconv
 
+build/objlink: $(shell find crates -path '*/out' -prune -o -type f -print) crates.txt
+	cd crates/objlink && rt all check --jobs $(JOBS)
+	cd crates/objlink && rt run -- data/a data/p > /dev/null
+	mkdir -p build && cp crates/objlink/out/objlink build/objlink
+
 .PHONY: check examples compare tools refuse-memory install clean
 check:
 	.ci/run
@@ -24,8 +29,9 @@ examples: build/objconv
 compare: build/objconv
 	bench/compare build/objconv
 
-tools: build/objconv
-	bench/check-tools build/objconv
+tools: build/objconv build/objlink
+	tools/plant-faults build/objconv build/objlink
+	tools/try-tools --seconds=1200 --table=build/tried.md build/objconv build/objlink
 
 refuse-memory: build/objconv
 	bench/refuse-memory build/objconv
