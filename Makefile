@@ -1,30 +1,39 @@
-# make: proves and builds the program; make check: the whole gate; make install PREFIX=/usr/local
-# make examples: runs the examples of docs/; make compare: times the program beside objcopy
-# make tools: tries the program with the tools on the machine (docs/TRIED.md)
+# make: proves and builds the programs; make check: the whole gate; make install PREFIX=/usr/local
+# make examples: runs the examples of docs/; make compare: times objconv beside objcopy
+# make tools: tries objconv with the tools on the machine (docs/TRIED.md)
 # make refuse-memory: runs jobs with each of their allocations refused in turn, with all later ones
 
 PREFIX ?= /usr/local
+PROGRAMS = objconv objlink objbatch objlist
 
 # `rt run` alone proves one library after another. `rt all check` proves those that do not stand on each other side by side, and `rt run`
 # takes what it built. One check more than there are processors keeps them busy, as far as each check has 3 GB.
 JOBS ?= $(shell awk -v most=$$(($$(nproc) + 1)) '/^MemAvailable:/ { n = int($$2 / 3000000); print n < 1 ? 1 : n < most ? n : most }' /proc/meminfo)
 
-build/objconv: $(shell find crates -path '*/out' -prune -o -type f -print) crates.txt
-	cd crates/objconv_main && rt all check --jobs $(JOBS)
-	cd crates/objconv_main && rt run -- -fcoff32 data/a /dev/null
-	mkdir -p build && cp crates/objconv_main/out/objconv_main build/objconv
+.PHONY: programs check examples compare tools refuse-memory install clean
+programs: $(PROGRAMS:%=build/%)
 
-build/objlink: $(shell find crates -path '*/out' -prune -o -type f -print) crates.txt
-	cd crates/objlink && rt all check --jobs $(JOBS)
-	cd crates/objlink && rt run -- data/a data/p > /dev/null
-	mkdir -p build && cp crates/objlink/out/objlink build/objlink
+# each program proves what the ones before it have not; one after another, since each uses all processors
+.NOTPARALLEL:
+build/objconv: CRATE = objconv_main
+build/objconv: WORDS = -fcoff32 data/a /dev/null
+build/objlink: CRATE = objlink
+build/objlink: WORDS = data/a data/p
+build/objbatch: CRATE = objbatch
+build/objbatch: WORDS = /dev/null
+build/objlist: CRATE = objlist
+build/objlist: WORDS = -dh data/a
 
-.PHONY: check examples compare tools refuse-memory install clean
+$(PROGRAMS:%=build/%): $(shell find crates -path '*/out' -prune -o -type f -print) crates.txt
+	cd crates/$(CRATE) && rt all check --jobs $(JOBS)
+	cd crates/$(CRATE) && rt run -- $(WORDS)
+	mkdir -p build && cp crates/$(CRATE)/out/$(CRATE) $@
+
 check:
 	.ci/run
 
-examples: build/objconv
-	docs/check-examples build/objconv
+examples: programs
+	docs/check-examples build
 
 compare: build/objconv
 	bench/compare build/objconv
@@ -36,9 +45,11 @@ tools: build/objconv build/objlink
 refuse-memory: build/objconv
 	bench/refuse-memory build/objconv
 
-install: build/objconv
-	install -D build/objconv $(DESTDIR)$(PREFIX)/bin/objconv
-	install -D -m 644 docs/objconv.1 $(DESTDIR)$(PREFIX)/share/man/man1/objconv.1
+install: programs
+	for program in $(PROGRAMS); do \
+		install -D build/$$program $(DESTDIR)$(PREFIX)/bin/$$program && \
+		install -D -m 644 docs/$$program.1 $(DESTDIR)$(PREFIX)/share/man/man1/$$program.1 || exit 1; \
+	done
 
 clean:
 	rm -rf build
