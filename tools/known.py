@@ -23,6 +23,7 @@ RULES = [
     Rule("an address in read-only data", r"", r"^(coff|mac)\w+-(\w+-)*elf64$", "PIE",
          r"DT_TEXTREL|cannot be used against|recompile with -fPI|^status -11, printed "),
     Rule("names of C++ by MSVC", r"\.cpp-clang-msvc", r"^coff\d\d-(\w+-)*elf\d\d$", r"GNU ld|ld\.lld", r"multiple definition of|duplicate symbol|version"),
+    Rule("names of C++ by MSVC", r"^virtual\.cpp-clang-msvc", r"^coff\d\d-(\w+-)*elf\d\d$", r"ld\.lld", r"^status 0, printed 'square 49\\noblong \d+\\n"),
     Rule("a name that GNU ld gives itself", r"^pointers\.c-.*(apple|mingw32|msvc32)", r"elf\d\d$", r"^GNU ld", r"^status -11, printed 'before 10\\n'$"),
     Rule("exceptions of C++", r"^throw\.cpp", r"coff|mac", r"", r"undefined (reference|symbol)|^status -6, printed ''$"),
 ]

@@ -109,6 +109,9 @@ class Bench:
         printed = ended = None
         if way.runner is not None and None not in way.runner:
             printed, _, ended = said([*way.runner, program], env=self.env)
+            if way.runner and not printed:
+                # wine on a busy machine ends now and then before the program has begun
+                printed, _, ended = said([*way.runner, program], env=self.env)
             printed = printed.replace("\r", "")
         os.unlink(program)
         return Linked(way, True, message, printed, ended)
