@@ -18,7 +18,7 @@ pub use bytes::{Bytes, Text};
 pub use classes::class;
 pub use code::Code;
 pub use fault::{Class, Fault, Phase, Spot};
-pub use format::{Format, Word, word_of};
+pub use format::{Format, Word, plain_of, word_of};
 pub use messages::message;
 pub use numbers::{u8_in, u16_in, u32_in, u64_in};
 pub use view::View;

@@ -31,8 +31,14 @@ pub(crate) fn common_align(target: Format, size: u64, align: u32) -> u32
     ensures { result ≡ alignments.common_align target size align }
 {
     match target {
-        Format::Elf32 | Format::Elf64 | Format::Mac32 | Format::Mac64 => align,
-        Format::Coff32 | Format::Coff64 | Format::Omf => natural_align(size),
+        Format::Elf32
+        | Format::Elf64
+        | Format::BigElf32
+        | Format::BigElf64
+        | Format::Mac32
+        | Format::Mac64 => align,
+        Format::Coff32 | Format::Coff64 | Format::BigCoff32 | Format::BigCoff64 | Format::Omf =>
+            natural_align(size),
     }
 }
 
@@ -74,8 +80,14 @@ pub(crate) fn output_align(target: Format, align: u32) -> u32
     ensures { result ≡ alignments.output_align target align }
 {
     match target {
-        Format::Elf32 | Format::Elf64 => power_upto(elf::ALIGN_BITS, align),
-        Format::Coff32 | Format::Coff64 => power_upto(coff::ALIGN_BITS, align),
+        Format::Elf32 | Format::Elf64 | Format::BigElf32 | Format::BigElf64 => power_upto(
+            elf::ALIGN_BITS,
+            align,
+        ),
+        Format::Coff32 | Format::Coff64 | Format::BigCoff32 | Format::BigCoff64 => power_upto(
+            coff::ALIGN_BITS,
+            align,
+        ),
         Format::Mac32 | Format::Mac64 => power_upto(15, align),
         Format::Omf => omf_align(align),
     }

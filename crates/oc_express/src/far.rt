@@ -78,9 +78,15 @@ pub(crate) fn far_names(
     ensures { IfOk result (λ far. (i : ℕ) → slice_index_or far.items i false ≡ lies_far target neutral.now (get_or names.now i [])) }
 {
     match target {
-        Format::Coff32 | Format::Coff64 => far_in_table(alloc, target, neutral, names),
-        Format::Elf32 | Format::Elf64 | Format::Mac32 | Format::Mac64 | Format::Omf => {
-            Ok(Vec::new(alloc))
-        }
+        Format::Coff32 | Format::Coff64 | Format::BigCoff32 | Format::BigCoff64 => far_in_table(
+            alloc, target, neutral, names,
+        ),
+        Format::Elf32
+        | Format::Elf64
+        | Format::BigElf32
+        | Format::BigElf64
+        | Format::Mac32
+        | Format::Mac64
+        | Format::Omf => { Ok(Vec::new(alloc)) }
     }
 }

@@ -4,14 +4,31 @@ ghost use Rattle.oc_neutral.specs.Alignments as alignments;
 ghost use Rattle.oc_neutral.specs.Families as families;
 ghost use Rattle.oc_neutral.specs.Families.{container_of, family_of};
 
-use oc_base::Format;
+use oc_base::{Format, plain_of};
 use oc_neutral::{coff, elf};
 
 /// Whether two formats are the same, as far as names, tags and debugging information go. Constant time.
 pub(crate) fn same_format(a: Format, b: Format) -> bool
     ensures { result ≡ families.same_format a b }
 {
-    a == b
+    matches!(
+        (a, b),
+        (
+            Format::Elf32 | Format::BigElf32,
+            Format::Elf32 | Format::BigElf32
+        ) | (
+            Format::Elf64 | Format::BigElf64,
+            Format::Elf64 | Format::BigElf64
+        ) | (
+            Format::Coff32 | Format::BigCoff32,
+            Format::Coff32 | Format::BigCoff32
+        ) | (
+            Format::Coff64 | Format::BigCoff64,
+            Format::Coff64 | Format::BigCoff64
+        ) | (Format::Mac32, Format::Mac32)
+            | (Format::Mac64, Format::Mac64)
+            | (Format::Omf, Format::Omf)
+    )
 }
 
 /// Whether debugging information can be kept within the format. Constant time.
@@ -21,8 +38,12 @@ pub(crate) fn keeps_debug(format: Format) -> bool
     match format {
         Format::Elf32
         | Format::Elf64
+        | Format::BigElf32
+        | Format::BigElf64
         | Format::Coff32
         | Format::Coff64
+        | Format::BigCoff32
+        | Format::BigCoff64
         | Format::Mac32
         | Format::Mac64 => true,
         Format::Omf => false,
@@ -35,8 +56,14 @@ pub(crate) fn takes_exceptions(target: Format, from: Format) -> bool
     ensures { result ≡ (family_of target).takes_exceptions (container_of from) }
 {
     match target {
-        Format::Elf32 | Format::Elf64 => from == Format::Coff32 || from == Format::Coff64,
-        Format::Coff32 | Format::Coff64 => from == Format::Elf32 || from == Format::Elf64,
+        Format::Elf32 | Format::Elf64 | Format::BigElf32 | Format::BigElf64 => matches!(
+            plain_of(from),
+            Format::Coff32 | Format::Coff64
+        ),
+        Format::Coff32 | Format::Coff64 | Format::BigCoff32 | Format::BigCoff64 => matches!(
+            plain_of(from),
+            Format::Elf32 | Format::Elf64
+        ),
         Format::Mac32 | Format::Mac64 | Format::Omf => false,
     }
 }
@@ -46,8 +73,9 @@ pub(crate) fn most_align(target: Format) -> u32
     ensures { result ≡ alignments.most_align target }
 {
     match target {
-        Format::Elf32 | Format::Elf64 => 1 << elf::ALIGN_BITS,
-        Format::Coff32 | Format::Coff64 => 1 << coff::ALIGN_BITS,
+        Format::Elf32 | Format::Elf64 | Format::BigElf32 | Format::BigElf64 => 1 << elf::ALIGN_BITS,
+        Format::Coff32 | Format::Coff64 | Format::BigCoff32 | Format::BigCoff64 => 1
+            << coff::ALIGN_BITS,
         Format::Mac32 | Format::Mac64 => 1 << 15,
         Format::Omf => 256,
     }

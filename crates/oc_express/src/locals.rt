@@ -35,8 +35,14 @@ fn writes_local(alloc: Global, target: Format, name: &[u8], value: Value) -> Res
     ensures { IfOk result (λ writes. writes ≡ (family_of target).writes_local name.now value) }
 {
     match target {
-        Format::Elf32 | Format::Elf64 | Format::Coff32 | Format::Mac32 => Ok(true),
-        Format::Coff64 => Ok(!is_long_number(value)),
+        Format::Elf32
+        | Format::Elf64
+        | Format::BigElf32
+        | Format::BigElf64
+        | Format::Coff32
+        | Format::BigCoff32
+        | Format::Mac32 => Ok(true),
+        Format::Coff64 | Format::BigCoff64 => Ok(!is_long_number(value)),
         Format::Mac64 => Ok(!is_start_named(alloc, name, value)?),
         Format::Omf => Ok(false),
     }

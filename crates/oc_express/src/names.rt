@@ -142,8 +142,14 @@ pub(crate) fn output_names(
     }
     match target {
         Format::Mac32 | Format::Mac64 => final_names(alloc, target, neutral),
-        Format::Elf32 | Format::Elf64 | Format::Coff32 | Format::Coff64 | Format::Omf => {
-            wanted_names(alloc, target, neutral)
-        }
+        Format::Elf32
+        | Format::Elf64
+        | Format::BigElf32
+        | Format::BigElf64
+        | Format::Coff32
+        | Format::Coff64
+        | Format::BigCoff32
+        | Format::BigCoff64
+        | Format::Omf => { wanted_names(alloc, target, neutral) }
     }
 }

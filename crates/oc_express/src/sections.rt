@@ -10,6 +10,7 @@ ghost use Rattle.oc_neutral.specs.HomeNames.{output_names};
 ghost use Rattle.oc_neutral.specs.KeySymbols.{has_key_symbol};
 ghost use Rattle.oc_neutral.specs.Objects.{Object};
 ghost use Rattle.oc_neutral.specs.Relocated.{is_relocated};
+ghost use Rattle.oc_neutral.specs.Families as families;
 ghost use Rattle.oc_neutral.specs.Families.{family_of};
 ghost use Rattle.oc_neutral.specs.KindRules as rules;
 ghost use Rattle.oc_neutral.specs.Omf.Family as omf;
@@ -55,8 +56,12 @@ fn is_unavailable(target: Format, kind: Kind) -> bool
         Format::Omf => same_kind(kind, Kind::Init) || same_kind(kind, Kind::Fini),
         Format::Elf32
         | Format::Elf64
+        | Format::BigElf32
+        | Format::BigElf64
         | Format::Coff32
         | Format::Coff64
+        | Format::BigCoff32
+        | Format::BigCoff64
         | Format::Mac32
         | Format::Mac64 => false,
     }
@@ -121,10 +126,15 @@ fn is_name_form(
     ensures { result ≡ conditions.is_name_form target neutral.now name.now section.now }
 {
     match target {
-        Format::Elf32 | Format::Elf64 | Format::Mac32 | Format::Mac64 => {
-            is_cut(neutral, name, section, cut)
-        }
-        Format::Coff32 | Format::Coff64 => is_cut(neutral, name, section, cut) || far,
+        Format::Elf32
+        | Format::Elf64
+        | Format::BigElf32
+        | Format::BigElf64
+        | Format::Mac32
+        | Format::Mac64 => { is_cut(neutral, name, section, cut) }
+        Format::Coff32 | Format::Coff64 | Format::BigCoff32 | Format::BigCoff64 => is_cut(
+            neutral, name, section, cut,
+        ) || far,
         Format::Omf => is_too_long(name),
     }
 }
@@ -137,8 +147,11 @@ fn lacks_member(target: Format, neutral: &Neutral, group: u32, keyed: &[bool]) -
 {
     let _ = neutral;
     match target {
-        Format::Elf32 | Format::Elf64 => false,
-        Format::Coff32 | Format::Coff64 => !is_marked(keyed, group as usize),
+        Format::Elf32 | Format::Elf64 | Format::BigElf32 | Format::BigElf64 => false,
+        Format::Coff32 | Format::Coff64 | Format::BigCoff32 | Format::BigCoff64 => !is_marked(
+            keyed,
+            group as usize,
+        ),
         Format::Mac32 | Format::Mac64 | Format::Omf => true,
     }
 }
@@ -262,7 +275,7 @@ fn relocated_count(target: Format, neutral: &Neutral) -> u32
 
 // what is counted of sections: in ELF their headers, elsewhere themselves
 fn counted(target: Format, neutral: &Neutral) -> u64
-    ensures { result ≡ (conditions.section_counts target neutral.now).counted }
+    ensures { result ≡ conditions.section_counts target neutral.now }
 {
     let sections = u64::from(neutral.section_count());
     match target {
@@ -270,20 +283,62 @@ fn counted(target: Format, neutral: &Neutral) -> u64
             let relocated = u64::from(relocated_count(target, neutral));
             4 + u64::from(neutral.group_count()) + sections + relocated
         }
-        Format::Coff32 | Format::Coff64 | Format::Mac32 | Format::Mac64 | Format::Omf => sections,
+        Format::BigElf32 | Format::BigElf64 => {
+            let relocated = u64::from(relocated_count(target, neutral));
+            5 + u64::from(neutral.group_count()) + sections + relocated
+        }
+        Format::Coff32
+        | Format::Coff64
+        | Format::BigCoff32
+        | Format::BigCoff64
+        | Format::Mac32
+        | Format::Mac64
+        | Format::Omf => sections,
+    }
+}
+
+// the least such number that a target is for
+fn least(target: Format) -> u64
+    ensures { result ≡ (families.section_range target).least }
+{
+    match target {
+        Format::BigElf32 | Format::BigElf64 => elf::SHN_LORESERVE.into(),
+        Format::Elf32
+        | Format::Elf64
+        | Format::Coff32
+        | Format::Coff64
+        | Format::BigCoff32
+        | Format::BigCoff64
+        | Format::Mac32
+        | Format::Mac64
+        | Format::Omf => 0,
     }
 }
 
 // the greatest such number that a target has room for
 fn most(target: Format) -> u64
-    ensures { (n : Object) → result ≡ (conditions.section_counts target n).most }
+    ensures { result ≡ (families.section_range target).most }
 {
     match target {
         Format::Elf32 | Format::Elf64 => u64::from(elf::SHN_LORESERVE) - 1,
+        Format::BigElf32 | Format::BigElf64 => elf::MOST_HEADERS.into(),
         Format::Coff32 | Format::Coff64 => coff::IMAGE_SYM_SECTION_MAX.into(),
+        Format::BigCoff32 | Format::BigCoff64 => coff::MOST_SECTIONS.into(),
         Format::Mac32 | Format::Mac64 => 255,
         Format::Omf => 30_000,
     }
+}
+
+// a fault of the number of sections
+fn number_fault(code: Code, place: u64) -> Option<Fault>
+    ensures { result ≡ Some (fault_at (conditions.count_spot place) code) }
+{
+    let spot = Spot {
+        phase: Phase::TargetSection,
+        index: 0,
+        place,
+    };
+    Some(spot.fault(code))
 }
 
 /// The fault of a target on the number of sections of an object. Linear time, no memory.
@@ -291,13 +346,11 @@ pub(crate) fn count_fault(target: Format, neutral: &Neutral) -> Option<Fault>
     ensures { result ≡ first_broken (conditions.section_count target neutral.now) }
 {
     let counted = counted(target, neutral);
-    if counted <= most(target) {
-        return None;
+    if counted < least(target) {
+        return number_fault(Code::TooFew, counted);
     }
-    let spot = Spot {
-        phase: Phase::TargetSection,
-        index: 0,
-        place: counted,
-    };
-    Some(spot.fault(Code::TooMany))
+    if most(target) < counted {
+        return number_fault(Code::TooMany, counted);
+    }
+    None
 }

@@ -16,8 +16,14 @@ fn holds_all_addends(target: Format) -> bool
     ensures { result ≡ (family_of target).holds_all_addends }
 {
     match target {
-        Format::Elf64 | Format::Mac32 | Format::Omf => true,
-        Format::Elf32 | Format::Coff32 | Format::Coff64 | Format::Mac64 => false,
+        Format::Elf64 | Format::BigElf64 | Format::Mac32 | Format::Omf => true,
+        Format::Elf32
+        | Format::BigElf32
+        | Format::Coff32
+        | Format::Coff64
+        | Format::BigCoff32
+        | Format::BigCoff64
+        | Format::Mac64 => false,
     }
 }
 

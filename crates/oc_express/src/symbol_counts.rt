@@ -107,10 +107,18 @@ pub(crate) fn symbol_count_fault(
     ensures { IfOk result (λ fault. fault ≡ first_broken (option_map_or conditions.bounded ((family_of target).symbols neutral.now) [])) }
 {
     match target {
-        Format::Elf32 => Ok(bounded_fault(elf_count(alloc, neutral)?, MOST_SYMBOLS)),
+        Format::Elf32 | Format::BigElf32 => Ok(bounded_fault(
+            elf_count(alloc, neutral)?,
+            MOST_SYMBOLS,
+        )),
         Format::Mac32 => Ok(bounded_fault(mac32_count(alloc, neutral)?, MOST_SYMBOLS)),
         Format::Mac64 => Ok(bounded_fault(mac64_count(alloc, neutral)?, MOST_SYMBOLS)),
         Format::Omf => Ok(bounded_fault(external_count(neutral).into(), MOST_EXTERNALS)),
-        Format::Elf64 | Format::Coff32 | Format::Coff64 => Ok(None),
+        Format::Elf64
+        | Format::BigElf64
+        | Format::Coff32
+        | Format::Coff64
+        | Format::BigCoff32
+        | Format::BigCoff64 => Ok(None),
     }
 }

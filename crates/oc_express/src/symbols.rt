@@ -36,8 +36,12 @@ fn is_unwritable(target: Format, symbol: &Symbol) -> bool
     match target {
         Format::Elf32
         | Format::Elf64
+        | Format::BigElf32
+        | Format::BigElf64
         | Format::Coff32
         | Format::Coff64
+        | Format::BigCoff32
+        | Format::BigCoff64
         | Format::Mac32
         | Format::Mac64 => has_nul(name),
         Format::Omf => !is_local(symbol.binding) && is_too_long(name),
@@ -69,8 +73,15 @@ fn lacks_value(target: Format, value: Value) -> bool
     ensures { result ≡ (family_of target).lacks_value value }
 {
     match target {
-        Format::Elf32 | Format::Elf64 | Format::Coff32 | Format::Mac32 | Format::Mac64 => false,
-        Format::Coff64 => is_long_number(value),
+        Format::Elf32
+        | Format::Elf64
+        | Format::BigElf32
+        | Format::BigElf64
+        | Format::Coff32
+        | Format::BigCoff32
+        | Format::Mac32
+        | Format::Mac64 => false,
+        Format::Coff64 | Format::BigCoff64 => is_long_number(value),
         Format::Omf => is_absolute(value),
     }
 }
@@ -97,8 +108,9 @@ fn lacks_common(target: Format, size: u64, align: u32) -> bool
     ensures { result ≡ (family_of target).lacks_common size align }
 {
     match target {
-        Format::Elf32 | Format::Elf64 => false,
-        Format::Coff32 | Format::Coff64 | Format::Omf => is_unnatural(size, align),
+        Format::Elf32 | Format::Elf64 | Format::BigElf32 | Format::BigElf64 => false,
+        Format::Coff32 | Format::Coff64 | Format::BigCoff32 | Format::BigCoff64 | Format::Omf =>
+            is_unnatural(size, align),
         Format::Mac32 | Format::Mac64 => size == 0 || align > 1 << 15,
     }
 }
@@ -145,10 +157,13 @@ fn lacks_weak(target: Format, neutral: &Neutral, fallback: Fallback) -> bool
     ensures { result ≡ (family_of target).lacks_weak neutral.now fallback }
 {
     match target {
-        Format::Elf32 | Format::Elf64 | Format::Mac32 | Format::Mac64 => {
-            is_unsteady_name(neutral, fallback)
-        }
-        Format::Coff32 | Format::Coff64 => false,
+        Format::Elf32
+        | Format::Elf64
+        | Format::BigElf32
+        | Format::BigElf64
+        | Format::Mac32
+        | Format::Mac64 => { is_unsteady_name(neutral, fallback) }
+        Format::Coff32 | Format::Coff64 | Format::BigCoff32 | Format::BigCoff64 => false,
         Format::Omf => true,
     }
 }

@@ -20,7 +20,7 @@ pub enum WordCode {
     SameFile,
     /// The N of `--make=N` is no decimal of 1 to 100,000 without a leading zero.
     BadNumber,
-    /// The target of `--make` is none of the formats.
+    /// The target of `--make` is none of the formats for few sections.
     BadTarget,
     /// There is no target.
     MissingTarget,
