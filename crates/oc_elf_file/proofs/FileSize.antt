@@ -1,10 +1,9 @@
--- A canonical file has fewer than 2^32 bytes, and fewer section headers than gABI's reserved numbers.
-use Rattle.std.proofs.Common.{◌≡◌, ℕ, suc, ◌+◌, ◌*◌, ◌^◌, ◌<◌, ◌≤◌, Bool, true, false, cond, eqb, List, [], ◌∷◌, ◌++◌, length, map, get_or, Some, None, refl, sym, ◌∙◌, ap, arith, length-append}
-use Rattle.std.specs.Prelude.{slice_get, filter_map, not}
-use Rattle.std.specs.List.{count_by, sum_by, enumerate_from, filter, range_with_len, list_any, cons_option, AllByRecursion}
-use Rattle.std.proofs.lemmas.Bool.{true≢false, or_left}
+-- A canonical file has fewer than 2^32 bytes.
+use Rattle.std.proofs.Common.{◌≡◌, ℕ, suc, ◌+◌, ◌*◌, ◌^◌, ◌<◌, ◌≤◌, Bool, true, false, cond, eqb, List, [], ◌∷◌, ◌++◌, length, map, get_or, Some, None, refl, ◌∙◌, ap, arith, length-append}
+use Rattle.std.specs.Prelude.{filter_map, not}
+use Rattle.std.specs.List.{count_by, sum_by, enumerate_from, filter, cons_option, AllByRecursion}
 use Rattle.std.proofs.lemmas.List.{length-map}
-use Rattle.std.proofs.lemmas.List.FromFn.{length-enumerate_from, length-range_with_len}
+use Rattle.std.proofs.lemmas.List.FromFn.{length-enumerate_from}
 use Rattle.std.proofs.lemmas.List.Sums.{sum_by-cons, sum_by-append, length-filter, count_by-le-length}
 use Rattle.oc_chains.specs.declared.field.Field as chains
 use Rattle.oc_chains.specs.Lists.{list_of}
@@ -15,26 +14,26 @@ use Rattle.oc_neutral.specs.declared.section.Section.{Section}
 use Rattle.oc_neutral.specs.declared.symbol.Symbol.{Symbol}
 use Rattle.oc_neutral.specs.Building.{stored_size, stored_sum}
 use Rattle.oc_neutral.specs.Invariants.{HasItsBytes}
-use Rattle.oc_neutral.specs.Objects.{Object, reloc_at}
+use Rattle.oc_neutral.specs.Objects.{Object}
 use Rattle.oc_neutral.specs.Elf.Family.{elf_symbol_count, signature_count}
-use Rattle.oc_neutral.specs.Relocated.{is_relocated, stays}
 use Rattle.oc_neutral.specs.SymbolLines.{needs_signature}
 use Rattle.oc_shelf.specs.Writing.Parts.{laid, behind}
 use Rattle.oc_elf_read.specs.declared.class.ElfClass.{ElfClass}
-use Rattle.oc_elf_read.specs.declared.class.ElfClass.TheVariants.{Class32, Class64}
+use Rattle.oc_elf_read.specs.declared.class.ElfClass.TheVariants.{Class32, Class64, Big32, Big64}
 use Rattle.oc_elf_read.specs.Classes.{format_of}
 use Rattle.oc_elf_read.specs.Ehdr.{ehdr_size}
 use Rattle.oc_elf_read.specs.Shdr.{shdr_size}
 use Rattle.oc_elf_read.specs.Sym.{sym_size}
 use Rattle.oc_elf_read.specs.Rel.{rel_size}
-use Rattle.oc_elf_file.specs.Heads.{Head, NullHead, RelocHead, SymtabHead, StrtabHead, ShstrtabHead, placed_sections, group_head, section_head, reloc_head, group_heads, section_heads, reloc_heads, table_heads, heads_of, head_size, numbered_heads, head_name, reloc_prefix}
+use Rattle.oc_elf_file.specs.Heads.{Head, NullHead, RelocHead, SymtabHead, ShndxHead, StrtabHead, ShstrtabHead, placed_sections, group_head, section_head, reloc_head, group_heads, section_heads, reloc_heads, table_heads_by, table_heads, heads_of, head_size, numbered_heads, head_name, reloc_prefix}
+use Rattle.oc_neutral.specs.Families.{is_many}
 use Rattle.oc_elf_file.specs.Lines.{Line, NullLine, SectionLine, SignatureLine, LocalLine, OuterLine, lines_of, line_name, section_lines, signature_lines, lines_where, inner_lines, outer_lines}
 use Rattle.oc_elf_file.specs.Groups.{member_number, group_words}
 use Rattle.oc_elf_file.specs.Layout.{Part, FileHead, Body, HeadTable, parts_of, head_names, line_names, part_size, part_align, part_begin}
 use Rattle.oc_elf_file.specs.Canonical.{elf_file}
-use Rattle.oc_elf_file.proofs.CodedLaws.{IsForElf}
+use Rattle.oc_elf_file.proofs.CodedLaws.{IsForElf, few_sections}
+use Rattle.oc_elf_file.proofs.HeadCounts.{length-heads, counted_tables, most_tables, few_heads, few_reloc_heads}
 use Rattle.oc_elf_file.proofs.PartLaws.{length-elf_file}
-use Rattle.oc_elf_file.proofs.RelocLaws.{meets, found_in}
 use Rattle.oc_elf_file.proofs.SizeLaws.{ended_size, strings_size, sum_map, end_low, gap_low, align_low, members_few}
 
 -- ... sums over lists
@@ -65,57 +64,6 @@ length-laid begin size at [] = refl
 length-laid begin size at (x ∷ xs) = ap suc (length-laid begin size (begin at x + size x) xs)
 
 module _ (class : ElfClass) (n : Object) (is : IsForElf class n) where
-  -- ... section headers
-
-  -- a section with relocations in the list has some in the output
-  relocated : (k : ℕ) → eqb (length (list_of n.relocs k)) 0 ≡ false → is_relocated (format_of class) n k ≡ true
-  unfolding is_relocated
-  relocated k some = by (list_of n.relocs k) refl some
-    where
-      by : (xs : List (chains.Field Reloc)) → list_of n.relocs k ≡ xs → eqb (length xs) 0 ≡ false → list_any (stays (format_of class) k) (list_of n.relocs k) ≡ true
-      by [] e some = absurd (true≢false some)
-      by (x ∷ xs) e some =
-          let here : reloc_at n k x.at ≡ Some x.item = (found_in 0 (list_of n.relocs k) (is.object.built.fields.apart k) 0 x (ap (λ ys. slice_get ys 0) e)).1 in
-          let own : stays (format_of class) k x ≡ true = ap not (meets class n is k x.at x.item here).stays in
-          ap (list_any (stays (format_of class) k)) e ∙ or_left (stays (format_of class) k x) (list_any (stays (format_of class) k) xs) own
-
-  tables_counted : (i : ℕ) (xs : List Section) → length (filter_map (reloc_head n) (enumerate_from i xs)) ≤ count_by (is_relocated (format_of class) n) (range_with_len i (length xs))
-  tables_counted i [] = omega arith
-  tables_counted i (s ∷ xs) = by (eqb (length (list_of n.relocs i)) 0) refl (is_relocated (format_of class) n i) refl (tables_counted (i + 1) xs) (sum_by-cons (λ k. cond (is_relocated (format_of class) n k) 1 0) i (range_with_len (i + 1) (length xs)))
-    where
-      by : (b : Bool) → eqb (length (list_of n.relocs i)) 0 ≡ b → (c : Bool) → is_relocated (format_of class) n i ≡ c
-          → length (filter_map (reloc_head n) (enumerate_from (i + 1) xs)) ≤ count_by (is_relocated (format_of class) n) (range_with_len (i + 1) (length xs))
-          → count_by (is_relocated (format_of class) n) (i ∷ range_with_len (i + 1) (length xs)) ≡ cond (is_relocated (format_of class) n i) 1 0 + count_by (is_relocated (format_of class) n) (range_with_len (i + 1) (length xs))
-          → length (cons_option (cond (eqb (length (list_of n.relocs i)) 0) None (Some (RelocHead i s))) (filter_map (reloc_head n) (enumerate_from (i + 1) xs)))
-          ≤ count_by (is_relocated (format_of class) n) (i ∷ range_with_len (i + 1) (length xs))
-      by true e c g rest sum = rw e (omega (arith, rest, sum))
-      by false e true g rest sum = let one : cond {A = ℕ} (is_relocated (format_of class) n i) 1 0 ≡ 1 = ap (λ b. cond {A = ℕ} b 1 0) g in rw e (omega (arith, rest, sum, one))
-      by false e false g rest sum = absurd (true≢false (sym (relocated i e) ∙ g))
-
-  pub length-heads : length (heads_of n) ≡ 4 + length n.groups + length n.sections + length (reloc_heads n)
-  unfolding heads_of
-  length-heads =
-      let a = length-append (group_heads n) (section_heads n ++ (reloc_heads n ++ table_heads)) in
-      let b = length-append (section_heads n) (reloc_heads n ++ table_heads) in
-      let c = length-append (reloc_heads n) table_heads in
-      let d : length (group_heads n) ≡ length n.groups = length-map (enumerate_from 0 n.groups) group_head ∙ length-enumerate_from 0 n.groups in
-      let e : length (section_heads n) ≡ length n.sections = length-map (placed_sections n) section_head ∙ length-enumerate_from 0 n.sections in
-      omega (arith, a, b, c, d, e)
-
-  pub few_heads : length (heads_of n) < 0xFF00
-  few_heads =
-      let a = length-heads in
-      let b = tables_counted 0 n.sections in
-      let few = is.meets.headers in
-      omega (arith, a, b, few)
-
-  -- at most one of relocations for each section
-  few_reloc_heads : length (reloc_heads n) ≤ length n.sections
-  few_reloc_heads =
-      let tables = tables_counted 0 n.sections in
-      let counted = count_by-le-length (is_relocated (format_of class) n) (range_with_len 0 (length n.sections)) in
-      omega (arith, tables, counted, length-range_with_len 0 (length n.sections))
-
   -- ... symbols
 
   length-where : (line : ℕ → Symbol → Line) (test : Symbol → Bool) → length (lines_where line test n) ≡ count_by test n.symbols
@@ -217,6 +165,8 @@ module _ (class : ElfClass) (n : Object) (is : IsForElf class n) where
       long : (class : ElfClass) → length (reloc_prefix class) ≤ 5
       long Class32 = omega arith
       long Class64 = omega arith
+      long Big32 = omega arith
+      long Big64 = omega arith
 
       by : (b : Bool) → sum_by (λ (h : Head). ended_size (head_name class h)) (filter_map (reloc_head n) (enumerate_from (i + 1) xs)) ≤ sum_by (λ (s : Section). length s.name) xs + 6 * length xs
           → sum_by (λ (s : Section). length s.name) (s ∷ xs) ≡ length s.name + sum_by (λ (s : Section). length s.name) xs
@@ -228,21 +178,25 @@ module _ (class : ElfClass) (n : Object) (is : IsForElf class n) where
           let c = long class in
           omega (arith, rest, sum, a, b, c)
 
-  pub head_text : sum_by ended_size (map (head_name class) (heads_of n)) ≤ 27 + 7 * length n.groups + (section_text + length n.sections) + (section_text + 6 * length n.sections)
+  tables_text : (b : Bool) → sum_by (λ (h : Head). ended_size (head_name class h)) (table_heads_by b) ≤ 40
+  tables_text true = omega arith
+  tables_text false = omega arith
+
+  pub head_text : sum_by ended_size (map (head_name class) (heads_of n)) ≤ 41 + 7 * length n.groups + (section_text + length n.sections) + (section_text + 6 * length n.sections)
   unfolding heads_of
   head_text =
       let size : Head → ℕ = λ h. ended_size (head_name class h) in
-      let a = sum_map ended_size (head_name class) (NullHead ∷ group_heads n ++ (section_heads n ++ (reloc_heads n ++ table_heads))) in
-      let b = sum_by-cons size NullHead (group_heads n ++ (section_heads n ++ (reloc_heads n ++ table_heads))) in
-      let c = sum_by-append size (group_heads n) (section_heads n ++ (reloc_heads n ++ table_heads)) in
-      let d = sum_by-append size (section_heads n) (reloc_heads n ++ table_heads) in
-      let e = sum_by-append size (reloc_heads n) table_heads in
+      let a = sum_map ended_size (head_name class) (NullHead ∷ group_heads n ++ (section_heads n ++ (reloc_heads n ++ (table_heads n)))) in
+      let b = sum_by-cons size NullHead (group_heads n ++ (section_heads n ++ (reloc_heads n ++ (table_heads n)))) in
+      let c = sum_by-append size (group_heads n) (section_heads n ++ (reloc_heads n ++ (table_heads n))) in
+      let d = sum_by-append size (section_heads n) (reloc_heads n ++ (table_heads n)) in
+      let e = sum_by-append size (reloc_heads n) (table_heads n) in
       let groups : sum_by size (group_heads n) ≡ 7 * length n.groups
       = sum_map size group_head (enumerate_from 0 n.groups) ∙ sum_same 7 (enumerate_from 0 n.groups) ∙ ap (λ m. 7 * m) (length-enumerate_from 0 n.groups) in
       let sections : sum_by size (section_heads n) ≡ section_text + 1 * length n.sections
       = sum_map size section_head (placed_sections n) ∙ sum_enumerated (λ (s : Section). length s.name + 1) 0 n.sections ∙ sum_more (λ (s : Section). length s.name) 1 n.sections in
       let relocs = reloc_names 0 n.sections in
-      let tables : sum_by size table_heads ≡ 26 = refl in
+      let tables : sum_by size (table_heads n) ≤ 40 = tables_text (is_many n.format) in
       omega (arith, a, b, c, d, e, groups, sections, relocs, tables)
 
   -- ... parts
@@ -285,6 +239,8 @@ module _ (class : ElfClass) (n : Object) (is : IsForElf class n) where
       wide : (class : ElfClass) (m : ℕ) → rel_size class * m ≤ 24 * m
       wide Class32 m = omega arith
       wide Class64 m = omega arith
+      wide Big32 m = omega arith
+      wide Big64 m = omega arith
 
       by : (b : Bool) → length (list_of n.relocs i) ≡ length l → sum_by length (l ∷ ls) ≡ length l + sum_by length ls
           → sum_by head_size_of (filter_map (reloc_head n) (enumerate_from (i + 1) xs)) ≤ 24 * sum_by length ls + 16 * length xs
@@ -298,46 +254,65 @@ module _ (class : ElfClass) (n : Object) (is : IsForElf class n) where
   sym_low : (class : ElfClass) (m : ℕ) → sym_size class * m ≤ 24 * m
   sym_low Class32 m = omega arith
   sym_low Class64 m = omega arith
+  sym_low Big32 m = omega arith
+  sym_low Big64 m = omega arith
 
   shdr_low : (class : ElfClass) (m : ℕ) → shdr_size class * m ≤ 64 * m
   shdr_low Class32 m = omega arith
   shdr_low Class64 m = omega arith
+  shdr_low Big32 m = omega arith
+  shdr_low Big64 m = omega arith
 
   ehdr_low : (class : ElfClass) → ehdr_size class ≤ 64
   ehdr_low Class32 = omega arith
   ehdr_low Class64 = omega arith
+  ehdr_low Big32 = omega arith
+  ehdr_low Big64 = omega arith
+
+  tables_size : (b : Bool) → sum_by head_size_of (table_heads_by b) ≤ head_size_of SymtabHead + head_size_of ShndxHead + head_size_of StrtabHead + head_size_of ShstrtabHead
+  tables_size true =
+      let a = sum_by-cons head_size_of SymtabHead (ShndxHead ∷ StrtabHead ∷ ShstrtabHead ∷ []) in
+      let b = sum_by-cons head_size_of ShndxHead (StrtabHead ∷ ShstrtabHead ∷ []) in
+      let c = sum_by-cons head_size_of StrtabHead (ShstrtabHead ∷ []) in
+      let d = sum_by-cons head_size_of ShstrtabHead [] in
+      omega (arith, a, b, c, d)
+  tables_size false =
+      let a = sum_by-cons head_size_of SymtabHead (StrtabHead ∷ ShstrtabHead ∷ []) in
+      let c = sum_by-cons head_size_of StrtabHead (ShstrtabHead ∷ []) in
+      let d = sum_by-cons head_size_of ShstrtabHead [] in
+      omega (arith, a, c, d)
 
   -- what the parts of headers take at most, by counts and sums of the object
   heads_size : sum_by head_size_of (heads_of n)
-      ≤ 1000 + 100 * length n.sections + 100 * length n.groups + stored_sum n.sections + 26 * length n.symbols + 2 * symbol_text + 3 * section_text + key_text + 24 * sum_by length n.relocs
+      ≤ 1200 + 100 * length n.sections + 100 * length n.groups + stored_sum n.sections + 30 * length n.symbols + 2 * symbol_text + 3 * section_text + key_text + 24 * sum_by length n.relocs
   unfolding heads_of head_names line_names
   heads_size =
-      let a = sum_by-cons head_size_of NullHead (group_heads n ++ (section_heads n ++ (reloc_heads n ++ table_heads))) in
-      let b = sum_by-append head_size_of (group_heads n) (section_heads n ++ (reloc_heads n ++ table_heads)) in
-      let c = sum_by-append head_size_of (section_heads n) (reloc_heads n ++ table_heads) in
-      let d = sum_by-append head_size_of (reloc_heads n) table_heads in
+      let a = sum_by-cons head_size_of NullHead (group_heads n ++ (section_heads n ++ (reloc_heads n ++ (table_heads n)))) in
+      let b = sum_by-append head_size_of (group_heads n) (section_heads n ++ (reloc_heads n ++ (table_heads n))) in
+      let c = sum_by-append head_size_of (section_heads n) (reloc_heads n ++ (table_heads n)) in
+      let d = sum_by-append head_size_of (reloc_heads n) (table_heads n) in
       let groups = sum_map head_size_of group_head (enumerate_from 0 n.groups) ∙ groups_size 0 n.groups in
       let members = members_few (numbered_heads n) n.groups in
       let heads : length (numbered_heads n) ≡ length (heads_of n) = length-laid behind head_size 0 (heads_of n) in
-      let few = few_heads in
+      let few = few_heads class n is in
       let sections = sum_map head_size_of section_head (placed_sections n) ∙ sum_enumerated (λ (s : Section). length s.bytes + 16) 0 n.sections ∙ sections_size n.sections is.object.built.bytes in
       let relocs = relocs_size 0 n.sections n.relocs is.object.built.fields.counted (λ j. let e : 0 + j ≡ j = omega arith in ap (list_of n.relocs) e) in
       let symtab = sym_low class (length (lines_of n)) in
       let lines = few_lines in
       let strtab = strings_size (map line_name (lines_of n)) in
       let shstrtab = strings_size (map (head_name class) (heads_of n)) in
-      let tables_a = sum_by-cons head_size_of SymtabHead (StrtabHead ∷ ShstrtabHead ∷ []) in
-      let tables_b = sum_by-cons head_size_of StrtabHead (ShstrtabHead ∷ []) in
-      let tables_c = sum_by-cons head_size_of ShstrtabHead [] in
+      let tables = tables_size (is_many n.format) in
       let text = line_text in
       let names = head_text in
-      let all = length-heads in
-      let tables = few_reloc_heads in
-      omega (arith, a, b, c, d, groups, members, heads, few, sections, relocs, symtab, lines, strtab, shstrtab, tables_a, tables_b, tables_c, text, names, all, tables)
+      let all = length-heads class n is in
+      let counted = counted_tables class n is in
+      let most = most_tables (is_many (format_of class)) in
+      let relocated = few_reloc_heads class n is in
+      omega (arith, a, b, c, d, groups, members, heads, few, sections, relocs, symtab, lines, strtab, shstrtab, tables, counted, most, text, names, all, relocated)
 
   -- and the file
   pub file_size : length (elf_file class n)
-      ≤ 2000 + 300 * length n.sections + 200 * length n.groups + stored_sum n.sections + 26 * length n.symbols + 2 * symbol_text + 3 * section_text + key_text + 24 * sum_by length n.relocs
+      ≤ 2600 + 300 * length n.sections + 200 * length n.groups + stored_sum n.sections + 30 * length n.symbols + 2 * symbol_text + 3 * section_text + key_text + 24 * sum_by length n.relocs
   unfolding parts_of
   file_size =
       let long = length-elf_file class n in
@@ -349,13 +324,15 @@ module _ (class : ElfClass) (n : Object) (is : IsForElf class n) where
       let heads = heads_size in
       let head = ehdr_low class in
       let table = shdr_low class (length (heads_of n)) in
-      let all = length-heads in
-      let tables = few_reloc_heads in
-      omega (arith, long, end, a, b, c, d, heads, head, table, all, tables)
+      let all = length-heads class n is in
+      let tables = few_reloc_heads class n is in
+      let counted = counted_tables class n is in
+      let most = most_tables (is_many (format_of class)) in
+      omega (arith, long, end, a, b, c, d, heads, head, table, all, tables, counted, most)
 
   pub small_file : length (elf_file class n) < 2 ^ 32
   small_file =
       let size = file_size in
-      let few = few_heads in
+      let few = few_sections class n is in
       let bounds = is.meets.bounds in
       omega (arith, size, few, bounds.stored, bounds.symbols, bounds.texts, bounds.fields)

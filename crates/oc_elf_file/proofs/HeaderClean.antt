@@ -11,23 +11,23 @@ use Rattle.oc_shelf.specs.Writing.Parts.{place_where}
 use Rattle.oc_shelf.proofs.ReadingLaws.StageLemmas.{Unbroken}
 use Rattle.oc_shelf.proofs.WritingLaws.StandingLemmas.{stands_inside}
 use Rattle.oc_elf_read.specs.declared.class.ElfClass.{ElfClass}
-use Rattle.oc_elf_read.specs.declared.class.ElfClass.TheVariants.{Class32, Class64}
-use Rattle.oc_elf_read.specs.Classes.{machine_of}
+use Rattle.oc_elf_read.specs.declared.class.ElfClass.TheVariants.{Class32, Class64, Big32, Big64}
+use Rattle.oc_elf_read.specs.Classes.{is_big, machine_of}
 use Rattle.oc_elf_read.specs.Ehdr.{ehdr_size}
 use Rattle.oc_elf_read.specs.Shdr.{shdr_size}
 use Rattle.oc_elf_read.specs.Headers.{header_conditions, names_conditions}
 use Rattle.oc_elf_file.specs.Structures.{ehdr_bytes, shdr_bytes}
 use Rattle.oc_elf_file.specs.Heads.{ShstrtabHead, heads_of, head_where, is_shstrtab_head}
 use Rattle.oc_elf_file.specs.Layout.{laid_parts, is_head_table}
-use Rattle.oc_elf_file.specs.Headers.{shdr_of, made_headers}
+use Rattle.oc_elf_file.specs.Headers.{shdr_of, zero_shdr, stored_headers}
 use Rattle.oc_elf_file.specs.Canonical.{file_header, elf_file}
 use Rattle.oc_elf_file.proofs.StructureLaws.{length-ehdr_bytes, length-shdr_bytes}
 use Rattle.oc_elf_file.proofs.HeadLaws.{shstrtab_at}
-use Rattle.oc_elf_file.proofs.PartLaws.{length-made_headers, stands_file_header, table_stands}
+use Rattle.oc_elf_file.proofs.PartLaws.{length-stored_headers, stands_file_header, table_stands}
 use Rattle.oc_elf_file.proofs.FrameLaws.{IsCodable, made_frame}
 use Rattle.oc_elf_file.proofs.CodedLaws.{IsForElf}
 use Rattle.oc_elf_file.proofs.TableLaws.{header_is}
-use Rattle.oc_elf_file.proofs.FileSize.{few_heads}
+use Rattle.oc_elf_file.proofs.HeadCounts.{plain_heads}
 
 -- a range that lies in the file
 pub within_file : (size end : ℕ) → end ≤ size → nat_lt size end ≡ false
@@ -42,17 +42,17 @@ module _ (class : ElfClass) (n : Object) (is : IsForElf class n) (fits : IsCodab
   some_heads = let low = slice_get_within (heads_of n) (head_where n is_shstrtab_head) ShstrtabHead (shstrtab_at n) in ne_eqb (length (heads_of n)) 0 (λ e. omega (arith, e, low))
 
   -- no number stands elsewhere
-  not_extended : eqb (head_where n is_shstrtab_head) 0xFFFF ≡ false
-  not_extended =
+  not_extended : is_big class ≡ false → eqb (head_where n is_shstrtab_head) 0xFFFF ≡ false
+  not_extended plain =
       let low = slice_get_within (heads_of n) (head_where n is_shstrtab_head) ShstrtabHead (shstrtab_at n) in
-      let few = few_heads class n is in
+      let few = plain_heads class n is plain in
       ne_eqb (head_where n is_shstrtab_head) 0xFFFF (λ e. omega (arith, e, low, few))
 
   table_inside : place_where is_head_table (laid_parts class n) + shdr_size class * length (heads_of n) ≤ length file
   table_inside =
-      let inside = stands_inside file (flat_map (shdr_bytes class) (made_headers class n)) (place_where is_head_table (laid_parts class n)) (table_stands class n) in
-      let size : length (flat_map (shdr_bytes class) (made_headers class n)) ≡ shdr_size class * length (heads_of n)
-      = length-table (shdr_bytes class) (shdr_size class) (made_headers class n) (length-shdr_bytes class) ∙ ap (λ m. shdr_size class * m) (length-made_headers class n) in
+      let inside = stands_inside file (flat_map (shdr_bytes class) (stored_headers class n)) (place_where is_head_table (laid_parts class n)) (table_stands class n) in
+      let size : length (flat_map (shdr_bytes class) (stored_headers class n)) ≡ shdr_size class * length (heads_of n)
+      = length-table (shdr_bytes class) (shdr_size class) (stored_headers class n) (length-shdr_bytes class) ∙ ap (λ m. shdr_size class * m) (length-stored_headers class n) in
       omega (arith, inside, size)
 
   header_inside : ehdr_size class ≤ length file
@@ -64,21 +64,64 @@ module _ (class : ElfClass) (n : Object) (is : IsForElf class n) (fits : IsCodab
   same : (class : ElfClass) → (eqb (ehdr_size class) (ehdr_size class) ≡ true) × (eqb (machine_of class) (machine_of class) ≡ true) × (eqb (shdr_size class) (shdr_size class) ≡ true)
   same Class32 = (refl, refl, refl)
   same Class64 = (refl, refl, refl)
+  same Big32 = (refl, refl, refl)
+  same Big64 = (refl, refl, refl)
 
-  pub header_clean : Unbroken (header_conditions class (length file) (file_header class n))
+  -- header 0 lies in the file
+  first_inside : place_where is_head_table (laid_parts class n) + shdr_size class ≤ length file
+  first_inside =
+      let low = slice_get_within (heads_of n) (head_where n is_shstrtab_head) ShstrtabHead (shstrtab_at n) in
+      let all = table_inside in
+      let more = times class (length (heads_of n)) (omega (arith, low)) in
+      omega (arith, all, more)
+    where
+      times : (class : ElfClass) (m : ℕ) → 1 ≤ m → shdr_size class ≤ shdr_size class * m
+      times Class32 m some = omega (arith, some)
+      times Class64 m some = omega (arith, some)
+      times Big32 m some = omega (arith, some)
+      times Big64 m some = omega (arith, some)
+
+  pub header_clean : Unbroken (header_conditions class (length file) (file_header class n) (zero_shdr class n))
   unfolding header_conditions file_header
-  header_clean =
-      let s = same class in
-      rw (s.0, s.1, s.2, some_heads, not_extended) (
-        within_file (length file) (ehdr_size class) header_inside,
-        (refl, (refl, (refl, (refl, (within_file (length file) (place_where is_head_table (laid_parts class n) + shdr_size class * length (heads_of n)) table_inside, tt))))),
-      )
+  header_clean = by (is_big class) refl
+    where
+      by : (b : Bool) → is_big class ≡ b → Unbroken (header_conditions class (length file) (file_header class n) (zero_shdr class n))
+      by true big =
+          let s = same class in
+          rw (big, s.0, s.1, s.2, some_heads) (
+            within_file (length file) (ehdr_size class) header_inside,
+            (
+              refl,
+              (
+                refl,
+                (
+                  refl,
+                  (
+                    refl,
+                    (
+                      within_file (length file) (place_where is_head_table (laid_parts class n) + shdr_size class) first_inside,
+                      (
+                        refl,
+                        (within_file (length file) (place_where is_head_table (laid_parts class n) + shdr_size class * length (heads_of n)) table_inside, tt),
+                      ),
+                    ),
+                  ),
+                ),
+              ),
+            ),
+          )
+      by false plain =
+          let s = same class in
+          rw (plain, s.0, s.1, s.2, some_heads, not_extended plain) (
+            within_file (length file) (ehdr_size class) header_inside,
+            (refl, (refl, (refl, (refl, (within_file (length file) (place_where is_head_table (laid_parts class n) + shdr_size class * length (heads_of n)) table_inside, tt))))),
+          )
 
-  pub names_clean : Unbroken (names_conditions (file_header class n) (made_frame class n).names)
-  unfolding file_header made_frame shdr_of
+  pub names_clean : Unbroken (names_conditions (length (made_frame class n).headers) (made_frame class n).names)
+  unfolding made_frame shdr_of
   names_clean =
       let b = header_is class n is fits (head_where n is_shstrtab_head) ShstrtabHead (shstrtab_at n) in
-      (ap (λ (x : Shdr). not (eqb (length (heads_of n)) 0) && not (eqb x.sh_type 3)) b.1 ∙ and_no (not (eqb (length (heads_of n)) 0)), tt)
+      (ap (λ (x : Shdr). not (eqb (length (made_frame class n).headers) 0) && not (eqb x.sh_type 3)) b.1 ∙ and_no (not (eqb (length (made_frame class n).headers) 0)), tt)
     where
       and_no : (b : Bool) → (b && false) ≡ false
       and_no true = refl

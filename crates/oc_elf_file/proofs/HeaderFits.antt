@@ -3,8 +3,10 @@ use Rattle.oc_elf_read.specs.Shdr.{shdr_size}
 use Rattle.oc_elf_read.specs.Ehdr.{ehdr_size}
 use Rattle.oc_elf_read.specs.Sym.{sym_size}
 use Rattle.oc_elf_read.specs.Rel.{rel_size}
-use Rattle.std.proofs.Common.{◌≡◌, ℕ, ◌-◌, ◌^◌, ◌<◌, List, [], ◌∷◌, ◌++◌, length, Some, None, refl, sym, ◌∙◌, ap, subst, arith, length-append, Bool, true, false, cond}
-use Rattle.std.specs.Prelude.{slice_get, flat_map}
+use Rattle.std.proofs.Common.{◌≡◌, ℕ, ◌-◌, ◌^◌, ◌<◌, List, [], ◌∷◌, ◌++◌, length, Some, None, refl, sym, ◌∙◌, ap, subst, arith, length-append, Bool, true, false, not, ◌&&◌, ◌≤◌, inl, inr, cond}
+use Rattle.std.specs.Prelude.{slice_get, flat_map, nat_lt}
+use Rattle.std.proofs.lemmas.Bool.{cases_lt, lt-ltb, le-ltb}
+use Rattle.oc_elf_read.specs.Shdr.{null_shdr}
 use Rattle.std.specs.Option.{unwrap_or}
 use Rattle.std.proofs.lemmas.Option.{same_Some, slice_get_within}
 use Rattle.oc_base.specs.Strings.{is_given, table_text, table_place, place_from, tops_of}
@@ -15,22 +17,24 @@ use Rattle.oc_shelf.proofs.WritingLaws.PackedLemmas.{Fit}
 use Rattle.oc_shelf.proofs.WritingLaws.StandingLemmas.{stands_inside}
 use Rattle.oc_shelf.proofs.WritingLaws.StringLemmas.{name_in_table}
 use Rattle.oc_elf_read.specs.declared.class.ElfClass.{ElfClass}
-use Rattle.oc_elf_read.specs.declared.class.ElfClass.TheVariants.{Class32, Class64}
+use Rattle.oc_elf_read.specs.declared.class.ElfClass.TheVariants.{Class32, Class64, Big32, Big64}
 use Rattle.oc_elf_read.specs.declared.shdr.Shdr.{Shdr}
-use Rattle.oc_elf_read.specs.Classes.{machine_of, reloc_type}
+use Rattle.oc_elf_read.specs.Classes.{is_big, machine_of, reloc_type}
 use Rattle.oc_elf_file.specs.Structures.{word_bytes, ehdr_numbers, shdr_bytes, shdr_numbers}
-use Rattle.oc_elf_file.specs.Heads.{Head, NullHead, GroupHead, SectionHead, RelocHead, SymtabHead, StrtabHead, ShstrtabHead, heads_of, head_where, head_name, section_number, is_symtab_head, is_strtab_head, is_shstrtab_head}
+use Rattle.oc_elf_file.specs.Heads.{Head, NullHead, GroupHead, SectionHead, RelocHead, SymtabHead, ShndxHead, StrtabHead, ShstrtabHead, heads_of, head_where, head_name, section_number, is_symtab_head, is_strtab_head, is_shstrtab_head}
 use Rattle.oc_elf_file.specs.Lines.{Line, lines_of, inner_lines, numbered_lines, signature_number, outer_lines}
 use Rattle.oc_elf_file.specs.Layout.{head_names, line_names, strings_of, body_size, laid_parts, is_head_table}
-use Rattle.oc_elf_file.specs.Headers.{plain_header, shdr_of, made_headers}
+use Rattle.oc_elf_file.specs.Headers.{plain_header, shdr_of, made_headers, told_names, zero_shdr, stored_headers}
 use Rattle.oc_elf_file.specs.Symbols.{offset_in}
-use Rattle.oc_elf_file.specs.Canonical.{file_header, body_bytes, elf_file}
+use Rattle.oc_elf_file.specs.Canonical.{shown_count, shown_names, file_header, body_bytes, elf_file}
 use Rattle.oc_elf_file.proofs.HeadLaws.{IsHeadAt, head_at, symtab_at, strtab_at, shstrtab_at, section_at}
 use Rattle.oc_elf_file.proofs.PartLaws.{IsBody, body_stands, body_sized, length-made_headers, table_stands}
-use Rattle.oc_elf_file.proofs.CodedLaws.{IsForElf, meets_section, size_low, power_low}
+use Rattle.oc_elf_file.proofs.CodedLaws.{IsForElf, few_sections, meets_section, size_low, power_low}
 use Rattle.oc_elf_file.proofs.FlagLaws.{flags_low, table_flags_low}
 use Rattle.oc_elf_file.proofs.SignatureLaws.{signature_found}
-use Rattle.oc_elf_file.proofs.FileSize.{few_heads, few_lines, small_file}
+use Rattle.oc_elf_file.proofs.FileSize.{few_lines, small_file}
+use Rattle.oc_elf_file.proofs.HeadCounts.{few_heads, plain_heads}
+use Rattle.oc_elf_file.proofs.FrameLaws.{IsIndex}
 
 -- each field is a number of 32 bits
 pub record IsSmall (s : Shdr) : Type 0 where
@@ -53,14 +57,26 @@ header_fits Class64 s m =
     let a = m.sh_name in let b = m.sh_type in let c = m.sh_flags in let d = m.sh_offset in let e = m.sh_size in
     let f = m.sh_link in let g = m.sh_info in let h = m.sh_addralign in let i = m.sh_entsize in
     (omega (arith, a), (omega (arith, b), (omega (arith, c), (omega arith, (omega (arith, d), (omega (arith, e), (omega (arith, f), (omega (arith, g), (omega (arith, h), (omega (arith, i), tt))))))))))
+header_fits Big32 s m =
+    let a = m.sh_name in let b = m.sh_type in let c = m.sh_flags in let d = m.sh_offset in let e = m.sh_size in
+    let f = m.sh_link in let g = m.sh_info in let h = m.sh_addralign in let i = m.sh_entsize in
+    (omega (arith, a), (omega (arith, b), (omega (arith, c), (omega arith, (omega (arith, d), (omega (arith, e), (omega (arith, f), (omega (arith, g), (omega (arith, h), (omega (arith, i), tt))))))))))
+header_fits Big64 s m =
+    let a = m.sh_name in let b = m.sh_type in let c = m.sh_flags in let d = m.sh_offset in let e = m.sh_size in
+    let f = m.sh_link in let g = m.sh_info in let h = m.sh_addralign in let i = m.sh_entsize in
+    (omega (arith, a), (omega (arith, b), (omega (arith, c), (omega arith, (omega (arith, d), (omega (arith, e), (omega (arith, f), (omega (arith, g), (omega (arith, h), (omega (arith, i), tt))))))))))
 
 word_low : (class : ElfClass) → word_bytes class < 2 ^ 32
 word_low Class32 = omega arith
 word_low Class64 = omega arith
+word_low Big32 = omega arith
+word_low Big64 = omega arith
 
 type_low : (class : ElfClass) → reloc_type class < 2 ^ 32
 type_low Class32 = omega arith
 type_low Class64 = omega arith
+type_low Big32 = omega arith
+type_low Big64 = omega arith
 
 module _ (class : ElfClass) (n : Object) (is : IsForElf class n) where
   -- ... what stands in the file is small
@@ -97,16 +113,26 @@ module _ (class : ElfClass) (n : Object) (is : IsForElf class n) where
       let k : ℕ = head_where n is_strtab_head in
       offset_low (line_names n) name (body_low k StrtabHead (strtab_at n) (body_stands class n k StrtabHead (strtab_at n))).1
 
-  -- a header that is there has a number below the reserved ones
-  pub head_low : (k : ℕ) (h : Head) → slice_get (heads_of n) k ≡ Some h → k < 0xFF00
+  -- a header that is there has a low number
+  pub head_low : (k : ℕ) (h : Head) → slice_get (heads_of n) k ≡ Some h → k < 4194305
   head_low k h here = let low = slice_get_within (heads_of n) k h here in let few = few_heads class n is in omega (arith, low, few)
+
+  pub head_index : (k : ℕ) (h : Head) → slice_get (heads_of n) k ≡ Some h → IsIndex class k
+  head_index k h here = elim (cases_lt k 0xFF00) [
+    | inl low ↦ inl low
+    | inr high ↦ inr (inl (big (is_big class) refl high, high, let l = head_low k h here in omega (arith, l)))
+  ]
+    where
+      big : (b : Bool) → is_big class ≡ b → 0xFF00 ≤ k → is_big class ≡ true
+      big true e high = e
+      big false e high = let low = slice_get_within (heads_of n) k h here in let few = plain_heads class n is e in absurd (omega (arith, high, low, few))
 
   -- a line that is there has a number of 26 bits
   pub line_low : (k : ℕ) (x : Line) → slice_get (lines_of n) k ≡ Some x → k < 2 ^ 26
   line_low k x here =
       let low = slice_get_within (lines_of n) k x here in
       let few = few_lines class n is in
-      let heads = is.meets.headers in
+      let heads = few_sections class n is in
       let symbols = is.meets.bounds.symbols in
       omega (arith, low, few, heads, symbols)
 
@@ -115,7 +141,7 @@ module _ (class : ElfClass) (n : Object) (is : IsForElf class n) where
   inner_low =
       let few = few_lines class n is in
       let all = length-append (inner_lines n) (outer_lines n) in
-      let heads = is.meets.headers in
+      let heads = few_sections class n is in
       let symbols = is.meets.bounds.symbols in
       omega (arith, few, all, heads, symbols)
 
@@ -201,6 +227,8 @@ module _ (class : ElfClass) (n : Object) (is : IsForElf class n) where
       rel_low : (class : ElfClass) → rel_size class < 2 ^ 32
       rel_low Class32 = omega arith
       rel_low Class64 = omega arith
+      rel_low Big32 = omega arith
+      rel_low Big64 = omega arith
   small_header k SymtabHead here b own =
       let l = body_low k SymtabHead here b in
       let link = head_low (head_where n is_strtab_head) StrtabHead (strtab_at n) in
@@ -220,6 +248,22 @@ module _ (class : ElfClass) (n : Object) (is : IsForElf class n) where
       sym_low : (class : ElfClass) → sym_size class < 2 ^ 32
       sym_low Class32 = omega arith
       sym_low Class64 = omega arith
+      sym_low Big32 = omega arith
+      sym_low Big64 = omega arith
+  small_header k ShndxHead here b own =
+      let l = body_low k ShndxHead here b in
+      let link = head_low (head_where n is_symtab_head) SymtabHead (symtab_at n) in
+      record {
+        sh_name = head_offset_low ShndxHead;
+        sh_type = omega arith;
+        sh_flags = omega arith;
+        sh_offset = l.0;
+        sh_size = l.1;
+        sh_link = omega (arith, link);
+        sh_info = omega arith;
+        sh_addralign = omega arith;
+        sh_entsize = omega arith;
+      }
   small_header k StrtabHead here b own = small_plain k StrtabHead here b
   small_header k ShstrtabHead here b own = small_plain k ShstrtabHead here b
 
@@ -232,19 +276,94 @@ module _ (class : ElfClass) (n : Object) (is : IsForElf class n) where
       subst (λ (y : Shdr). Fit (shdr_numbers class y)) (same_Some (shdr_of class n b.at h.0) s (sym b.header ∙ here))
       (header_fits class (shdr_of class n b.at h.0) (small_header k h.0 h.1 b (head_at n k h.0 h.1)))
 
+  -- the numbers in the file header
+
+  none_right : (a : Bool) → (a && false) ≡ false
+  none_right true = refl
+  none_right false = refl
+
+  pub count_low : shown_count class (length (heads_of n)) < 2 ^ 16
+  count_low = by (is_big class) refl
+    where
+      by : (b : Bool) → is_big class ≡ b → shown_count class (length (heads_of n)) < 2 ^ 16
+      by true e = let s : shown_count class (length (heads_of n)) ≡ 0 = ap (λ b. cond b 0 (length (heads_of n))) e in omega (arith, s)
+      by false e = let s : shown_count class (length (heads_of n)) ≡ length (heads_of n) = ap (λ b. cond b 0 (length (heads_of n))) e in let few = plain_heads class n is e in omega (arith, s, few)
+
+  pub names_low : shown_names class (head_where n is_shstrtab_head) < 2 ^ 16
+  names_low = elim (cases_lt (head_where n is_shstrtab_head) 0xFF00) [
+    | inl low ↦
+        let k : ℕ = head_where n is_shstrtab_head in
+        let s : shown_names class k ≡ k = ap (λ t. cond (is_big class && not t) 0xFFFF k) (lt-ltb k 0xFF00 low) ∙ ap (λ t. cond t 0xFFFF k) (none_right (is_big class)) in
+        omega (arith, s, low)
+    | inr high ↦ far (is_big class) refl high
+  ]
+    where
+      far : (b : Bool) → is_big class ≡ b → 0xFF00 ≤ head_where n is_shstrtab_head → shown_names class (head_where n is_shstrtab_head) < 2 ^ 16
+      far true e high =
+          let k : ℕ = head_where n is_shstrtab_head in
+          let s : shown_names class k ≡ 0xFFFF = ap (λ t. cond (t && not (nat_lt k 0xFF00)) 0xFFFF k) e ∙ ap (λ t. cond (not t) 0xFFFF k) (le-ltb k 0xFF00 high) in
+          omega (arith, s)
+      far false e high =
+          let low = slice_get_within (heads_of n) (head_where n is_shstrtab_head) ShstrtabHead (shstrtab_at n) in
+          let few = plain_heads class n is e in
+          absurd (omega (arith, high, low, few))
+
   pub head_fits : Fit (ehdr_numbers class (file_header class n))
   unfolding file_header
   head_fits =
-      let at = stands_inside (elf_file class n) (flat_map (shdr_bytes class) (made_headers class n)) (place_where is_head_table (laid_parts class n)) (table_stands class n) in
+      let at = stands_inside (elf_file class n) (flat_map (shdr_bytes class) (stored_headers class n)) (place_where is_head_table (laid_parts class n)) (table_stands class n) in
       let small = small_file class n is in
       let shoff : place_where is_head_table (laid_parts class n) < 2 ^ 32 = omega (arith, at, small) in
-      let count = few_heads class n is in
-      let names = head_low (head_where n is_shstrtab_head) ShstrtabHead (shstrtab_at n) in
-      by class (place_where is_head_table (laid_parts class n)) shoff (length (heads_of n)) count (head_where n is_shstrtab_head) names
+      by class (place_where is_head_table (laid_parts class n)) shoff (shown_count class (length (heads_of n))) count_low (shown_names class (head_where n is_shstrtab_head)) names_low
     where
-      by : (class : ElfClass) (shoff : ℕ) → shoff < 2 ^ 32 → (count : ℕ) → count < 0xFF00 → (names : ℕ) → names < 0xFF00
+      by : (class : ElfClass) (shoff : ℕ) → shoff < 2 ^ 32 → (count : ℕ) → count < 2 ^ 16 → (names : ℕ) → names < 2 ^ 16
           → Fit (ehdr_numbers class (record { ei_data = 1; ei_version = 1; e_type = 1; e_machine = machine_of class; e_version = 1; e_shoff = shoff; e_ehsize = ehdr_size class; e_shentsize = shdr_size class; e_shnum = count; e_shstrndx = names }))
       by Class32 shoff a count b names c =
           (omega arith, (omega arith, (omega arith, (omega arith, (omega arith, (omega arith, (omega arith, (omega arith, (omega arith, (omega arith, (omega arith, (omega arith, (omega arith, (omega (arith, a), (omega arith, (omega arith, (omega arith, (omega arith, (omega arith, (omega (arith, b), (omega (arith, c), tt)))))))))))))))))))))
       by Class64 shoff a count b names c =
           (omega arith, (omega arith, (omega arith, (omega arith, (omega arith, (omega arith, (omega arith, (omega arith, (omega arith, (omega arith, (omega arith, (omega arith, (omega arith, (omega (arith, a), (omega arith, (omega arith, (omega arith, (omega arith, (omega arith, (omega (arith, b), (omega (arith, c), tt)))))))))))))))))))))
+      by Big32 shoff a count b names c =
+          (omega arith, (omega arith, (omega arith, (omega arith, (omega arith, (omega arith, (omega arith, (omega arith, (omega arith, (omega arith, (omega arith, (omega arith, (omega arith, (omega (arith, a), (omega arith, (omega arith, (omega arith, (omega arith, (omega arith, (omega (arith, b), (omega (arith, c), tt)))))))))))))))))))))
+      by Big64 shoff a count b names c =
+          (omega arith, (omega arith, (omega arith, (omega arith, (omega arith, (omega arith, (omega arith, (omega arith, (omega arith, (omega arith, (omega arith, (omega arith, (omega arith, (omega (arith, a), (omega arith, (omega arith, (omega arith, (omega arith, (omega arith, (omega (arith, b), (omega (arith, c), tt)))))))))))))))))))))
+
+  -- header 0 as it is written
+  pub zero_fits : Fit (shdr_numbers class (zero_shdr class n))
+  zero_fits = header_fits class (zero_shdr class n) (by (is_big class))
+    where
+      names : told_names (head_where n is_shstrtab_head) < 2 ^ 32
+      names = elim (cases_lt (head_where n is_shstrtab_head) 0xFF00) [
+        | inl low ↦
+            let k : ℕ = head_where n is_shstrtab_head in
+            let s : told_names k ≡ 0 = ap (λ t. cond t 0 k) (lt-ltb k 0xFF00 low) in omega (arith, s)
+        | inr high ↦
+            let k : ℕ = head_where n is_shstrtab_head in
+            let s : told_names k ≡ k = ap (λ t. cond t 0 k) (le-ltb k 0xFF00 high) in let l = head_low k ShstrtabHead (shstrtab_at n) in omega (arith, s, l)
+      ]
+
+      by : (b : Bool) → IsSmall (cond b (record null_shdr { sh_size = length (heads_of n); sh_link = told_names (head_where n is_shstrtab_head) }) null_shdr)
+      by true =
+          let few = few_heads class n is in
+          let link = names in
+          record {
+            sh_name = omega arith;
+            sh_type = omega arith;
+            sh_flags = omega arith;
+            sh_offset = omega arith;
+            sh_size = omega (arith, few);
+            sh_link = link;
+            sh_info = omega arith;
+            sh_addralign = omega arith;
+            sh_entsize = omega arith;
+          }
+      by false = record {
+        sh_name = omega arith;
+        sh_type = omega arith;
+        sh_flags = omega arith;
+        sh_offset = omega arith;
+        sh_size = omega arith;
+        sh_link = omega arith;
+        sh_info = omega arith;
+        sh_addralign = omega arith;
+        sh_entsize = omega arith;
+      }

@@ -19,8 +19,10 @@ pub mod TargetLaws
 pub mod FieldLaws
 pub mod ShowsLaw
 pub mod SizeLaws
+pub mod HeadCounts
 pub mod FileSize
 pub mod HeaderFits
+pub mod HeaderNumbers
 pub mod CodableLaws
 pub mod HeaderClean
 pub mod SectionSums
@@ -33,4 +35,5 @@ pub mod SymbolKinds
 pub mod SymbolClean
 pub mod WrittenLaw
 pub mod WorkedFiles
+pub mod BigFiles
 mod Rows

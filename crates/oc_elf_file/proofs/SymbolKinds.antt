@@ -1,5 +1,5 @@
 -- The entries of a canonical file's symbol table are of kinds that are carried, and stand in their sections.
-use Rattle.oc_elf_file.proofs.FileSize.{few_heads}
+use Rattle.oc_elf_file.proofs.HeadCounts.{few_heads}
 use Rattle.std.proofs.Common.{◌≡◌, ℕ, ◌≤◌, ◌⊎◌, inl, inr, Bool, true, false, not, ◌&&◌, ◌||◌, eqb, length, Some, refl, ◌∙◌, ap, arith}
 use Rattle.std.specs.Prelude.{slice_get, nat_lt}
 use Rattle.std.proofs.lemmas.Bool.{ne_eqb, lt-ltb}
@@ -48,7 +48,7 @@ abbrev odd_form : ℕ → ℕ → Bool → Bool → Bool → Bool → Bool
 odd_form bind type low absolute common undefined =
     nat_lt 2 bind || nat_lt 5 type || eqb bind 2 && (absolute || common) || eqb bind 0 && (common || undefined && not (eqb type 4)) || eqb type 3 && not (eqb bind 0) || not (low || absolute || common)
 
-odd_by : (y : Sym) (bind type : ℕ) (low absolute common undefined : Bool) → bind_of y ≡ bind → type_of y ≡ type → nat_lt y.st_shndx 65280 ≡ low → eqb y.st_shndx 65521 ≡ absolute → eqb y.st_shndx 65522 ≡ common
+odd_by : (y : Sym) (bind type : ℕ) (low absolute common undefined : Bool) → bind_of y ≡ bind → type_of y ≡ type → nat_lt y.st_shndx 0xFFFF_FF00 ≡ low → eqb y.st_shndx 0xFFFF_FFF1 ≡ absolute → eqb y.st_shndx 0xFFFF_FFF2 ≡ common
     → eqb y.st_shndx 0 ≡ undefined → is_odd_symbol y ≡ odd_form bind type low absolute common undefined
 unfolding is_odd_symbol
 odd_by y bind type low absolute common undefined a b c d e g = rw (a, b, c, d, e, g) refl
@@ -73,10 +73,10 @@ odd_place (Weak f) Function = refl
 -- what an entry meets by its section and value
 pub record IsFine (n : Object) (f : Framed) (y : Sym) : Type 0 where
   pub odd : is_odd_symbol y ≡ false
-  pub inside : (is_sectional y && not (nat_lt y.st_shndx (length f.headers))) ≡ false
+  pub inside : (is_sectional y && not (nat_lt y.st_shndx (length f.headers) || eqb y.st_shndx 0xFFFF_FEFE)) ≡ false
   pub carried : (is_sectional y && not (is_local_entry y) && not (is_carried (header_at f.headers y.st_shndx))) ≡ false
   pub ends : (is_sectional y && nat_lt (header_at f.headers y.st_shndx).sh_size y.st_value) ≡ false
-  pub common : (eqb y.st_shndx 65522 && not (is_power 20 y.st_value)) ≡ false
+  pub common : (eqb y.st_shndx 0xFFFF_FFF2 && not (is_power 20 y.st_value)) ≡ false
 
 module _ (class : ElfClass) (n : Object) (is : IsForElf class n) (fits : IsCodable class n) where
   abbrev f : Framed
@@ -86,9 +86,9 @@ module _ (class : ElfClass) (n : Object) (is : IsForElf class n) (fits : IsCodab
 
   -- a number of a header that is there, and is not the first, is one of a section
   record IsIndex (m : ℕ) : Type 0 where
-    low : nat_lt m 65280 ≡ true
-    absolute : eqb m 65521 ≡ false
-    common : eqb m 65522 ≡ false
+    low : nat_lt m 0xFFFF_FF00 ≡ true
+    absolute : eqb m 0xFFFF_FFF1 ≡ false
+    common : eqb m 0xFFFF_FFF2 ≡ false
     undefined : eqb m 0 ≡ false
     there : nat_lt m (length f.headers) ≡ true
 
@@ -98,9 +98,9 @@ module _ (class : ElfClass) (n : Object) (is : IsForElf class n) (fits : IsCodab
       let few = few_heads class n is in
       let long = length-headers class n is fits in
       record {
-        low = lt-ltb m 65280 (omega (arith, low, few));
-        absolute = ne_eqb m 65521 (λ e. omega (arith, low, few, e));
-        common = ne_eqb m 65522 (λ e. omega (arith, low, few, e));
+        low = lt-ltb m 0xFFFF_FF00 (omega (arith, low, few));
+        absolute = ne_eqb m 0xFFFF_FFF1 (λ e. omega (arith, low, few, e));
+        common = ne_eqb m 0xFFFF_FFF2 (λ e. omega (arith, low, few, e));
         undefined = ne_eqb m 0 (λ e. omega (arith, some, e));
         there = lt-ltb m (length f.headers) (omega (arith, low, long));
       }
@@ -121,27 +121,27 @@ module _ (class : ElfClass) (n : Object) (is : IsForElf class n) (fits : IsCodab
       let o = index_of (section_number n k) (SectionHead k s) (section_at n k s has.1) (omega (arith, number)) in
       let ends = has.2 in
       record {
-        odd = odd_by y (bind_by b) (type_by m) true false false false bind type (ap (λ i. nat_lt i 65280) index ∙ o.low) (ap (λ i. eqb i 65521) index ∙ o.absolute) (ap (λ i. eqb i 65522) index ∙ o.common)
+        odd = odd_by y (bind_by b) (type_by m) true false false false bind type (ap (λ i. nat_lt i 0xFFFF_FF00) index ∙ o.low) (ap (λ i. eqb i 0xFFFF_FFF1) index ∙ o.absolute) (ap (λ i. eqb i 0xFFFF_FFF2) index ∙ o.common)
             (ap (λ i. eqb i 0) index ∙ o.undefined) ∙ odd_place b m;
-        inside = ap (λ c. is_sectional y && not c) (ap (λ i. nat_lt i (length f.headers)) index ∙ o.there) ∙ none_right (is_sectional y);
+        inside = ap (λ c. is_sectional y && not (c || eqb y.st_shndx 0xFFFF_FEFE)) (ap (λ i. nat_lt i (length f.headers)) index ∙ o.there) ∙ none_right (is_sectional y);
         carried = ap (λ c. is_sectional y && not (is_local_entry y) && not c) (ap (λ i. is_carried (header_at f.headers i)) index ∙ h.0) ∙ none_right (is_sectional y && not (is_local_entry y));
         ends =
             ap (λ i. is_sectional y && nat_lt (header_at f.headers i).sh_size y.st_value) index ∙ ap (λ z. is_sectional y && nat_lt z y.st_value) h.1
             ∙ ap (λ z. is_sectional y && nat_lt s.size z) val ∙ ap (λ c. is_sectional y && c) (within_file s.size offset ends) ∙ none_right (is_sectional y);
-        common = ap (λ c. c && not (is_power 20 y.st_value)) (ap (λ i. eqb i 65522) index ∙ o.common);
+        common = ap (λ c. c && not (is_power 20 y.st_value)) (ap (λ i. eqb i 0xFFFF_FFF2) index ∙ o.common);
       }
 
   -- an entry that is in none
-  other_fine : (index : ℕ) (y : Sym) (bind type : ℕ) → (not (eqb index 0) && nat_lt index 65280) ≡ false → y.st_shndx ≡ index → bind_of y ≡ bind → type_of y ≡ type
-      → odd_form bind type (nat_lt index 65280) (eqb index 65521) (eqb index 65522) (eqb index 0) ≡ false → (eqb index 65522 && not (is_power 20 y.st_value)) ≡ false → IsFine n f y
+  other_fine : (index : ℕ) (y : Sym) (bind type : ℕ) → (not (eqb index 0) && nat_lt index 0xFFFF_FF00) ≡ false → y.st_shndx ≡ index → bind_of y ≡ bind → type_of y ≡ type
+      → odd_form bind type (nat_lt index 0xFFFF_FF00) (eqb index 0xFFFF_FFF1) (eqb index 0xFFFF_FFF2) (eqb index 0) ≡ false → (eqb index 0xFFFF_FFF2 && not (is_power 20 y.st_value)) ≡ false → IsFine n f y
   other_fine index y bind type far at b t odd common =
-      let plain : is_sectional y ≡ false = ap (λ i. not (eqb i 0) && nat_lt i 65280) at ∙ far in
+      let plain : is_sectional y ≡ false = ap (λ i. not (eqb i 0) && nat_lt i 0xFFFF_FF00) at ∙ far in
       record {
-        odd = odd_by y bind type (nat_lt index 65280) (eqb index 65521) (eqb index 65522) (eqb index 0) b t (ap (λ i. nat_lt i 65280) at) (ap (λ i. eqb i 65521) at) (ap (λ i. eqb i 65522) at) (ap (λ i. eqb i 0) at) ∙ odd;
-        inside = ap (λ c. c && not (nat_lt y.st_shndx (length f.headers))) plain;
+        odd = odd_by y bind type (nat_lt index 0xFFFF_FF00) (eqb index 0xFFFF_FFF1) (eqb index 0xFFFF_FFF2) (eqb index 0) b t (ap (λ i. nat_lt i 0xFFFF_FF00) at) (ap (λ i. eqb i 0xFFFF_FFF1) at) (ap (λ i. eqb i 0xFFFF_FFF2) at) (ap (λ i. eqb i 0) at) ∙ odd;
+        inside = ap (λ c. c && not (nat_lt y.st_shndx (length f.headers) || eqb y.st_shndx 0xFFFF_FEFE)) plain;
         carried = ap (λ c. c && not (is_local_entry y) && not (is_carried (header_at f.headers y.st_shndx))) plain;
         ends = ap (λ c. c && nat_lt (header_at f.headers y.st_shndx).sh_size y.st_value) plain;
-        common = ap (λ i. eqb i 65522 && not (is_power 20 y.st_value)) at ∙ common;
+        common = ap (λ i. eqb i 0xFFFF_FFF2 && not (is_power 20 y.st_value)) at ∙ common;
       }
 
   -- an entry of an absolute symbol, and of one that is defined elsewhere
@@ -180,14 +180,14 @@ module _ (class : ElfClass) (n : Object) (is : IsForElf class n) (fits : IsCodab
   symbol_fine k s here (Local (value.Place j offset)) own there =
       let b : Binding = Local (value.Place j offset) in place_fine j offset (entry_with n s b) b (elf_mark b s.mark) there refl refl (bind_is n s b) (type_is n s b)
   symbol_fine k s here (Local (value.Absolute a)) own there =
-      let b : Binding = Local (value.Absolute a) in other_fine 65521 (entry_with n s b) 0 (type_by s.mark) refl refl (bind_is n s b) (type_is n s b) (absolute_odd 0 s.mark (inl refl)) refl
+      let b : Binding = Local (value.Absolute a) in other_fine 0xFFFF_FFF1 (entry_with n s b) 0 (type_by s.mark) refl refl (bind_is n s b) (type_is n s b) (absolute_odd 0 s.mark (inl refl)) refl
   symbol_fine k s here (Global (value.Place j offset)) own there =
       let b : Binding = Global (value.Place j offset) in place_fine j offset (entry_with n s b) b (elf_mark b s.mark) there refl refl (bind_is n s b) (type_is n s b)
   symbol_fine k s here (Global (value.Absolute a)) own there =
-      let b : Binding = Global (value.Absolute a) in other_fine 65521 (entry_with n s b) 1 (type_by s.mark) refl refl (bind_is n s b) (type_is n s b) (absolute_odd 1 s.mark (inr refl)) refl
+      let b : Binding = Global (value.Absolute a) in other_fine 0xFFFF_FFF1 (entry_with n s b) 1 (type_by s.mark) refl refl (bind_is n s b) (type_is n s b) (absolute_odd 1 s.mark (inr refl)) refl
   symbol_fine k s here Undefined own there = other_fine 0 (entry_with n s Undefined) 1 (type_by s.mark) refl refl (bind_is n s Undefined) (type_is n s Undefined) (elsewhere_odd 1 s.mark (inl refl)) refl
   symbol_fine k s here (Common size align) own there =
-      let b : Binding = Common size align in other_fine 65522 (entry_with n s b) 1 1 refl refl (bind_is n s b) (type_is n s b) refl (ap not (aligned align there.1))
+      let b : Binding = Common size align in other_fine 0xFFFF_FFF2 (entry_with n s b) 1 1 refl refl (bind_is n s b) (type_is n s b) refl (ap not (aligned align there.1))
   symbol_fine k s here (Weak g) own there = by (fallback_is class n is k s here g own)
     where
       by : (g ≡ fallback.Zero) ⊎ IsPlaced n g → IsFine n f (entry_with n s (Weak g))

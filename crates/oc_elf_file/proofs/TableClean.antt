@@ -1,11 +1,11 @@
 -- The tables of a canonical file are well formed, and no header is of a kind that is not read.
 use Rattle.oc_elf_read.specs.Shdr.{null_shdr}
 use Rattle.oc_neutral.proofs.Positions.{there_at}
-use Rattle.std.proofs.Common.{◌≡◌, ℕ, zero, suc, ◌+◌, ◌*◌, ◌%◌, ◌<◌, inl, inr, Bool, true, false, not, ◌&&◌, ◌||◌, cond, eqb, List, [], ◌∷◌, length, Option, Some, None, refl, sym, ◌∙◌, ap, arith}
-use Rattle.std.specs.Prelude.{slice_get, nat_lt}
+use Rattle.std.proofs.Common.{◌≡◌, ℕ, zero, suc, ◌+◌, ◌*◌, ◌%◌, ◌/◌, ◌<◌, inl, inr, Bool, true, false, not, ◌&&◌, ◌||◌, cond, eqb, List, [], ◌∷◌, length, Option, Some, None, refl, sym, ◌∙◌, ap, arith}
+use Rattle.std.specs.Prelude.{slice_get, nat_lt, nat_le}
 use Rattle.std.specs.List.{list_any, enumerate_from, AllByRecursion}
-use Rattle.std.specs.Option.{is_some}
-use Rattle.std.proofs.lemmas.Bool.{true≢false, eq-eqb, eqb-true, lt-ltb}
+use Rattle.std.specs.Option.{is_some, option_map_or}
+use Rattle.std.proofs.lemmas.Bool.{true≢false, eq-eqb, eqb-true, lt-ltb, le-leb}
 use Rattle.std.proofs.lemmas.Option.{none-some, same_Some, slice_get_within}
 use Rattle.oc_chains.specs.Lists.{list_of}
 use Rattle.oc_neutral.specs.declared.section.Section.{Section}
@@ -16,23 +16,24 @@ use Rattle.oc_shelf.proofs.ReadingLaws.FirstsLemmas.{keyed_from}
 use Rattle.oc_shelf.proofs.ReadingLaws.StageLemmas.{Unbroken, upto_none}
 use Rattle.oc_shelf.proofs.WritingLaws.MemberLemmas.{keyed_once, of_append, of_filter_map}
 use Rattle.oc_elf_read.specs.declared.class.ElfClass.{ElfClass}
-use Rattle.oc_elf_read.specs.declared.class.ElfClass.TheVariants.{Class32, Class64}
+use Rattle.oc_elf_read.specs.declared.class.ElfClass.TheVariants.{Class32, Class64, Big32, Big64}
 use Rattle.oc_elf_read.specs.declared.constants.TheConstants.{SHT_SYMTAB, SHT_STRTAB}
 use Rattle.oc_elf_read.specs.declared.shdr.Shdr.{Shdr}
 use Rattle.oc_elf_read.specs.Classes.{reloc_type, foreign_type}
 use Rattle.oc_elf_read.specs.Frames.{Framed, header_at}
 use Rattle.oc_elf_read.specs.Rel.{rel_size}
-use Rattle.oc_elf_read.specs.Sections.{is_type, symtab_among, table_among, relocated_by}
+use Rattle.oc_elf_read.specs.Sections.{is_type, shndx_number, symtab_among, table_among, relocated_by}
 use Rattle.oc_elf_read.specs.Sym.{sym_size}
-use Rattle.oc_elf_read.specs.SectionRules.{known_types, has_entries, is_left_out, is_good_symtab, is_good_table, table_conditions}
-use Rattle.oc_elf_file.specs.Heads.{Head, NullHead, GroupHead, SectionHead, RelocHead, SymtabHead, StrtabHead, ShstrtabHead, reloc_head, reloc_heads, table_heads, heads_of, head_where, section_number, is_symtab_head, is_strtab_head, is_shstrtab_head}
+use Rattle.oc_elf_read.specs.SectionRules.{known_types, has_entries, is_left_out, is_good_symtab, is_good_table, is_good_shndx, table_conditions}
+use Rattle.oc_elf_file.specs.Heads.{Head, NullHead, GroupHead, SectionHead, RelocHead, SymtabHead, ShndxHead, StrtabHead, ShstrtabHead, reloc_head, reloc_heads, table_heads_by, table_heads, heads_of, head_where, section_number, is_symtab_head, is_shndx_head, is_strtab_head, is_shstrtab_head}
+use Rattle.oc_neutral.specs.Families.{is_many}
 use Rattle.oc_elf_file.specs.Lines.{lines_of}
 use Rattle.oc_elf_file.specs.Headers.{shdr_of}
 use Rattle.oc_elf_file.proofs.HeadLaws.{IsHeadAt, head_at, head_behind, symtab_at, strtab_at, section_at, symtab_only}
 use Rattle.oc_elf_file.proofs.FrameLaws.{IsCodable, made_frame}
-use Rattle.oc_elf_file.proofs.CodedLaws.{IsForElf, meets_section}
+use Rattle.oc_elf_file.proofs.CodedLaws.{IsForElf, many_is, meets_section}
 use Rattle.oc_elf_file.proofs.FlagLaws.{flags_of, alloc, no_link_order, no_tls, no_compressed, table_no_alloc, table_no_link_order, table_no_tls, table_no_compressed, table_flags}
-use Rattle.oc_elf_file.proofs.TableLaws.{carried_not, header_is, length-headers, symtab_test}
+use Rattle.oc_elf_file.proofs.TableLaws.{carried_not, header_is, length-headers, symtab_test, shndx_read}
 use Rattle.oc_elf_file.proofs.RelocTableLaws.{table_head}
 
 pub none_right : (a : Bool) → (a && false) ≡ false
@@ -57,6 +58,7 @@ reloc_key (GroupHead k g) = 0
 reloc_key (SectionHead k s) = 0
 reloc_key (RelocHead k s) = k
 reloc_key SymtabHead = 0
+reloc_key ShndxHead = 0
 reloc_key StrtabHead = 0
 reloc_key ShstrtabHead = 0
 
@@ -66,6 +68,7 @@ is_reloc (GroupHead k g) = false
 is_reloc (SectionHead k s) = false
 is_reloc (RelocHead k s) = true
 is_reloc SymtabHead = false
+is_reloc ShndxHead = false
 is_reloc StrtabHead = false
 is_reloc ShstrtabHead = false
 
@@ -75,35 +78,74 @@ module _ (class : ElfClass) (n : Object) (is : IsForElf class n) (fits : IsCodab
 
   -- ... each table stands once
 
-  no_reloc_table : (i : ℕ) (h : Head) → slice_get table_heads i ≡ Some h → is_reloc h ≡ false
-  no_reloc_table zero h here = ap is_reloc (sym (same_Some SymtabHead h here))
-  no_reloc_table (suc zero) h here = ap is_reloc (sym (same_Some StrtabHead h here))
-  no_reloc_table (suc (suc zero)) h here = ap is_reloc (sym (same_Some ShstrtabHead h here))
-  no_reloc_table (suc (suc (suc i))) h here = absurd (none-some h here)
+  no_reloc_table : (i : ℕ) (h : Head) → slice_get (table_heads n) i ≡ Some h → is_reloc h ≡ false
+  no_reloc_table i h here = by (is_many n.format) i here
+    where
+      by : (b : Bool) (i : ℕ) → slice_get (table_heads_by b) i ≡ Some h → is_reloc h ≡ false
+      by true zero here = ap is_reloc (sym (same_Some SymtabHead h here))
+      by true (suc zero) here = ap is_reloc (sym (same_Some ShndxHead h here))
+      by true (suc (suc zero)) here = ap is_reloc (sym (same_Some StrtabHead h here))
+      by true (suc (suc (suc zero))) here = ap is_reloc (sym (same_Some ShstrtabHead h here))
+      by true (suc (suc (suc (suc i)))) here = absurd (none-some h here)
+      by false zero here = ap is_reloc (sym (same_Some SymtabHead h here))
+      by false (suc zero) here = ap is_reloc (sym (same_Some StrtabHead h here))
+      by false (suc (suc zero)) here = ap is_reloc (sym (same_Some ShstrtabHead h here))
+      by false (suc (suc (suc i))) here = absurd (none-some h here)
 
-  one_symtab_table : (i : ℕ) → slice_get table_heads i ≡ Some SymtabHead → i ≡ 0
-  one_symtab_table zero here = refl
-  one_symtab_table (suc zero) here = absurd (true≢false (ap is_strtab_head (same_Some StrtabHead SymtabHead here)))
-  one_symtab_table (suc (suc zero)) here = absurd (true≢false (ap is_shstrtab_head (same_Some ShstrtabHead SymtabHead here)))
-  one_symtab_table (suc (suc (suc i))) here = absurd (none-some SymtabHead here)
+  one_symtab_table : (i : ℕ) → slice_get (table_heads n) i ≡ Some SymtabHead → i ≡ 0
+  one_symtab_table i here = by (is_many n.format) i here
+    where
+      by : (b : Bool) (i : ℕ) → slice_get (table_heads_by b) i ≡ Some SymtabHead → i ≡ 0
+      by b zero here = refl
+      by true (suc zero) here = absurd (true≢false (ap is_shndx_head (same_Some ShndxHead SymtabHead here)))
+      by true (suc (suc zero)) here = absurd (true≢false (ap is_strtab_head (same_Some StrtabHead SymtabHead here)))
+      by true (suc (suc (suc zero))) here = absurd (true≢false (ap is_shstrtab_head (same_Some ShstrtabHead SymtabHead here)))
+      by true (suc (suc (suc (suc i)))) here = absurd (none-some SymtabHead here)
+      by false (suc zero) here = absurd (true≢false (ap is_strtab_head (same_Some StrtabHead SymtabHead here)))
+      by false (suc (suc zero)) here = absurd (true≢false (ap is_shstrtab_head (same_Some ShstrtabHead SymtabHead here)))
+      by false (suc (suc (suc i))) here = absurd (none-some SymtabHead here)
 
-  no_symtab_reloc : (i : ℕ) → slice_get (reloc_heads n) i ≡ Some SymtabHead → ⊥
-  no_symtab_reloc i here =
-      let m = of_filter_map (reloc_head n) (enumerate_from 0 n.sections) i SymtabHead here in
+  one_shndx_table : (i : ℕ) → slice_get (table_heads n) i ≡ Some ShndxHead → i ≡ 1
+  one_shndx_table i here = by (is_many n.format) i here
+    where
+      by : (b : Bool) (i : ℕ) → slice_get (table_heads_by b) i ≡ Some ShndxHead → i ≡ 1
+      by true zero here = absurd (true≢false (ap is_symtab_head (same_Some SymtabHead ShndxHead here)))
+      by true (suc zero) here = refl
+      by true (suc (suc zero)) here = absurd (true≢false (ap is_strtab_head (same_Some StrtabHead ShndxHead here)))
+      by true (suc (suc (suc zero))) here = absurd (true≢false (ap is_shstrtab_head (same_Some ShstrtabHead ShndxHead here)))
+      by true (suc (suc (suc (suc i)))) here = absurd (none-some ShndxHead here)
+      by false zero here = absurd (true≢false (ap is_symtab_head (same_Some SymtabHead ShndxHead here)))
+      by false (suc zero) here = absurd (true≢false (ap is_strtab_head (same_Some StrtabHead ShndxHead here)))
+      by false (suc (suc zero)) here = absurd (true≢false (ap is_shstrtab_head (same_Some ShstrtabHead ShndxHead here)))
+      by false (suc (suc (suc i))) here = absurd (none-some ShndxHead here)
+
+  no_table_reloc : (h : Head) → is_reloc h ≡ false → (i : ℕ) → slice_get (reloc_heads n) i ≡ Some h → ⊥
+  no_table_reloc h none i here =
+      let m = of_filter_map (reloc_head n) (enumerate_from 0 n.sections) i h here in
       by m.1 (eqb (length (list_of n.relocs m.1.0)) 0) m.3
     where
-      by : (x : ℕ × Section) (b : Bool) → cond b None (Some (RelocHead x.0 x.1)) ≡ Some SymtabHead → ⊥
-      by x true e = none-some SymtabHead e
-      by x false e = true≢false (ap is_reloc (same_Some (RelocHead x.0 x.1) SymtabHead e))
+      by : (x : ℕ × Section) (b : Bool) → cond b None (Some (RelocHead x.0 x.1)) ≡ Some h → ⊥
+      by x true e = none-some h e
+      by x false e = true≢false (ap is_reloc (same_Some (RelocHead x.0 x.1) h e) ∙ none)
 
   -- the number of the symbol table's header
   symtab_place : (i : ℕ) → slice_get (heads_of n) i ≡ Some SymtabHead → i ≡ length n.groups + 1 + length n.sections + length (reloc_heads n)
   symtab_place i here =
       let past = head_at n i SymtabHead here in
       let b = head_behind n i SymtabHead here past in
-      elim (of_append (reloc_heads n) table_heads b.0 SymtabHead b.2) [
-        | inl h ↦ absurd (no_symtab_reloc b.0 h)
+      elim (of_append (reloc_heads n) (table_heads n) b.0 SymtabHead b.2) [
+        | inl h ↦ absurd (no_table_reloc SymtabHead refl b.0 h)
         | inr r ↦ let z = one_symtab_table r.0 r.2 in let e = r.1 in let at = b.1 in omega (arith, z, e, at)
+      ]
+
+  -- and that of its section numbers
+  shndx_place : (i : ℕ) → slice_get (heads_of n) i ≡ Some ShndxHead → i ≡ length n.groups + 1 + length n.sections + length (reloc_heads n) + 1
+  shndx_place i here =
+      let past = (head_at n i ShndxHead here).0 in
+      let b = head_behind n i ShndxHead here past in
+      elim (of_append (reloc_heads n) (table_heads n) b.0 ShndxHead b.2) [
+        | inl h ↦ absurd (no_table_reloc ShndxHead refl b.0 h)
+        | inr r ↦ let z = one_shndx_table r.0 r.2 in let e = r.1 in let at = b.1 in omega (arith, z, e, at)
       ]
 
   no_symtab_before : (i : ℕ) → slice_get (heads_of n) i ≡ Some SymtabHead → symtab_among f i ≡ None
@@ -127,7 +169,7 @@ module _ (class : ElfClass) (n : Object) (is : IsForElf class n) (fits : IsCodab
   reloc_place i k s here =
       let past = (head_at n i (RelocHead k s) here).2 in
       let b = head_behind n i (RelocHead k s) here past in
-      elim (of_append (reloc_heads n) table_heads b.0 (RelocHead k s) b.2) [
+      elim (of_append (reloc_heads n) (table_heads n) b.0 (RelocHead k s) b.2) [
         | inl h ↦ (b.0, b.1, h)
         | inr r ↦ absurd (true≢false (no_reloc_table r.0 (RelocHead k s) r.2))
       ]
@@ -177,6 +219,8 @@ module _ (class : ElfClass) (n : Object) (is : IsForElf class n) (fits : IsCodab
       by : (class : ElfClass) → eqb t (foreign_type class) ≡ false
       by Class32 = carried_not t 4 is refl
       by Class64 = carried_not t 9 is refl
+      by Big32 = carried_not t 4 is refl
+      by Big64 = carried_not t 9 is refl
 
   kept : (i : ℕ) (h : Head) → slice_get (heads_of n) i ≡ Some h → is_left_out f (header_at f.headers i) ≡ false
   unfolding shdr_of is_left_out made_frame
@@ -188,10 +232,14 @@ module _ (class : ElfClass) (n : Object) (is : IsForElf class n) (fits : IsCodab
           foreign : (class : ElfClass) → eqb t (foreign_type class) ≡ false
           foreign Class32 = b
           foreign Class64 = c
+          foreign Big32 = b
+          foreign Big64 = c
 
       table : (class : ElfClass) → ((eqb (reloc_type class) 8 && true) ≡ false) × (eqb (reloc_type class) (foreign_type class) ≡ false) × (list_any (eqb (reloc_type class)) known_types ≡ true)
       table Class32 = (refl, refl, refl)
       table Class64 = (refl, refl, refl)
+      table Big32 = (refl, refl, refl)
+      table Big64 = (refl, refl, refl)
 
       by : (h : Head) (at : ℕ) → IsHeadAt n i h → is_left_out f (shdr_of class n at h) ≡ false
       by NullHead at own = plain 0 refl refl refl refl
@@ -210,6 +258,7 @@ module _ (class : ElfClass) (n : Object) (is : IsForElf class n) (fits : IsCodab
           judge (has (table_flags s) 0x400) (has (table_flags s) 0x800) (has (table_flags s) 0x80) (eqb (reloc_type class) 8) (has (table_flags s) 2) (eqb (reloc_type class) (foreign_type class)) (list_any (eqb (reloc_type class)) known_types)
           (table_no_tls s) (table_no_compressed s) (table_no_link_order s) (ap (λ b. eqb (reloc_type class) 8 && not b) (table_no_alloc s) ∙ (table class).0) (table class).1 (table class).2
       by SymtabHead at own = plain 2 refl refl refl refl
+      by ShndxHead at own = plain 18 refl refl refl refl
       by StrtabHead at own = plain 3 refl refl refl refl
       by ShstrtabHead at own = plain 3 refl refl refl refl
 
@@ -221,6 +270,8 @@ module _ (class : ElfClass) (n : Object) (is : IsForElf class n) (fits : IsCodab
       by : (class : ElfClass) → (eqb (sym_size class) (sym_size class) && eqb (sym_size class * m % sym_size class) 0) ≡ true
       by Class32 = let e : 16 * m % 16 ≡ 0 = omega arith in eq-eqb (16 * m % 16) 0 e
       by Class64 = let e : 24 * m % 24 ≡ 0 = omega arith in eq-eqb (24 * m % 24) 0 e
+      by Big32 = let e : 16 * m % 16 ≡ 0 = omega arith in eq-eqb (16 * m % 16) 0 e
+      by Big64 = let e : 24 * m % 24 ≡ 0 = omega arith in eq-eqb (24 * m % 24) 0 e
 
   whole_rels : (m : ℕ) → (eqb (rel_size class) (rel_size class) && eqb (rel_size class * m % rel_size class) 0) ≡ true
   whole_rels m = by class
@@ -228,6 +279,8 @@ module _ (class : ElfClass) (n : Object) (is : IsForElf class n) (fits : IsCodab
       by : (class : ElfClass) → (eqb (rel_size class) (rel_size class) && eqb (rel_size class * m % rel_size class) 0) ≡ true
       by Class32 = let e : 8 * m % 8 ≡ 0 = omega arith in eq-eqb (8 * m % 8) 0 e
       by Class64 = let e : 24 * m % 24 ≡ 0 = omega arith in eq-eqb (24 * m % 24) 0 e
+      by Big32 = let e : 8 * m % 8 ≡ 0 = omega arith in eq-eqb (8 * m % 8) 0 e
+      by Big64 = let e : 24 * m % 24 ≡ 0 = omega arith in eq-eqb (24 * m % 24) 0 e
 
   strings_type : is_type SHT_STRTAB (header_at f.headers (head_where n is_strtab_head)) ≡ true
   unfolding shdr_of
@@ -254,6 +307,31 @@ module _ (class : ElfClass) (n : Object) (is : IsForElf class n) (fits : IsCodab
       ∙ ap (λ b. b && not (is_some (table_among f i (section_number n k)))) (lt-ltb (section_number n k) (length f.headers) (omega (arith, inside, long)))
       ∙ ap (λ o. not (is_some o)) (no_table_before i k s here)
 
+  -- the table of section numbers: one for each symbol
+  shndx_good : (i at : ℕ) → slice_get (heads_of n) i ≡ Some ShndxHead → is_good_shndx f i (shdr_of class n at ShndxHead) ≡ true
+  unfolding is_good_shndx shdr_of made_frame
+  shndx_good i at here =
+      let many = (head_at n i ShndxHead here).1 in
+      let t = shndx_read class n is fits (sym (many_is class n is) ∙ many) in
+      let own = shndx_place i here in
+      let other = shndx_place t.m t.here in
+      let number : option_map_or (λ j. eqb j i) (shndx_number class f.headers) false ≡ true = ap (λ o. option_map_or (λ j. eqb j i) o false) t.number ∙ eq-eqb t.m i (omega (arith, own, other)) in
+      let whole : (true && eqb (4 * length (lines_of n) % 4) 0) ≡ true = eq-eqb (4 * length (lines_of n) % 4) 0 (omega arith) in
+      let linked = header_is class n is fits (head_where n is_symtab_head) SymtabHead (symtab_at n) in
+      let count : (header_at f.headers (head_where n is_symtab_head)).sh_size / sym_size class ≡ length (lines_of n) = ap (λ (s : Shdr). s.sh_size / sym_size class) linked.1 ∙ counted class in
+      let enough : nat_le ((header_at f.headers (head_where n is_symtab_head)).sh_size / sym_size class) (4 * length (lines_of n) / 4) ≡ true
+      = le-leb _ _ (omega (arith, count)) in
+      ap (λ b. b && is_type SHT_SYMTAB (header_at f.headers (head_where n is_symtab_head)) && nat_le ((header_at f.headers (head_where n is_symtab_head)).sh_size / sym_size class) (4 * length (lines_of n) / 4) && option_map_or (λ j. eqb j i) (shndx_number class f.headers) false) whole
+      ∙ ap (λ b. b && nat_le ((header_at f.headers (head_where n is_symtab_head)).sh_size / sym_size class) (4 * length (lines_of n) / 4) && option_map_or (λ j. eqb j i) (shndx_number class f.headers) false) symbols_type
+      ∙ ap (λ b. b && option_map_or (λ j. eqb j i) (shndx_number class f.headers) false) enough
+      ∙ number
+    where
+      counted : (class : ElfClass) → sym_size class * length (lines_of n) / sym_size class ≡ length (lines_of n)
+      counted Class32 = omega arith
+      counted Class64 = omega arith
+      counted Big32 = omega arith
+      counted Big64 = omega arith
+
   -- a type that is not that of the class's relocation tables
   other_type : (t : ℕ) → eqb t 9 ≡ false → eqb t 4 ≡ false → eqb t (reloc_type class) ≡ false
   other_type t a b = by class
@@ -261,6 +339,8 @@ module _ (class : ElfClass) (n : Object) (is : IsForElf class n) (fits : IsCodab
       by : (class : ElfClass) → eqb t (reloc_type class) ≡ false
       by Class32 = a
       by Class64 = b
+      by Big32 = a
+      by Big64 = b
 
   pub table_clean : (i place : ℕ) (h : Head) → slice_get (heads_of n) i ≡ Some h → Unbroken (table_conditions f i place (header_at f.headers i))
   unfolding shdr_of table_conditions made_frame
@@ -270,33 +350,39 @@ module _ (class : ElfClass) (n : Object) (is : IsForElf class n) (fits : IsCodab
         kept i h here,
         (
           ap (λ (s : Shdr). is_type SHT_SYMTAB s && not (is_good_symtab f i s)) b.1 ∙ own.0,
-          (ap (λ (s : Shdr). is_type (reloc_type class) s && not (is_good_table f i s)) b.1 ∙ own.1, tt),
+          (
+            ap (λ (s : Shdr). is_type (reloc_type class) s && not (is_good_table f i s)) b.1 ∙ own.1,
+            (ap (λ (s : Shdr). is_type 18 s && not (is_good_shndx f i s)) b.1 ∙ own.2, tt),
+          ),
         ),
       )
     where
-      Fine : Head → ℕ → Type 0
-      Fine h at = ((is_type SHT_SYMTAB (shdr_of class n at h) && not (is_good_symtab f i (shdr_of class n at h))) ≡ false)
-          × ((is_type (reloc_type class) (shdr_of class n at h) && not (is_good_table f i (shdr_of class n at h))) ≡ false)
+      FineTable : Shdr → Type 0
+      FineTable s = ((is_type SHT_SYMTAB s && not (is_good_symtab f i s)) ≡ false) × ((is_type (reloc_type class) s && not (is_good_table f i s)) ≡ false) × ((is_type 18 s && not (is_good_shndx f i s)) ≡ false)
 
-      neither : (s : Shdr) → eqb s.sh_type 2 ≡ false → eqb s.sh_type 9 ≡ false → eqb s.sh_type 4 ≡ false
-          → ((is_type SHT_SYMTAB s && not (is_good_symtab f i s)) ≡ false) × ((is_type (reloc_type class) s && not (is_good_table f i s)) ≡ false)
-      neither s a b c = (ap (λ t. t && not (is_good_symtab f i s)) a, ap (λ t. t && not (is_good_table f i s)) (other_type s.sh_type b c))
+      neither : (s : Shdr) → eqb s.sh_type 2 ≡ false → eqb s.sh_type 9 ≡ false → eqb s.sh_type 4 ≡ false → eqb s.sh_type 18 ≡ false → FineTable s
+      neither s a b c d = (ap (λ t. t && not (is_good_symtab f i s)) a, ap (λ t. t && not (is_good_table f i s)) (other_type s.sh_type b c), ap (λ t. t && not (is_good_shndx f i s)) d)
 
-      by : (h : Head) (at : ℕ) → slice_get (heads_of n) i ≡ Some h → IsHeadAt n i h → Fine h at
-      by NullHead at here own = neither (shdr_of class n at NullHead) refl refl refl
-      by (GroupHead k g) at here own = neither (shdr_of class n at (GroupHead k g)) refl refl refl
+      by : (h : Head) (at : ℕ) → slice_get (heads_of n) i ≡ Some h → IsHeadAt n i h → FineTable (shdr_of class n at h)
+      by NullHead at here own = neither (shdr_of class n at NullHead) refl refl refl refl
+      by (GroupHead k g) at here own = neither (shdr_of class n at (GroupHead k g)) refl refl refl refl
       by (SectionHead k s) at here own =
           let carried = (meets_section class n is k s own.0).carried in
           neither (shdr_of class n at (SectionHead k s)) (carried_not (elf_tag_type s.tag) 2 carried refl) (carried_not (elf_tag_type s.tag) 9 carried refl) (carried_not (elf_tag_type s.tag) 4 carried refl)
+          (carried_not (elf_tag_type s.tag) 18 carried refl)
       by (RelocHead k s) at here own = (
-        ap (λ t. t && not (is_good_symtab f i (shdr_of class n at (RelocHead k s)))) (no_symtab class),
+        ap (λ t. t && not (is_good_symtab f i (shdr_of class n at (RelocHead k s)))) (no_symtab class).0,
         ap (λ b. eqb (reloc_type class) (reloc_type class) && not b) (table_good i at k s here) ∙ none_right (eqb (reloc_type class) (reloc_type class)),
+        ap (λ t. t && not (is_good_shndx f i (shdr_of class n at (RelocHead k s)))) (no_symtab class).1,
       )
         where
-          no_symtab : (class : ElfClass) → eqb (reloc_type class) 2 ≡ false
-          no_symtab Class32 = refl
-          no_symtab Class64 = refl
+          no_symtab : (class : ElfClass) → (eqb (reloc_type class) 2 ≡ false) × (eqb (reloc_type class) 18 ≡ false)
+          no_symtab Class32 = (refl, refl)
+          no_symtab Class64 = (refl, refl)
+          no_symtab Big32 = (refl, refl)
+          no_symtab Big64 = (refl, refl)
       by SymtabHead at here own =
-          (ap not (symtab_good i at here), ap (λ t. t && not (is_good_table f i (shdr_of class n at SymtabHead))) (other_type 2 refl refl))
-      by StrtabHead at here own = neither (shdr_of class n at StrtabHead) refl refl refl
-      by ShstrtabHead at here own = neither (shdr_of class n at ShstrtabHead) refl refl refl
+          (ap not (symtab_good i at here), ap (λ t. t && not (is_good_table f i (shdr_of class n at SymtabHead))) (other_type 2 refl refl), refl)
+      by ShndxHead at here own = (refl, ap (λ t. t && not (is_good_table f i (shdr_of class n at ShndxHead))) (other_type 18 refl refl), ap not (shndx_good i at here))
+      by StrtabHead at here own = neither (shdr_of class n at StrtabHead) refl refl refl refl
+      by ShstrtabHead at here own = neither (shdr_of class n at ShstrtabHead) refl refl refl refl

@@ -6,11 +6,11 @@ use Rattle.oc_neutral.specs.Objects.{Object}
 use Rattle.oc_shelf.proofs.ReadingLaws.StageLemmas.{Unbroken, IsUnbroken, no_first_fault}
 use Rattle.oc_elf_read.specs.declared.class.ElfClass.{ElfClass}
 use Rattle.oc_elf_read.specs.Elf.{elf_is_dialect, rest_stages, stages_of, fault_in}
-use Rattle.oc_elf_read.specs.Frames.{Framed, framed}
+use Rattle.oc_elf_read.specs.Frames.{Framed, zero_in}
 use Rattle.oc_elf_read.specs.Headers.{header_stage, names_stage, header_conditions, names_conditions}
 use Rattle.oc_elf_file.specs.Canonical.{file_header, elf_file}
 use Rattle.oc_elf_file.specs.Writing.{ElfIsWritten}
-use Rattle.oc_elf_file.proofs.FrameLaws.{IsCodable, made_frame, header_read, frame_read}
+use Rattle.oc_elf_file.proofs.FrameLaws.{IsCodable, made_frame, header_read, zero_read, frame_read}
 use Rattle.oc_elf_file.proofs.CodedLaws.{IsForElf, for_elf}
 use Rattle.oc_elf_file.proofs.CodableLaws.{has_numbers}
 use Rattle.oc_elf_file.proofs.ShowsLaw.{elf_shows}
@@ -24,12 +24,12 @@ module _ (class : ElfClass) (n : Object) (is : IsForElf class n) (fits : IsCodab
   file = elf_file class n
 
   header_stage_clean : IsUnbroken (header_stage class file)
-  header_stage_clean i low = subst (λ h. Unbroken (header_conditions class (length file) h)) (sym (header_read class n fits)) (header_clean class n is fits)
+  header_stage_clean i low =
+      subst (λ h. Unbroken (header_conditions class (length file) h (zero_in class file))) (sym (header_read class n fits))
+      (subst (λ z. Unbroken (header_conditions class (length file) (file_header class n) z)) (sym (zero_read class n fits)) (header_clean class n is fits))
 
   names_stage_clean : IsUnbroken (names_stage class file)
-  names_stage_clean i low =
-      subst (λ h. Unbroken (names_conditions h (framed class file).names)) (sym (header_read class n fits))
-      (subst (λ (f : Framed). Unbroken (names_conditions (file_header class n) f.names)) (sym (frame_read class n fits)) (names_clean class n is fits))
+  names_stage_clean i low = subst (λ (f : Framed). Unbroken (names_conditions (length f.headers) f.names)) (sym (frame_read class n fits)) (names_clean class n is fits)
 
   rest_clean : AllByRecursion IsUnbroken (rest_stages (made_frame class n) all)
   rest_clean = (sections_clean class n is fits, (symbols_clean class n is fits, relocations_clean class n is fits))

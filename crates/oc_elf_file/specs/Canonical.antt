@@ -1,21 +1,30 @@
 -- The canonical file of an object that is ready for ELF (gABI; i386 and x86-64 psABI; our profile).
-use Rattle.std.specs.Prelude.{ℕ, List, [], length, flat_map}
+use Rattle.std.specs.Prelude.{ℕ, not, ◌&&◌, nat_lt, if◌then◌else◌, List, [], length, flat_map}
 use Rattle.oc_neutral.specs.Objects.{Object}
 use Rattle.oc_elf_read.specs.declared.class.ElfClass.{ElfClass}
-use Rattle.oc_elf_read.specs.declared.constants.TheConstants.{ELFDATA2LSB, EV_CURRENT, ET_REL}
+use Rattle.oc_elf_read.specs.declared.constants.TheConstants.{ELFDATA2LSB, EV_CURRENT, ET_REL, SHN_XINDEX}
 use Rattle.oc_elf_read.specs.declared.ehdr.Ehdr.{Ehdr}
-use Rattle.oc_elf_read.specs.Classes.{machine_of}
+use Rattle.oc_elf_read.specs.Classes.{machine_of, is_big}
 use Rattle.oc_elf_read.specs.Ehdr.{ehdr_size}
 use Rattle.oc_elf_read.specs.Shdr.{shdr_size}
 use Rattle.oc_shelf.specs.Writing.Parts.{joined, place_where}
-use Rattle.oc_elf_file.specs.Structures.{ehdr_bytes, shdr_bytes, sym_bytes, rel_bytes}
-use Rattle.oc_elf_file.specs.Heads.{Head, NullHead, GroupHead, SectionHead, RelocHead, SymtabHead, StrtabHead, ShstrtabHead, heads_of, head_where, is_shstrtab_head}
+use Rattle.oc_elf_file.specs.declared.constants.TheConstants.{FIRST_TOLD}
+use Rattle.oc_elf_file.specs.Structures.{ehdr_bytes, shdr_bytes, sym_bytes, index_bytes, rel_bytes}
+use Rattle.oc_elf_file.specs.Heads.{Head, NullHead, GroupHead, SectionHead, RelocHead, SymtabHead, ShndxHead, StrtabHead, ShstrtabHead, heads_of, head_where, is_shstrtab_head}
 use Rattle.oc_elf_file.specs.Lines.{Line, lines_of, numbered_lines}
 use Rattle.oc_elf_file.specs.Groups.{group_words, group_bytes}
 use Rattle.oc_elf_file.specs.Bodies.{raw_of, rels_of}
 use Rattle.oc_elf_file.specs.Layout.{Part, FileHead, Body, HeadTable, head_names, line_names, strings_of, laid_parts, is_head_table}
-use Rattle.oc_elf_file.specs.Headers.{made_headers}
+use Rattle.oc_elf_file.specs.Headers.{stored_headers}
 use Rattle.oc_elf_file.specs.Symbols.{line_entry}
+
+-- how many headers there are, by the file header: where sections are many, header 0 says it
+abbrev pub shown_count : ElfClass → ℕ → ℕ
+shown_count class count = if is_big class then 0 else count
+
+-- and the number of that of their names, where there is room for it
+abbrev pub shown_names : ElfClass → ℕ → ℕ
+shown_names class k = if is_big class && not (nat_lt k FIRST_TOLD) then SHN_XINDEX else k
 
 -- the file header
 unfoldable pub file_header : ElfClass → Object → Ehdr
@@ -28,8 +37,8 @@ file_header class n = record {
   e_shoff = place_where is_head_table (laid_parts class n);
   e_ehsize = ehdr_size class;
   e_shentsize = shdr_size class;
-  e_shnum = length (heads_of n);
-  e_shstrndx = head_where n is_shstrtab_head;
+  e_shnum = shown_count class (length (heads_of n));
+  e_shstrndx = shown_names class (head_where n is_shstrtab_head);
 }
 
 -- what a header is of
@@ -39,6 +48,7 @@ body_bytes class n (GroupHead k g) = group_bytes (group_words n k)
 body_bytes class n (SectionHead k s) = raw_of class n k s
 body_bytes class n (RelocHead k s) = flat_map (rel_bytes class) (rels_of class (numbered_lines n) n k)
 body_bytes class n SymtabHead = flat_map (λ (line : Line). sym_bytes class (line_entry n line)) (lines_of n)
+body_bytes class n ShndxHead = flat_map (λ (line : Line). index_bytes (line_entry n line)) (lines_of n)
 body_bytes class n StrtabHead = strings_of (line_names n)
 body_bytes class n ShstrtabHead = strings_of (head_names class n)
 
@@ -46,7 +56,7 @@ body_bytes class n ShstrtabHead = strings_of (head_names class n)
 unfoldable pub part_bytes : ElfClass → Object → Part → List ℕ
 part_bytes class n FileHead = ehdr_bytes class (file_header class n)
 part_bytes class n (Body h) = body_bytes class n h
-part_bytes class n HeadTable = flat_map (shdr_bytes class) (made_headers class n)
+part_bytes class n HeadTable = flat_map (shdr_bytes class) (stored_headers class n)
 
 -- the canonical file
 unfoldable pub elf_file : ElfClass → Object → List ℕ

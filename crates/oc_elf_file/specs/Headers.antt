@@ -1,18 +1,18 @@
 -- The section headers of an output (gABI, "Section Header" and "Section Groups"; our profile).
-use Rattle.std.specs.Prelude.{ℕ, ◌+◌, List, length, filter_map, Option, Some, None}
+use Rattle.std.specs.Prelude.{ℕ, ◌+◌, nat_lt, if◌then◌else◌, List, [], ◌∷◌, length, filter_map, Option, Some, None}
 use Rattle.oc_neutral.specs.Objects.{Object}
 use Rattle.oc_neutral.specs.Elf.Kinds.{elf_tag_type, elf_tag_flags}
 use Rattle.oc_elf_read.specs.declared.class.ElfClass.{ElfClass}
-use Rattle.oc_elf_read.specs.declared.constants.TheConstants.{SHT_SYMTAB, SHT_STRTAB, SHT_GROUP, GRP_ENTRY_SIZE}
+use Rattle.oc_elf_read.specs.declared.constants.TheConstants.{SHT_SYMTAB, SHT_SYMTAB_SHNDX, SHT_STRTAB, SHT_GROUP, GRP_ENTRY_SIZE, SHNDX_SIZE}
 use Rattle.oc_elf_read.specs.declared.shdr.Shdr.{Shdr}
-use Rattle.oc_elf_read.specs.Classes.{reloc_type}
+use Rattle.oc_elf_read.specs.Classes.{is_big, reloc_type}
 use Rattle.oc_elf_read.specs.Shdr.{null_shdr}
 use Rattle.oc_elf_read.specs.Sym.{sym_size}
 use Rattle.oc_elf_read.specs.Rel.{rel_size}
 use Rattle.oc_shelf.specs.Writing.Parts.{Laid}
-use Rattle.oc_elf_file.specs.declared.constants.TheConstants.{SHF_INFO_LINK}
+use Rattle.oc_elf_file.specs.declared.constants.TheConstants.{FIRST_TOLD, SHF_INFO_LINK}
 use Rattle.oc_elf_file.specs.Structures.{word_bytes}
-use Rattle.oc_elf_file.specs.Heads.{Head, NullHead, GroupHead, SectionHead, RelocHead, SymtabHead, StrtabHead, ShstrtabHead, head_where, section_number, is_symtab_head, is_strtab_head, head_name}
+use Rattle.oc_elf_file.specs.Heads.{Head, NullHead, GroupHead, SectionHead, RelocHead, SymtabHead, ShndxHead, StrtabHead, ShstrtabHead, heads_of, head_where, section_number, is_symtab_head, is_strtab_head, is_shstrtab_head, head_name}
 use Rattle.oc_elf_file.specs.Lines.{inner_lines, numbered_lines, signature_number}
 use Rattle.oc_elf_file.specs.Groups.{member_flag}
 use Rattle.oc_elf_file.specs.Layout.{Part, FileHead, Body, HeadTable, body_size, head_names, laid_parts}
@@ -63,6 +63,12 @@ shdr_of class n at SymtabHead = record (plain_header class n at SymtabHead) {
   sh_addralign = word_bytes class;
   sh_entsize = sym_size class;
 }
+shdr_of class n at ShndxHead = record (plain_header class n at ShndxHead) {
+  sh_type = SHT_SYMTAB_SHNDX;
+  sh_link = head_where n is_symtab_head;
+  sh_addralign = SHNDX_SIZE;
+  sh_entsize = SHNDX_SIZE;
+}
 shdr_of class n at StrtabHead = plain_header class n at StrtabHead
 shdr_of class n at ShstrtabHead = plain_header class n at ShstrtabHead
 
@@ -70,6 +76,23 @@ shdr_of class n at ShstrtabHead = plain_header class n at ShstrtabHead
 abbrev pub part_header : ElfClass → Object → Laid Part → Option Shdr
 part_header class n l = elim l.part [ FileHead ↦ None | Body h ↦ Some (shdr_of class n l.at h) | HeadTable ↦ None ]
 
--- the section headers, in the order of the parts
+-- the section headers, in the order of the parts, as they are read: the first says nothing of a section
 unfoldable pub made_headers : ElfClass → Object → List Shdr
 made_headers class n = filter_map (part_header class n) (laid_parts class n)
+
+-- the number of the header of the names of sections, where header 0 has it
+abbrev pub told_names : ℕ → ℕ
+told_names k = if nat_lt k FIRST_TOLD then 0 else k
+
+-- header 0 as it is written: where sections are many, it has their number, and that of the names of sections where the file header has no room
+abbrev pub zero_shdr : ElfClass → Object → Shdr
+zero_shdr class n = if is_big class then record null_shdr { sh_size = length (heads_of n); sh_link = told_names (head_where n is_shstrtab_head) } else null_shdr
+
+-- headers with another first one
+abbrev pub with_first : Shdr → List Shdr → List Shdr
+with_first first [] = []
+with_first first (s ∷ rest) = first ∷ rest
+
+-- the section headers as they are written
+unfoldable pub stored_headers : ElfClass → Object → List Shdr
+stored_headers class n = with_first (zero_shdr class n) (made_headers class n)

@@ -1,3 +1,4 @@
+pub mod CountLemmas
 pub mod AddedRelocs
 pub mod AddedSymbols
 pub mod AddedTables
@@ -18,9 +19,10 @@ pub mod HeaderLemmas
 pub mod JudgingLemmas
 pub mod KeyLemmas
 pub mod KeyedLemmas
+mod ManySections
 pub mod MarkLemmas
 pub mod NameLemmas
-mod Objects
+pub mod Objects
 pub mod PlaceLemmas
 pub mod PlacedEntries
 pub mod PositionLemmas

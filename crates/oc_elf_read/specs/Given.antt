@@ -9,7 +9,7 @@ use Rattle.oc_linking.specs.Fits.{bytes_of}
 use Rattle.oc_algebra.specs.Fields.{from_field_of}
 use Rattle.oc_algebra.specs.Residues.{reduced_number}
 use Rattle.oc_elf_read.specs.declared.class.ElfClass.{ElfClass}
-use Rattle.oc_elf_read.specs.declared.class.ElfClass.TheVariants.{Class32, Class64}
+use Rattle.oc_elf_read.specs.declared.class.ElfClass.TheVariants.{Class32, Class64, Big32, Big64}
 use Rattle.std.specs.List.{list_any}
 use Rattle.std.specs.Option.{option_map, option_map_or, option_and_then}
 use Rattle.oc_linking.specs.declared.terms.Keep.{Keep}
@@ -47,6 +47,8 @@ reloc_by f contents r = option_and_then (reloc_with f contents r) (row_for f r)
 abbrev pub addend_by : ElfClass → Width → List ℕ → Rel → ℤ
 addend_by Class32 width contents r = from_field_of W32 width (pos 0) (number_at contents r.r_offset (bytes_of width))
 addend_by Class64 width contents r = from_field_of W64 Eight (pos 0) r.r_addend
+addend_by Big32 width contents r = from_field_of W32 width (pos 0) (number_at contents r.r_offset (bytes_of width))
+addend_by Big64 width contents r = from_field_of W64 Eight (pos 0) r.r_addend
 
 -- the relocation of an entry with that meaning
 abbrev pub reloc_meant : Framed → List ℕ → Rel → Meaning → Option Reloc

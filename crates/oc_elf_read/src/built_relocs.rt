@@ -28,11 +28,13 @@ fn addend_of(class: ElfClass, contents: &[u8], width: Width, r: &Rel) -> i64
     ensures { result ≡ given.addend_by class width contents.now r.now }
 {
     match class {
-        ElfClass::Class32 => {
+        ElfClass::Class32 | ElfClass::Big32 => {
             let field = field_at(contents, r.r_offset as usize, width);
             from_field(class.word(), width, 0, field)
         }
-        ElfClass::Class64 => from_field(class.word(), Width::Eight, 0, r.r_addend),
+        ElfClass::Class64 | ElfClass::Big64 => {
+            from_field(class.word(), Width::Eight, 0, r.r_addend)
+        }
     }
 }
 

@@ -1,4 +1,4 @@
-//! The readers of both classes.
+//! The readers of objects with few sections, and the reading that all classes share.
 ghost use Rattle.std.specs.Prelude.{◌≡◌, ◌≤◌, length, None, IfErr, IfOk, OnOk};
 ghost use Rattle.oc_linking.specs.FirstFault.{first_fault};
 ghost use Rattle.oc_neutral.specs.Readable.{IsReadable, IsReadFault};
@@ -68,8 +68,19 @@ fn read_file(alloc: Global, class: ElfClass, file: &[u8], keep: &Keep) -> Result
     }
 }
 
-// reads a file, and tells its fault in the variant of its class
-fn read_elf(alloc: Global, class: ElfClass, bytes: &[u8], keep: &Keep) -> Result<Neutral, ReadFault>
+/// The object of an ELF file of that class, of at most 67,108,864 bytes: with all carried sections and
+/// symbols, and with the relocations of the sections that are kept (gABI, "Sections", "Symbol Table" and
+/// "Relocation").
+///
+/// Refused exactly where the file has a fault when it is read under `keep`, with the first one, in the
+/// variant of its class (`Malformed`, `Outside` or `Limit`); `NoMemory` where memory ran out. The time is
+/// that of `judge`, and linear in the bytes of the file.
+pub fn read_elf(
+    alloc: Global,
+    class: ElfClass,
+    bytes: &[u8],
+    keep: &Keep,
+) -> Result<Neutral, ReadFault>
     requires { length bytes.now ≤ 67108864 }
     ensures well_formed { OnOk result (fault_in class bytes.now keep.now ≡ None) }
     ensures shows { IfOk result (Shows (elf_dialect class) bytes.now keep.now) }

@@ -34,7 +34,7 @@ pub(crate) fn addend_of(class: ElfClass, reloc: Reloc) -> u64
     ensures { result ≡ bodies.addend_of class reloc }
 {
     match class {
-        ElfClass::Class32 => 0,
-        ElfClass::Class64 => residue(Word::W64, i128::from(reloc.addend)),
+        ElfClass::Class32 | ElfClass::Big32 => 0,
+        ElfClass::Class64 | ElfClass::Big64 => residue(Word::W64, i128::from(reloc.addend)),
     }
 }

@@ -32,7 +32,8 @@ fn group_of(neutral: &Neutral, head: Head) -> Option<u32>
 {
     match head {
         Head::Section(k) | Head::Relocs(k) => neutral.section(k).group,
-        Head::Null | Head::Group(_) | Head::Symtab | Head::Strtab | Head::Shstrtab => None,
+        Head::Null | Head::Group(_) | Head::Symtab | Head::Shndx | Head::Strtab | Head::Shstrtab =>
+            None,
     }
 }
 
@@ -56,7 +57,7 @@ pub(crate) fn words_of(
     heads: &[Head],
 ) -> Result<Vec<Vec<u32>>, NoMemory>
     requires heads { AreHeads neutral.now heads.now }
-    requires few { length heads.now < 2 ^ 16 }
+    requires few { length heads.now < 2 ^ 32 }
     ensures { IfOk result (λ words. items_of words.items ≡ all_words neutral.now) }
 {
     neutral.is_object();

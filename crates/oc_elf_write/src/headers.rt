@@ -1,10 +1,10 @@
 //! The file header and the section headers (gABI, "ELF Header", "Section Header" and "Section Groups").
-ghost use Rattle.std.specs.Prelude.{◌≡◌, ◌+◌, ◌/◌, ◌<◌, ◌≤◌, ◌^◌, ℕ, length, slice_get, Some, IsSome, IfOk};
+ghost use Rattle.std.specs.Prelude.{◌≡◌, ◌+◌, ◌-◌, if◌then◌else◌, ◌/◌, ◌<◌, ◌≤◌, ◌^◌, ℕ, length, slice_get, Some, IsSome, IfOk};
 ghost use Rattle.oc_neutral.specs.Fitted.{IsFitted};
 ghost use Rattle.oc_neutral.specs.Objects.{Object};
 ghost use Rattle.oc_shelf.specs.Writing.Parts.{place_where};
 ghost use Rattle.oc_neutral.specs.Elf.Kinds.{elf_tag_flags, elf_tag_type};
-ghost use Rattle.oc_elf_read.specs.Classes.{format_of, reloc_type};
+ghost use Rattle.oc_elf_read.specs.Classes.{format_of, is_big, reloc_type};
 ghost use Rattle.oc_elf_read.specs.Rel as sizes;
 ghost use Rattle.oc_elf_read.specs.Sym as sym_sizes;
 ghost use Rattle.oc_elf_file.specs.Structures as structures;
@@ -27,20 +27,42 @@ use crate::bodies::{Bodies, body_size};
 use crate::heads::{Head, section_number};
 use crate::names::{head_name, offset_in};
 use crate::numbers::Numbers;
-use crate::structures::word_bytes;
+use crate::structures::{has_room, word_bytes};
 use oc_base::NoMemory;
 use oc_elf_file::{SHF_GROUP, SHF_INFO_LINK};
 use oc_elf_read::{
-    ELFDATA2LSB, ET_REL, EV_CURRENT, Ehdr, ElfClass, GRP_ENTRY_SIZE, SHT_GROUP, SHT_STRTAB,
-    SHT_SYMTAB, Shdr, ehdr_size, null_shdr, rel_size, shdr_size, sym_size,
+    ELFDATA2LSB, ET_REL, EV_CURRENT, Ehdr, ElfClass, GRP_ENTRY_SIZE, SHN_XINDEX, SHNDX_SIZE,
+    SHT_GROUP, SHT_STRTAB, SHT_SYMTAB, SHT_SYMTAB_SHNDX, Shdr, ehdr_size, null_shdr, rel_size,
+    shdr_size, sym_size,
 };
 use oc_neutral::{Neutral, Section};
 use std::alloc::Global;
 
+// how many section headers there are, by the file header
+fn shown_count(class: ElfClass, heads: u32) -> u16
+    requires { canonical.shown_count class heads < 2 ^ 16 }
+    ensures { result ≡ canonical.shown_count class heads }
+{
+    if class.is_big() { 0 } else { heads as u16 }
+}
+
+// the number of the header of the names of sections, by the file header
+fn shown_names(class: ElfClass, number: u32) -> u16
+    requires { canonical.shown_names class number < 2 ^ 16 }
+    ensures { result ≡ canonical.shown_names class number }
+{
+    if class.is_big() && !has_room(number) {
+        SHN_XINDEX
+    } else {
+        number as u16
+    }
+}
+
 /// The header of a file with so many section headers, which begin at that place. Constant time.
-pub(crate) fn file_header(class: ElfClass, heads: usize, place: u64) -> Ehdr
+pub(crate) fn file_header(class: ElfClass, heads: u32, place: u64) -> Ehdr
     requires some { 1 ≤ heads }
-    requires few { heads < 2 ^ 16 }
+    requires count { canonical.shown_count class heads < 2 ^ 16 }
+    requires names { canonical.shown_names class (heads - 1) < 2 ^ 16 }
     ensures { (n : Object) → length (elf_heads.heads_of n) ≡ heads → place_where layout.is_head_table (layout.laid_parts class n) ≡ place → result ≡ canonical.file_header class n }
 {
     Ehdr {
@@ -52,9 +74,17 @@ pub(crate) fn file_header(class: ElfClass, heads: usize, place: u64) -> Ehdr
         e_shoff: place,
         e_ehsize: ehdr_size(class),
         e_shentsize: shdr_size(class),
-        e_shnum: heads as u16,
-        e_shstrndx: (heads - 1) as u16,
+        e_shnum: shown_count(class, heads),
+        e_shstrndx: shown_names(class, heads - 1),
     }
+}
+
+/// The number of the header of the symbol table, where there are so many headers. Constant time.
+pub(crate) fn symtab_number(class: ElfClass, heads: u32) -> u32
+    requires { 4 ≤ heads }
+    ensures { result + (if is_big class then 4 else 3) ≡ heads }
+{
+    if class.is_big() { heads - 4 } else { heads - 3 }
 }
 
 /// What is made of an object before its section headers.
@@ -70,6 +100,8 @@ pub(crate) struct Made<'a> {
     pub(crate) bodies: &'a Bodies,
     /// How many section headers there are.
     pub(crate) heads: u32,
+    /// The number of that of the symbol table.
+    pub(crate) symtab: u32,
 }
 
 // the header of a string table with that name, of so many bytes at a place; others differ from it
@@ -157,6 +189,53 @@ fn symtab_header(plain: Shdr, class: ElfClass, link: u32, inner: u32) -> Shdr
     }
 }
 
+// the header of the table of section numbers
+fn shndx_header(plain: Shdr, link: u32) -> Shdr
+    ensures { result ≡ record plain { sh_type = SHT_SYMTAB_SHNDX; sh_link = link; sh_addralign = SHNDX_SIZE; sh_entsize = SHNDX_SIZE } }
+{
+    Shdr {
+        sh_type: SHT_SYMTAB_SHNDX,
+        sh_link: link,
+        sh_addralign: SHNDX_SIZE,
+        sh_entsize: SHNDX_SIZE,
+        ..plain
+    }
+}
+
+// the number of the header of the names of sections, where header 0 has it
+fn told_names(number: u32) -> u32
+    ensures { result ≡ headers.told_names number }
+{
+    if has_room(number) { 0 } else { number }
+}
+
+// header 0, where there are so many
+fn zero_header(class: ElfClass, heads: u32) -> Shdr
+    requires { 1 ≤ heads }
+    ensures { (n : Object) → length (elf_heads.heads_of n) ≡ heads → result ≡ headers.zero_shdr class n }
+{
+    if class.is_big() {
+        Shdr {
+            sh_size: u64::from(heads),
+            sh_link: told_names(heads - 1),
+            ..null_shdr()
+        }
+    } else {
+        null_shdr()
+    }
+}
+
+// headers with another first one
+fn with_first(first: Shdr, shdrs: Vec<Shdr>) -> Vec<Shdr>
+    ensures { result.items ≡ headers.with_first first shdrs.items }
+{
+    let mut shdrs = shdrs;
+    if !shdrs.is_empty() {
+        shdrs[0] = first;
+    }
+    shdrs
+}
+
 // the number of the signature of the group at a position
 fn signature_of(neutral: &Neutral, made: Made<'_>, group: u32) -> u32
     requires ready { IsReady neutral.now }
@@ -179,14 +258,15 @@ fn header_by(class: ElfClass, neutral: &Neutral, made: Made<'_>, head: Head, pla
         Head::Null => null_shdr(),
         Head::Group(g) => {
             let signature = signature_of(neutral, made, g);
-            group_header(plain, made.heads - 3, signature)
+            group_header(plain, made.symtab, signature)
         }
         Head::Section(k) => section_header(plain, neutral.section(k)),
         Head::Relocs(k) => {
             let number = section_number(neutral, k);
-            table_header(plain, class, made.heads - 3, neutral.section(k), number)
+            table_header(plain, class, made.symtab, neutral.section(k), number)
         }
         Head::Symtab => symtab_header(plain, class, made.heads - 2, made.inner),
+        Head::Shndx => shndx_header(plain, made.symtab),
         Head::Strtab => plain,
         Head::Shstrtab => plain,
     }
@@ -215,10 +295,8 @@ fn header_of(
     Ok(header_by(class, neutral, made, head, plain))
 }
 
-/// The section headers of a file whose parts begin at these places. `NoMemory` where memory ran out.
-/// Linear in the headers, but for looking up names in the string table, each where the next given one
-/// stands.
-pub(crate) fn shdrs_of(
+// the section headers of a file whose parts begin at these places, the first of which says nothing
+fn shdrs_of(
     alloc: Global,
     class: ElfClass,
     neutral: &Neutral,
@@ -240,4 +318,27 @@ pub(crate) fn shdrs_of(
         shdrs.push(shdr)?;
     }
     Ok(shdrs)
+}
+
+/// The section headers of a file whose parts begin at these places, as they are written. `NoMemory`
+/// where memory ran out. Linear in the headers, but for looking up names in the string table, each where
+/// the next given one stands.
+#[tactic(auto, unfolding(oc_elf_file::specs::Headers::stored_headers))]
+pub(crate) fn stored_shdrs(
+    alloc: Global,
+    class: ElfClass,
+    neutral: &Neutral,
+    made: Made<'_>,
+    heads: &[Head],
+    places: &[u64],
+) -> Result<Vec<Shdr>, NoMemory>
+    requires fitted { IsFitted (format_of class) neutral.now }
+    requires made { IsMadeOf class neutral.now made }
+    requires some { 1 ≤ made.heads }
+    requires heads { AreHeads neutral.now heads.now }
+    requires places { places.now ≡ begins_by class neutral.now (layout.parts_of neutral.now) }
+    ensures { IfOk result (λ shdrs. shdrs.items ≡ headers.stored_headers class neutral.now) }
+{
+    let shdrs = shdrs_of(alloc, class, neutral, made, heads, places)?;
+    Ok(with_first(zero_header(class, made.heads), shdrs))
 }

@@ -1,5 +1,5 @@
-//! The writers of ELF: the symbol table and the string tables of an object, the layout of its file, and
-//! the plan, which gives any window of the file.
+//! Writing ELF: the symbol table and the string tables of an object, the layout of its file, and the
+//! plan, which gives any window of the file; and the writers of objects with few sections.
 #![tactic(auto)]
 
 mod bodies;
@@ -24,4 +24,5 @@ mod values;
 mod writer;
 
 pub use plan::Plan;
+pub use planning::plan_object;
 pub use writer::{ElfWriter32, ElfWriter64};

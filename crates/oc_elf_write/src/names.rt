@@ -25,8 +25,8 @@ fn reloc_prefix(class: ElfClass) -> &'static [u8]
     ensures { result.now ≡ elf_heads.reloc_prefix class }
 {
     match class {
-        ElfClass::Class32 => b".rel",
-        ElfClass::Class64 => b".rela",
+        ElfClass::Class32 | ElfClass::Big32 => b".rel",
+        ElfClass::Class64 | ElfClass::Big64 => b".rela",
     }
 }
 
@@ -56,6 +56,7 @@ pub(crate) fn head_name(
         Head::Section(k) => Bytes::from_slice(alloc, neutral.section(k).name.as_slice()),
         Head::Relocs(k) => table_name(alloc, class, neutral.section(k).name.as_slice()),
         Head::Symtab => Bytes::from_slice(alloc, b".symtab"),
+        Head::Shndx => Bytes::from_slice(alloc, b".symtab_shndx"),
         Head::Strtab => Bytes::from_slice(alloc, b".strtab"),
         Head::Shstrtab => Bytes::from_slice(alloc, b".shstrtab"),
     }

@@ -1,11 +1,12 @@
 //! Planning the canonical ELF file of an object that is ready to be written.
 ghost use Rattle.std.specs.Prelude.{◌≡◌, IfOk, map};
 ghost use Rattle.oc_elf_read.specs.Classes.{format_of};
-ghost use Rattle.oc_elf_write.specs.Plans.{elf_pieces};
+ghost use Rattle.oc_shelf.specs.Writing.Parts.{file_of};
+ghost use Rattle.oc_elf_file.specs.Canonical.{elf_file};
 ghost use Rattle.oc_elf_write.specs.Raws.{all_raws};
 
 use crate::bodies::bodies_of;
-use crate::headers::{Made, file_header, shdrs_of};
+use crate::headers::{Made, file_header, stored_shdrs, symtab_number};
 use crate::heads::heads_of;
 use crate::keys::keys_of;
 use crate::layout::layout_of;
@@ -27,12 +28,13 @@ fn sections_of(class: ElfClass, neutral: Neutral) -> Vec<Section>
     with_addends(class, &relocs, sections)
 }
 
-/// The plan of the canonical ELF file of an object that is ready to be written. `NoMemory` where memory
-/// ran out. Linear in the object, but for looking up names in the string tables; what the plan does not
-/// need of the object is given back.
-pub(crate) fn plan_object(alloc: Global, class: ElfClass, fitted: Fitted) -> Result<Plan, NoMemory>
+/// The plan of the canonical ELF file of that class of an object that is ready to be written (gABI,
+/// "Sections", "Symbol Table" and "Relocation"; our profile). `NoMemory` exactly where memory ran out.
+/// Linear in the object, but for looking up names in the string tables; what the plan does not need of
+/// the object is given back.
+pub fn plan_object(alloc: Global, class: ElfClass, fitted: Fitted) -> Result<Plan, NoMemory>
     requires { fitted.format ≡ format_of class }
-    ensures { IfOk result (λ plan. plan ≡ elf_pieces class fitted) }
+    ensures { IfOk result (λ plan. file_of plan ≡ elf_file class fitted) }
 {
     fitted.is_fitted();
     let neutral = fitted.neutral();
@@ -42,15 +44,17 @@ pub(crate) fn plan_object(alloc: Global, class: ElfClass, fitted: Fitted) -> Res
     let numbers = Numbers::of(alloc, neutral, &lines.all)?;
     let bodies = bodies_of(alloc, class, neutral, &heads, &lines.all, &numbers)?;
     let extents = layout_of(alloc, class, neutral, &bodies, &heads)?;
+    let count = heads.len() as u32;
     let made = Made {
         keys: &keys,
         numbers: &numbers,
         inner: lines.inner as u32,
         bodies: &bodies,
-        heads: heads.len() as u32,
+        heads: count,
+        symtab: symtab_number(class, count),
     };
-    let shdrs = shdrs_of(alloc, class, neutral, made, &heads, &extents.layout.places)?;
-    let ehdr = file_header(class, heads.len(), extents.layout.places[1 + heads.len()]);
+    let shdrs = stored_shdrs(alloc, class, neutral, made, &heads, &extents.layout.places)?;
+    let ehdr = file_header(class, count, extents.layout.places[1 + heads.len()]);
     let sections = sections_of(class, fitted.into_neutral());
     Ok(Plan::new(class, ehdr, heads, shdrs, sections, bodies, extents))
 }

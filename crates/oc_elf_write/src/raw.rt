@@ -31,7 +31,7 @@ pub(crate) fn with_addends(class: ElfClass, relocs: &Relocs, sections: Vec<Secti
     ensures { result.items ≡ with_addends class relocs.now.lists sections.items }
 {
     match class {
-        ElfClass::Class32 => with_numbers(&Addends, relocs, sections),
-        ElfClass::Class64 => sections,
+        ElfClass::Class32 | ElfClass::Big32 => with_numbers(&Addends, relocs, sections),
+        ElfClass::Class64 | ElfClass::Big64 => sections,
     }
 }

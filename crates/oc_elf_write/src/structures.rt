@@ -1,16 +1,23 @@
 //! ELF structures as bytes (gABI, "ELF Header", "Section Header", "Symbol Table" and "Relocation").
-ghost use Rattle.std.specs.Prelude.{◌≡◌, ◌+◌, ◌*◌, ◌≤◌, ◌++◌, [], ◌∷◌, length};
+ghost use Rattle.std.specs.Prelude.{◌≡◌, ◌+◌, ◌*◌, ◌≤◌, ◌++◌, [], ◌∷◌, nat_lt, length};
 ghost use Rattle.oc_base.specs.Numbers.{bytes_of_number};
 ghost use Rattle.oc_shelf.specs.Writing.Packed.{packed};
 ghost use Rattle.oc_shelf.specs.declared.writing.rows.TheConstants.{ROW};
 ghost use Rattle.oc_elf_file.specs.Structures as structures;
 
-use oc_elf_file::{ELFCLASS32, ELFCLASS64};
-use oc_elf_read::{Ehdr, ElfClass, Rel, Shdr, Sym};
+use oc_elf_file::{ELFCLASS32, ELFCLASS64, FIRST_TOLD};
+use oc_elf_read::{Ehdr, ElfClass, Rel, SHN_LORESERVE, SHN_XINDEX, Shdr, Sym};
 use oc_shelf::Packed;
 
 /// The first bytes of every file (gABI, "ELF Identification").
 const ELFMAG: [u8; 4] = *b"\x7fELF";
+
+/// Whether 16 bits have room for a section number. Constant time.
+pub(crate) fn has_room(number: u32) -> bool
+    ensures { result ≡ nat_lt number FIRST_TOLD }
+{
+    number < FIRST_TOLD
+}
 
 /// The size of an address and an offset, in bytes: tables stand at multiples of it. Constant time.
 pub(crate) fn word_bytes(class: ElfClass) -> u64
@@ -18,8 +25,8 @@ pub(crate) fn word_bytes(class: ElfClass) -> u64
     ensures low { result ≤ 8 }
 {
     match class {
-        ElfClass::Class32 => 4,
-        ElfClass::Class64 => 8,
+        ElfClass::Class32 | ElfClass::Big32 => 4,
+        ElfClass::Class64 | ElfClass::Big64 => 8,
     }
 }
 
@@ -50,8 +57,8 @@ fn put_word(out: &mut Packed, class: ElfClass, x: u64)
     ensures long { length out.new ≡ length out.old + structures.word_bytes class }
 {
     match class {
-        ElfClass::Class32 => put_low(out, x),
-        ElfClass::Class64 => put_u64(out, x),
+        ElfClass::Class32 | ElfClass::Big32 => put_low(out, x),
+        ElfClass::Class64 | ElfClass::Big64 => put_u64(out, x),
     }
 }
 
@@ -60,8 +67,8 @@ fn ei_class(class: ElfClass) -> u8
     ensures { result ≡ structures.ei_class_of class }
 {
     match class {
-        ElfClass::Class32 => ELFCLASS32,
-        ElfClass::Class64 => ELFCLASS64,
+        ElfClass::Class32 | ElfClass::Big32 => ELFCLASS32,
+        ElfClass::Class64 | ElfClass::Big64 => ELFCLASS64,
     }
 }
 
@@ -174,10 +181,42 @@ pub(crate) fn pack_shdr(class: ElfClass, shdr: &Shdr) -> Packed
     out
 }
 
-// a symbol table entry of ELF32
-#[tactic(auto, unfolding(oc_elf_file::specs::Structures::sym_bytes))]
-fn pack_sym32(sym: &Sym) -> Packed
-    ensures { result ≡ structures.sym_bytes ElfClass.Class32 sym.now }
+// the section number stands elsewhere than in the entry
+fn is_told(number: u32) -> bool
+    ensures { result ≡ structures.is_told number }
+{
+    !has_room(number) && number < SHN_LORESERVE
+}
+
+// the section number in an entry: the number, or that it stands elsewhere
+fn stored_index(class: ElfClass, number: u32) -> u16
+    ensures { result ≡ structures.stored_index class number }
+{
+    if class.is_big() && is_told(number) {
+        SHN_XINDEX
+    } else {
+        (number % 0x1_0000) as u16
+    }
+}
+
+// and in the table of section numbers
+fn told_index(number: u32) -> u32
+    ensures { result ≡ structures.told_index number }
+{
+    if is_told(number) { number } else { 0 }
+}
+
+/// An entry of the table of section numbers. Constant time.
+#[tactic(auto, unfolding(oc_elf_file::specs::Structures::index_bytes))]
+pub(crate) fn pack_index(sym: &Sym) -> Packed
+    ensures { result ≡ structures.index_bytes sym.now }
+{
+    pack_word(told_index(sym.st_shndx))
+}
+
+// a symbol table entry of ELF32, with its section number
+fn pack_sym32(sym: &Sym, index: u16) -> Packed
+    ensures { result ≡ packed ((4, sym.now.st_name) ∷ (4, sym.now.st_value) ∷ (4, sym.now.st_size) ∷ (1, sym.now.st_info) ∷ (1, sym.now.st_other) ∷ (2, index) ∷ []) }
 {
     let mut out = Packed::new();
     out.put_u32(sym.st_name);
@@ -185,32 +224,33 @@ fn pack_sym32(sym: &Sym) -> Packed
     put_low(&mut out, sym.st_size);
     out.put_u8(sym.st_info);
     out.put_u8(sym.st_other);
-    out.put_u16(sym.st_shndx);
+    out.put_u16(index);
     out
 }
 
-// a symbol table entry of ELF64
-#[tactic(auto, unfolding(oc_elf_file::specs::Structures::sym_bytes))]
-fn pack_sym64(sym: &Sym) -> Packed
-    ensures { result ≡ structures.sym_bytes ElfClass.Class64 sym.now }
+// a symbol table entry of ELF64, with its section number
+fn pack_sym64(sym: &Sym, index: u16) -> Packed
+    ensures { result ≡ packed ((4, sym.now.st_name) ∷ (1, sym.now.st_info) ∷ (1, sym.now.st_other) ∷ (2, index) ∷ (8, sym.now.st_value) ∷ (8, sym.now.st_size) ∷ []) }
 {
     let mut out = Packed::new();
     out.put_u32(sym.st_name);
     out.put_u8(sym.st_info);
     out.put_u8(sym.st_other);
-    out.put_u16(sym.st_shndx);
+    out.put_u16(index);
     put_u64(&mut out, sym.st_value);
     put_u64(&mut out, sym.st_size);
     out
 }
 
 /// A symbol table entry. Constant time.
+#[tactic(auto, unfolding(oc_elf_file::specs::Structures::sym_bytes))]
 pub(crate) fn pack_sym(class: ElfClass, sym: &Sym) -> Packed
     ensures { result ≡ structures.sym_bytes class sym.now }
 {
+    let index = stored_index(class, sym.st_shndx);
     match class {
-        ElfClass::Class32 => pack_sym32(sym),
-        ElfClass::Class64 => pack_sym64(sym),
+        ElfClass::Class32 | ElfClass::Big32 => pack_sym32(sym, index),
+        ElfClass::Class64 | ElfClass::Big64 => pack_sym64(sym, index),
     }
 }
 
@@ -239,12 +279,13 @@ fn pack_rel64(rel: Rel) -> Packed
 }
 
 /// A relocation entry. Constant time.
+#[tactic(auto, unfolding(oc_elf_file::specs::Structures::rel_bytes))]
 pub(crate) fn pack_rel(class: ElfClass, rel: Rel) -> Packed
     ensures { result ≡ structures.rel_bytes class rel }
 {
     match class {
-        ElfClass::Class32 => pack_rel32(rel),
-        ElfClass::Class64 => pack_rel64(rel),
+        ElfClass::Class32 | ElfClass::Big32 => pack_rel32(rel),
+        ElfClass::Class64 | ElfClass::Big64 => pack_rel64(rel),
     }
 }
 

@@ -5,10 +5,12 @@ ghost use Rattle.oc_outside.specs.Windows.{IsFilled};
 ghost use Rattle.oc_shelf.specs.Writing.Parts.{table_of};
 ghost use Rattle.oc_elf_file.specs.Groups.{group_bytes};
 ghost use Rattle.oc_elf_file.specs.Layout.{strings_of};
-ghost use Rattle.oc_elf_file.specs.Structures.{rel_bytes, shdr_bytes, sym_bytes};
+ghost use Rattle.oc_elf_file.specs.Structures.{index_bytes, rel_bytes, shdr_bytes, sym_bytes};
 
-use crate::structures::{pack_rel, pack_shdr, pack_sym, pack_word};
-use oc_elf_read::{ElfClass, GRP_ENTRY_SIZE, Rel, Shdr, Sym, rel_size, shdr_size, sym_size};
+use crate::structures::{pack_index, pack_rel, pack_shdr, pack_sym, pack_word};
+use oc_elf_read::{
+    ElfClass, GRP_ENTRY_SIZE, Rel, SHNDX_SIZE, Shdr, Sym, rel_size, shdr_size, sym_size,
+};
 use oc_shelf::{WritesRows, copy_window, rows_window};
 use oc_strings::Table;
 
@@ -80,6 +82,41 @@ pub(crate) fn syms_window(class: ElfClass, syms: &[Sym], from: u64, out: &mut [u
     ensures { IsFilled (table_of (map (sym_bytes class) syms.now)) from out.old out.new result }
 {
     rows_window(&SymRows { class, syms }, from, out)
+}
+
+/// The entries of the table of section numbers.
+#[derive(Drop)]
+struct IndexRows<'a> {
+    syms: &'a [Sym],
+}
+
+impl WritesRows for IndexRows<'_> {
+    ghost use Rattle.std.specs.Prelude.{map};
+    ghost use Rattle.oc_elf_file.specs.Structures.{index_bytes};
+
+    ghost rows = { λ t. map index_bytes t.syms.now };
+
+    fn count(&self) -> usize {
+        self.syms.len()
+    }
+
+    fn size(&self) -> usize {
+        let _ = &self.syms;
+        SHNDX_SIZE as usize
+    }
+
+    fn put_row(&self, k: usize, out: &mut [u8]) {
+        out.copy_from_slice(pack_index(&self.syms[k]).as_slice());
+    }
+}
+
+/// A window of the table of section numbers, as `copy_window` gives it. The time is that of the entries
+/// that meet the window.
+pub(crate) fn indexes_window(syms: &[Sym], from: u64, out: &mut [u8]) -> usize
+    requires { length (table_of (map index_bytes syms.now)) < 2 ^ 64 }
+    ensures { IsFilled (table_of (map index_bytes syms.now)) from out.old out.new result }
+{
+    rows_window(&IndexRows { syms }, from, out)
 }
 
 /// The relocation entries of a section.

@@ -19,7 +19,7 @@ pub(crate) struct Stood {
     /// An offset in the section, an absolute number or an alignment.
     pub(crate) st_value: u64,
     /// The number of the section header, or one of the constants `SHN_*`.
-    pub(crate) st_shndx: u16,
+    pub(crate) st_shndx: u32,
 }
 
 /// What is defined elsewhere.
@@ -30,19 +30,17 @@ const ELSEWHERE: Stood = Stood {
 
 // a place in a section
 fn at_place(neutral: &Neutral, section: u32, offset: u32) -> Stood
-    requires few { length neutral.now.groups + 1 + length neutral.now.sections < 2 ^ 16 }
     requires there { section < length neutral.now.sections }
     ensures { AreStood result (symbols.stood_at neutral.now section offset) }
 {
     Stood {
         st_value: u64::from(offset),
-        st_shndx: section_number(neutral, section) as u16,
+        st_shndx: section_number(neutral, section),
     }
 }
 
 // a value
 fn of_value(neutral: &Neutral, value: Value) -> Stood
-    requires few { length neutral.now.groups + 1 + length neutral.now.sections < 2 ^ 16 }
     requires there { IsValue neutral.now value }
     ensures { AreStood result (symbols.stood_by neutral.now value) }
 {
@@ -71,7 +69,6 @@ fn global_place(binding: Binding) -> Option<(u32, u32)>
 
 // the place of the Global that a fallback names
 fn of_named(neutral: &Neutral, place: Option<(u32, u32)>) -> Stood
-    requires few { length neutral.now.groups + 1 + length neutral.now.sections < 2 ^ 16 }
     requires there { IfSome place (λ p. p.0 < length neutral.now.sections) }
     ensures { AreStood result (option_map_or (λ (p : Held). symbols.stood_at neutral.now p.0 p.1) place symbols.stood_elsewhere) }
 {
@@ -83,7 +80,6 @@ fn of_named(neutral: &Neutral, place: Option<(u32, u32)>) -> Stood
 
 // a fallback; a Name stands where its Global does
 fn of_fallback(neutral: &Neutral, fallback: Fallback) -> Stood
-    requires few { length neutral.now.groups + 1 + length neutral.now.sections < 2 ^ 16 }
     requires there { IsFallback neutral.now fallback }
     ensures { AreStood result (symbols.stood_for neutral.now fallback) }
 {
@@ -97,7 +93,6 @@ fn of_fallback(neutral: &Neutral, fallback: Fallback) -> Stood
 
 /// The value of a symbol. Constant time.
 pub(crate) fn of_binding(neutral: &Neutral, binding: Binding) -> Stood
-    requires few { length neutral.now.groups + 1 + length neutral.now.sections < 2 ^ 16 }
     requires there { IsBinding neutral.now binding }
     ensures { AreStood result (symbols.stood_of neutral.now binding) }
 {

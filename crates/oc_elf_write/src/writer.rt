@@ -1,4 +1,4 @@
-//! The writers of ELF.
+//! The writers of ELF with few sections.
 ghost use Rattle.oc_elf_read.specs.declared.class.ElfClass.TheVariants.{Class32, Class64};
 ghost use Rattle.oc_elf_read.specs.Elf.{elf_dialect};
 ghost use Rattle.oc_elf_file.specs.Canonical.{elf_file};
@@ -27,8 +27,7 @@ impl Writes for ElfWriter32 {
     ghost canonical = { elf_file Class32 };
 
     fn plan(&self, alloc: Global, fitted: Fitted) -> Result<Plan, NoMemory> {
-        let plan = plan_object(alloc, ElfClass::Class32, fitted)?;
-        Ok(plan)
+        plan_object(alloc, ElfClass::Class32, fitted)
     }
 
     ghost law = { writes_elf Class32 };
@@ -42,8 +41,7 @@ impl Writes for ElfWriter64 {
     ghost canonical = { elf_file Class64 };
 
     fn plan(&self, alloc: Global, fitted: Fitted) -> Result<Plan, NoMemory> {
-        let plan = plan_object(alloc, ElfClass::Class64, fitted)?;
-        Ok(plan)
+        plan_object(alloc, ElfClass::Class64, fitted)
     }
 
     ghost law = { writes_elf Class64 };

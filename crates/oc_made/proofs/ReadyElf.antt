@@ -79,10 +79,12 @@ module _ (count : ℕ) (few : count ≤ 100000) where
   headers_few : (w : Word) → first_broken (section_count (to w) (n w)) ≡ None
   headers_few W32 =
       let c = count_by-le-length (is_relocated (to W32) (n W32)) (range_with_len 0 1) in
-      met _ _ (le-ltb 65279 (header_count (is_relocated (to W32) (n W32)) (n W32)) (omega (arith, c)))
+      let counted = header_count false (is_relocated (to W32) (n W32)) (n W32) in
+      both_met _ _ _ _ (le-ltb counted 0 (omega arith)) (le-ltb 65279 counted (omega (arith, c)))
   headers_few W64 =
       let c = count_by-le-length (is_relocated (to W64) (n W64)) (range_with_len 0 1) in
-      met _ _ (le-ltb 65279 (header_count (is_relocated (to W64) (n W64)) (n W64)) (omega (arith, c)))
+      let counted = header_count false (is_relocated (to W64) (n W64)) (n W64) in
+      both_met _ _ _ _ (le-ltb counted 0 (omega arith)) (le-ltb 65279 counted (omega (arith, c)))
 
   -- the section meets its conditions
   section_met : (w : Word) (i : ℕ) → first_broken (conditions_at (to w) (n w) i) ≡ None

@@ -1,20 +1,25 @@
--- Each piece is that of the canonical file.
-use Rattle.std.proofs.Common.{◌≡◌, ◌+◌, length, get_or, rules, sym, ◌∙◌, ap, subst, arith}
+-- The pieces of the plan are those of the canonical file.
+use Rattle.std.proofs.Common.{◌≡◌, ℕ, ◌+◌, ◌-◌, ◌^◌, ◌<◌, cond, length, get_or, rules, sym, ◌∙◌, ap, subst, arith}
 use Rattle.oc_neutral.specs.Fitted.{IsFitted}
 use Rattle.oc_neutral.specs.Objects.{Object}
-use Rattle.oc_elf_read.specs.Classes.{format_of}
-use Rattle.oc_shelf.specs.Writing.Parts.{place_where}
-use Rattle.oc_elf_file.specs.Heads.{heads_of}
+use Rattle.oc_elf_read.specs.Classes.{format_of, is_big}
+use Rattle.oc_shelf.specs.Writing.Parts.{file_of, place_where}
+use Rattle.oc_elf_file.specs.Heads.{heads_of, head_where, is_shstrtab_head}
+use Rattle.oc_neutral.specs.Families.{is_many}
+use Rattle.oc_elf_file.specs.Canonical.{shown_count, shown_names}
 use Rattle.oc_elf_file.specs.Layout.{is_head_table, laid_parts}
-use Rattle.oc_elf_file.proofs.CodedLaws.{for_elf}
-use Rattle.oc_elf_file.proofs.FileSize.{few_heads, few_lines, length-heads}
+use Rattle.oc_elf_file.proofs.CodedLaws.{for_elf, many_is}
+use Rattle.oc_elf_file.proofs.HeaderFits.{count_low, names_low}
+use Rattle.oc_elf_file.proofs.FileSize.{few_lines}
+use Rattle.oc_elf_file.proofs.HeadCounts.{few_heads, length-heads}
 use Rattle.oc_elf_write.specs.Keys.{AreKeys}
 use Rattle.oc_elf_write.specs.Plans.{elf_pieces}
 use Rattle.oc_elf_write.specs.Raws.{all_raws}
 use Rattle.oc_elf_write.proofs.HeadLemmas.{as_many_heads}
+use Rattle.oc_elf_write.proofs.HeaderLemmas.{symtab_number, shstrtab_number, many_heads}
 use Rattle.oc_elf_write.proofs.LaidLemmas.{places_many, table_place}
 use Rattle.oc_elf_write.proofs.LineLemmas.{as_many_lines, inner_low}
-use Rattle.oc_elf_write.proofs.PlannedLemmas.{pieces_are, plan_is}
+use Rattle.oc_elf_write.proofs.PlannedLemmas.{file_is, pieces_are, plan_is}
 use Rattle.oc_elf_write.proofs.planning.plan_object.Goals as goal
 
 pub of-requires-clause-few : goal.of-requires-clause-few
@@ -63,8 +68,8 @@ overflow_cast-made c =
     let inner = c.in_ok-lines.ensures.inner in
     omega (arith, few, counted, all, symbols, low, inner)
 
-pub overflow_cast-made-2 : goal.overflow_cast-made-2
-overflow_cast-made-2 c =
+pub overflow_cast-count : goal.overflow_cast-count
+overflow_cast-count c =
     let class = c.args.class in
     let m : Object = c.neutral-neutral.result.now in
     let same : m ≡ c.args.fitted = c.neutral-neutral.ensures in
@@ -73,11 +78,11 @@ overflow_cast-made-2 c =
     let heads = as_many_heads m c.in_ok-heads.heads.items c.in_ok-heads.ensures in
     let few = few_heads class m is in
     let counted = length-heads class m is in
-    let long : c.len.result ≡ length c.in_ok-heads.heads.items = search rules in
+    let long : c.len-count.result ≡ length c.in_ok-heads.heads.items = search rules in
     omega (arith, heads, few, long)
 
-pub shdrs_of-requires-clause-made : goal.shdrs_of-requires-clause-made
-shdrs_of-requires-clause-made c =
+pub stored_shdrs-requires-clause-made : goal.stored_shdrs-requires-clause-made
+stored_shdrs-requires-clause-made c =
     let class = c.args.class in
     let m : Object = c.neutral-neutral.result.now in
     let same : m ≡ c.args.fitted = c.neutral-neutral.ensures in
@@ -86,13 +91,17 @@ shdrs_of-requires-clause-made c =
     let heads = as_many_heads m c.in_ok-heads.heads.items c.in_ok-heads.ensures in
     let few = few_heads class m is in
     let counted = length-heads class m is in
-    let long : c.len.result ≡ length c.in_ok-heads.heads.items = search rules in
+    let long : c.len-count.result ≡ length c.in_ok-heads.heads.items = search rules in
+    let number = c.symtab_number.ensures in
+    let place = symtab_number m in
+    let same_tables : cond {A = ℕ} (is_many m.format) 4 3 ≡ cond {A = ℕ} (is_big class) 4 3 = ap (λ b. cond {A = ℕ} b 4 3) (many_is class m is) in
     record {
       keys = subst (AreKeys m) (sym c.deref-6.ensures.value) c.in_ok-keys.ensures;
       numbers = c.in_ok-numbers.ensures;
       inner = c.in_ok-lines.ensures.inner;
       bodies = c.in_ok-bodies.ensures;
       heads = long ∙ heads;
+      symtab = omega (arith, number, place, same_tables, long, heads);
     }
 
 pub index-requires : goal.index-requires
@@ -100,7 +109,7 @@ index-requires c =
     let class = c.args.class in
     let m : Object = c.neutral-neutral.result.now in
     let heads = as_many_heads m c.in_ok-heads.heads.items c.in_ok-heads.ensures in
-    let long : c.len-3.result ≡ length c.in_ok-heads.heads.items = search rules in
+    let long : c.len.result ≡ length c.in_ok-heads.heads.items = search rules in
     let begins = ap length c.in_ok-extents.ensures.begins in
     let many = places_many class m in
     omega (arith, heads, long, begins, many)
@@ -115,22 +124,40 @@ file_header-ehdr-requires-clause-some c =
     let heads = as_many_heads m c.in_ok-heads.heads.items c.in_ok-heads.ensures in
     let few = few_heads class m is in
     let counted = length-heads class m is in
-    let long : c.len-2.result ≡ length c.in_ok-heads.heads.items = search rules in
-    let counted = length-heads class m is in
+    let long : c.len-count.result ≡ length c.in_ok-heads.heads.items = search rules in
     omega (arith, heads, counted, long)
 
-pub file_header-ehdr-requires-clause-few : goal.file_header-ehdr-requires-clause-few
-file_header-ehdr-requires-clause-few c =
+pub file_header-ehdr-requires-clause-count : goal.file_header-ehdr-requires-clause-count
+file_header-ehdr-requires-clause-count c =
     let class = c.args.class in
     let m : Object = c.neutral-neutral.result.now in
     let same : m ≡ c.args.fitted = c.neutral-neutral.ensures in
     let fit : IsFitted (format_of class) m = subst (λ (x : Object). IsFitted (format_of class) x) (sym same) (subst (λ f. IsFitted f c.args.fitted) c.requires c.is_fitted.ensures) in
     let is = for_elf class m fit in
     let heads = as_many_heads m c.in_ok-heads.heads.items c.in_ok-heads.ensures in
-    let few = few_heads class m is in
-    let counted = length-heads class m is in
-    let long : c.len-2.result ≡ length c.in_ok-heads.heads.items = search rules in
-    omega (arith, heads, few, long)
+    let long : c.len-count.result ≡ length c.in_ok-heads.heads.items = search rules in
+    subst (λ k. shown_count class k < 2 ^ 16) (sym (long ∙ heads)) (count_low class m is)
+
+pub file_header-ehdr-requires-clause-names : goal.file_header-ehdr-requires-clause-names
+file_header-ehdr-requires-clause-names c =
+    let class = c.args.class in
+    let m : Object = c.neutral-neutral.result.now in
+    let same : m ≡ c.args.fitted = c.neutral-neutral.ensures in
+    let fit : IsFitted (format_of class) m = subst (λ (x : Object). IsFitted (format_of class) x) (sym same) (subst (λ f. IsFitted f c.args.fitted) c.requires c.is_fitted.ensures) in
+    let is = for_elf class m fit in
+    let heads = as_many_heads m c.in_ok-heads.heads.items c.in_ok-heads.ensures in
+    let long : c.len-count.result ≡ length c.in_ok-heads.heads.items = search rules in
+    let place = shstrtab_number m in
+    let last : head_where m is_shstrtab_head ≡ c.len-count.result - 1 = omega (arith, place, heads, long) in
+    subst (λ k. shown_names class k < 2 ^ 16) last (names_low class m is)
+
+pub symtab_number-requires : goal.symtab_number-requires
+symtab_number-requires c =
+    let m : Object = c.neutral-neutral.result.now in
+    let heads = as_many_heads m c.in_ok-heads.heads.items c.in_ok-heads.ensures in
+    let long : c.len-count.result ≡ length c.in_ok-heads.heads.items = search rules in
+    let many = many_heads m in
+    omega (arith, heads, long, many)
 
 pub new-requires : goal.new-requires
 new-requires c =
@@ -140,11 +167,11 @@ new-requires c =
     let fit : IsFitted (format_of class) m = subst (λ (x : Object). IsFitted (format_of class) x) (sym same) (subst (λ f. IsFitted f c.args.fitted) c.requires c.is_fitted.ensures) in
     let raws = c.sections_of-sections.ensures ∙ ap (all_raws class) (c.into_neutral.ensures ∙ sym same) in
     let heads = as_many_heads m c.in_ok-heads.heads.items c.in_ok-heads.ensures in
-    let long : c.len-2.result ≡ length c.in_ok-heads.heads.items = search rules in
-    let long-3 : c.len-3.result ≡ length c.in_ok-heads.heads.items = search rules in
-    let many : length (heads_of m) ≡ c.len-2.result = sym (long ∙ heads) in
-    let index : 1 + c.len-3.result ≡ 1 + length (heads_of m) = ap (λ k. 1 + k) (long-3 ∙ heads) in
-    let place : place_where is_head_table (laid_parts class m) ≡ c.index.result.now = sym (c.index.ensures ∙ ap (λ ps. get_or ps (1 + c.len-3.result) c.index.result.now) c.in_ok-extents.ensures.begins ∙ table_place class m (1 + c.len-3.result) c.index.result.now index) in
+    let long : c.len-count.result ≡ length c.in_ok-heads.heads.items = search rules in
+    let long-3 : c.len.result ≡ length c.in_ok-heads.heads.items = search rules in
+    let many : length (heads_of m) ≡ c.len-count.result = sym (long ∙ heads) in
+    let index : 1 + c.len.result ≡ 1 + length (heads_of m) = ap (λ k. 1 + k) (long-3 ∙ heads) in
+    let place : place_where is_head_table (laid_parts class m) ≡ c.index.result.now = sym (c.index.ensures ∙ ap (λ ps. get_or ps (1 + c.len.result) c.index.result.now) c.in_ok-extents.ensures.begins ∙ table_place class m (1 + c.len.result) c.index.result.now index) in
     let ehdr = c.file_header-ehdr.ensures m many place in
     plan_is class m c.in_ok-heads.heads.items c.in_ok-heads.ensures c.in_ok-shdrs.shdrs.items c.in_ok-shdrs.ensures
     c.sections_of-sections.result.items raws c.in_ok-bodies.bodies c.in_ok-bodies.ensures c.file_header-ehdr.result ehdr
@@ -158,14 +185,15 @@ returns c =
     let same : m ≡ c.args.fitted = c.neutral-neutral.ensures in
     let raws = c.sections_of-sections.ensures ∙ ap (all_raws class) (c.into_neutral.ensures ∙ sym same) in
     let heads = as_many_heads m c.in_ok-heads.heads.items c.in_ok-heads.ensures in
-    let long : c.len-2.result ≡ length c.in_ok-heads.heads.items = search rules in
-    let long-3 : c.len-3.result ≡ length c.in_ok-heads.heads.items = search rules in
-    let many : length (heads_of m) ≡ c.len-2.result = sym (long ∙ heads) in
-    let index : 1 + c.len-3.result ≡ 1 + length (heads_of m) = ap (λ k. 1 + k) (long-3 ∙ heads) in
-    let place : place_where is_head_table (laid_parts class m) ≡ c.index.result.now = sym (c.index.ensures ∙ ap (λ ps. get_or ps (1 + c.len-3.result) c.index.result.now) c.in_ok-extents.ensures.begins ∙ table_place class m (1 + c.len-3.result) c.index.result.now index) in
+    let long : c.len-count.result ≡ length c.in_ok-heads.heads.items = search rules in
+    let long-3 : c.len.result ≡ length c.in_ok-heads.heads.items = search rules in
+    let many : length (heads_of m) ≡ c.len-count.result = sym (long ∙ heads) in
+    let index : 1 + c.len.result ≡ 1 + length (heads_of m) = ap (λ k. 1 + k) (long-3 ∙ heads) in
+    let place : place_where is_head_table (laid_parts class m) ≡ c.index.result.now = sym (c.index.ensures ∙ ap (λ ps. get_or ps (1 + c.len.result) c.index.result.now) c.in_ok-extents.ensures.begins ∙ table_place class m (1 + c.len.result) c.index.result.now index) in
     let ehdr = c.file_header-ehdr.ensures m many place in
-    c.new.ensures
+    let pieces = c.new.ensures
     ∙ pieces_are class m c.in_ok-heads.heads.items c.in_ok-heads.ensures c.in_ok-shdrs.shdrs.items c.in_ok-shdrs.ensures
     c.sections_of-sections.result.items raws c.in_ok-bodies.bodies c.in_ok-bodies.ensures c.file_header-ehdr.result ehdr
     c.in_ok-extents.extents c.in_ok-extents.ensures
-    ∙ ap (elf_pieces class) same
+    ∙ ap (elf_pieces class) same in
+    ap file_of pieces ∙ file_is class c.args.fitted
