@@ -9,7 +9,7 @@ use Rattle.oc_algebra.specs.Residues.{reduced_number, residue_of}
 use Rattle.oc_neutral.specs.HomeNames.{output_names, wanted_names}
 use Rattle.oc_neutral.specs.Spelling.{written_row}
 use Rattle.oc_base.specs.declared.format.Format.TheVariants.{Coff32, Coff64}
-use Rattle.oc_base.specs.declared.format.Word.TheVariants.{W32, W64}
+use Rattle.oc_coff_read.specs.declared.form.CoffForm.TheVariants.{Usual32, Usual64}
 use Rattle.oc_linking.specs.declared.terms.Base.{Base}
 use Rattle.oc_linking.specs.declared.terms.Base.TheVariants as base
 use Rattle.oc_linking.specs.declared.terms.Less.{Less}
@@ -49,19 +49,19 @@ use Rattle.oc_coff_read.specs.Canonical.{coff_file, part_bytes, file_header, lin
 use Rattle.oc_coff_read.proofs.WorkedFiles.{call, grouped, weakened, tails, manifold}
 
 -- a section
-abbrev section : List ℕ → Kind → ℕ → ℕ → List ℕ → ℕ → Option ℕ → Section
+abbrev pub section : List ℕ → Kind → ℕ → ℕ → List ℕ → ℕ → Option ℕ → Section
 section name kind align size bytes tag group = record { name = name; kind = kind; align = align; size = size; bytes = bytes; tag = tag; number = 0; group = group }
 
 -- a symbol
-abbrev symbol : List ℕ → Binding → Mark → Symbol
+abbrev pub symbol : List ℕ → Binding → Mark → Symbol
 symbol name binding mark = record { name = name; binding = binding; mark = mark; vis = Default; size = 0; pinned = false; number = 0 }
 
 -- a relocation at an offset
-abbrev field : ℕ → ℕ → Target → Base → Less → Width → Check → ℤ → Field Reloc
+abbrev pub field : ℕ → ℕ → Target → Base → Less → Width → Check → ℤ → Field Reloc
 field at bytes target base less width check addend = record { at = at; width = bytes; item = record { target = target; form = record { base = base; less = less; width = width; check = check }; addend = addend; hint = Plain } }
 
 -- the call, for i386
-abbrev call_32 : Object
+abbrev pub call_32 : Object
 call_32 = record {
   format = Coff32;
   groups = [];
@@ -74,12 +74,12 @@ call_32 = record {
       (field 1 4 (target.Symbol 1) base.Address less.Place Four Wrap (negsuc 3) ∷ []) ∷ [];
 }
 
-call_32-file : coff_file W32 call_32 ≡ call
+call_32-file : coff_file Usual32 call_32 ≡ call
 unfolding coff_file part_bytes file_header line_rows header_at align_field leader_number section_field symbol_field relocs_of type_of raw_of field_number lines_of parts_of text_of file_header_bytes section_header_bytes symbol_bytes section_aux_bytes weak_aux_bytes relocation_bytes string_offset coff_strings strings.table_place strings.tops_of strings.text_of strings.table_text bytes_of_number written_row to_field_of field_for output_names wanted_names reduced_number residue_of
 call_32-file = refl
 
 -- and for x64
-abbrev call_64 : Object
+abbrev pub call_64 : Object
 call_64 = record {
   format = Coff64;
   groups = [];
@@ -92,7 +92,7 @@ call_64 = record {
       (field 1 4 (target.Symbol 1) base.Address less.Place Four Signed (negsuc 3) ∷ []) ∷ [];
 }
 
-call_64-file : coff_file W64 call_64 ≡ (
+call_64-file : coff_file Usual64 call_64 ≡ (
     100 ∷ 134 ∷ 1 ∷ 0 ∷ 0 ∷ 0 ∷ 0 ∷ 0 ∷ 76 ∷ 0 ∷ 0 ∷ 0 ∷ 4 ∷ 0 ∷ 0 ∷ 0 ∷ 0 ∷ 0 ∷ 0 ∷ 0 ∷ 46 ∷ 116 ∷ 101 ∷ 120
     ∷ 116 ∷ 0 ∷ 0 ∷ 0 ∷ 0 ∷ 0 ∷ 0 ∷ 0 ∷ 0 ∷ 0 ∷ 0 ∷ 0 ∷ 6 ∷ 0 ∷ 0 ∷ 0 ∷ 60 ∷ 0 ∷ 0 ∷ 0 ∷ 66 ∷ 0 ∷ 0 ∷ 0
     ∷ 0 ∷ 0 ∷ 0 ∷ 0 ∷ 1 ∷ 0 ∷ 0 ∷ 0 ∷ 32 ∷ 0 ∷ 80 ∷ 96 ∷ 232 ∷ 0 ∷ 0 ∷ 0 ∷ 0 ∷ 195 ∷ 1 ∷ 0 ∷ 0 ∷ 0 ∷ 3 ∷ 0
@@ -105,7 +105,7 @@ unfolding coff_file part_bytes file_header line_rows header_at align_field leade
 call_64-file = refl
 
 -- a group, whose key symbol stands in the second section
-abbrev group : Object
+abbrev pub group : Object
 group = record {
   format = Coff32;
   groups = record { key = codes "t" } ∷ [];
@@ -120,12 +120,12 @@ group = record {
       ∷ [] ∷ [];
 }
 
-group-file : coff_file W32 group ≡ grouped
+group-file : coff_file Usual32 group ≡ grouped
 unfolding coff_file part_bytes file_header line_rows header_at align_field leader_number section_field symbol_field relocs_of type_of raw_of field_number lines_of parts_of text_of file_header_bytes section_header_bytes symbol_bytes section_aux_bytes weak_aux_bytes relocation_bytes string_offset coff_strings strings.table_place strings.tops_of strings.text_of strings.table_text bytes_of_number written_row to_field_of field_for output_names wanted_names reduced_number residue_of
 group-file = refl
 
 -- a weak definition
-abbrev weak_definition : Object
+abbrev pub weak_definition : Object
 weak_definition = record {
   format = Coff64;
   groups = [];
@@ -137,7 +137,7 @@ weak_definition = record {
       [] ∷ [];
 }
 
-weak_definition-file : coff_file W64 weak_definition ≡ weakened
+weak_definition-file : coff_file Usual64 weak_definition ≡ weakened
 unfolding coff_file part_bytes file_header line_rows header_at align_field leader_number section_field symbol_field relocs_of type_of raw_of field_number lines_of parts_of text_of file_header_bytes section_header_bytes symbol_bytes section_aux_bytes weak_aux_bytes relocation_bytes string_offset coff_strings strings.table_place strings.tops_of strings.text_of strings.table_text bytes_of_number written_row to_field_of field_for output_names wanted_names reduced_number residue_of
 weak_definition-file = refl
 
@@ -154,7 +154,7 @@ minus_five = record {
       (field 1 4 (target.Symbol 0) base.Address less.Place Four Signed (negsuc 4) ∷ []) ∷ [];
 }
 
-minus_five-file : coff_file W64 minus_five ≡ (
+minus_five-file : coff_file Usual64 minus_five ≡ (
     100 ∷ 134 ∷ 1 ∷ 0 ∷ 0 ∷ 0 ∷ 0 ∷ 0 ∷ 78 ∷ 0 ∷ 0 ∷ 0 ∷ 3 ∷ 0 ∷ 0 ∷ 0 ∷ 0 ∷ 0 ∷ 0 ∷ 0 ∷ 46 ∷ 116 ∷ 101 ∷ 120
     ∷ 116 ∷ 0 ∷ 0 ∷ 0 ∷ 0 ∷ 0 ∷ 0 ∷ 0 ∷ 0 ∷ 0 ∷ 0 ∷ 0 ∷ 8 ∷ 0 ∷ 0 ∷ 0 ∷ 60 ∷ 0 ∷ 0 ∷ 0 ∷ 68 ∷ 0 ∷ 0 ∷ 0
     ∷ 0 ∷ 0 ∷ 0 ∷ 0 ∷ 1 ∷ 0 ∷ 0 ∷ 0 ∷ 32 ∷ 0 ∷ 80 ∷ 96 ∷ 0 ∷ 255 ∷ 255 ∷ 255 ∷ 255 ∷ 0 ∷ 0 ∷ 0 ∷ 1 ∷ 0 ∷ 0 ∷ 0
@@ -178,7 +178,7 @@ greatest = record {
       (field 1 4 (target.Symbol 0) base.Address less.Place Four Signed (pos 2147483643) ∷ []) ∷ [];
 }
 
-greatest-file : coff_file W64 greatest ≡ (
+greatest-file : coff_file Usual64 greatest ≡ (
     100 ∷ 134 ∷ 1 ∷ 0 ∷ 0 ∷ 0 ∷ 0 ∷ 0 ∷ 78 ∷ 0 ∷ 0 ∷ 0 ∷ 3 ∷ 0 ∷ 0 ∷ 0 ∷ 0 ∷ 0 ∷ 0 ∷ 0 ∷ 46 ∷ 116 ∷ 101 ∷ 120
     ∷ 116 ∷ 0 ∷ 0 ∷ 0 ∷ 0 ∷ 0 ∷ 0 ∷ 0 ∷ 0 ∷ 0 ∷ 0 ∷ 0 ∷ 8 ∷ 0 ∷ 0 ∷ 0 ∷ 60 ∷ 0 ∷ 0 ∷ 0 ∷ 68 ∷ 0 ∷ 0 ∷ 0
     ∷ 0 ∷ 0 ∷ 0 ∷ 0 ∷ 1 ∷ 0 ∷ 0 ∷ 0 ∷ 32 ∷ 0 ∷ 80 ∷ 96 ∷ 0 ∷ 255 ∷ 255 ∷ 255 ∷ 127 ∷ 0 ∷ 0 ∷ 0 ∷ 1 ∷ 0 ∷ 0 ∷ 0
@@ -202,7 +202,7 @@ wrapped = record {
       (field 1 4 (target.Symbol 0) base.Address less.Place Four Wrap (pos 2147483647) ∷ []) ∷ [];
 }
 
-wrapped-file : coff_file W32 wrapped ≡ (
+wrapped-file : coff_file Usual32 wrapped ≡ (
     76 ∷ 1 ∷ 1 ∷ 0 ∷ 0 ∷ 0 ∷ 0 ∷ 0 ∷ 78 ∷ 0 ∷ 0 ∷ 0 ∷ 3 ∷ 0 ∷ 0 ∷ 0 ∷ 0 ∷ 0 ∷ 0 ∷ 0 ∷ 46 ∷ 116 ∷ 101 ∷ 120
     ∷ 116 ∷ 0 ∷ 0 ∷ 0 ∷ 0 ∷ 0 ∷ 0 ∷ 0 ∷ 0 ∷ 0 ∷ 0 ∷ 0 ∷ 8 ∷ 0 ∷ 0 ∷ 0 ∷ 60 ∷ 0 ∷ 0 ∷ 0 ∷ 68 ∷ 0 ∷ 0 ∷ 0
     ∷ 0 ∷ 0 ∷ 0 ∷ 0 ∷ 1 ∷ 0 ∷ 0 ∷ 0 ∷ 32 ∷ 0 ∷ 80 ∷ 96 ∷ 0 ∷ 3 ∷ 0 ∷ 0 ∷ 128 ∷ 0 ∷ 0 ∷ 0 ∷ 1 ∷ 0 ∷ 0 ∷ 0
@@ -224,7 +224,7 @@ common_of_12 = record {
   relocs = [];
 }
 
-common_of_12-file : coff_file W32 common_of_12 ≡ (
+common_of_12-file : coff_file Usual32 common_of_12 ≡ (
     76 ∷ 1 ∷ 0 ∷ 0 ∷ 0 ∷ 0 ∷ 0 ∷ 0 ∷ 20 ∷ 0 ∷ 0 ∷ 0 ∷ 1 ∷ 0 ∷ 0 ∷ 0 ∷ 0 ∷ 0 ∷ 0 ∷ 0 ∷ 99 ∷ 0 ∷ 0 ∷ 0
     ∷ 0 ∷ 0 ∷ 0 ∷ 0 ∷ 12 ∷ 0 ∷ 0 ∷ 0 ∷ 0 ∷ 0 ∷ 0 ∷ 0 ∷ 2 ∷ 0 ∷ 4 ∷ 0 ∷ 0 ∷ 0 ∷ []
     )
@@ -232,7 +232,7 @@ unfolding coff_file part_bytes file_header line_rows header_at align_field leade
 common_of_12-file = refl
 
 -- two names that share a tail
-abbrev shared_tail : Object
+abbrev pub shared_tail : Object
 shared_tail = record {
   format = Coff32;
   groups = [];
@@ -243,12 +243,12 @@ shared_tail = record {
   relocs = [];
 }
 
-shared_tail-file : coff_file W32 shared_tail ≡ tails
+shared_tail-file : coff_file Usual32 shared_tail ≡ tails
 unfolding coff_file part_bytes file_header line_rows header_at align_field leader_number section_field symbol_field relocs_of type_of raw_of field_number lines_of parts_of text_of file_header_bytes section_header_bytes symbol_bytes section_aux_bytes weak_aux_bytes relocation_bytes string_offset coff_strings strings.table_place strings.tops_of strings.text_of strings.table_text bytes_of_number written_row to_field_of field_for output_names wanted_names reduced_number residue_of
 shared_tail-file = refl
 
 -- sections of each sort, long and short names, a group whose second section leads it, symbols of each binding, and each type that is written for x64
-abbrev everything : Object
+abbrev pub everything : Object
 everything = record {
   format = Coff64;
   groups = record { key = codes "the_key_of_it" } ∷ [];
@@ -280,6 +280,6 @@ everything = record {
       ∷ [] ∷ [];
 }
 
-everything-file : coff_file W64 everything ≡ manifold
+everything-file : coff_file Usual64 everything ≡ manifold
 unfolding coff_file part_bytes file_header line_rows header_at align_field leader_number section_field symbol_field relocs_of type_of raw_of field_number lines_of parts_of text_of file_header_bytes section_header_bytes symbol_bytes section_aux_bytes weak_aux_bytes relocation_bytes string_offset coff_strings strings.table_place strings.tops_of strings.text_of strings.table_text bytes_of_number written_row to_field_of field_for output_names wanted_names reduced_number residue_of digits
 everything-file = refl

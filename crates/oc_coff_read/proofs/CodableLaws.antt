@@ -5,6 +5,12 @@ use Rattle.std.specs.Option.{option_map_or}
 use Rattle.std.proofs.lemmas.Bool.{cases_lt}
 use Rattle.std.proofs.lemmas.Option.{same_Some, slice_get_within}
 use Rattle.oc_base.specs.declared.format.Word.{Word}
+use Rattle.oc_coff_read.specs.declared.form.CoffForm.{CoffForm}
+use Rattle.oc_coff_read.specs.declared.form.Shape.{Shape}
+use Rattle.oc_coff_read.specs.declared.form.Shape.TheVariants.{Usual, Big}
+use Rattle.oc_coff_read.specs.Forms.{shape_of, word_of}
+use Rattle.oc_coff_read.specs.FileHeader.{file_header_numbers}
+use Rattle.oc_coff_read.specs.SectionAux.{section_aux_numbers}
 use Rattle.oc_base.specs.declared.format.Word.TheVariants.{W32, W64}
 use Rattle.oc_base.proofs.NumberLaws.{length-table}
 use Rattle.oc_linking.specs.declared.terms.Mark.{Mark}
@@ -32,13 +38,13 @@ use Rattle.oc_coff_read.specs.Relocation.{relocation_bytes}
 use Rattle.oc_coff_read.specs.Lines.{Line, SectionLine, LocalLine, DefaultLine, OuterLine, lines_of, line_size, numbered_lines, is_section_line, is_default_line, is_outer_line}
 use Rattle.oc_coff_read.specs.Bodies.{raw_of, target_number, relocation_of, relocs_of, is_crowded, count_entry, with_count}
 use Rattle.oc_coff_read.specs.Layout.{laid_parts, is_raw, is_relocs, pointer_to, StringTable, text_of}
-use Rattle.oc_coff_read.specs.Canonical.{leads, leader_number, header_at, numbers_of, numbers_by, default_numbers, type_by, class_by, aux_by, line_entry, section_aux, tag_of, machine_of, file_header, string_table, coff_file, part_bytes}
-use Rattle.oc_coff_read.proofs.StructureLaws.{file_header_numbers, section_header_numbers, symbol_numbers, section_aux_numbers, relocation_numbers, length-relocation_bytes}
+use Rattle.oc_coff_read.specs.Canonical.{leads, leader_number, header_at, numbers_of, numbers_by, default_numbers, type_by, class_by, aux_by, line_entry, section_aux, tag_of, weak_aux, machine_of, version_of, file_header, string_table, coff_file, part_bytes}
+use Rattle.oc_coff_read.proofs.StructureLaws.{section_header_numbers, relocation_numbers, length-relocation_bytes, FitSymbol, IsNumber, low_number, absolute_number, low_other, fit_symbol, fit_section_aux, fit_weak_aux, fit_file_header, IsOther}
 use Rattle.oc_coff_read.proofs.PartLaws.{stands_raw, stands_relocs, table_place_is, length-coff_file, part_sized}
 use Rattle.oc_coff_read.proofs.TableLaws.{IsCodable}
 use Rattle.oc_coff_read.proofs.EntryLaws.{IsEntered}
 use Rattle.oc_coff_read.proofs.LineLaws.{section_found, default_found, outer_found, line_is_of, IsLineOf}
-use Rattle.oc_coff_read.proofs.CodedLaws.{IsForCoff, IsCodedValue, IsCodedFallback, IsCodedBinding, coded_section, coded_line, outer_coded, IsCodedLine}
+use Rattle.oc_coff_read.proofs.CodedLaws.{IsForCoff, IsCodedValue, IsCodedFallback, IsCodedBinding, coded_section, coded_line, outer_coded, IsCodedLine, fewest, number_room, other_room, counted_room}
 use Rattle.oc_coff_read.proofs.SectionLaws.{flags_say}
 use Rattle.oc_coff_read.proofs.GroupLaws.{leader_of}
 use Rattle.oc_coff_read.proofs.FieldLaws.{coff_reloc, meets, type_is, has_bytes, found_in, wide_enough, empty_past}
@@ -52,14 +58,14 @@ use Rattle.oc_chains.specs.declared.field.Field as chains
 use Rattle.oc_neutral.specs.declared.reloc.Target.TheVariants as target
 
 -- all numbers of a canonical file fit
-pub record HasNumbers (w : Word) (n : Object) : Type 0 where
+pub record HasNumbers (w : CoffForm) (n : Object) : Type 0 where
   pub codable : IsCodable w n
   pub entered : IsEntered w n
   pub small : length (string_table w n) < 2 ^ 32
   pub tags : AreTagged w n
-  pub auxes : (k : ℕ) (s : Section) → slice_get n.sections k ≡ Some s → Fit (section_aux_numbers (section_aux w n k s))
+  pub auxes : (k : ℕ) (s : Section) → slice_get n.sections k ≡ Some s → Fit (section_aux_numbers (shape_of w) (section_aux w n k s))
 
-length-string_table : (w : Word) (n : Object) → length (string_table w n) ≡ 4 + length (text_of w n)
+length-string_table : (w : CoffForm) (n : Object) → length (string_table w n) ≡ 4 + length (text_of w n)
 unfolding part_bytes
 length-string_table w n = part_sized w n StringTable
 
@@ -70,7 +76,7 @@ pointer_low place size = by (eqb size 0)
     by true = omega arith
     by false = omega arith
 
-module _ (w : Word) (n : Object) (is : IsForCoff w n) where
+module _ (w : CoffForm) (n : Object) (is : IsForCoff w n) where
   abbrev relocs : ℕ → List Relocation
   relocs k = relocs_of w (numbered_lines w n) n k
 
@@ -81,7 +87,7 @@ module _ (w : Word) (n : Object) (is : IsForCoff w n) where
   found_low test x f =
       let low = laid_within line_size 0 (lines_of w n) f.index f.one f.here in
       let entries = few_entries w n is in
-      let few = is.meets.few in
+      let few = fewest w n is in
       let symbols = is.meets.bounds.symbols in
       let place = f.place in
       omega (arith, low, entries, few, symbols, place)
@@ -99,35 +105,41 @@ module _ (w : Word) (n : Object) (is : IsForCoff w n) where
 
   -- ... values and places
 
-  offset_low : (k : ℕ) (s : Section) (offset : ℕ) → slice_get n.sections k ≡ Some s → offset ≤ s.size → (offset < 2 ^ 32) × (k + 1 < 2 ^ 16)
+  offset_low : (k : ℕ) (s : Section) (offset : ℕ) → slice_get n.sections k ≡ Some s → offset ≤ s.size → (offset < 2 ^ 32) × (k + 1 < 2 ^ 32)
   offset_low k s offset here le =
       let low : k < length n.sections = slice_get_within n.sections k s here in
-      let few = is.meets.few in
+      let few = fewest w n is in
       let size = (coded_section w n is k s here).size in
       (omega (arith, le, size), omega (arith, low, few))
 
   abbrev AreLow : ℕ × ℕ → Type 0
-  AreLow numbers = (numbers.0 < 2 ^ 32) × (numbers.1 < 2 ^ 16)
+  AreLow numbers = (numbers.0 < 2 ^ 32) × IsNumber (shape_of w) numbers.1
+
+  place_low : (k : ℕ) (s : Section) (offset : ℕ) → slice_get n.sections k ≡ Some s → offset ≤ s.size → AreLow (offset, k + 1)
+  place_low k s offset here le = ((offset_low k s offset here le).0, number_room w n is k (slice_get_within n.sections k s here))
+
+  no_number : IsNumber (shape_of w) 0
+  no_number = low_number (shape_of w) 0 (omega arith)
 
   value_low : (v : Value) → IsCodedValue n v → AreLow (numbers_of v)
-  value_low (value.Place k offset) c = offset_low k c.0 offset c.1 c.2
-  value_low (value.Absolute x) c = (c, omega arith)
+  value_low (value.Place k offset) c = place_low k c.0 offset c.1 c.2
+  value_low (value.Absolute x) c = (c, absolute_number (shape_of w))
 
   binding_low : (b : Binding) → IsCodedBinding n b → AreLow (numbers_by b)
   binding_low (Local v) c = value_low v c
   binding_low (Global v) c = value_low v c
-  binding_low Undefined c = (omega arith, omega arith)
-  binding_low (Common size align) c = (c.1, omega arith)
-  binding_low (Weak f) c = (omega arith, omega arith)
+  binding_low Undefined c = (omega arith, no_number)
+  binding_low (Common size align) c = (c.1, no_number)
+  binding_low (Weak f) c = (omega arith, no_number)
 
   default_low : (b : Binding) → IsCodedBinding n b → AreLow (default_numbers b)
-  default_low (Local v) c = (omega arith, omega arith)
-  default_low (Global v) c = (omega arith, omega arith)
-  default_low Undefined c = (omega arith, omega arith)
-  default_low (Common size align) c = (omega arith, omega arith)
-  default_low (Weak (fallback.Place k offset)) c = offset_low k c.0 offset c.1 c.2
-  default_low (Weak fallback.Zero) c = (omega arith, omega arith)
-  default_low (Weak (fallback.Name j)) c = (omega arith, omega arith)
+  default_low (Local v) c = (omega arith, no_number)
+  default_low (Global v) c = (omega arith, no_number)
+  default_low Undefined c = (omega arith, no_number)
+  default_low (Common size align) c = (omega arith, no_number)
+  default_low (Weak (fallback.Place k offset)) c = place_low k c.0 offset c.1 c.2
+  default_low (Weak fallback.Zero) c = (omega arith, absolute_number (shape_of w))
+  default_low (Weak (fallback.Name j)) c = (omega arith, no_number)
 
   type_low : (m : Mark) → type_by m < 2 ^ 16
   type_low NoType = omega arith
@@ -153,31 +165,23 @@ module _ (w : Word) (n : Object) (is : IsForCoff w n) where
   entered : IsEntered w n
   entered = record { lines = λ i line here. by line (coded_line w n is i line here) (line_is_of w n i line here) }
     where
-      by : (line : Line) → IsCodedLine w n line → IsLineOf w n line → Fit (symbol_numbers (line_entry w n line))
-      by (SectionLine k s) c o = let l = offset_low k s 0 o (omega arith) in let m = l.1 in (omega arith, (omega (arith, m), (omega arith, (omega arith, (omega arith, tt)))))
+      by : (line : Line) → IsCodedLine w n line → IsLineOf w n line → FitSymbol (shape_of w) (line_entry w n line)
+      by (SectionLine k s) c o =
+          let l = place_low k s 0 o (omega arith) in
+          fit_symbol (shape_of w) (line_entry w n (SectionLine k s)) l.0 l.1 (omega arith) (omega arith) (omega arith)
       by (LocalLine k s) c o =
           let l = binding_low s.binding c.binding in
-          let a = l.0 in
-          let b = l.1 in
-          let t = type_low s.mark in
-          (omega (arith, a), (omega (arith, b), (omega (arith, t), (omega arith, (omega arith, tt)))))
+          fit_symbol (shape_of w) (line_entry w n (LocalLine k s)) l.0 l.1 (type_low s.mark) (omega arith) (omega arith)
       by (DefaultLine k s) c o =
           let l = default_low s.binding c.0.binding in
-          let a = l.0 in
-          let b = l.1 in
-          (omega (arith, a), (omega (arith, b), (omega arith, (omega arith, (omega arith, tt)))))
+          fit_symbol (shape_of w) (line_entry w n (DefaultLine k s)) l.0 l.1 (omega arith) (omega arith) (omega arith)
       by (OuterLine k s) c o =
           let l = binding_low s.binding c.binding in
-          let a = l.0 in
-          let b = l.1 in
-          let t = type_low s.mark in
-          let u = class_low s.binding in
-          let v = aux_low s.binding in
-          (omega (arith, a), (omega (arith, b), (omega (arith, t), (omega (arith, u), (omega (arith, v), tt)))))
+          fit_symbol (shape_of w) (line_entry w n (OuterLine k s)) l.0 l.1 (type_low s.mark) (class_low s.binding) (aux_low s.binding)
 
   -- the number of a symbol that a fallback tags
   tags : AreTagged w n
-  tags k s f here own = let low = by f own (outer_coded w n is k s here (ap is_local own)).binding in (omega (arith, low), (omega arith, (omega arith, tt)))
+  tags k s f here own = fit_weak_aux (shape_of w) (weak_aux (numbered_lines w n) k f) (by f own (outer_coded w n is k s here (ap is_local own)).binding) (omega arith)
     where
       by : (f : Fallback) → s.binding ≡ Weak f → IsCodedBinding n s.binding → tag_of (numbered_lines w n) k f < 2 ^ 32
       by (fallback.Place j offset) e c = found_low (is_default_line k) (DefaultLine k s) (default_found w n k s here (ap (is_weak_with has_default) e))
@@ -190,22 +194,20 @@ module _ (w : Word) (n : Object) (is : IsForCoff w n) where
   capped : (m : ℕ) → min m 0xFFFF < 2 ^ 16
   capped m = omega arith
 
-  auxes : (k : ℕ) (s : Section) → slice_get n.sections k ≡ Some s → Fit (section_aux_numbers (section_aux w n k s))
+  auxes : (k : ℕ) (s : Section) → slice_get n.sections k ≡ Some s → Fit (section_aux_numbers (shape_of w) (section_aux w n k s))
   auxes k s here =
       let size = (coded_section w n is k s here).size in
       let count = capped (length (relocs k)) in
       let kept = kept_low s.group refl (leads n k) refl in
       let selection = selected s.group (leads n k) in
-      (omega (arith, size), (omega (arith, count), (omega arith, (omega arith, (omega (arith, kept), (omega (arith, selection), (omega arith, tt)))))))
+      fit_section_aux (shape_of w) (section_aux w n k s) (omega (arith, size)) count (omega arith) (omega arith) kept selection
     where
-      kept_low : (o : Option ℕ) → s.group ≡ o → (b : Bool) → leads n k ≡ b → option_map_or (λ g. cond b 0 (leader_number n g)) o 0 < 2 ^ 16
-      kept_low None e b lead = omega arith
-      kept_low (Some g) e true lead = omega arith
+      kept_low : (o : Option ℕ) → s.group ≡ o → (b : Bool) → leads n k ≡ b → IsOther (shape_of w) (option_map_or (λ g. cond b 0 (leader_number n g)) o 0)
+      kept_low None e b lead = low_other (shape_of w) 0 (omega arith)
+      kept_low (Some g) e true lead = low_other (shape_of w) 0 (omega arith)
       kept_low (Some g) e false lead =
           let x = leader_of n g ((is.meets.sections k s here).led g e) in
-          let l = (offset_low x.position x.section 0 x.here (omega arith)).1 in
-          let m = x.number in
-          omega (arith, l, m)
+          subst (IsOther (shape_of w)) (sym x.number) (other_room w n is x.position (slice_get_within n.sections x.position x.section x.here))
 
       selected : (o : Option ℕ) (b : Bool) → option_map_or (λ g. cond b 2 5) o 0 < 2 ^ 8
       selected None b = omega arith
@@ -285,17 +287,21 @@ module _ (w : Word) (n : Object) (is : IsForCoff w n) where
   machine_low W32 = omega arith
   machine_low W64 = omega arith
 
-  head_fits : Fit (file_header_numbers (file_header w n))
+  version_low : (z : Shape) → version_of z < 2 ^ 16
+  version_low Usual = omega arith
+  version_low Big = omega arith
+
+  head_fits : Fit (file_header_numbers (shape_of w) (file_header w n))
   unfolding file_header
   head_fits =
-      let machine = machine_low w in
-      let few = is.meets.few in
+      let few = fewest w n is in
       let long = length-coff_file w n in
       let small = small_file w n is in
       let place = table_place_is w n in
       let entries = few_entries w n is in
       let symbols = is.meets.bounds.symbols in
-      (omega (arith, machine), (omega (arith, few), (omega arith, (omega (arith, place, long, small), (omega (arith, entries, few, symbols), (omega arith, (omega arith, tt)))))))
+      fit_file_header (shape_of w) (file_header w n) (machine_low (word_of w)) (counted_room w n is) (omega arith) (omega (arith, place, long, small)) (omega (arith, entries, few, symbols)) (omega arith) (omega arith)
+      (version_low (shape_of w))
 
   sized : (k : ℕ) (s : Section) → slice_get n.sections k ≡ Some s → 0 < length s.bytes → s.size ≡ length s.bytes
   sized k s here many = by (is_zero s.kind) (coded_section w n is k s here).bytes

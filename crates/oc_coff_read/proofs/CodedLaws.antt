@@ -1,10 +1,12 @@
 -- What COFF can say of an object that is ready for it: of its sections, and of the symbols of its lines.
-use Rattle.std.proofs.Common.{◌≡◌, ℕ, ◌^◌, ◌<◌, ◌≤◌, ◌≢◌, Bool, true, false, cond, not, List, [], ◌∷◌, length, Some, refl, sym, ◌∙◌, ap, subst, arith}
+use Rattle.oc_coff_read.specs.declared.form.Shape.TheVariants.{Usual}
+use Rattle.oc_coff_read.proofs.StructureLaws.{IsNumber, IsOther, IsCounted, low_number}
+use Rattle.std.proofs.Common.{◌+◌, ◌≡◌, ℕ, ◌^◌, ◌<◌, ◌≤◌, ◌≢◌, Bool, true, false, cond, not, List, [], ◌∷◌, length, Some, refl, sym, ◌∙◌, ap, subst, arith}
 use Rattle.std.specs.Prelude.{slice_get, nat_lt}
 use Rattle.std.specs.Option.{unwrap_or}
 use Rattle.std.proofs.lemmas.Bool.{true≢false, ltb-true}
-use Rattle.oc_base.specs.declared.format.Word.{Word}
-use Rattle.oc_base.specs.declared.format.Word.TheVariants.{W32, W64}
+use Rattle.oc_coff_read.specs.declared.form.CoffForm.{CoffForm}
+use Rattle.oc_coff_read.specs.declared.form.CoffForm.TheVariants.{Usual32, Usual64, Big32, Big64}
 use Rattle.oc_base.specs.Formats.{word_for}
 use Rattle.oc_base.specs.Strings.{is_given}
 use Rattle.oc_linking.specs.Numbers.{modulus}
@@ -36,23 +38,55 @@ use Rattle.oc_neutral.specs.SymbolLines.{needs_default, is_weak_with}
 use Rattle.oc_neutral.specs.WrittenSymbols.{is_written, is_written_as}
 use Rattle.oc_neutral.proofs.MeetsCoff.{meets_coff}
 use Rattle.oc_neutral.proofs.Positions.{each_at}
-use Rattle.oc_coff_read.specs.Fields.{coff_format}
+use Rattle.oc_coff_read.specs.Forms.{format_of, shape_of}
 use Rattle.oc_coff_read.specs.Lines.{Line, SectionLine, LocalLine, DefaultLine, OuterLine, lines_of}
 use Rattle.oc_coff_read.specs.Canonical.{class_by}
 use Rattle.oc_coff_read.proofs.LineLaws.{IsLineOf, line_is_of}
 
 -- an object that is ready for COFF, and what it meets
-pub record IsForCoff (w : Word) (n : Object) : Type 0 where
+pub record IsForCoff (w : CoffForm) (n : Object) : Type 0 where
   pub object : IsObject n
-  pub format : n.format ≡ coff_format w
-  pub meets : MeetsCoff (coff_format w) n
+  pub format : n.format ≡ format_of w
+  pub meets : MeetsCoff (format_of w) n
 
-pub for_coff : (w : Word) (n : Object) → IsFitted (coff_format w) n → IsForCoff w n
-for_coff w n fits = record { object = fits.object; format = fits.format; meets = meets_coff (coff_format w) n (family w) fits }
+pub for_coff : (w : CoffForm) (n : Object) → IsFitted (format_of w) n → IsForCoff w n
+for_coff w n fits = record { object = fits.object; format = fits.format; meets = meets_coff (format_of w) n (family w) fits }
   where
-    family : (w : Word) → container_of (coff_format w) ≡ IsCoff
-    family W32 = refl
-    family W64 = refl
+    family : (w : CoffForm) → container_of (format_of w) ≡ IsCoff
+    family Usual32 = refl
+    family Usual64 = refl
+    family Big32 = refl
+    family Big64 = refl
+
+-- ... how many sections there are
+
+-- no form is for more
+pub fewest : (w : CoffForm) (n : Object) → IsForCoff w n → length n.sections ≤ 4194304
+fewest Usual32 n is = let few = is.meets.few in omega (arith, few)
+fewest Usual64 n is = let few = is.meets.few in omega (arith, few)
+fewest Big32 n is = let few = is.meets.few in omega (arith, few)
+fewest Big64 n is = let few = is.meets.few in omega (arith, few)
+
+-- the number of a section has room
+pub number_room : (w : CoffForm) (n : Object) → IsForCoff w n → (k : ℕ) → k < length n.sections → IsNumber (shape_of w) (k + 1)
+number_room Usual32 n is k low = let few = is.meets.few in low_number Usual (k + 1) (omega (arith, few, low))
+number_room Usual64 n is k low = let few = is.meets.few in low_number Usual (k + 1) (omega (arith, few, low))
+number_room Big32 n is k low = let few = is.meets.few in (omega (arith, few, low), tt)
+number_room Big64 n is k low = let few = is.meets.few in (omega (arith, few, low), tt)
+
+-- so has that of another section
+pub other_room : (w : CoffForm) (n : Object) → IsForCoff w n → (k : ℕ) → k < length n.sections → IsOther (shape_of w) (k + 1)
+other_room Usual32 n is k low = let few = is.meets.few in omega (arith, few, low)
+other_room Usual64 n is k low = let few = is.meets.few in omega (arith, few, low)
+other_room Big32 n is k low = let few = is.meets.few in omega (arith, few, low)
+other_room Big64 n is k low = let few = is.meets.few in omega (arith, few, low)
+
+-- and their count
+pub counted_room : (w : CoffForm) (n : Object) → IsForCoff w n → IsCounted (shape_of w) (length n.sections)
+counted_room Usual32 n is = let few = is.meets.few in omega (arith, few)
+counted_room Usual64 n is = let few = is.meets.few in omega (arith, few)
+counted_room Big32 n is = let few = is.meets.few in omega (arith, few)
+counted_room Big64 n is = let few = is.meets.few in omega (arith, few)
 
 -- ... sections
 
@@ -61,10 +95,10 @@ abbrev pub seen_kind : Section → Kind
 seen_kind s = coff_manner.kind s
 
 -- what COFF can say of a section
-pub record IsCodedSection (w : Word) (n : Object) (s : Section) : Type 0 where
+pub record IsCodedSection (w : CoffForm) (n : Object) (s : Section) : Type 0 where
   pub name : has_nul s.name ≡ false
-  pub tabled : is_tabled s.name ≡ true → is_given (strings_of (coff_format w) n) s.name ≡ true
-  pub near : is_tabled s.name ≡ true → offset_of (coff_format w) n s.name ≤ MOST_NAME_OFFSET
+  pub tabled : is_tabled s.name ≡ true → is_given (strings_of (format_of w) n) s.name ≡ true
+  pub near : is_tabled s.name ≡ true → offset_of (format_of w) n s.name ≤ MOST_NAME_OFFSET
   pub kind : coff_kind s.name s.tag ≡ Some (seen_kind s)
   pub tag : coff_tag s.tag ≡ s.tag
   pub small : s.tag < 2 ^ 32
@@ -121,17 +155,17 @@ IsCodedBinding n (Common size align) = (0 < size) × (size < 2 ^ 32) × (natural
 IsCodedBinding n (Weak f) = IsCodedFallback n f
 
 -- the symbol of a line
-pub record IsCodedSymbol (w : Word) (n : Object) (s : Symbol) : Type 0 where
+pub record IsCodedSymbol (w : CoffForm) (n : Object) (s : Symbol) : Type 0 where
   pub some : 1 ≤ length s.name
   pub plain : has_nul s.name ≡ false
-  pub given : is_long s.name ≡ true → is_given (strings_of (coff_format w) n) s.name ≡ true
+  pub given : is_long s.name ≡ true → is_given (strings_of (format_of w) n) s.name ≡ true
   pub binding : IsCodedBinding n s.binding
 
 -- a line
-abbrev pub IsCodedLine : Word → Object → Line → Type 0
+abbrev pub IsCodedLine : CoffForm → Object → Line → Type 0
 IsCodedLine w n (SectionLine k s) = IsCodedSection w n s
 IsCodedLine w n (LocalLine k s) = IsCodedSymbol w n s
-IsCodedLine w n (DefaultLine k s) = IsCodedSymbol w n s × (is_given (strings_of (coff_format w) n) (default_name s.name) ≡ true)
+IsCodedLine w n (DefaultLine k s) = IsCodedSymbol w n s × (is_given (strings_of (format_of w) n) (default_name s.name) ≡ true)
 IsCodedLine w n (OuterLine k s) = IsCodedSymbol w n s
 
 some_bytes : (name : List ℕ) → name ≢ [] → 1 ≤ length name
@@ -145,10 +179,14 @@ not_weak Undefined e = (refl, refl)
 not_weak (Common size align) e = (refl, refl)
 not_weak (Weak f) e = absurd (true≢false (sym e))
 
-module _ (w : Word) (n : Object) (is : IsForCoff w n) where
+short_number : (b : Bool) (x : ℕ) → nat_lt x (2 ^ 32) ≡ b → not (not b) ≡ true → x < 2 ^ 32
+short_number true x h e = ltb-true x (2 ^ 32) h
+short_number false x h e = absurd (true≢false (sym e))
+
+module _ (w : CoffForm) (n : Object) (is : IsForCoff w n) where
   pub coded_section : (k : ℕ) (s : Section) → slice_get n.sections k ≡ Some s → IsCodedSection w n s
   coded_section k s here =
-      let x : CoffSection (coff_format w) n s = is.meets.sections k s here in
+      let x : CoffSection (format_of w) n s = is.meets.sections k s here in
       let read : seen_kind s ≡ x.read = ap (λ o. unwrap_or o s.kind) x.carried in
       record {
         name = x.uncut.name;
@@ -169,7 +207,7 @@ module _ (w : Word) (n : Object) (is : IsForCoff w n) where
   symbol_is : (k : ℕ) (s : Symbol) → slice_get n.symbols k ≡ Some s → IsSymbol n s
   symbol_is k s here = each_at (IsSymbol n) n.symbols k s is.object.complete.symbols here
 
-  meets_symbol : (k : ℕ) (s : Symbol) → slice_get n.symbols k ≡ Some s → CoffSymbol (coff_format w) n s
+  meets_symbol : (k : ℕ) (s : Symbol) → slice_get n.symbols k ≡ Some s → CoffSymbol (format_of w) n s
   meets_symbol k s here = is.meets.symbols k s here
 
   coded_fallback : (f : Fallback) → IsFallback n f → IsCodedFallback n f
@@ -178,16 +216,14 @@ module _ (w : Word) (n : Object) (is : IsForCoff w n) where
   coded_fallback (fallback.Name j) own = let e = not_weak own.0.binding own.2 in (own.0, own.1, e.0, e.1)
 
   -- a Local that is written has 32 bits
-  short_local : (w : Word) → n.format ≡ coff_format w → (name : List ℕ) (x : ℕ) → IsBinding n (Local (value.Absolute x))
-      → is_written_as (coff_format w) name (Local (value.Absolute x)) ≡ true → x < 2 ^ 32
-  short_local W32 format name x own e = subst (λ f. x < modulus (word_for f)) format own
-  short_local W64 format name x own e = by (nat_lt x (2 ^ 32)) refl e
-    where
-      by : (b : Bool) → nat_lt x (2 ^ 32) ≡ b → not (not b) ≡ true → x < 2 ^ 32
-      by true h e = ltb-true x (2 ^ 32) h
-      by false h e = absurd (true≢false (sym e))
+  short_local : (w : CoffForm) → n.format ≡ format_of w → (name : List ℕ) (x : ℕ) → IsBinding n (Local (value.Absolute x))
+      → is_written_as (format_of w) name (Local (value.Absolute x)) ≡ true → x < 2 ^ 32
+  short_local Usual32 format name x own e = subst (λ f. x < modulus (word_for f)) format own
+  short_local Usual64 format name x own e = short_number (nat_lt x (2 ^ 32)) x refl e
+  short_local Big32 format name x own e = subst (λ f. x < modulus (word_for f)) format own
+  short_local Big64 format name x own e = short_number (nat_lt x (2 ^ 32)) x refl e
 
-  coded_local : (name : List ℕ) (b : Binding) → is_local b ≡ true → IsBinding n b → is_written_as (coff_format w) name b ≡ true → IsCodedBinding n b
+  coded_local : (name : List ℕ) (b : Binding) → is_local b ≡ true → IsBinding n b → is_written_as (format_of w) name b ≡ true → IsCodedBinding n b
   coded_local name (Local (value.Place k offset)) e own written = own
   coded_local name (Local (value.Absolute x)) e own written = short_local w is.format name x own written
   coded_local name (Global v) e own written = absurd (true≢false (sym e))
@@ -203,12 +239,12 @@ module _ (w : Word) (n : Object) (is : IsForCoff w n) where
   coded_outer k s here (Common size align) e outer own = let c = (meets_symbol k s here).common size align e in (c.some, c.small, sym c.natural)
   coded_outer k s here (Weak f) e outer own = coded_fallback f own
 
-  coded_symbol : (k : ℕ) (s : Symbol) → slice_get n.symbols k ≡ Some s → is_written (coff_format w) s ≡ true → IsCodedBinding n s.binding → IsCodedSymbol w n s
+  coded_symbol : (k : ℕ) (s : Symbol) → slice_get n.symbols k ≡ Some s → is_written (format_of w) s ≡ true → IsCodedBinding n s.binding → IsCodedSymbol w n s
   coded_symbol k s here written binding =
       let m = meets_symbol k s here in
       record { some = some_bytes s.name (symbol_is k s here).named; plain = m.name; given = m.given written; binding = binding }
 
-  outer_written : (w : Word) (name : List ℕ) (b : Binding) → is_local b ≡ false → is_written_as (coff_format w) name b ≡ true
+  outer_written : (w : CoffForm) (name : List ℕ) (b : Binding) → is_local b ≡ false → is_written_as (format_of w) name b ≡ true
   outer_written w name (Local v) e = absurd (true≢false e)
   outer_written w name (Global v) e = refl
   outer_written w name Undefined e = refl

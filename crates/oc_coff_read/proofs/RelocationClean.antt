@@ -4,7 +4,7 @@ use Rattle.std.specs.Prelude.{slice_get, filter, nat_lt}
 use Rattle.std.specs.List.{AllByRecursion, enumerate_from, list_any}
 use Rattle.std.specs.Option.{option_map_or}
 use Rattle.std.proofs.lemmas.Option.{none-some, same_Some}
-use Rattle.oc_base.specs.declared.format.Word.{Word}
+use Rattle.oc_coff_read.specs.declared.form.CoffForm.{CoffForm}
 use Rattle.oc_linking.specs.declared.terms.Base.TheVariants.{HomeNumber}
 use Rattle.oc_linking.specs.Keeping.{all, keeps}
 use Rattle.oc_linking.specs.Fits.{bytes_of}
@@ -30,7 +30,7 @@ use Rattle.oc_shelf.proofs.ReadingLaws.StageLemmas.{Unbroken, IsUnbroken}
 use Rattle.oc_coff_read.specs.Entries.{entries_in}
 use Rattle.oc_coff_read.specs.Sections.{Carried, carried_in, sections_in}
 use Rattle.oc_coff_read.specs.Targets.{Aim, aim_in}
-use Rattle.oc_coff_read.specs.Fields.{coff_format}
+use Rattle.oc_coff_read.specs.Forms.{coff_format, word_of}
 use Rattle.oc_coff_read.specs.RelocationFaults.{Judged, judged_from, judged_in, meets_field, relocation_conditions, relocation_stage}
 use Rattle.oc_coff_read.specs.RelocationFaults as faults
 use Rattle.oc_coff_read.specs.Lines.{Line, numbered_lines, outer_number}
@@ -62,19 +62,19 @@ map_more : {X Y : Type 0} (f : X → Y) (xs : List X) (x : X) → map f xs ++ f 
 map_more f [] x = refl
 map_more f (y ∷ xs) x = ap (λ zs. f y ∷ zs) (map_more f xs x)
 
-module _ (w : Word) (n : Object) (is : IsForCoff w n) (numbers : HasNumbers w n) (sections : sections_in (made_tables w n) ≡ S w n is) (entries : entries_in (made_tables w n) ≡ E w n is)
+module _ (w : CoffForm) (n : Object) (is : IsForCoff w n) (numbers : HasNumbers w n) (sections : sections_in (made_tables w n) ≡ S w n is) (entries : entries_in (made_tables w n) ≡ E w n is)
     (carried : carried_in (made_tables w n) ≡ map (made_carried w n) (enumerate_from 0 n.sections)) where
   abbrev lines : List (Laid Line)
   lines = numbered_lines w n
 
   -- an entry that was before meets no field behind it
-  apart_from : (at width : ℕ) (ys : List (chains.Field Reloc)) → EndBy at ys → AllByRecursion (λ (y : chains.Field Reloc). (row : Row) → row_of (coff_format w) (type_of w y.item) ≡ Some row → bytes_of row.width ≤ y.width) ys
-      → list_any (meets_field w at width) (map (relocation_of w lines) ys) ≡ false
+  apart_from : (at width : ℕ) (ys : List (chains.Field Reloc)) → EndBy at ys → AllByRecursion (λ (y : chains.Field Reloc). (row : Row) → row_of (coff_format (word_of w)) (type_of w y.item) ≡ Some row → bytes_of row.width ≤ y.width) ys
+      → list_any (meets_field (word_of w) at width) (map (relocation_of w lines) ys) ≡ false
   apart_from at width [] end wide = refl
   apart_from at width (y ∷ ys) end wide =
-      rw (by (row_of (coff_format w) (type_of w y.item)) refl) (apart_from at width ys end.1 wide.1)
+      rw (by (row_of (coff_format (word_of w)) (type_of w y.item)) refl) (apart_from at width ys end.1 wide.1)
     where
-      by : (o : Option Row) → row_of (coff_format w) (type_of w y.item) ≡ o
+      by : (o : Option Row) → row_of (coff_format (word_of w)) (type_of w y.item) ≡ o
           → option_map_or (λ (row : Row). nat_lt at (y.at + bytes_of row.width) && nat_lt y.at (at + width)) o false ≡ false
       by None e = refl
       by (Some row) e =
@@ -95,7 +95,7 @@ module _ (w : Word) (n : Object) (is : IsForCoff w n) (numbers : HasNumbers w n)
     -- what the symbol of a relocation stands for
     pub record IsAimed (at : ℕ) (r : Reloc) (there : reloc_at n k at ≡ Some r) : Type 0 where
       pub aim : Aim
-      pub found : aim_in w (made_tables w n) (target_number lines r.target) ≡ Some (Some aim)
+      pub found : aim_in (word_of w) (made_tables w n) (target_number lines r.target) ≡ Some (Some aim)
       pub home : (faults.needs_home (row w n is k at r there) && aim.homeless) ≡ false
 
     home_by : (at : ℕ) (r : Reloc) (there : reloc_at n k at ≡ Some r) (j : ℕ) (z : Symbol) → r.target ≡ target.Symbol j → slice_get n.symbols j ≡ Some z
@@ -110,22 +110,22 @@ module _ (w : Word) (n : Object) (is : IsForCoff w n) (numbers : HasNumbers w n)
         by (target.Section j) e =
             let y = there_at n.sections j (subst (λ t. IsThere n t) e (meets w n is k at r there).normal.target) in
             record {
-              aim = record { target = place_target w j 0; homeless = false };
-              found = ap (λ t. aim_in w (made_tables w n) (target_number lines t)) e ∙ section_aim w n is numbers.tags numbers.small sections entries j y.0 y.1;
+              aim = record { target = place_target (word_of w) j 0; homeless = false };
+              found = ap (λ t. aim_in (word_of w) (made_tables w n) (target_number lines t)) e ∙ section_aim w n is numbers.tags numbers.small sections entries j y.0 y.1;
               home = and_false (faults.needs_home (row w n is k at r there));
             }
         by (target.Symbol j) e =
             let z = there_at n.symbols j (subst (λ t. IsThere n t) e (meets w n is k at r there).normal.target) in
             record {
               aim = record { target = record { named = Symbolic (outer_number lines j); worth = λ p v. v (outer_number lines j) }; homeless = is_homeless z.0.binding };
-              found = ap (λ t. aim_in w (made_tables w n) (target_number lines t)) e ∙ symbol_aim w n is numbers.tags numbers.small sections entries j z.0 z.1 ((meets w n is k at r there).outer j z.0 e z.1);
+              found = ap (λ t. aim_in (word_of w) (made_tables w n) (target_number lines t)) e ∙ symbol_aim w n is numbers.tags numbers.small sections entries j z.0 z.1 ((meets w n is k at r there).outer j z.0 e z.1);
               home = ap (λ b. b && is_homeless z.0.binding) (needs_same at r there) ∙ home_by at r there j z.0 e z.1 (needs_home r.form) refl;
             }
 
     -- the conditions on the entry of a field
     entry_clean : (at : ℕ) (ys : List (chains.Field Reloc)) (x : chains.Field Reloc) → reloc_at n k x.at ≡ Some x.item
-        → EndBy x.at ys → AllByRecursion (λ (y : chains.Field Reloc). (row : Row) → row_of (coff_format w) (type_of w y.item) ≡ Some row → bytes_of row.width ≤ y.width) ys
-        → Unbroken (relocation_conditions w (made_tables w n) (record { of = c; at = at; earlier = map (relocation_of w lines) ys; entry = relocation_of w lines x }))
+        → EndBy x.at ys → AllByRecursion (λ (y : chains.Field Reloc). (row : Row) → row_of (coff_format (word_of w)) (type_of w y.item) ≡ Some row → bytes_of row.width ≤ y.width) ys
+        → Unbroken (relocation_conditions (word_of w) (made_tables w n) (record { of = c; at = at; earlier = map (relocation_of w lines) ys; entry = relocation_of w lines x }))
     unfolding relocation_conditions
     entry_clean at ys x there end wide =
         let own = inside w n is k x.at x.item there s here in
@@ -155,7 +155,7 @@ module _ (w : Word) (n : Object) (is : IsForCoff w n) (numbers : HasNumbers w n)
 
     -- the row of a field is as wide as the field
     abbrev IsWide : chains.Field Reloc → Type 0
-    IsWide y = (row : Row) → row_of (coff_format w) (type_of w y.item) ≡ Some row → bytes_of row.width ≤ y.width
+    IsWide y = (row : Row) → row_of (coff_format (word_of w)) (type_of w y.item) ≡ Some row → bytes_of row.width ≤ y.width
 
     wide_field : (x : chains.Field Reloc) → reloc_at n k x.at ≡ Some x.item → x.width ≡ bytes_of x.item.form.width → IsWide x
     wide_field x there own z e =
@@ -165,10 +165,10 @@ module _ (w : Word) (n : Object) (is : IsForCoff w n) (numbers : HasNumbers w n)
 
     judged_clean : (p at : ℕ) (ys xs : List (chains.Field Reloc)) → FollowFrom p xs → EndBy p ys → AllByRecursion IsWide ys → AllByRecursion IsWide xs
         → ((i : ℕ) (x : chains.Field Reloc) → slice_get xs i ≡ Some x → reloc_at n k x.at ≡ Some x.item)
-        → (j : ℕ) (z : Judged) → slice_get (judged_from c at (map (relocation_of w lines) ys) (map (relocation_of w lines) xs)) j ≡ Some z → Unbroken (relocation_conditions w (made_tables w n) z)
+        → (j : ℕ) (z : Judged) → slice_get (judged_from c at (map (relocation_of w lines) ys) (map (relocation_of w lines) xs)) j ≡ Some z → Unbroken (relocation_conditions (word_of w) (made_tables w n) z)
     judged_clean p at ys [] follow end wide wide' there j z h = absurd (none-some z h)
     judged_clean p at ys (x ∷ xs) follow end wide wide' there zero z h =
-        subst (λ (q : Judged). Unbroken (relocation_conditions w (made_tables w n) q)) (same_Some _ z h) (entry_clean at ys x (there 0 x refl) (end_later p x.at ys follow.0 end) wide)
+        subst (λ (q : Judged). Unbroken (relocation_conditions (word_of w) (made_tables w n) q)) (same_Some _ z h) (entry_clean at ys x (there 0 x refl) (end_later p x.at ys follow.0 end) wide)
     judged_clean p at ys (x ∷ xs) follow end wide wide' there (suc j) z h =
         let l = follow.0 in
         judged_clean (end_of x) (at + 10) (ys ++ x ∷ []) xs follow.2 (end_more (end_of x) ys x (end_later p (end_of x) ys (omega (arith, l)) end) (omega arith)) (wide_more ys x wide wide'.0) wide'.1
@@ -179,7 +179,7 @@ module _ (w : Word) (n : Object) (is : IsForCoff w n) (numbers : HasNumbers w n)
         wide_more [] x each own = (own, tt)
         wide_more (y ∷ ys) x each own = (each.0, wide_more ys x each.1 own)
 
-    section_clean : (j : ℕ) (z : Judged) → slice_get (judged_from c c.relocs_at [] c.relocs) j ≡ Some z → Unbroken (relocation_conditions w (made_tables w n) z)
+    section_clean : (j : ℕ) (z : Judged) → slice_get (judged_from c c.relocs_at [] c.relocs) j ≡ Some z → Unbroken (relocation_conditions (word_of w) (made_tables w n) z)
     unfolding relocs_of
     section_clean =
         let follow : FollowFrom 0 (list_of n.relocs k) = is.object.built.fields.apart k in
@@ -188,16 +188,16 @@ module _ (w : Word) (n : Object) (is : IsForCoff w n) (numbers : HasNumbers w n)
         (all_members IsWide (list_of n.relocs k) (λ i x h. wide_field x (there i x h) (each_at (IsHeld n k s.bytes) (list_of n.relocs k) i x (is.object.built.fields.each k s here) h).width)) there
 
   -- the relocations
-  pub relocations_clean : IsUnbroken (relocation_stage w (made_tables w n) all)
+  pub relocations_clean : IsUnbroken (relocation_stage (word_of w) (made_tables w n) all)
   unfolding judged_in
   relocations_clean i low =
       let x = there_at (judged_in (made_tables w n) all) i low in
-      subst (λ o. Unbroken (option_map_or (relocation_conditions w (made_tables w n)) o [])) (sym x.1)
-      (each_flat_map (λ (z : Judged). Unbroken (relocation_conditions w (made_tables w n) z)) (λ (q : Carried). judged_from q q.relocs_at [] q.relocs) (filter (λ (q : Carried). keeps all q.section.kind) (carried_in (made_tables w n)))
-      (each_filter (λ (q : Carried). (j : ℕ) (z : Judged) → slice_get (judged_from q q.relocs_at [] q.relocs) j ≡ Some z → Unbroken (relocation_conditions w (made_tables w n) z)) (λ (q : Carried). keeps all q.section.kind) (carried_in (made_tables w n))
-      (λ a q h passes. each_map (λ (q : Carried). (j : ℕ) (z : Judged) → slice_get (judged_from q q.relocs_at [] q.relocs) j ≡ Some z → Unbroken (relocation_conditions w (made_tables w n) z)) (made_carried w n) (enumerate_from 0 n.sections)
-      (each_enumerated (λ y. (j : ℕ) (z : Judged) → slice_get (judged_from (made_carried w n y) (made_carried w n y).relocs_at [] (made_carried w n y).relocs) j ≡ Some z → Unbroken (relocation_conditions w (made_tables w n) z)) 0 n.sections (λ j s there.
+      subst (λ o. Unbroken (option_map_or (relocation_conditions (word_of w) (made_tables w n)) o [])) (sym x.1)
+      (each_flat_map (λ (z : Judged). Unbroken (relocation_conditions (word_of w) (made_tables w n) z)) (λ (q : Carried). judged_from q q.relocs_at [] q.relocs) (filter (λ (q : Carried). keeps all q.section.kind) (carried_in (made_tables w n)))
+      (each_filter (λ (q : Carried). (j : ℕ) (z : Judged) → slice_get (judged_from q q.relocs_at [] q.relocs) j ≡ Some z → Unbroken (relocation_conditions (word_of w) (made_tables w n) z)) (λ (q : Carried). keeps all q.section.kind) (carried_in (made_tables w n))
+      (λ a q h passes. each_map (λ (q : Carried). (j : ℕ) (z : Judged) → slice_get (judged_from q q.relocs_at [] q.relocs) j ≡ Some z → Unbroken (relocation_conditions (word_of w) (made_tables w n) z)) (made_carried w n) (enumerate_from 0 n.sections)
+      (each_enumerated (λ y. (j : ℕ) (z : Judged) → slice_get (judged_from (made_carried w n y) (made_carried w n y).relocs_at [] (made_carried w n y).relocs) j ≡ Some z → Unbroken (relocation_conditions (word_of w) (made_tables w n) z)) 0 n.sections (λ j s there.
       let e : j ≡ 0 + j = omega arith in
-      subst (λ k. (b : ℕ) (z : Judged) → slice_get (judged_from (made_carried w n (k, s)) (made_carried w n (k, s)).relocs_at [] (made_carried w n (k, s)).relocs) b ≡ Some z → Unbroken (relocation_conditions w (made_tables w n) z)) e (section_clean j s there)))
+      subst (λ k. (b : ℕ) (z : Judged) → slice_get (judged_from (made_carried w n (k, s)) (made_carried w n (k, s)).relocs_at [] (made_carried w n (k, s)).relocs) b ≡ Some z → Unbroken (relocation_conditions (word_of w) (made_tables w n) z)) e (section_clean j s there)))
       a q (ap (λ xs. slice_get xs a) (sym carried) ∙ h)))
       i x.0 x.1)

@@ -1,6 +1,8 @@
 -- COFF, as one record of functions of a file's bytes (PE/COFF; our profile).
 use Rattle.std.specs.Prelude.{ℕ, List, [], ◌∷◌, Option}
 use Rattle.oc_base.specs.declared.format.Word.{Word}
+use Rattle.oc_coff_read.specs.declared.form.CoffForm.{CoffForm}
+use Rattle.oc_coff_read.specs.declared.form.Shape.{Shape}
 use Rattle.oc_base.specs.declared.fault.Fault.{Fault}
 use Rattle.oc_linking.specs.declared.terms.Keep.{Keep}
 use Rattle.oc_linking.specs.FirstFault.{Stage, first_fault}
@@ -11,36 +13,49 @@ use Rattle.oc_neutral.specs.Targets.{IsDialect}
 use Rattle.oc_coff_read.specs.Tables.{Tables, tables_of}
 use Rattle.oc_coff_read.specs.Sections.{sections_in}
 use Rattle.oc_coff_read.specs.Symbols.{symbols_in}
-use Rattle.oc_coff_read.specs.Fields.{coff_format, fields_in}
+use Rattle.oc_coff_read.specs.Forms.{format_by, shape_of, word_of}
+use Rattle.oc_coff_read.specs.Fields.{fields_in}
 use Rattle.oc_coff_read.specs.HeaderFaults.{header_stage}
 use Rattle.oc_coff_read.specs.SectionFaults.{section_stage}
 use Rattle.oc_coff_read.specs.SymbolFaults.{symbol_stage}
 use Rattle.oc_coff_read.specs.RelocationFaults.{relocation_stage}
 
--- what is judged of a file, stage by stage
-unfoldable pub stages_of : Word → List ℕ → Tables → Keep → List Stage
-stages_of w file t keep = header_stage file ∷ section_stage file t ∷ symbol_stage t ∷ relocation_stage w t keep ∷ []
+-- what is judged of a file of that shape, stage by stage
+unfoldable pub stages_of : Word → Shape → List ℕ → Tables → Keep → List Stage
+stages_of w z file t keep = header_stage z file ∷ section_stage file t ∷ symbol_stage t ∷ relocation_stage w t keep ∷ []
 
--- the first fault of a file
-unfoldable pub fault_of : Word → List ℕ → Keep → Option Fault
-fault_of w file keep = first_fault (stages_of w file (tables_of file) keep)
+-- the first fault of a file of that shape
+unfoldable pub fault_by : Word → Shape → List ℕ → Keep → Option Fault
+fault_by w z file keep = first_fault (stages_of w z file (tables_of z file) keep)
 
--- the rules of COFF for a word
-abbrev pub coff_rules : Word → Rules
-coff_rules w = record {
+-- the rules of COFF for a word and a shape
+abbrev pub rules_by : Word → Shape → Rules
+rules_by w z = record {
   word = w;
-  fault = fault_of w;
-  sections = λ file. sections_in (tables_of file);
-  symbols = λ file keep. symbols_in (tables_of file);
-  fields = λ file keep. fields_in w (tables_of file);
-  output_align = output_align (coff_format w);
-  common_align = common_align (coff_format w);
+  fault = fault_by w z;
+  sections = λ file. sections_in (tables_of z file);
+  symbols = λ file keep. symbols_in (tables_of z file);
+  fields = λ file keep. fields_in w (tables_of z file);
+  output_align = output_align (format_by w z);
+  common_align = common_align (format_by w z);
 }
 
--- COFF, as converting knows it
-abbrev pub coff_dialect : Word → Dialect
-coff_dialect w = record { format = coff_format w; rules = coff_rules w }
+-- COFF of that shape, as converting knows it
+abbrev pub dialect_by : Word → Shape → Dialect
+dialect_by w z = record { format = format_by w z; rules = rules_by w z }
+
+-- the first fault of a file in a form
+abbrev pub fault_of : CoffForm → List ℕ → Keep → Option Fault
+fault_of f = fault_by (word_of f) (shape_of f)
+
+-- the rules of a form
+abbrev pub coff_rules : CoffForm → Rules
+coff_rules f = rules_by (word_of f) (shape_of f)
+
+-- a form, as converting knows it
+abbrev pub coff_dialect : CoffForm → Dialect
+coff_dialect f = dialect_by (word_of f) (shape_of f)
 
 -- it says of words and alignments what the formats do
 abbrev pub CoffIsDialect : Type 0
-CoffIsDialect = (w : Word) → IsDialect (coff_dialect w)
+CoffIsDialect = (w : Word) (z : Shape) → IsDialect (dialect_by w z)

@@ -6,11 +6,20 @@ pub const IMAGE_FILE_MACHINE_I386: u16 = 0x14C;
 pub const IMAGE_FILE_MACHINE_AMD64: u16 = 0x8664;
 
 /// The section number of a symbol that is defined elsewhere (PE/COFF, "Section Number Values").
-pub const IMAGE_SYM_UNDEFINED: u16 = 0;
+pub const IMAGE_SYM_UNDEFINED: u32 = 0;
 /// The section number -1 of a symbol that is a number (PE/COFF, "Section Number Values").
-pub const IMAGE_SYM_ABSOLUTE: u16 = 0xFFFF;
+pub const IMAGE_SYM_ABSOLUTE: u32 = 0xFFFF_FFFF;
 /// The section number -2 of a symbol for debuggers (PE/COFF, "Section Number Values").
-pub const IMAGE_SYM_DEBUG: u16 = 0xFFFE;
+pub const IMAGE_SYM_DEBUG: u32 = 0xFFFF_FFFE;
+/// The greatest section number, of 32 bits with a sign (winnt.h, "IMAGE_SYM_SECTION_MAX_EX").
+pub const IMAGE_SYM_SECTION_MAX_EX: u32 = 0x7FFF_FFFF;
+/// What an object of many sections begins with, in the place of a machine: Sig1 (PE/COFF, "Machine Types";
+/// winnt.h, "ANON_OBJECT_HEADER_BIGOBJ").
+pub const IMAGE_FILE_MACHINE_UNKNOWN: u16 = 0;
+/// What follows it, in the place of a number of sections: Sig2 (winnt.h, "ANON_OBJECT_HEADER_BIGOBJ").
+pub const BIG_SIGNATURE: u16 = 0xFFFF;
+/// The least Version of an object of many sections (winnt.h, "ANON_OBJECT_HEADER_BIGOBJ").
+pub const BIG_VERSION: u16 = 2;
 /// The type of a function (PE/COFF, "Type Representation").
 pub const IMAGE_SYM_TYPE_FUNCTION: u16 = 0x20;
 /// A symbol that is seen by all files (PE/COFF, "Storage Class").

@@ -1,6 +1,8 @@
 -- Groups, begun one after the other in the order of their first members.
+use Rattle.oc_coff_reader.specs.Files.{CoffFile, slot_in, tables_in}
+use Rattle.oc_coff_read.specs.Forms.{symbol_size}
 use Rattle.std.proofs.Common.{◌≡◌, ℕ, zero, suc, ◌+◌, ◌*◌, ◌<◌, ◌≤◌, Bool, true, false, cond, List, [], ◌∷◌, ◌++◌, length, map, replicate, set, Option, None, Some, refl, sym, ◌∙◌, ap, subst, arith, inl, inr}
-use Rattle.std.specs.Prelude.{not, ◌||◌, bytes_eq, is_some, slice_get, slice_index_or}
+use Rattle.std.specs.Prelude.{◌||◌, bytes_eq, is_some, slice_get, slice_index_or}
 use Rattle.std.specs.List.{position_or_len}
 use Rattle.std.specs.Option.{option_map, option_and_then, unwrap_or}
 use Rattle.std.proofs.lemmas.Bool.{cases_eq, true≢false}
@@ -22,11 +24,11 @@ use Rattle.oc_neutral.proofs.StartedLaws.{group_more}
 use Rattle.oc_shelf.specs.Reading.Collected.{collected}
 use Rattle.oc_shelf.proofs.ReadingLaws.CollectedLemmas.{collected-some, collected-none, length-collected}
 use Rattle.oc_coff_read.specs.declared.section_header.SectionHeader.{SectionHeader}
-use Rattle.oc_coff_read.specs.Tables.{SectionTable, Tables, section_table, slot_at, tables_of}
+use Rattle.oc_coff_read.specs.Tables.{SectionTable, Tables, section_table}
 use Rattle.oc_coff_read.specs.Names.{symbol_name}
 use Rattle.oc_coff_read.specs.Entries.{name_of}
 use Rattle.oc_coff_read.specs.Comdat.{key_in, led_key}
-use Rattle.oc_coff_read.specs.Fields.{coff_format}
+use Rattle.oc_coff_read.specs.Forms.{format_by}
 use Rattle.oc_coff_read.specs.Sections.{Carried, carried_of, is_stored, kind_in, section_of}
 use Rattle.oc_coff_read.specs.SymbolFaults.{symbol_stage}
 use Rattle.oc_coff_reader.specs.Built.{AreBegunGroups, carried_at, grouped, keys_of, keys_upto, leader_of, place_in, section_at}
@@ -48,11 +50,11 @@ section_is t i x o here kind =
     by (Some k) = refl
 
 -- it is carried exactly where it has a kind
-pub carried_by : (file : List ℕ) (i : ℕ) (h : SectionHeader) → slice_get (tables_of file).sections i ≡ Some (section_table file h) → is_some (kind_in (tables_of file).strings h) ≡ is_some (section_at (tables_of file) i)
+pub carried_by : (file : CoffFile) (i : ℕ) (h : SectionHeader) → slice_get (tables_in file).sections i ≡ Some (section_table file.bytes h) → is_some (kind_in (tables_in file).strings h) ≡ is_some (section_at (tables_in file) i)
 unfolding section_table
-carried_by file i h here = by (kind_in (tables_of file).strings h) ∙ sym (ap is_some (section_is (tables_of file) i (section_table file h) (kind_in (tables_of file).strings h) here refl))
+carried_by file i h here = by (kind_in (tables_in file).strings h) ∙ sym (ap is_some (section_is (tables_in file) i (section_table file.bytes h) (kind_in (tables_in file).strings h) here refl))
   where
-    by : (o : Option Kind) → is_some o ≡ is_some (option_map (section_of (tables_of file) (i + 1) (section_table file h)) o)
+    by : (o : Option Kind) → is_some o ≡ is_some (option_map (section_of (tables_in file) (i + 1) (section_table file.bytes h)) o)
     by None = refl
     by (Some k) = refl
 
@@ -234,10 +236,10 @@ module _ (t : Tables) (k : ℕ) (carried : is_some (section_at t k) ≡ true) wh
 pub group_begun : (w : Word) (t : Tables) (k : ℕ) (key : List ℕ) → keys_upto t (k + 1) ≡ keys_upto t k ++ key ∷ [] → (d e : Draft) (x : Group) → d ≡ grouped w t k → x.key ≡ key → e ≡ group_added d x
     → e ≡ grouped w t (k + 1)
 group_begun w t k key next d e x before own added =
-    added ∙ ap (λ (d : Draft). group_added d x) before ∙ group_more (coff_format w) (groups_by (keys_upto t k)) [] [] x
-    ∙ ap (λ (key : List ℕ). plain_draft (coff_format w) (groups_by (keys_upto t k) ++ record { key = key } ∷ []) [] []) own
-    ∙ ap (λ (gs : List Group). plain_draft (coff_format w) gs [] []) (sym (map-append (λ (key : List ℕ). record { key = key }) (keys_upto t k) (key ∷ [])))
-    ∙ ap (λ (keys : List (List ℕ)). plain_draft (coff_format w) (groups_by keys) [] []) (sym next)
+    added ∙ ap (λ (d : Draft). group_added d x) before ∙ group_more (format_by w t.shape) (groups_by (keys_upto t k)) [] [] x
+    ∙ ap (λ (key : List ℕ). plain_draft (format_by w t.shape) (groups_by (keys_upto t k) ++ record { key = key } ∷ []) [] []) own
+    ∙ ap (λ (gs : List Group). plain_draft (format_by w t.shape) gs [] []) (sym (map-append (λ (key : List ℕ). record { key = key }) (keys_upto t k) (key ∷ [])))
+    ∙ ap (λ (keys : List (List ℕ)). plain_draft (format_by w t.shape) (groups_by keys) [] []) (sym next)
 
 -- ... the group of a section
 
@@ -289,6 +291,6 @@ begun_at t slots are k g key low carried held is =
     ∙ sym (ap (option_map (λ key. position_or_len (bytes_eq key) (keys_of t))) own)
 
 -- the name of an entry is that of its symbol
-pub entry_named : (file : List ℕ) (j : ℕ) → unwrap_or (symbol_name (tables_of file).strings (slot_at file ((tables_of file).entries_at + 18 * j)).symbol.Name) [] ≡ name_of (tables_of file).strings (entry_by file j)
+pub entry_named : (file : CoffFile) (j : ℕ) → unwrap_or (symbol_name (tables_in file).strings (slot_in file ((tables_in file).entries_at + symbol_size file.shape * j)).symbol.Name) [] ≡ name_of (tables_in file).strings (entry_by file j)
 unfolding entry_by
 entry_named file j = refl

@@ -1,6 +1,11 @@
 -- Numbers and names that are read from bytes.
+use Rattle.oc_coff_read.specs.declared.form.Shape.{Shape}
+use Rattle.oc_coff_read.specs.declared.form.Shape.TheVariants.{Usual, Big}
+use Rattle.oc_coff_read.specs.SymbolEntry.{signed_number}
+use Rattle.oc_coff_reader.specs.Files.{CoffFile, tables_in}
+use Rattle.oc_coff_read.specs.Forms.{header_size}
 use Rattle.std.proofs.Common.{◌≡◌, ℕ, zero, suc, ◌+◌, ◌*◌, ◌<◌, ◌^◌, Bool, true, false, cond, eqb, get_or, List, [], ◌∷◌, drop, take, Option, None, Some, refl, sym, ◌∙◌, subst, arith}
-use Rattle.std.specs.Prelude.{nat_eq, nat_le, slice_get}
+use Rattle.std.specs.Prelude.{nat_eq, nat_le, nat_lt, slice_get}
 use Rattle.std.specs.List.{AllByRecursion, before_first, position_or_len}
 use Rattle.std.specs.Option.{option_map, unwrap_or}
 use Rattle.std.proofs.lemmas.Option.{none-some, same_Some, slice_get_within}
@@ -48,15 +53,24 @@ number_small file bytes at (suc k) =
 -- the numbers of a symbol are small
 pub record IsSmall (s : SymbolEntry) : Type 0 where
   pub value : s.Value < 4294967296
-  pub section : s.SectionNumber < 65536
+  pub section : s.SectionNumber < 4294967296
 
-symbol_small : (file : List ℕ) → AreBytes file → (at : ℕ) → IsSmall (symbol_at file at)
+-- a section number of 16 bits with its sign has 32 bits
+signed_small : (n : ℕ) → n < 65536 → signed_number n < 4294967296
+signed_small n low = by (nat_lt n 65280)
+  where
+    by : (b : Bool) → cond b n (n + 0xFFFF0000) < 4294967296
+    by true = omega (arith, low)
+    by false = omega (arith, low)
+
+symbol_small : (z : Shape) (file : List ℕ) → AreBytes file → (at : ℕ) → IsSmall (symbol_at z file at)
 unfolding symbol_at
-symbol_small file bytes at = record { value = number_small file bytes (at + 8) 4; section = number_small file bytes (at + 12) 2 }
+symbol_small Usual file bytes at = record { value = number_small file bytes (at + 8) 4; section = signed_small (number_at file (at + 12) 2) (number_small file bytes (at + 12) 2) }
+symbol_small Big file bytes at = record { value = number_small file bytes (at + 8) 4; section = number_small file bytes (at + 12) 4 }
 
-pub entry_small : (file : List ℕ) → AreBytes file → (j : ℕ) → IsSmall (entry_by file j).symbol
+pub entry_small : (file : CoffFile) → AreBytes file.bytes → (j : ℕ) → IsSmall (entry_by file j).symbol
 unfolding entry_by slot_at
-entry_small file bytes j = symbol_small file bytes (entry_place file j)
+entry_small file bytes j = symbol_small file.shape file.bytes bytes (entry_place file j)
 
 -- ... names
 
@@ -100,29 +114,33 @@ name_bytes strings field table bytes = by (nat_eq (number_at field 0 4) 0) (nat_
     by true false = string_bytes strings (number_at field 4 4) table
     by false b = all_before (λ x. x < 2 ^ 8) field bytes
 
-strings_bytes : (file : List ℕ) → AreBytes file → AreBytes (tables_of file).strings
+strings_bytes : (file : CoffFile) → AreBytes file.bytes → AreBytes (tables_in file).strings
 unfolding tables_of strings_of
-strings_bytes file bytes = by (has_strings file (file_header_of file))
+strings_bytes file bytes = by (has_strings file.shape file.bytes (file_header_of file.shape file.bytes))
   where
-    by : (b : Bool) → AreBytes (cond b (take (strings_size file (file_header_of file)) (drop (strings_place (file_header_of file)) file)) [])
-    by true = all_take (λ x. x < 2 ^ 8) (strings_size file (file_header_of file)) (drop (strings_place (file_header_of file)) file) (all_drop (λ x. x < 2 ^ 8) (strings_place (file_header_of file)) file bytes)
+    by : (b : Bool) → AreBytes (cond b (take (strings_size file.shape file.bytes (file_header_of file.shape file.bytes)) (drop (strings_place file.shape (file_header_of file.shape file.bytes)) file.bytes)) [])
+    by true = all_take (λ x. x < 2 ^ 8) (strings_size file.shape file.bytes (file_header_of file.shape file.bytes)) (drop (strings_place file.shape (file_header_of file.shape file.bytes)) file.bytes) (all_drop (λ x. x < 2 ^ 8) (strings_place file.shape (file_header_of file.shape file.bytes)) file.bytes bytes)
     by false = tt
 
-field_bytes : (file : List ℕ) → AreBytes file → (j : ℕ) → AreBytes (entry_by file j).symbol.Name
+field_bytes : (file : CoffFile) → AreBytes file.bytes → (j : ℕ) → AreBytes (entry_by file j).symbol.Name
 unfolding entry_by slot_at symbol_at
-field_bytes file bytes j = all_take (λ x. x < 2 ^ 8) 8 (drop (entry_place file j) file) (all_drop (λ x. x < 2 ^ 8) (entry_place file j) file bytes)
+field_bytes file bytes j = by file.shape
+  where
+    by : (z : Shape) → AreBytes (symbol_at z file.bytes (entry_place file j)).Name
+    by Usual = all_take (λ x. x < 2 ^ 8) 8 (drop (entry_place file j) file.bytes) (all_drop (λ x. x < 2 ^ 8) (entry_place file j) file.bytes bytes)
+    by Big = all_take (λ x. x < 2 ^ 8) 8 (drop (entry_place file j) file.bytes) (all_drop (λ x. x < 2 ^ 8) (entry_place file j) file.bytes bytes)
 
-pub entry_name_bytes : (file : List ℕ) → AreBytes file → (j : ℕ) → AreBytes (name_of (tables_of file).strings (entry_by file j))
-entry_name_bytes file bytes j = name_bytes (tables_of file).strings (entry_by file j).symbol.Name (strings_bytes file bytes) (field_bytes file bytes j)
+pub entry_name_bytes : (file : CoffFile) → AreBytes file.bytes → (j : ℕ) → AreBytes (name_of (tables_in file).strings (entry_by file j))
+entry_name_bytes file bytes j = name_bytes (tables_in file).strings (entry_by file j).symbol.Name (strings_bytes file bytes) (field_bytes file bytes j)
 
 -- ... flags
 
-flags_small : (file : List ℕ) → AreBytes file → (at : ℕ) → (section_header_at file at).Characteristics < 4294967296
+flags_small : (file : CoffFile) → AreBytes file.bytes → (at : ℕ) → (section_header_at file.bytes at).Characteristics < 4294967296
 unfolding section_header_at
-flags_small file bytes at = number_small file bytes (at + 36) 4
+flags_small file bytes at = number_small file.bytes bytes (at + 36) 4
 
-pub header_small : (file : List ℕ) → AreBytes file → (i : ℕ) (x : SectionTable) → slice_get (tables_of file).sections i ≡ Some x → x.header.Characteristics < 4294967296
+pub header_small : (file : CoffFile) → AreBytes file.bytes → (i : ℕ) (x : SectionTable) → slice_get (tables_in file).sections i ≡ Some x → x.header.Characteristics < 4294967296
 unfolding section_table
 header_small file bytes i x here =
-    let low = slice_get_within (tables_of file).sections i x here in
-    subst (λ (y : SectionTable). y.header.Characteristics < 4294967296) (same_Some (section_table file (section_header_at file (20 + 40 * i))) x (sym (section_there file i low) ∙ here)) (flags_small file bytes (20 + 40 * i))
+    let low = slice_get_within (tables_in file).sections i x here in
+    subst (λ (y : SectionTable). y.header.Characteristics < 4294967296) (same_Some (section_table file.bytes (section_header_at file.bytes (header_size file.shape + 40 * i))) x (sym (section_there file i low) ∙ here)) (flags_small file bytes (header_size file.shape + 40 * i))

@@ -1,4 +1,5 @@
 -- What the meaning of a type makes of an entry is what its row makes of it.
+use Rattle.oc_coff_reader.specs.Files.{CoffFile, tables_in}
 use Rattle.std.proofs.Common.{◌≡◌, ℕ, ◌<◌, length, Bool, true, false, cond, List, Option, None, Some, refl, sym, ◌∙◌, ap, subst}
 use Rattle.std.specs.Prelude.{ℤ, ◌+ℤ◌, nat_eq}
 use Rattle.std.specs.Option.{option_and_then, option_map, option_map_or}
@@ -28,9 +29,9 @@ use Rattle.oc_neutral.specs.RowValues.{row_reloc}
 use Rattle.oc_neutral.specs.TargetRelocations.{is_homeless}
 use Rattle.oc_neutral.proofs.MovedAddends.{moved_reduced}
 use Rattle.oc_coff_read.specs.declared.relocation.Relocation.{Relocation}
-use Rattle.oc_coff_read.specs.Tables.{Tables, tables_of}
+use Rattle.oc_coff_read.specs.Tables.{Tables}
 use Rattle.oc_coff_read.specs.Entries.{Entry, entries_in, entry_numbered}
-use Rattle.oc_coff_read.specs.Fields.{coff_format}
+use Rattle.oc_coff_read.specs.Forms.{coff_format}
 use Rattle.oc_coff_read.specs.Sections.{sections_in}
 use Rattle.oc_coff_read.specs.Symbols.{is_own, symbol_of, symbols_in, value_of}
 use Rattle.oc_coff_read.specs.Targets.{Aim, aim_at, aim_by, aim_for, aim_in}
@@ -59,9 +60,9 @@ made_is w row s a t is =
     ap (λ (l : Less). record { target = t; form = record { base = row.base; less = l; width = row.width; check = row.check }; addend = reduced_number w (a +ℤ shift_of row); hint = Plain }) (takes_same row s is)
     ∙ ap (λ (h : Hint). record { target = t; form = record { base = row.base; less = less_of row.taken s; width = row.width; check = row.check }; addend = reduced_number w (a +ℤ shift_of row); hint = h }) (sym (plain_hint row.hint is.plain))
 
-module _ (w : Word) (b : List ℕ) (head : IsHeaded b) where
+module _ (w : Word) (b : CoffFile) (head : IsHeaded b) where
   abbrev t : Tables
-  t = tables_of b
+  t = tables_in b
 
   -- what a symbol stands for that a field can have
   by_symbol : (row : Row) (s : ℕ) (a : ℤ) (x : parts.Symbol) (aim : Aim) → IsRow row → aim_by x ≡ Some aim
@@ -130,18 +131,18 @@ module _ (w : Word) (b : List ℕ) (head : IsHeaded b) where
   made_none contents r e s = sym (ap (option_and_then (reloc_with w t s contents r)) (meant_none w r.Type e))
 
 -- the symbol of an aimed entry is in the table
-pub aimed_low : (w : Word) (b : List ℕ) → IsHeaded b → (j : ℕ) → IsAimed w (tables_of b) j → j < length (tables_of b).entries
+pub aimed_low : (w : Word) (b : CoffFile) → IsHeaded b → (j : ℕ) → IsAimed w (tables_in b) j → j < length (tables_in b).entries
 unfolding aim_in
-aimed_low w b head j aimed = by (entry_numbered (entries_in (tables_of b)) j) refl aimed.is
+aimed_low w b head j aimed = by (entry_numbered (entries_in (tables_in b)) j) refl aimed.is
   where
-    by : (o : Option Entry) → entry_numbered (entries_in (tables_of b)) j ≡ o
-        → option_and_then (λ e. aim_for w (sections_in (tables_of b)) (entries_in (tables_of b)) e (symbol_of (tables_of b).strings (sections_in (tables_of b)) (entries_in (tables_of b)) e)) o ≡ Some (Some aimed.aim)
-        → j < length (tables_of b).entries
+    by : (o : Option Entry) → entry_numbered (entries_in (tables_in b)) j ≡ o
+        → option_and_then (λ e. aim_for w (sections_in (tables_in b)) (entries_in (tables_in b)) e (symbol_of (tables_in b).strings (sections_in (tables_in b)) (entries_in (tables_in b)) e)) o ≡ Some (Some aimed.aim)
+        → j < length (tables_in b).entries
     by None g h = absurd (none-some (Some aimed.aim) h)
     by (Some x) g h =
-        let m = find_from (λ (y : Entry). nat_eq y.number j) (entries_in (tables_of b)) x g in
-        let entry : IsEntry b x = all_here (IsEntry b) (entries_in (tables_of b)) m.place x (entries_sound b head) m.there in
-        subst (λ (n : ℕ). n < length (tables_of b).entries) (eqb-true x.number j m.passes) entry.low
+        let m = find_from (λ (y : Entry). nat_eq y.number j) (entries_in (tables_in b)) x g in
+        let entry : IsEntry b x = all_here (IsEntry b) (entries_in (tables_in b)) m.place x (entries_sound b head) m.there in
+        subst (λ (n : ℕ). n < length (tables_in b).entries) (eqb-true x.number j m.passes) entry.low
 
 -- a meaning has the width of its row
 pub meant_width : (w : Word) (r : Relocation) (m : Meaning) → meaning_of w r.Type ≡ Some m → width_of w r ≡ bytes_of m.form.width

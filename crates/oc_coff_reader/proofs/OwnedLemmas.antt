@@ -1,12 +1,12 @@
 -- The first symbols of each section, and what they say.
-use Rattle.std.proofs.Common.{◌≡◌, ℕ, ◌<◌, Bool, true, cond, List, length, Option, None, Some, refl, sym, ◌∙◌, ap, subst}
+use Rattle.oc_coff_reader.specs.Files.{CoffFile, slot_in, tables_in}
+use Rattle.std.proofs.Common.{◌≡◌, ℕ, ◌<◌, Bool, true, cond, length, Option, None, Some, refl, sym, ◌∙◌, ap, subst}
 use Rattle.std.specs.Prelude.{slice_get}
 use Rattle.std.specs.Option.{option_map, option_and_then}
 use Rattle.std.proofs.lemmas.Bool.{true≢false}
 use Rattle.std.proofs.lemmas.Option.{none-some, same_Some}
 use Rattle.oc_coff_read.specs.declared.constants.TheConstants.{IMAGE_SYM_CLASS_EXTERNAL}
 use Rattle.oc_coff_read.specs.declared.section_aux.SectionAux.{SectionAux}
-use Rattle.oc_coff_read.specs.Tables.{slot_at, tables_of}
 use Rattle.oc_coff_read.specs.Entries.{Entry, entries_in, is_class, is_in}
 use Rattle.oc_coff_read.specs.Comdat.{key_symbol, selects, symbols_of}
 use Rattle.oc_coff_reader.specs.Head.{IsHeaded}
@@ -14,21 +14,21 @@ use Rattle.oc_coff_reader.specs.Numbered.{entry_by, entry_place, symbol_in}
 use Rattle.oc_coff_reader.proofs.EntryLemmas.{IsEntry, all_here, entries_sound, filter_from}
 
 -- entry j is symbol i of section number k
-pub record IsOwner (file : List ℕ) (i k j : ℕ) : Type 0 where
-  pub low : j < length (tables_of file).entries
-  pub is : slice_get (symbols_of (entries_in (tables_of file)) k) i ≡ Some (entry_by file j)
+pub record IsOwner (file : CoffFile) (i k j : ℕ) : Type 0 where
+  pub low : j < length (tables_in file).entries
+  pub is : slice_get (symbols_of (entries_in (tables_in file)) k) i ≡ Some (entry_by file j)
 
-pub owner_is : (file : List ℕ) → IsHeaded file → (i k j : ℕ) → symbol_in (tables_of file) i k ≡ Some j → IsOwner file i k j
-owner_is file head i k j is = by (slice_get (symbols_of (entries_in (tables_of file)) k) i) refl is
+pub owner_is : (file : CoffFile) → IsHeaded file → (i k j : ℕ) → symbol_in (tables_in file) i k ≡ Some j → IsOwner file i k j
+owner_is file head i k j is = by (slice_get (symbols_of (entries_in (tables_in file)) k) i) refl is
   where
-    by : (o : Option Entry) → slice_get (symbols_of (entries_in (tables_of file)) k) i ≡ o → option_map (λ (e : Entry). e.number) o ≡ Some j → IsOwner file i k j
+    by : (o : Option Entry) → slice_get (symbols_of (entries_in (tables_in file)) k) i ≡ o → option_map (λ (e : Entry). e.number) o ≡ Some j → IsOwner file i k j
     by None e h = absurd (none-some j h)
     by (Some x) e h =
-        let p = filter_from (λ (e : Entry). is_in k e.symbol) (entries_in (tables_of file)) i x e in
-        let m = all_here (IsEntry file) (entries_in (tables_of file)) p.place x (entries_sound file head) p.there in
+        let p = filter_from (λ (e : Entry). is_in k e.symbol) (entries_in (tables_in file)) i x e in
+        let m = all_here (IsEntry file) (entries_in (tables_in file)) p.place x (entries_sound file head) p.there in
         let number = same_Some x.number j h in
         record {
-          low = subst (λ (n : ℕ). n < length (tables_of file).entries) number m.low;
+          low = subst (λ (n : ℕ). n < length (tables_in file).entries) number m.low;
           is = e ∙ ap Some (m.is ∙ ap (entry_by file) number);
         }
 
@@ -36,8 +36,8 @@ owner_is file head i k j is = by (slice_get (symbols_of (entries_in (tables_of f
 
 -- ... keys
 
-pub second_is : (file : List ℕ) (k j : ℕ) (b : Bool) → IsOwner file 1 k j → is_class IMAGE_SYM_CLASS_EXTERNAL (slot_at file (entry_place file j)).symbol ≡ b
-    → key_symbol (entries_in (tables_of file)) k ≡ cond b (Some (entry_by file j)) None
+pub second_is : (file : CoffFile) (k j : ℕ) (b : Bool) → IsOwner file 1 k j → is_class IMAGE_SYM_CLASS_EXTERNAL (slot_in file (entry_place file j)).symbol ≡ b
+    → key_symbol (entries_in (tables_in file)) k ≡ cond b (Some (entry_by file j)) None
 unfolding entry_by
 second_is file k j b owner is =
     ap (option_and_then (λ (e : Entry). cond (is_class IMAGE_SYM_CLASS_EXTERNAL e.symbol) (Some e) None)) owner.is

@@ -14,7 +14,7 @@ use Rattle.oc_linking.specs.declared.terms.Width.TheVariants.{One, Two, Four, Ei
 use Rattle.oc_linking.specs.Fits.{bytes_of}
 use Rattle.oc_neutral.specs.Rows.{Row, Taken, TakesZero, TakesPlace, TakesGotBase, TakesImageBase, TakesHome, TakesSection, less_of, same_hint, same_taken}
 use Rattle.oc_neutral.specs.RelocTables.{row_of, rows_of}
-use Rattle.oc_coff_read.specs.Fields.{coff_format}
+use Rattle.oc_coff_read.specs.Forms.{coff_format}
 use Rattle.oc_coff_reader.specs.declared.meaning.Meaning.{Meaning}
 use Rattle.oc_coff_reader.specs.Meanings.{meaning_of, meant_by}
 

@@ -1,15 +1,14 @@
 -- Where carried sections stand, section by section.
 use Rattle.std.proofs.Common.{◌≡◌, ℕ, zero, suc, ◌+◌, ◌-◌, ◌<◌, ◌≤◌, Bool, true, false, cond, List, [], ◌∷◌, ◌++◌, length, replicate, Option, None, Some, refl, sym, ◌∙◌, ap, subst, arith}
-use Rattle.std.specs.Prelude.{◌&&◌, nat_le, nat_lt, is_some, slice_get, slice_index_or}
-use Rattle.std.proofs.lemmas.Bool.{eq-eqb, ne_eqb, true≢false}
-use Rattle.std.proofs.lemmas.Bool.Decides.{nat_tests}
+use Rattle.std.specs.Prelude.{nat_le, is_some, slice_get, slice_index_or}
+use Rattle.std.proofs.lemmas.Bool.{eq-eqb, ne_eqb, true≢false, le-leb}
 use Rattle.std.proofs.lemmas.Option.{none-some, same_Some}
 use Rattle.oc_linking.specs.Parts.{Section}
 use Rattle.oc_shelf.specs.Reading.Collected.{collected, with_option}
 use Rattle.oc_shelf.specs.Reading.Slots.{AreSlots}
 use Rattle.oc_shelf.proofs.ReadingLaws.CollectedLemmas.{IsFrom, collected-at, collected-more, collected-ordered}
 use Rattle.oc_shelf.proofs.ReadingLaws.SlotLemmas.{slots_pushed}
-use Rattle.oc_neutral.specs.declared.coff.TheConstants.{IMAGE_SYM_SECTION_MAX}
+use Rattle.oc_coff_read.specs.declared.constants.TheConstants.{IMAGE_SYM_SECTION_MAX_EX}
 use Rattle.oc_coff_read.specs.Tables.{Tables}
 use Rattle.oc_coff_read.specs.Sections.{position_from, position_of, sections_in}
 use Rattle.oc_coff_reader.specs.Built.{section_at}
@@ -71,24 +70,16 @@ module _ (t : Tables) where
           absurd (none-some m.0 (sym none ∙ ap (section_at t) (sym same) ∙ from.is))
 
   -- the position of a section, whether it is carried or not
-  pub position_next : (i : ℕ) → i < n → cond (is_some (section_at t i) && nat_lt i IMAGE_SYM_SECTION_MAX) (Some (length (collected (section_at t) i))) None ≡ position_of (sections_in t) (i + 1)
+  pub position_next : n < 2097152 → (i : ℕ) → i < n → cond (is_some (section_at t i)) (Some (length (collected (section_at t) i))) None ≡ position_of (sections_in t) (i + 1)
   unfolding position_of
-  position_next i low = by (section_at t i) refl (nat_lt i IMAGE_SYM_SECTION_MAX) (nat_le (i + 1) IMAGE_SYM_SECTION_MAX) (same i)
+  position_next few i low = by (section_at t i) refl (nat_le (i + 1) IMAGE_SYM_SECTION_MAX_EX) (le-leb (i + 1) 2147483647 (omega (arith, low, few)))
     where
-      same : (i : ℕ) → nat_le (i + 1) 65279 ≡ nat_lt i 65279
-      same i = elim (nat_lt i 65279) as (λ b. nat_lt i 65279 ≡ b → nat_le (i + 1) 65279 ≡ b) [
-        | true ↦ λ e. grind (arith, nat_tests)
-        | false ↦ λ e. grind (arith, nat_tests)
-      ] refl
-
-      by : (o : Option Section) → section_at t i ≡ o → (a b : Bool) → b ≡ a
-          → cond (is_some o && a) (Some (length (collected (section_at t) i))) None ≡ cond b (position_from 0 (sections_in t) (i + 1)) None
-      by None e a true h = sym (position_none i e)
-      by None e a false h = refl
-      by (Some s) e true true h = sym (position_some i s low e)
-      by (Some s) e false false h = refl
-      by (Some s) e true false h = absurd (true≢false (sym h))
-      by (Some s) e false true h = absurd (true≢false h)
+      by : (o : Option Section) → section_at t i ≡ o → (b : Bool) → b ≡ true
+          → cond (is_some o) (Some (length (collected (section_at t) i))) None ≡ cond b (position_from 0 (sections_in t) (i + 1)) None
+      by None e true h = sym (position_none i e)
+      by None e false h = refl
+      by (Some s) e true h = sym (position_some i s low e)
+      by (Some s) e false h = absurd (true≢false (sym h))
 
   -- the positions so far, and the next
   pub record ArePlaced (i position : ℕ) (slots : List (Option ℕ)) : Type 0 where
@@ -124,11 +115,11 @@ module _ (t : Tables) where
   longer (y ∷ xs) (Some x) = let rest = longer xs (Some x) in omega (arith, rest)
 
   -- one section more
-  pub placed_more : (i position step : ℕ) (slots : List (Option ℕ)) (b : Bool) (o : Option ℕ) → ArePlaced i position slots → i < n → b ≡ is_some (section_at t i) → step ≡ cond b 1 0
-      → o ≡ cond (b && nat_lt i IMAGE_SYM_SECTION_MAX) (Some position) None → ArePlaced (i + 1) (position + step) (slots ++ o ∷ [])
-  placed_more i position step slots b o are low is one made = record {
+  pub placed_more : n < 2097152 → (i position step : ℕ) (slots : List (Option ℕ)) (b : Bool) (o : Option ℕ) → ArePlaced i position slots → i < n → b ≡ is_some (section_at t i) → step ≡ cond b 1 0
+      → o ≡ cond b (Some position) None → ArePlaced (i + 1) (position + step) (slots ++ o ∷ [])
+  placed_more few i position step slots b o are low is one made = record {
     slots_are = slots_pushed (position_of (sections_in t)) (i + 1) o slots are.slots_are
-        (made ∙ ap (λ c. cond (c && nat_lt i IMAGE_SYM_SECTION_MAX) (Some position) None) is ∙ ap (λ (q : ℕ). cond (is_some (section_at t i) && nat_lt i IMAGE_SYM_SECTION_MAX) (Some q) None) are.next ∙ position_next i low);
+        (made ∙ ap (λ c. cond c (Some position) None) is ∙ ap (λ (q : ℕ). cond (is_some (section_at t i)) (Some q) None) are.next ∙ position_next few i low);
     next =
         let count : length (collected (section_at t) (i + 1)) ≡ length (collected (section_at t) i) + cond (is_some (section_at t i)) 1 0 = ap length (collected-more (section_at t) i) ∙ longer (collected (section_at t) i) (section_at t i) in
         let before = are.next in

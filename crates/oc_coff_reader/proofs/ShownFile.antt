@@ -1,5 +1,6 @@
 -- A file without faults shows what is built of it, which can be finished and read.
-use Rattle.std.proofs.Common.{◌≡◌, ℕ, ◌<◌, List, length, Option, None, Some, refl, sym, ◌∙◌, ap, subst}
+use Rattle.oc_coff_reader.specs.Files.{CoffFile, tables_in}
+use Rattle.std.proofs.Common.{◌≡◌, ℕ, ◌<◌, length, Option, None, Some, refl, sym, ◌∙◌, ap, subst}
 use Rattle.std.specs.Prelude.{slice_get}
 use Rattle.std.proofs.lemmas.Bool.{true≢false}
 use Rattle.std.proofs.lemmas.Option.{none-some}
@@ -18,10 +19,9 @@ use Rattle.oc_neutral.specs.Invariants.{AreBytes, IsComplete, IsDraft, NamesOrig
 use Rattle.oc_neutral.specs.Readable.{IsReadable}
 use Rattle.oc_neutral.specs.Shows.{Shows}
 use Rattle.oc_neutral.proofs.BuiltWhole.{built_is_complete, built_is_readable}
-use Rattle.oc_coff_read.specs.Tables.{tables_of}
 use Rattle.oc_coff_read.specs.HeaderFaults.{header_stage}
 use Rattle.oc_coff_read.specs.RelocationFaults.{relocation_stage}
-use Rattle.oc_coff_read.specs.Rules.{coff_dialect, fault_of, stages_of}
+use Rattle.oc_coff_read.specs.Rules.{dialect_by, fault_by, stages_of}
 use Rattle.oc_coff_read.specs.SectionFaults.{section_stage}
 use Rattle.oc_coff_read.specs.SymbolFaults.{symbol_stage}
 use Rattle.oc_coff_read.specs.Symbols.{symbols_in}
@@ -43,48 +43,48 @@ use Rattle.oc_coff_reader.proofs.WholeSymbols.{original_there}
 -- ... stages
 
 -- the stages behind the header have no fault
-pub record IsClean (w : Word) (file : List ℕ) (keep : Keep) : Type 0 where
-  pub sections : stage_fault (section_stage file (tables_of file)) ≡ None
-  pub symbols : stage_fault (symbol_stage (tables_of file)) ≡ None
-  pub relocs : stage_fault (relocation_stage w (tables_of file) keep) ≡ None
+pub record IsClean (w : Word) (file : CoffFile) (keep : Keep) : Type 0 where
+  pub sections : stage_fault (section_stage file.bytes (tables_in file)) ≡ None
+  pub symbols : stage_fault (symbol_stage (tables_in file)) ≡ None
+  pub relocs : stage_fault (relocation_stage w (tables_in file) keep) ≡ None
 
 none_of : (a b : Option Fault) → or_else a b ≡ None → (a ≡ None) × (b ≡ None)
 none_of None b e = (refl, e)
 none_of (Some f) b e = absurd (none-some f (sym e))
 
-pub stages_clean : (w : Word) (file : List ℕ) (keep : Keep) → first_fault (rest_stages w file keep) ≡ None → IsClean w file keep
+pub stages_clean : (w : Word) (file : CoffFile) (keep : Keep) → first_fault (rest_stages w file keep) ≡ None → IsClean w file keep
 stages_clean w file keep none =
-    let a = none_of (stage_fault (section_stage file (tables_of file))) _ none in
-    let b = none_of (stage_fault (symbol_stage (tables_of file))) _ a.1 in
-    let c = none_of (stage_fault (relocation_stage w (tables_of file) keep)) _ b.1 in
+    let a = none_of (stage_fault (section_stage file.bytes (tables_in file))) _ none in
+    let b = none_of (stage_fault (symbol_stage (tables_in file))) _ a.1 in
+    let c = none_of (stage_fault (relocation_stage w (tables_in file) keep)) _ b.1 in
     record { sections = a.0; symbols = b.0; relocs = c.0 }
 
 -- those of a file are its header's and the rest
-pub fault_is : (w : Word) (file : List ℕ) (keep : Keep) → fault_of w file keep ≡ or_else (stage_fault (header_stage file)) (first_fault (rest_stages w file keep))
-unfolding fault_of stages_of
+pub fault_is : (w : Word) (file : CoffFile) (keep : Keep) → fault_by w file.shape file.bytes keep ≡ or_else (stage_fault (header_stage file.shape file.bytes)) (first_fault (rest_stages w file keep))
+unfolding fault_by stages_of
 fault_is w file keep = refl
 
 pub clean_is_shown : CleanIsShown
 clean_is_shown w file keep d small none start has =
-    let head = (none_of (stage_fault (header_stage file)) _ (sym (fault_is w file keep) ∙ none)).0 in
+    let head = (none_of (stage_fault (header_stage file.shape file.bytes)) _ (sym (fault_is w file keep) ∙ none)).0 in
     built_is_shown w file (record { clean = head; small = small }) keep d start has
 
 -- ... what is given
 
-module _ (w : Word) (file : List ℕ) (head : IsHeaded file) (bytes : AreBytes file) (keep : Keep) (clean : IsClean w file keep) (draft : IsDraft (started w file)) where
-  pub start : IsStarted (coff_dialect w) file keep (started w file)
-  start = is_started w file head keep (are_named (tables_of file) clean.symbols (narrow file head clean.symbols bytes)) draft
+module _ (w : Word) (file : CoffFile) (head : IsHeaded file) (bytes : AreBytes file.bytes) (keep : Keep) (clean : IsClean w file keep) (draft : IsDraft (started w file)) where
+  pub start : IsStarted (dialect_by w file.shape) file.bytes keep (started w file)
+  start = is_started w file head keep (are_named (tables_in file) clean.symbols (narrow file head clean.symbols bytes)) draft
 
-  standing : (s at : ℕ) (r : Reloc) → given_at w (tables_of file) keep s at ≡ Some r → IsStanding w file head keep (started w file).object start.symbols clean.relocs s at r
+  standing : (s at : ℕ) (r : Reloc) → given_at w (tables_in file) keep s at ≡ Some r → IsStanding w file head keep (started w file).object start.symbols clean.relocs s at r
   standing = given_standing w file head keep (started w file).object start.symbols clean.relocs
 
   original : (s at : ℕ) (r : Reloc) (m : IsStanding w file head keep (started w file).object start.symbols clean.relocs s at r) (u : Target) → m.made.against.at ≡ u → NamesOriginal (started w file).object.symbols u
   original s at r m (target.Section k) same = tt
   original s at r m (target.Symbol p) same =
       let x = m.made.against.symbol p same in
-      original_there w file head bytes clean.symbols p x.0 (ap (slice_get (symbols_in (tables_of file))) (sym x.2) ∙ symbol_stands file head m.made.place m.made.symbol x.0 m.made.there x.1)
+      original_there w file head bytes clean.symbols p x.0 (ap (slice_get (symbols_in (tables_in file))) (sym x.2) ∙ symbol_stands file head m.made.place m.made.symbol x.0 m.made.there x.1)
 
-  are_final : AreFinal (started w file).object (given_at w (tables_of file) keep)
+  are_final : AreFinal (started w file).object (given_at w (tables_in file) keep)
   are_final = record {
     hints = λ s at r e call.
         let m = standing s at r e in
@@ -94,14 +94,14 @@ module _ (w : Word) (file : List ℕ) (head : IsHeaded file) (bytes : AreBytes f
         subst (λ (q : Reloc). NamesOriginal (started w file).object.symbols q.target) m.made.against.is (original s at r m m.made.against.at refl);
   }
 
-  module _ (d : Draft) (has : HasAdded (started w file) d (given_at w (tables_of file) keep)) where
-    pub read_complete : length (tables_of file).entries < 4294967296 → IsComplete d.object
+  module _ (d : Draft) (has : HasAdded (started w file) d (given_at w (tables_in file) keep)) where
+    pub read_complete : length (tables_in file).entries < 4294967296 → IsComplete d.object
     read_complete few =
-        built_is_complete (coff_dialect w) file keep (started w file) d (given_at w (tables_of file) keep) start has (complete w file head bytes clean.symbols few) are_final
+        built_is_complete (dialect_by w file.shape) file.bytes keep (started w file) d (given_at w (tables_in file) keep) start has (complete w file head bytes clean.symbols few) are_final
 
     pub read_readable : IsReadable d.object
     read_readable =
-        built_is_readable (coff_dialect w) file keep (started w file) d (given_at w (tables_of file) keep) start has (readable w file bytes) (λ s x there blank at. absurd (true≢false (sym blank ∙ blank_is w x.tag)))
+        built_is_readable (dialect_by w file.shape) file.bytes keep (started w file) d (given_at w (tables_in file) keep) start has (readable w file bytes) (λ s x there blank at. absurd (true≢false (sym blank ∙ blank_is w (tables_in file).shape x.tag)))
 
-    pub read_shows : Shows (coff_dialect w) file keep d.object
+    pub read_shows : Shows (dialect_by w file.shape) file.bytes keep d.object
     read_shows = built_is_shown w file head keep d start has

@@ -1,8 +1,9 @@
 -- What is found in a file before its symbols are judged (PE/COFF; our profile).
-use Rattle.std.specs.Prelude.{◌≡◌, ℕ, ◌+◌, ◌<◌, if◌then◌else◌, List, length, Option, Some, None}
+use Rattle.oc_coff_reader.specs.Files.{CoffFile, tables_in}
+use Rattle.std.specs.Prelude.{◌≡◌, ℕ, ◌+◌, ◌<◌, if◌then◌else◌, length, Option, Some, None}
 use Rattle.std.specs.Option.{is_some}
 use Rattle.oc_shelf.specs.Reading.Slots.{AreSlots}
-use Rattle.oc_coff_read.specs.Tables.{Tables, tables_of}
+use Rattle.oc_coff_read.specs.Tables.{Tables}
 use Rattle.oc_coff_read.specs.Entries.{entries_in, entry_numbered}
 use Rattle.oc_coff_read.specs.Sections.{position_of, sections_in}
 use Rattle.oc_coff_read.specs.Symbols.{tagged_by}
@@ -15,15 +16,15 @@ abbrev pub start_of : Tables → ℕ → Option ℕ
 start_of t j = if is_some (entry_numbered (entries_in t) j) then Some j else None
 
 -- entry j tags the symbol of entry d
-pub record IsTagOf (file : List ℕ) (j d : ℕ) : Type 0 where
-  pub low : d < length (tables_of file).entries
-  pub is : tagged_by (entries_in (tables_of file)) (entry_by file j) ≡ Some (entry_by file d)
+pub record IsTagOf (file : CoffFile) (j d : ℕ) : Type 0 where
+  pub low : d < length (tables_in file).entries
+  pub is : tagged_by (entries_in (tables_in file)) (entry_by file j) ≡ Some (entry_by file d)
 
 -- the numbers of the symbols; the first two symbols of each section; the position of each carried section, by its number; and which entries are
 -- symbols, and which are tagged by weak externals
-pub record IsFound (file : List ℕ) (x : Found) : Type 0 where
+pub record IsFound (file : CoffFile) (x : Found) : Type 0 where
   pub numbers_are : AreNumbers file x.numbers.items
-  pub owners_are : AreOwners (tables_of file) x.owners.firsts x.owners.seconds
-  pub sections_are : AreSlots (position_of (sections_in (tables_of file))) (length (tables_of file).sections + 1) x.sections
-  pub starts_are : AreSlots (start_of (tables_of file)) (length (tables_of file).entries) x.starts
-  pub tagged_are : AreTagged (tables_of file) x.tagged
+  pub owners_are : AreOwners (tables_in file) x.owners.firsts x.owners.seconds
+  pub sections_are : AreSlots (position_of (sections_in (tables_in file))) (length (tables_in file).sections + 1) x.sections
+  pub starts_are : AreSlots (start_of (tables_in file)) (length (tables_in file).entries) x.starts
+  pub tagged_are : AreTagged (tables_in file) x.tagged

@@ -1,4 +1,5 @@
 -- The relocation that is given to the Builder for each entry, and those that are given for a file (our profile).
+use Rattle.oc_coff_reader.specs.Files.{CoffFile, tables_in}
 use Rattle.std.specs.Prelude.{◌≡◌, ℕ, Bool, ◌&&◌, ◌||◌, nat_eq, nat_lt, if◌then◌else◌, ℤ, pos, neg_ℤ, List, find, slice_get, slice_index_or, Option, Some, None}
 use Rattle.std.specs.List.{list_any}
 use Rattle.std.specs.Option.{option_map, option_and_then}
@@ -26,11 +27,12 @@ use Rattle.oc_neutral.specs.RowValues.{row_reloc}
 use Rattle.oc_neutral.specs.Rows.{Row}
 use Rattle.oc_shelf.specs.declared.reading.order.Placed.{Placed}
 use Rattle.oc_coff_read.specs.declared.relocation.Relocation.{Relocation}
-use Rattle.oc_coff_read.specs.Tables.{Tables, tables_of}
+use Rattle.oc_coff_read.specs.Tables.{Tables}
 use Rattle.oc_coff_read.specs.Entries.{Entry, entries_in, entry_numbered}
 use Rattle.oc_coff_read.specs.Sections.{Carried, carried_in, sections_in}
 use Rattle.oc_coff_read.specs.Symbols.{is_own, symbol_of, symbols_in, value_of}
-use Rattle.oc_coff_read.specs.Fields.{coff_format, relocates, says_nothing}
+use Rattle.oc_coff_read.specs.Forms.{coff_format}
+use Rattle.oc_coff_read.specs.Fields.{relocates, says_nothing}
 use Rattle.oc_coff_read.specs.Targets.{Aim, aim_in}
 use Rattle.oc_coff_reader.specs.declared.meaning.Meaning.{Meaning}
 use Rattle.oc_coff_reader.specs.declared.relocs.Table.{Table}
@@ -96,9 +98,9 @@ symbol_meant w m a v None = option_and_then (place_meant w m a) v
 symbol_meant w m a v (Some k) = Some (reloc_as m (target.Symbol k) a)
 
 -- of an entry, in a section with these contents
-abbrev pub reloc_meant : Word → List ℕ → List ℕ → Relocation → Meaning → Option Reloc
+abbrev pub reloc_meant : Word → CoffFile → List ℕ → Relocation → Meaning → Option Reloc
 reloc_meant w file contents r m =
-    symbol_meant w m (addend_by w m contents r.VirtualAddress) (value_of (sections_in (tables_of file)) (entry_by file r.SymbolTableIndex).symbol) (symbol_position (tables_of file) r.SymbolTableIndex)
+    symbol_meant w m (addend_by w m contents r.VirtualAddress) (value_of (sections_in (tables_in file)) (entry_by file r.SymbolTableIndex).symbol) (symbol_position (tables_in file) r.SymbolTableIndex)
 
 -- ... entry by entry
 
@@ -114,7 +116,7 @@ abbrev pub placed : List Relocation → ℕ → Option Placed
 placed relocs k = placed_as (entry_in relocs k) k
 
 -- the same, where the table stands in the file
-abbrev pub placed_at : List ℕ → Table → ℕ → Option Placed
+abbrev pub placed_at : CoffFile → Table → ℕ → Option Placed
 placed_at file table k = placed_as (reloc_of file table k) k
 
 -- one of the entries is at an offset

@@ -1,29 +1,30 @@
 -- Symbols by the numbers of their entries (PE/COFF, "COFF Symbol Table"; our profile).
+use Rattle.oc_coff_reader.specs.Files.{CoffFile, slot_in, tables_in}
+use Rattle.oc_coff_read.specs.Forms.{symbol_size}
 use Rattle.std.specs.Prelude.{◌≡◌, ℕ, ◌+◌, ◌*◌, ◌<◌, nat_eq, if◌then◌else◌, List, length, map, slice_get, Option, None}
 use Rattle.std.specs.List.{AllByRecursion}
 use Rattle.std.specs.Option.{option_map}
-use Rattle.oc_coff_read.specs.declared.symbol.TheConstants.{SYMBOL_SIZE}
-use Rattle.oc_coff_read.specs.Tables.{Tables, tables_of, slot_at}
+use Rattle.oc_coff_read.specs.Tables.{Tables}
 use Rattle.oc_coff_read.specs.Entries.{Entry, entries_in}
 use Rattle.oc_coff_read.specs.Comdat.{symbols_of}
 use Rattle.oc_shelf.specs.Reading.Slots.{AreSlots}
 
 -- where entry j begins
-abbrev pub entry_place : List ℕ → ℕ → ℕ
-entry_place file j = (tables_of file).entries_at + SYMBOL_SIZE * j
+abbrev pub entry_place : CoffFile → ℕ → ℕ
+entry_place file j = (tables_in file).entries_at + symbol_size file.shape * j
 
 -- entry j as a symbol
-unfoldable pub entry_by : List ℕ → ℕ → Entry
+unfoldable pub entry_by : CoffFile → ℕ → Entry
 entry_by file j = record {
   number = j;
-  symbol = (slot_at file (entry_place file j)).symbol;
-  aux = if nat_eq (slot_at file (entry_place file j)).symbol.NumberOfAuxSymbols 0 then None else slice_get (tables_of file).entries (j + 1);
+  symbol = (slot_in file (entry_place file j)).symbol;
+  aux = if nat_eq (slot_in file (entry_place file j)).symbol.NumberOfAuxSymbols 0 then None else slice_get (tables_in file).entries (j + 1);
 }
 
 -- these are the numbers of all symbols, in their order
-pub record AreNumbers (file : List ℕ) (numbers : List ℕ) : Type 0 where
-  pub are : entries_in (tables_of file) ≡ map (entry_by file) numbers
-  pub there : AllByRecursion (λ j. j < length (tables_of file).entries) numbers
+pub record AreNumbers (file : CoffFile) (numbers : List ℕ) : Type 0 where
+  pub are : entries_in (tables_in file) ≡ map (entry_by file) numbers
+  pub there : AllByRecursion (λ j. j < length (tables_in file).entries) numbers
 
 -- the number of symbol i of section k, counted from 0
 abbrev pub symbol_in : Tables → ℕ → ℕ → Option ℕ

@@ -2,7 +2,7 @@
 ghost use Rattle.std.specs.Prelude.{◌≡◌, ◌<◌, length, None, IfOk, slice_index_or};
 ghost use Rattle.oc_linking.specs.FirstFault.{stage_fault};
 ghost use Rattle.oc_coff_read.specs.SymbolFaults.{symbol_stage};
-ghost use Rattle.oc_coff_read.specs.Tables as tables;
+ghost use Rattle.oc_coff_reader.specs.Files as files;
 ghost use Rattle.oc_coff_reader.specs.Aimed as aimed;
 ghost use Rattle.oc_coff_reader.specs.Found.{IsFound};
 ghost use Rattle.oc_coff_reader.specs.Numbered.{entry_by};
@@ -55,11 +55,11 @@ fn aim_placed(value: Option<Value>) -> Aim
 // what the symbol of entry `j` stands for; `None` where no entry can name it
 #[tactic(auto, unfolding(crate::specs::Numbered::entry_by))]
 fn aim_of(coff: &Coff, found: &Found, j: u32) -> Option<Aim>
-    requires clean { stage_fault (symbol_stage (tables.tables_of coff.now)) ≡ None }
+    requires clean { stage_fault (symbol_stage (files.tables_in coff.now)) ≡ None }
     requires found { IsFound coff.now found.now }
-    requires there { j < length (tables.tables_of coff.now).entries }
+    requires there { j < length (files.tables_in coff.now).entries }
     requires symbol { IsSymbolEntry coff.now j }
-    ensures { result ≡ aimed.aim_for (tables.tables_of coff.now) (entry_by coff.now j) }
+    ensures { result ≡ aimed.aim_for (files.tables_in coff.now) (entry_by coff.now j) }
 {
     let s = coff.symbol(j);
     match binding_of(coff, &found.sections, &found.tagged, j, &s) {
@@ -76,10 +76,10 @@ fn aim_of(coff: &Coff, found: &Found, j: u32) -> Option<Aim>
 
 // the same of entry `j`, which may be an auxiliary one
 fn numbered_aim(coff: &Coff, found: &Found, j: u32) -> Option<Aim>
-    requires clean { stage_fault (symbol_stage (tables.tables_of coff.now)) ≡ None }
+    requires clean { stage_fault (symbol_stage (files.tables_in coff.now)) ≡ None }
     requires found { IsFound coff.now found.now }
-    requires there { j < length (tables.tables_of coff.now).entries }
-    ensures { result ≡ aimed.aim_numbered (tables.tables_of coff.now) j }
+    requires there { j < length (files.tables_in coff.now).entries }
+    ensures { result ≡ aimed.aim_numbered (files.tables_in coff.now) j }
 {
     coff.is_headed();
     match found.starts.get(j) {
@@ -95,9 +95,9 @@ pub(crate) fn aims_of(
     coff: &Coff,
     found: &Found,
 ) -> Result<Vec<Option<Aim>>, NoMemory>
-    requires clean { stage_fault (symbol_stage (tables.tables_of coff.now)) ≡ None }
+    requires clean { stage_fault (symbol_stage (files.tables_in coff.now)) ≡ None }
     requires found { IsFound coff.now found.now }
-    ensures { IfOk result (λ aims. aims.items ≡ aimed.aims_in (tables.tables_of coff.now)) }
+    ensures { IfOk result (λ aims. aims.items ≡ aimed.aims_in (files.tables_in coff.now)) }
 {
     let count = coff.entry_count();
     let mut aims = Vec::with_capacity(alloc, count as usize)?;

@@ -1,42 +1,46 @@
 //! A file whose header has no fault: its tables, read where they stand.
-ghost use Rattle.std.specs.Prelude.{◌≡◌, ◌+◌, ◌*◌, ◌<◌, ◌≤◌, length, take, drop, slice_get, None, Some, IfErr, IfOk, OnOk};
+ghost use Rattle.std.specs.Prelude.{◌≡◌, ◌+◌, ◌*◌, ◌<◌, ◌≤◌, ◌^◌, length, take, drop, slice_get, None, Some, IfErr, IfOk, OnOk};
 ghost use Rattle.oc_linking.specs.FirstFault.{stage_fault};
 ghost use Rattle.oc_coff_read.specs.FileHeader.{file_header_of};
+ghost use Rattle.oc_coff_read.specs.Forms.{symbol_size};
 ghost use Rattle.oc_coff_read.specs.HeaderFaults.{header_stage};
 ghost use Rattle.oc_coff_read.specs.SectionHeader.{section_header_at};
 ghost use Rattle.oc_coff_read.specs.SymbolEntry.{symbol_at};
 ghost use Rattle.oc_coff_read.specs.Tables as tables;
+ghost use Rattle.oc_coff_reader.specs.Files as files;
 ghost use Rattle.oc_coff_reader.specs.Head.{IsHeaded};
 
-use crate::headers::{has_strings, header_fault, strings_place};
+use crate::headers::{entries_size, has_strings, header_fault, strings_place};
 use crate::strings::Strings;
 use oc_base::{Fault, u32_in};
 use oc_coff_read::{
-    FILE_HEADER_SIZE, FileHeader, SECTION_HEADER_SIZE, SYMBOL_SIZE, SectionAux, SectionHeader,
-    SymbolEntry, WeakAux, file_header_of, section_aux_at, section_header_at, symbol_at,
-    weak_aux_at,
+    FileHeader, SECTION_HEADER_SIZE, SectionAux, SectionHeader, Shape, SymbolEntry, WeakAux,
+    file_header_of, header_size, section_aux_at, section_header_at, symbol_at, weak_aux_at,
 };
 use std::marker::Model;
 
-/// A file whose header has no fault. Contracts see the bytes of the file.
+/// A file whose header has no fault. Contracts see its shape and its bytes.
 #[derive(Drop)]
 pub(crate) struct Coff<'a> {
+    shape: Shape,
     file: &'a [u8],
     header: FileHeader,
     strings: Strings<'a>,
 }
 
 impl<'a> Model for Coff<'a> {
-    ghost use Rattle.std.specs.Prelude.{ℕ, List, ◌≡◌};
+    ghost use Rattle.std.specs.Prelude.{◌≡◌};
     ghost use Rattle.oc_coff_read.specs.FileHeader.{file_header_of};
     ghost use Rattle.oc_coff_read.specs.Tables.{strings_of};
+    ghost use Rattle.oc_coff_reader.specs.Files.{CoffFile};
     ghost use Rattle.oc_coff_reader.specs.Head.{IsHeaded};
 
-    ghost Value = { List ℕ };
+    ghost Value = { CoffFile };
 
-    ghost view = { λ c. c.file.now };
+    ghost view = { λ c. record { shape = c.shape; bytes = c.file.now } };
 
-    ghost invariant = { λ c. IsHeaded c.file.now × ((c.header ≡ file_header_of c.file.now) × (c.strings ≡ strings_of c.file.now (file_header_of c.file.now))) };
+    ghost invariant = { λ c. IsHeaded (record { shape = c.shape; bytes = c.file.now })
+        × ((c.header ≡ file_header_of c.shape c.file.now) × (c.strings ≡ strings_of c.shape c.file.now (file_header_of c.shape c.file.now))) };
 }
 
 // so many bytes of the file from a place on
@@ -49,34 +53,35 @@ fn bytes_at(file: &[u8], at: usize, size: usize) -> &[u8]
 
 // the string table, where the header has no fault
 #[tactic(auto, unfolding(oc_coff_read::specs::Tables::strings_of))]
-fn strings_of<'a>(file: &'a [u8], h: &FileHeader) -> &'a [u8]
-    requires head { IsHeaded file.now }
-    requires header { h.now ≡ file_header_of file.now }
-    ensures { result.now ≡ tables.strings_of file.now h.now }
+fn strings_of<'a>(shape: Shape, file: &'a [u8], h: &FileHeader) -> &'a [u8]
+    requires head { IsHeaded (record { shape = shape; bytes = file.now }) }
+    requires header { h.now ≡ file_header_of shape file.now }
+    ensures { result.now ≡ tables.strings_of shape file.now h.now }
 {
-    if !has_strings(file, h) {
+    if !has_strings(shape, file, h) {
         return &[];
     }
-    let place = strings_place(h) as usize;
+    let place = strings_place(shape, h) as usize;
     let size = u32_in(file, place) as usize;
     bytes_at(file, place, size)
 }
 
 /// The file with its header. An error exactly where the header has a fault, with the first. Linear in
 /// what stands behind the last NUL of the string table.
-pub(crate) fn read_coff<'a>(file: &'a [u8]) -> Result<Coff<'a>, Fault>
+pub(crate) fn read_coff<'a>(shape: Shape, file: &'a [u8]) -> Result<Coff<'a>, Fault>
     requires { length file.now ≤ 67108864 }
-    ensures file { IfOk result (λ c. c ≡ file.now) }
-    ensures clean { OnOk result (stage_fault (header_stage file.now) ≡ None) }
-    ensures fault { IfErr result (λ fault. stage_fault (header_stage file.now) ≡ Some fault) }
+    ensures file { IfOk result (λ c. c ≡ record { shape = shape; bytes = file.now }) }
+    ensures clean { OnOk result (stage_fault (header_stage shape file.now) ≡ None) }
+    ensures fault { IfErr result (λ fault. stage_fault (header_stage shape file.now) ≡ Some fault) }
 {
-    match header_fault(file) {
+    match header_fault(shape, file) {
         Some(fault) => return Err(fault),
         None => (),
     }
-    let header = file_header_of(file);
-    let strings = Strings::new(strings_of(file, &header));
+    let header = file_header_of(shape, file);
+    let strings = Strings::new(strings_of(shape, file, &header));
     Ok(Coff {
+        shape,
         file,
         header,
         strings,
@@ -86,64 +91,71 @@ pub(crate) fn read_coff<'a>(file: &'a [u8]) -> Result<Coff<'a>, Fault>
 impl<'a> Coff<'a> {
     /// The bytes of the file. Constant time.
     pub(crate) fn file(&self) -> &'a [u8]
-        ensures { result.now ≡ self.now }
+        ensures { result.now ≡ self.now.bytes }
     {
         self.file
+    }
+
+    /// Its shape. Constant time.
+    pub(crate) fn shape(&self) -> Shape
+        ensures { result ≡ self.now.shape }
+    {
+        self.shape
     }
 
     /// The string table. Constant time.
     #[tactic(auto, unfolding(oc_coff_read::specs::Tables::tables_of))]
     pub(crate) fn strings(&self) -> &Strings<'a>
-        ensures { result.now ≡ (tables.tables_of self.now).strings }
+        ensures { result.now ≡ (files.tables_in self.now).strings }
     {
         &self.strings
     }
 
     /// How many sections there are. Constant time.
-    pub(crate) fn section_count(&self) -> u16
-        ensures { result ≡ length (tables.tables_of self.now).sections }
+    pub(crate) fn section_count(&self) -> u32
+        ensures { result ≡ length (files.tables_in self.now).sections }
     {
         self.header.NumberOfSections
     }
 
     /// The header of section `i`, counted from 0. Constant time.
-    pub(crate) fn section(&self, i: u16) -> SectionHeader
-        requires { i < length (tables.tables_of self.now).sections }
-        ensures { slice_get (tables.tables_of self.now).sections i ≡ Some (tables.section_table self.now result) }
+    pub(crate) fn section(&self, i: u32) -> SectionHeader
+        requires { i < length (files.tables_in self.now).sections }
+        ensures { slice_get (files.tables_in self.now).sections i ≡ Some (tables.section_table self.now.bytes result) }
     {
         section_header_at(
             self.file,
-            FILE_HEADER_SIZE + SECTION_HEADER_SIZE * usize::from(i),
+            header_size(self.shape) + SECTION_HEADER_SIZE * i as usize,
         )
     }
 
     /// How many entries the symbol table has, auxiliary ones too. Constant time.
     pub(crate) fn entry_count(&self) -> u32
-        ensures { result ≡ length (tables.tables_of self.now).entries }
+        ensures { result ≡ length (files.tables_in self.now).entries }
     {
         self.header.NumberOfSymbols
     }
 
     /// Where entry `j` of the symbol table begins, in bytes from the start of the file. Constant time.
     pub(crate) fn entry_place(&self, j: u32) -> u64
-        ensures { result ≡ (tables.tables_of self.now).entries_at + SYMBOL_SIZE * j }
+        ensures { result ≡ (files.tables_in self.now).entries_at + symbol_size self.now.shape * j }
     {
-        u64::from(self.header.PointerToSymbolTable) + SYMBOL_SIZE as u64 * u64::from(j)
+        u64::from(self.header.PointerToSymbolTable) + entries_size(self.shape, j)
     }
 
     /// Entry `j` of the symbol table, as a symbol. Constant time.
     pub(crate) fn symbol(&self, j: u32) -> SymbolEntry
-        requires { j < length (tables.tables_of self.now).entries }
-        ensures { result ≡ (tables.slot_at self.now ((tables.tables_of self.now).entries_at + SYMBOL_SIZE * j)).symbol }
+        requires { j < length (files.tables_in self.now).entries }
+        ensures { result ≡ (files.slot_in self.now ((files.tables_in self.now).entries_at + symbol_size self.now.shape * j)).symbol }
     {
-        symbol_at(self.file, self.entry_place(j) as usize)
+        symbol_at(self.shape, self.file, self.entry_place(j) as usize)
     }
 
     /// The eight bytes of the name of entry `j`, where they stand. Constant time.
     #[tactic(auto, unfolding(oc_coff_read::specs::Tables::slot_at, oc_coff_read::specs::SymbolEntry::symbol_at))]
     pub(crate) fn name_field(&self, j: u32) -> &'a [u8]
-        requires { j < length (tables.tables_of self.now).entries }
-        ensures bytes { result.now ≡ (tables.slot_at self.now ((tables.tables_of self.now).entries_at + SYMBOL_SIZE * j)).symbol.Name }
+        requires { j < length (files.tables_in self.now).entries }
+        ensures bytes { result.now ≡ (files.slot_in self.now ((files.tables_in self.now).entries_at + symbol_size self.now.shape * j)).symbol.Name }
         ensures long { length result.now ≡ 8 }
     {
         bytes_at(self.file, self.entry_place(j) as usize, 8)
@@ -151,25 +163,25 @@ impl<'a> Coff<'a> {
 
     /// Entry `j` of the symbol table, as what a section's own symbol says. Constant time.
     pub(crate) fn section_aux(&self, j: u32) -> SectionAux
-        requires { j < length (tables.tables_of self.now).entries }
-        ensures { result ≡ (tables.slot_at self.now ((tables.tables_of self.now).entries_at + SYMBOL_SIZE * j)).section }
+        requires { j < length (files.tables_in self.now).entries }
+        ensures { result ≡ (files.slot_in self.now ((files.tables_in self.now).entries_at + symbol_size self.now.shape * j)).section }
     {
-        section_aux_at(self.file, self.entry_place(j) as usize)
+        section_aux_at(self.shape, self.file, self.entry_place(j) as usize)
     }
 
     /// Entry `j` of the symbol table, as what a weak external says. Constant time.
     pub(crate) fn weak_aux(&self, j: u32) -> WeakAux
-        requires { j < length (tables.tables_of self.now).entries }
-        ensures { result ≡ (tables.slot_at self.now ((tables.tables_of self.now).entries_at + SYMBOL_SIZE * j)).weak }
+        requires { j < length (files.tables_in self.now).entries }
+        ensures { result ≡ (files.slot_in self.now ((files.tables_in self.now).entries_at + symbol_size self.now.shape * j)).weak }
     {
         weak_aux_at(self.file, self.entry_place(j) as usize)
     }
 
     /// That there are few sections, for callers to cite. It does nothing.
     pub(crate) fn has_few(&self)
-        ensures { length (tables.tables_of self.now).sections ≤ 65535 }
+        ensures { length (files.tables_in self.now).sections < 2 ^ 21 }
     {
-        let _ = self.section_count();
+        let _ = &self.file;
     }
 
     /// What is known of it, for callers to cite. It does nothing.

@@ -1,13 +1,15 @@
 //! The file header, and what it places in the file.
-ghost use Rattle.std.specs.Prelude.{◌≡◌, ◌+◌, ◌*◌, ◌<◌, ◌≤◌, ◌^◌, length, drop, Some};
+ghost use Rattle.std.specs.Prelude.{◌≡◌, ◌+◌, ◌*◌, ◌<◌, ◌≤◌, ◌^◌, [], ◌∷◌, length, drop, Some};
 ghost use Rattle.oc_linking.specs.FirstFault.{first_broken};
 ghost use Rattle.oc_coff_read.specs.FileHeader.{file_header_of};
+ghost use Rattle.oc_coff_read.specs.Forms.{symbol_size};
 ghost use Rattle.oc_coff_read.specs.HeaderFaults as rules;
 ghost use Rattle.oc_coff_read.specs.Tables as tables;
 
 use oc_base::{Code, Fault, Phase, u32_in};
 use oc_coff_read::{
-    FILE_HEADER_SIZE, FileHeader, SECTION_HEADER_SIZE, STRINGS_HEAD, SYMBOL_SIZE, file_header_of,
+    BIG_SYMBOL_SIZE, BIG_VERSION, FileHeader, SECTION_HEADER_SIZE, STRINGS_HEAD, SYMBOL_SIZE,
+    Shape, file_header_of, header_size,
 };
 
 // a fault of the file header, or of what it places
@@ -30,30 +32,41 @@ pub(crate) fn passes_end(file: &[u8], at: u64, n: u64) -> bool
     (file.len() as u64) < at + n
 }
 
+/// How many bytes so many entries of the symbol table take. Constant time.
+pub(crate) fn entries_size(shape: Shape, count: u32) -> u64
+    ensures size { result ≡ symbol_size shape * count }
+    ensures few { result < 2 ^ 40 }
+{
+    match shape {
+        Shape::Usual => SYMBOL_SIZE as u64 * u64::from(count),
+        Shape::Big => BIG_SYMBOL_SIZE as u64 * u64::from(count),
+    }
+}
+
 /// Where the string table begins, in bytes from the start of the file. Constant time.
-pub(crate) fn strings_place(h: &FileHeader) -> u64
-    ensures place { result ≡ tables.strings_place h.now }
+pub(crate) fn strings_place(shape: Shape, h: &FileHeader) -> u64
+    ensures place { result ≡ tables.strings_place shape h.now }
     ensures few { result < 2 ^ 60 }
 {
-    u64::from(h.PointerToSymbolTable) + SYMBOL_SIZE as u64 * u64::from(h.NumberOfSymbols)
+    u64::from(h.PointerToSymbolTable) + entries_size(shape, h.NumberOfSymbols)
 }
 
 /// Whether there is a string table. Constant time.
-pub(crate) fn has_strings(file: &[u8], h: &FileHeader) -> bool
-    ensures { result ≡ tables.has_strings file.now h.now }
+pub(crate) fn has_strings(shape: Shape, file: &[u8], h: &FileHeader) -> bool
+    ensures { result ≡ tables.has_strings shape file.now h.now }
 {
-    h.PointerToSymbolTable != 0 && strings_place(h) < file.len() as u64
+    h.PointerToSymbolTable != 0 && strings_place(shape, h) < file.len() as u64
 }
 
 // the fault of the conditions on the string table
 #[tactic(auto, unfolding(oc_coff_read::specs::HeaderFaults::header_conditions))]
-fn strings_fault(file: &[u8], h: &FileHeader) -> Option<Fault>
-    ensures { result ≡ first_broken (drop 5 (rules.header_conditions file.now h.now)) }
+fn strings_fault(shape: Shape, file: &[u8], h: &FileHeader) -> Option<Fault>
+    ensures { result ≡ first_broken (drop 5 (rules.header_conditions shape file.now h.now)) }
 {
-    if !has_strings(file, h) {
+    if !has_strings(shape, file, h) {
         return None;
     }
-    let place = strings_place(h);
+    let place = strings_place(shape, h);
     if passes_end(file, place, STRINGS_HEAD as u64) {
         return fault_at(Code::Short, place);
     }
@@ -67,36 +80,57 @@ fn strings_fault(file: &[u8], h: &FileHeader) -> Option<Fault>
     None
 }
 
+// the fault of what the header says, where that is not of an object
+fn foreign_fault(shape: Shape, h: &FileHeader) -> Option<Fault>
+    ensures { result ≡ first_broken (rules.foreign_condition shape h.now ∷ []) }
+{
+    match shape {
+        Shape::Usual => {
+            if h.SizeOfOptionalHeader != 0 {
+                return fault_at(Code::NotRelocatable, 0);
+            }
+            None
+        }
+        Shape::Big => {
+            if h.Version < BIG_VERSION {
+                return fault_at(Code::BadHeader, 0);
+            }
+            None
+        }
+    }
+}
+
 // the fault of the conditions on what the header says and places, where the header is there
 #[tactic(auto, unfolding(oc_coff_read::specs::HeaderFaults::header_conditions))]
-fn placed_fault(file: &[u8], h: &FileHeader) -> Option<Fault>
-    ensures { result ≡ first_broken (drop 1 (rules.header_conditions file.now h.now)) }
+fn placed_fault(shape: Shape, file: &[u8], h: &FileHeader) -> Option<Fault>
+    ensures { result ≡ first_broken (drop 1 (rules.header_conditions shape file.now h.now)) }
 {
-    if h.SizeOfOptionalHeader != 0 {
-        return fault_at(Code::NotRelocatable, 0);
+    match foreign_fault(shape, h) {
+        Some(fault) => return Some(fault),
+        None => (),
     }
     if h.PointerToSymbolTable == 0 && h.NumberOfSymbols != 0 {
         return fault_at(Code::BadHeader, 0);
     }
     let headers = SECTION_HEADER_SIZE as u64 * u64::from(h.NumberOfSections);
-    if passes_end(file, FILE_HEADER_SIZE as u64, headers) {
-        return fault_at(Code::Short, FILE_HEADER_SIZE as u64);
+    if passes_end(file, header_size(shape) as u64, headers) {
+        return fault_at(Code::Short, header_size(shape) as u64);
     }
     let at = u64::from(h.PointerToSymbolTable);
-    let entries = SYMBOL_SIZE as u64 * u64::from(h.NumberOfSymbols);
+    let entries = entries_size(shape, h.NumberOfSymbols);
     if at != 0 && passes_end(file, at, entries) {
         return fault_at(Code::Short, at);
     }
-    strings_fault(file, h)
+    strings_fault(shape, file, h)
 }
 
 /// The fault of the file header, and of the tables that it places. Constant time.
 #[tactic(auto, unfolding(oc_coff_read::specs::HeaderFaults::header_conditions))]
-pub(crate) fn header_fault(file: &[u8]) -> Option<Fault>
-    ensures { result ≡ first_broken (rules.header_conditions file.now (file_header_of file.now)) }
+pub(crate) fn header_fault(shape: Shape, file: &[u8]) -> Option<Fault>
+    ensures { result ≡ first_broken (rules.header_conditions shape file.now (file_header_of shape file.now)) }
 {
-    if file.len() < FILE_HEADER_SIZE {
+    if file.len() < header_size(shape) {
         return fault_at(Code::Short, 0);
     }
-    placed_fault(file, &file_header_of(file))
+    placed_fault(shape, file, &file_header_of(shape, file))
 }

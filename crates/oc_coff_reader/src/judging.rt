@@ -8,6 +8,7 @@ ghost use Rattle.oc_coff_read.specs.SectionFaults.{section_stage};
 ghost use Rattle.oc_coff_read.specs.SymbolFaults.{symbol_stage};
 ghost use Rattle.oc_coff_read.specs.Sections as sections;
 ghost use Rattle.oc_coff_read.specs.Tables as tables;
+ghost use Rattle.oc_coff_reader.specs.Files as files;
 ghost use Rattle.oc_coff_reader.specs.Aimed.{aims_in};
 ghost use Rattle.oc_coff_reader.specs.Found.{IsFound};
 ghost use Rattle.oc_coff_reader.specs.Relocs as relocs;
@@ -20,8 +21,9 @@ use crate::relocs::{Aims, Table, check_table};
 use crate::section_stage::check_sections;
 use crate::sections::kind_in;
 use crate::symbol_stage::check_symbols;
+use crate::weight::{section_weight, weigh_relocs, weigh_symbols};
 use oc_base::{Word, u32_in};
-use oc_coff_read::{RELOCATION_SIZE, SectionHeader};
+use oc_coff_read::{RELOCATION_SIZE, SectionHeader, Shape};
 use oc_neutral::{Keep, Kind};
 use oc_shelf::Stop;
 use std::alloc::Global;
@@ -49,11 +51,11 @@ fn relocs_place(h: &SectionHeader) -> u64
     at
 }
 
-// how many there are, without the one that has their count
-fn reloc_count(coff: &Coff, i: u16, h: &SectionHeader) -> u32
-    requires clean { stage_fault (section_stage coff.now (tables.tables_of coff.now)) ≡ None }
-    requires here { slice_get (tables.tables_of coff.now).sections i ≡ Some (tables.section_table coff.now h.now) }
-    ensures { result ≡ tables.reloc_count coff.now h.now }
+/// How many there are, without the one that has their count. Constant time.
+pub(crate) fn reloc_count(coff: &Coff, i: u32, h: &SectionHeader) -> u32
+    requires clean { stage_fault (section_stage coff.now.bytes (files.tables_in coff.now)) ≡ None }
+    requires here { slice_get (files.tables_in coff.now).sections i ≡ Some (tables.section_table coff.now.bytes h.now) }
+    ensures { result ≡ tables.reloc_count coff.now.bytes h.now }
 {
     let _ = i;
     if !is_overflowed(h) {
@@ -64,10 +66,10 @@ fn reloc_count(coff: &Coff, i: u16, h: &SectionHeader) -> u32
 
 /// The relocation table of section `i`, counted from 0, which has that header and kind. Constant time.
 #[tactic(auto, unfolding(oc_coff_read::specs::Tables::tables_of))]
-pub(crate) fn table_of(coff: &Coff, i: u16, h: &SectionHeader, kind: Kind) -> Table
-    requires clean { stage_fault (section_stage coff.now (tables.tables_of coff.now)) ≡ None }
-    requires here { slice_get (tables.tables_of coff.now).sections i ≡ Some (tables.section_table coff.now h.now) }
-    requires carried { sections.kind_in (tables.tables_of coff.now).strings h.now ≡ Some kind }
+pub(crate) fn table_of(coff: &Coff, i: u32, h: &SectionHeader, kind: Kind) -> Table
+    requires clean { stage_fault (section_stage coff.now.bytes (files.tables_in coff.now)) ≡ None }
+    requires here { slice_get (files.tables_in coff.now).sections i ≡ Some (tables.section_table coff.now.bytes h.now) }
+    requires carried { sections.kind_in (files.tables_in coff.now).strings h.now ≡ Some kind }
     ensures { relocs.IsTable coff.now i result }
 {
     coff.is_headed();
@@ -80,13 +82,14 @@ pub(crate) fn table_of(coff: &Coff, i: u16, h: &SectionHeader, kind: Kind) -> Ta
 }
 
 // judges the relocation entries of section `i`, counted from 0, where it is kept
-fn check_relocs_of(alloc: Global, coff: &Coff, keep: &Keep, aims: &Aims, i: u16) -> Result<(), Stop>
-    requires clean { stage_fault (section_stage coff.now (tables.tables_of coff.now)) ≡ None }
-    requires aims { aims.now.symbols.now ≡ aims_in (tables.tables_of coff.now) }
-    requires there { i < length (tables.tables_of coff.now).sections }
-    ensures clean { OnOk result (relocs.relocs_fault aims.now.word (tables.tables_of coff.now) keep.now i ≡ None) }
-    ensures stop { IfErr result (IsStop (relocs.relocs_fault aims.now.word (tables.tables_of coff.now) keep.now i)) }
+fn check_relocs_of(alloc: Global, coff: &Coff, keep: &Keep, aims: &Aims, i: u32) -> Result<(), Stop>
+    requires clean { stage_fault (section_stage coff.now.bytes (files.tables_in coff.now)) ≡ None }
+    requires aims { aims.now.symbols.now ≡ aims_in (files.tables_in coff.now) }
+    requires there { i < length (files.tables_in coff.now).sections }
+    ensures clean { OnOk result (relocs.relocs_fault aims.now.word (files.tables_in coff.now) keep.now i ≡ None) }
+    ensures stop { IfErr result (IsStop (relocs.relocs_fault aims.now.word (files.tables_in coff.now) keep.now i)) }
 {
+    coff.has_few();
     let h = coff.section(i);
     match kind_in(coff, &h) {
         Some(kind) => {
@@ -105,10 +108,10 @@ fn check_relocs_of(alloc: Global, coff: &Coff, keep: &Keep, aims: &Aims, i: u16)
 
 // judges those of all sections that are kept
 fn check_relocs(alloc: Global, coff: &Coff, keep: &Keep, aims: &Aims) -> Result<(), Stop>
-    requires clean { stage_fault (section_stage coff.now (tables.tables_of coff.now)) ≡ None }
-    requires aims { aims.now.symbols.now ≡ aims_in (tables.tables_of coff.now) }
-    ensures clean { OnOk result (stage_fault (relocation_stage aims.now.word (tables.tables_of coff.now) keep.now) ≡ None) }
-    ensures stop { IfErr result (IsStop (stage_fault (relocation_stage aims.now.word (tables.tables_of coff.now) keep.now))) }
+    requires clean { stage_fault (section_stage coff.now.bytes (files.tables_in coff.now)) ≡ None }
+    requires aims { aims.now.symbols.now ≡ aims_in (files.tables_in coff.now) }
+    ensures clean { OnOk result (stage_fault (relocation_stage aims.now.word (files.tables_in coff.now) keep.now) ≡ None) }
+    ensures stop { IfErr result (IsStop (stage_fault (relocation_stage aims.now.word (files.tables_in coff.now) keep.now))) }
 {
     let count = coff.section_count();
     for i in 0..count {
@@ -123,8 +126,8 @@ fn check_relocs(alloc: Global, coff: &Coff, keep: &Keep, aims: &Aims) -> Result<
 // judges the sections
 fn check_headers(coff: &Coff, found: &Found) -> Result<(), Stop>
     requires { IsFound coff.now found.now }
-    ensures clean { OnOk result (stage_fault (section_stage coff.now (tables.tables_of coff.now)) ≡ None) }
-    ensures stop { IfErr result (IsStop (stage_fault (section_stage coff.now (tables.tables_of coff.now)))) }
+    ensures clean { OnOk result (stage_fault (section_stage coff.now.bytes (files.tables_in coff.now)) ≡ None) }
+    ensures stop { IfErr result (IsStop (stage_fault (section_stage coff.now.bytes (files.tables_in coff.now)))) }
 {
     match check_sections(coff, &found.owners()) {
         Err(fault) => Err(Stop::Fault(fault)),
@@ -136,19 +139,22 @@ fn check_headers(coff: &Coff, found: &Found) -> Result<(), Stop>
 ///
 /// Stops exactly where there is a fault, with the first; or where memory ran out. The time is that of
 /// n log2(n) steps for n symbols or relocations, in any order of names and offsets. Each name is read
-/// a few times for each section and symbol that has it, and compared as `first_repeat` says: a file
-/// whose names are the ends of one long text costs the square of that text. Where no NUL ends a name,
-/// that is known in constant time.
+/// a few times for each section and symbol that has it, and compared as `first_repeat` says. Where no
+/// NUL ends a name, that is known in constant time. Names that weigh more than 1 GiB, and tables of
+/// more than 2^23 relocations, are want of memory before any is judged (`oc_weight`).
 pub(crate) fn check_rest(alloc: Global, word: Word, coff: &Coff, keep: &Keep) -> Result<Found, Stop>
     ensures clean { OnOk result (first_fault (relocs.rest_stages word coff.now keep.now) ≡ None) }
     ensures stop { IfErr result (IsStop (first_fault (relocs.rest_stages word coff.now keep.now))) }
     ensures found { IfOk result (λ x. IsFound coff.now x) }
 {
+    let names = section_weight(coff)?;
     let found = found_in(alloc, coff)?;
+    weigh_symbols(coff, &found, names)?;
     match check_headers(coff, &found) {
         Err(stop) => return Err(stop),
         Ok(()) => (),
     }
+    weigh_relocs(coff)?;
     match check_symbols(alloc, coff, &found) {
         Err(stop) => return Err(stop),
         Ok(()) => (),

@@ -1,4 +1,4 @@
-//! The readers of COFF objects for both words.
+//! Reading in each form of COFF, and the readers of the two forms for few sections.
 #![tactic(auto)]
 
 mod added_relocs;
@@ -30,7 +30,8 @@ mod strings;
 mod symbol_stage;
 mod symbols;
 mod tagged;
+mod weight;
 
 pub use laws::clean_is_shown;
 pub use meaning::Meaning;
-pub use reader::{CoffReader32, CoffReader64};
+pub use reader::{CoffReader32, CoffReader64, read_object};

@@ -1,10 +1,10 @@
-//! The readers of both words.
+//! Reading in a form of COFF, and the readers of the two forms for few sections.
 ghost use Rattle.std.specs.Prelude.{◌≡◌, ◌≤◌, length, None, Some, IfErr, IfOk, OnOk};
 ghost use Rattle.oc_linking.specs.FirstFault.{first_fault};
 ghost use Rattle.oc_neutral.specs.Readable.{IsReadable, IsReadFault};
 ghost use Rattle.oc_neutral.specs.Shows.{Shows};
 ghost use Rattle.oc_shelf.specs.Reading.Stops.{IsStop};
-ghost use Rattle.oc_coff_read.specs.Rules.{coff_dialect, fault_of};
+ghost use Rattle.oc_coff_read.specs.Rules.{coff_dialect, dialect_by, fault_by, fault_of};
 ghost use Rattle.oc_coff_reader.specs.Found.{IsFound};
 ghost use Rattle.oc_coff_reader.specs.Relocs.{rest_stages};
 
@@ -16,6 +16,7 @@ use crate::judging::check_rest;
 use crate::positions::symbol_positions;
 use crate::started::start;
 use oc_base::{Class, Fault, NoMemory, Word, class};
+use oc_coff_read::{CoffForm, Shape, shape_of, word_of};
 use oc_neutral::{Keep, Neutral, ReadFault, Reads, are_bytes};
 use oc_shelf::Stop;
 use std::alloc::Global;
@@ -30,7 +31,7 @@ fn object_of(
 ) -> Result<Neutral, NoMemory>
     requires clean { first_fault (rest_stages word coff.now keep.now) ≡ None }
     requires found { IsFound coff.now found.now }
-    ensures shows { IfOk result (Shows (coff_dialect word) coff.now keep.now) }
+    ensures shows { IfOk result (Shows (dialect_by word coff.now.shape) coff.now.bytes keep.now) }
     ensures readable { IfOk result IsReadable }
 {
     coff.is_headed();
@@ -49,14 +50,20 @@ fn object_of(
 }
 
 // reads a file
-fn read_file(alloc: Global, word: Word, file: &[u8], keep: &Keep) -> Result<Neutral, Stop>
+fn read_file(
+    alloc: Global,
+    word: Word,
+    shape: Shape,
+    file: &[u8],
+    keep: &Keep,
+) -> Result<Neutral, Stop>
     requires { length file.now ≤ 67108864 }
-    ensures clean { OnOk result (fault_of word file.now keep.now ≡ None) }
-    ensures stop { IfErr result (IsStop (fault_of word file.now keep.now)) }
-    ensures shows { IfOk result (Shows (coff_dialect word) file.now keep.now) }
+    ensures clean { OnOk result (fault_by word shape file.now keep.now ≡ None) }
+    ensures stop { IfErr result (IsStop (fault_by word shape file.now keep.now)) }
+    ensures shows { IfOk result (Shows (dialect_by word shape) file.now keep.now) }
     ensures readable { IfOk result IsReadable }
 {
-    let coff = match read_coff(file) {
+    let coff = match read_coff(shape, file) {
         Err(fault) => return Err(Stop::Fault(fault)),
         Ok(coff) => coff,
     };
@@ -81,59 +88,71 @@ fn by_class(fault: Fault) -> ReadFault
     }
 }
 
-// reads a file, and tells its fault in the variant of its class
-fn read_bytes(alloc: Global, word: Word, bytes: &[u8], keep: &Keep) -> Result<Neutral, ReadFault>
+/// The object of a file of at most 67,108,864 bytes in a form of COFF (PE/COFF; for many sections the
+/// structures of winnt.h, "ANON_OBJECT_HEADER_BIGOBJ", "IMAGE_SYMBOL_EX" and "IMAGE_AUX_SYMBOL_EX"). It has
+/// all carried sections and symbols, and relocations in the sections that are kept.
+///
+/// Refused exactly where the file has a fault when it is read in that form under `keep`, with the first one
+/// in the variant of its class; `NoMemory` where memory ran out, or where the names weigh more than 1 GiB,
+/// or all relocation tables have more than 2^23 entries (`oc_weight`).
+///
+/// The time is linear in the bytes of the file, and that of n log2(n) steps for n symbols or relocations,
+/// in any order of names and offsets. What the worst files known take is told in docs/SAFETY.md.
+pub fn read_object(
+    alloc: Global,
+    form: CoffForm,
+    bytes: &[u8],
+    keep: &Keep,
+) -> Result<Neutral, ReadFault>
     requires { length bytes.now ≤ 67108864 }
-    ensures well_formed { OnOk result (fault_of word bytes.now keep.now ≡ None) }
-    ensures shows { IfOk result (Shows (coff_dialect word) bytes.now keep.now) }
+    ensures well_formed { OnOk result (fault_of form bytes.now keep.now ≡ None) }
+    ensures shows { IfOk result (Shows (coff_dialect form) bytes.now keep.now) }
     ensures readable { IfOk result IsReadable }
-    ensures fault { IfErr result (IsReadFault (fault_of word bytes.now keep.now)) }
+    ensures fault { IfErr result (IsReadFault (fault_of form bytes.now keep.now)) }
 {
-    match read_file(alloc, word, bytes, keep) {
+    match read_file(alloc, word_of(form), shape_of(form), bytes, keep) {
         Ok(object) => Ok(object),
         Err(Stop::NoMemory) => Err(ReadFault::NoMemory),
         Err(Stop::Fault(fault)) => Err(by_class(fault)),
     }
 }
 
-/// The reader of COFF objects of 32 bits, for i386.
-///
-/// The time is linear in the bytes of the file, and that of n log2(n) steps for n symbols or relocations,
-/// in any order of names and offsets. A file whose names are the ends of one long text costs the square of
-/// that text.
+/// The reader of COFF objects of 32 bits, for i386. The time is that of `read_object`.
 #[derive(Clone, Copy, Debug)]
 pub struct CoffReader32;
 
 impl Reads for CoffReader32 {
     ghost use Rattle.oc_base.specs.declared.format.Word.TheVariants.{W32};
+    ghost use Rattle.oc_coff_read.specs.declared.form.CoffForm.TheVariants.{Usual32};
+    ghost use Rattle.oc_coff_read.specs.declared.form.Shape.TheVariants.{Usual};
     ghost use Rattle.oc_coff_read.specs.Rules.{coff_dialect};
     ghost use Rattle.oc_coff_reader.specs.Shown.{coff_is_dialect};
 
-    ghost dialect = { coff_dialect W32 };
+    ghost dialect = { coff_dialect Usual32 };
 
     fn read(&self, alloc: Global, bytes: &[u8], keep: &Keep) -> Result<Neutral, ReadFault> {
-        read_bytes(alloc, Word::W32, bytes, keep)
+        read_object(alloc, CoffForm::Usual32, bytes, keep)
     }
 
-    ghost law = { coff_is_dialect W32 };
+    ghost law = { coff_is_dialect W32 Usual };
 }
 
-/// The reader of COFF objects of 64 bits, for x64.
-///
-/// The time is that of `CoffReader32`.
+/// The reader of COFF objects of 64 bits, for x64. The time is that of `read_object`.
 #[derive(Clone, Copy, Debug)]
 pub struct CoffReader64;
 
 impl Reads for CoffReader64 {
     ghost use Rattle.oc_base.specs.declared.format.Word.TheVariants.{W64};
+    ghost use Rattle.oc_coff_read.specs.declared.form.CoffForm.TheVariants.{Usual64};
+    ghost use Rattle.oc_coff_read.specs.declared.form.Shape.TheVariants.{Usual};
     ghost use Rattle.oc_coff_read.specs.Rules.{coff_dialect};
     ghost use Rattle.oc_coff_reader.specs.Shown.{coff_is_dialect};
 
-    ghost dialect = { coff_dialect W64 };
+    ghost dialect = { coff_dialect Usual64 };
 
     fn read(&self, alloc: Global, bytes: &[u8], keep: &Keep) -> Result<Neutral, ReadFault> {
-        read_bytes(alloc, Word::W64, bytes, keep)
+        read_object(alloc, CoffForm::Usual64, bytes, keep)
     }
 
-    ghost law = { coff_is_dialect W64 };
+    ghost law = { coff_is_dialect W64 Usual };
 }

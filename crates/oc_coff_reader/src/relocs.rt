@@ -1,10 +1,10 @@
 //! Relocation entries, and the conditions on each.
-ghost use Rattle.std.specs.Prelude.{◌≡◌, ◌+◌, ◌*◌, ◌<◌, ◌≤◌, length, is_some, slice_index_or, None, Some, IfErr, OnOk};
+ghost use Rattle.std.specs.Prelude.{◌≡◌, ◌+◌, ◌*◌, ◌<◌, ◌≤◌, length, is_some, slice_index_or, None, Some, IfErr, OnOk, ◌^◌};
 ghost use Rattle.oc_linking.specs.FirstFault.{first_broken};
 ghost use Rattle.oc_linking.specs.Numbers.{first_upto};
 ghost use Rattle.oc_shelf.specs.Reading.Stops.{IsStop};
 ghost use Rattle.oc_coff_read.specs.Fields as fields;
-ghost use Rattle.oc_coff_read.specs.Tables as tables;
+ghost use Rattle.oc_coff_reader.specs.Files as files;
 ghost use Rattle.oc_coff_reader.specs.Aimed as aimed;
 ghost use Rattle.oc_coff_reader.specs.Relocs as rules;
 
@@ -50,7 +50,7 @@ pub(crate) fn reloc_place(table: &Table, k: u32) -> u64
 
 /// Entry `k` of a table. Constant time.
 #[tactic(auto, unfolding(crate::specs::Relocs::reloc_of))]
-pub(crate) fn reloc_of(coff: &Coff, i: u16, table: &Table, k: u32) -> Relocation
+pub(crate) fn reloc_of(coff: &Coff, i: u32, table: &Table, k: u32) -> Relocation
     requires table { rules.IsTable coff.now i table.now }
     requires there { k < table.now.count }
     ensures { result ≡ rules.reloc_of coff.now table.now k }
@@ -108,12 +108,13 @@ fn is_wrong(home: bool, aim: Aim) -> bool
 }
 
 // the fault of an entry of section `i`, counted from 0, with this code and place
-fn reloc_fault(code: Code, i: u16, place: u64) -> Fault
+fn reloc_fault(code: Code, i: u32, place: u64) -> Fault
+    requires low { i < 2 ^ 21 }
     ensures { result ≡ rules.reloc_fault code i place }
 {
     Fault {
         phase: Phase::Relocation,
-        index: u32::from(i) + 1,
+        index: i + 1,
         code,
         place,
     }
@@ -129,7 +130,8 @@ fn passes_bytes(word: Word, table: &Table, r: &Relocation) -> bool
 
 // the fault of the conditions that an entry at a place meets by itself
 #[tactic(auto, unfolding(crate::specs::Relocs::own_conditions))]
-fn own_fault(aims: &Aims, i: u16, table: &Table, place: u64, r: &Relocation) -> Option<Fault>
+fn own_fault(aims: &Aims, i: u32, table: &Table, place: u64, r: &Relocation) -> Option<Fault>
+    requires low { i < 2 ^ 21 }
     ensures { result ≡ first_broken (rules.own_conditions aims.now.word i table.now place r.now (slice_index_or aims.now.symbols.now r.now.SymbolTableIndex None)) }
 {
     if !has_row(aims.word, r) {
@@ -154,18 +156,19 @@ fn own_fault(aims: &Aims, i: u16, table: &Table, place: u64, r: &Relocation) -> 
 fn judge_entry(
     coff: &Coff,
     aims: &Aims,
-    i: u16,
+    i: u32,
     table: &Table,
     spans: &mut Spans,
     k: u32,
 ) -> Result<(), Stop>
-    requires aims { aims.now.symbols.now ≡ aimed.aims_in (tables.tables_of coff.now) }
+    requires low { i < 2 ^ 21 }
+    requires aims { aims.now.symbols.now ≡ aimed.aims_in (files.tables_in coff.now) }
     requires table { rules.IsTable coff.now i table.now }
     requires there { k < table.now.count }
     requires spans { rules.AreTaken aims.now.word coff.now table.now k spans.old }
-    ensures clean { OnOk result (rules.entry_fault aims.now.word (tables.tables_of coff.now) i k ≡ None) }
+    ensures clean { OnOk result (rules.entry_fault aims.now.word (files.tables_in coff.now) i k ≡ None) }
     ensures spans { OnOk result (rules.AreTaken aims.now.word coff.now table.now (k + 1) spans.new) }
-    ensures stop { IfErr result (IsStop (rules.entry_fault aims.now.word (tables.tables_of coff.now) i k)) }
+    ensures stop { IfErr result (IsStop (rules.entry_fault aims.now.word (files.tables_in coff.now) i k)) }
 {
     coff.is_headed();
     let r = reloc_of(coff, i, table, k);
@@ -194,13 +197,14 @@ pub(crate) fn check_table(
     alloc: Global,
     coff: &Coff,
     aims: &Aims,
-    i: u16,
+    i: u32,
     table: &Table,
 ) -> Result<(), Stop>
-    requires aims { aims.now.symbols.now ≡ aimed.aims_in (tables.tables_of coff.now) }
+    requires low { i < 2 ^ 21 }
+    requires aims { aims.now.symbols.now ≡ aimed.aims_in (files.tables_in coff.now) }
     requires table { rules.IsTable coff.now i table.now }
-    ensures clean { OnOk result (first_upto (rules.entry_fault aims.now.word (tables.tables_of coff.now) i) table.now.count ≡ None) }
-    ensures stop { IfErr result (IsStop (first_upto (rules.entry_fault aims.now.word (tables.tables_of coff.now) i) table.now.count)) }
+    ensures clean { OnOk result (first_upto (rules.entry_fault aims.now.word (files.tables_in coff.now) i) table.now.count ≡ None) }
+    ensures stop { IfErr result (IsStop (first_upto (rules.entry_fault aims.now.word (files.tables_in coff.now) i) table.now.count)) }
 {
     let count = table.count;
     let mut spans = Spans::new(alloc);

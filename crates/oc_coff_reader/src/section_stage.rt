@@ -1,9 +1,10 @@
 //! The stage of sections.
-ghost use Rattle.std.specs.Prelude.{◌≡◌, ◌+◌, ◌<◌, ◌≤◌, ◌∷◌, [], length, is_none, None, Some, IfErr, IfOk, OnOk};
+ghost use Rattle.std.specs.Prelude.{◌≡◌, ◌+◌, ◌<◌, ◌≤◌, ◌∷◌, [], length, is_none, None, Some, IfErr, IfOk, OnOk, ◌^◌};
 ghost use Rattle.oc_base.specs.declared.code.Code.TheVariants as code;
 ghost use Rattle.oc_linking.specs.FirstFault.{first_broken, stage_fault};
 ghost use Rattle.oc_coff_read.specs.SectionFaults as rules;
 ghost use Rattle.oc_coff_read.specs.Tables as tables;
+ghost use Rattle.oc_coff_reader.specs.Files as files;
 ghost use Rattle.oc_coff_reader.specs.Judged as judged;
 ghost use Rattle.oc_coff_reader.specs.Numbered.{AreOwners};
 
@@ -29,8 +30,8 @@ const MOST_BYTES: u64 = 67_108_864;
 
 // whether the section with which another is kept is itself kept with one
 fn follows_follower(coff: &Coff, owners: &Owners, d: Option<SectionAux>) -> bool
-    requires owners { AreOwners (tables.tables_of coff.now) owners.now.firsts.now owners.now.seconds.now }
-    ensures { result ≡ rules.follows_follower (tables.tables_of coff.now) d }
+    requires owners { AreOwners (files.tables_in coff.now) owners.now.firsts.now owners.now.seconds.now }
+    ensures { result ≡ rules.follows_follower (files.tables_in coff.now) d }
 {
     match d {
         Some(aux) => selects(
@@ -42,7 +43,7 @@ fn follows_follower(coff: &Coff, owners: &Owners, d: Option<SectionAux>) -> bool
 }
 
 // the number of section `i` of so many, counted from 0
-fn number_of(count: u16, i: u16) -> u16
+fn number_of(count: u32, i: u32) -> u32
     requires { i < count }
     ensures { result ≡ i + 1 }
 {
@@ -54,15 +55,16 @@ fn number_of(count: u16, i: u16) -> u16
 fn copy_fault(
     coff: &Coff,
     owners: &Owners,
-    i: u16,
+    i: u32,
     h: &SectionHeader,
     d: Option<SectionAux>,
 ) -> Option<Fault>
-    requires owners { AreOwners (tables.tables_of coff.now) owners.now.firsts.now owners.now.seconds.now }
-    requires there { i < length (tables.tables_of coff.now).sections }
-    ensures { result ≡ first_broken (rules.copy_conditions (tables.tables_of coff.now) (i + 1, tables.section_table coff.now h.now) d) }
+    requires owners { AreOwners (files.tables_in coff.now) owners.now.firsts.now owners.now.seconds.now }
+    requires there { i < length (files.tables_in coff.now).sections }
+    ensures { result ≡ first_broken (rules.copy_conditions (files.tables_in coff.now) (i + 1, tables.section_table coff.now.bytes h.now) d) }
 {
-    let place = header_place(i);
+    coff.has_few();
+    let place = header_place(coff.shape(), i);
     let k = number_of(coff.section_count(), i);
     if !is_known(d) {
         return section_fault(i, place, Code::Group);
@@ -82,20 +84,21 @@ fn copy_fault(
 
 // the fault of the conditions on the name of section `i`
 #[tactic(auto, unfolding(oc_coff_read::specs::Tables::tables_of))]
-fn name_fault(coff: &Coff, i: u16, h: &SectionHeader) -> Option<Fault>
-    ensures { result ≡ first_broken ((is_none (judged.name_of_header (tables.tables_of coff.now) h.now), rules.section_fault (i + 1, tables.section_table coff.now h.now) (rules.header_place (tables.tables_of coff.now) (i + 1, tables.section_table coff.now h.now)) code.BadName) ∷ []) }
+fn name_fault(coff: &Coff, i: u32, h: &SectionHeader) -> Option<Fault>
+    requires low { i < 2 ^ 21 }
+    ensures { result ≡ first_broken ((is_none (judged.name_of_header (files.tables_in coff.now) h.now), rules.section_fault (i + 1, tables.section_table coff.now.bytes h.now) (rules.header_place (files.tables_in coff.now) (i + 1, tables.section_table coff.now.bytes h.now)) code.BadName) ∷ []) }
 {
     if section_name(coff.strings(), &h.Name).is_none() {
-        return section_fault(i, header_place(i), Code::BadName);
+        return section_fault(i, header_place(coff.shape(), i), Code::BadName);
     }
     None
 }
 
 // that of the conditions on copies of section `i`, where there are any
-fn copies_fault(coff: &Coff, owners: &Owners, i: u16, h: &SectionHeader) -> Option<Fault>
-    requires owners { AreOwners (tables.tables_of coff.now) owners.now.firsts.now owners.now.seconds.now }
-    requires there { i < length (tables.tables_of coff.now).sections }
-    ensures { result ≡ first_broken (judged.copies_of (tables.tables_of coff.now) (i + 1, tables.section_table coff.now h.now) h.now) }
+fn copies_fault(coff: &Coff, owners: &Owners, i: u32, h: &SectionHeader) -> Option<Fault>
+    requires owners { AreOwners (files.tables_in coff.now) owners.now.firsts.now owners.now.seconds.now }
+    requires there { i < length (files.tables_in coff.now).sections }
+    ensures { result ≡ first_broken (judged.copies_of (files.tables_in coff.now) (i + 1, tables.section_table coff.now.bytes h.now) h.now) }
 {
     if !is_comdat(h) {
         return None;
@@ -106,14 +109,15 @@ fn copies_fault(coff: &Coff, owners: &Owners, i: u16, h: &SectionHeader) -> Opti
 
 // that of the conditions on the address and the alignment
 #[tactic(auto, unfolding(oc_coff_read::specs::Tables::tables_of))]
-fn form_fault(coff: &Coff, i: u16, h: &SectionHeader) -> Option<Fault>
-    ensures { result ≡ first_broken (judged.forms_of (tables.tables_of coff.now) (i + 1, tables.section_table coff.now h.now) h.now) }
+fn form_fault(coff: &Coff, i: u32, h: &SectionHeader) -> Option<Fault>
+    requires low { i < 2 ^ 21 }
+    ensures { result ≡ first_broken (judged.forms_of (files.tables_in coff.now) (i + 1, tables.section_table coff.now.bytes h.now) h.now) }
 {
     if h.VirtualAddress != 0 {
-        return section_fault(i, header_place(i), Code::SectionKind);
+        return section_fault(i, header_place(coff.shape(), i), Code::SectionKind);
     }
     if align_bits(h.Characteristics) == 15 {
-        return section_fault(i, header_place(i), Code::BadAlign);
+        return section_fault(i, header_place(coff.shape(), i), Code::BadAlign);
     }
     let _ = coff;
     None
@@ -151,7 +155,8 @@ fn stored_of(kind: Option<Kind>, h: &SectionHeader) -> u64
 }
 
 // the fault of the limits, with the sums
-fn limit_fault(i: u16, size: u64, sizes: u64, bytes: u64) -> Option<Fault>
+fn limit_fault(i: u32, size: u64, sizes: u64, bytes: u64) -> Option<Fault>
+    requires low { i < 2 ^ 21 }
     ensures { result ≡ first_broken (judged.limits_by i size sizes bytes) }
 {
     if size > MOST_SIZE {
@@ -167,14 +172,15 @@ fn limit_fault(i: u16, size: u64, sizes: u64, bytes: u64) -> Option<Fault>
 }
 
 // the fault of section `i`, where the sums are those of the sections before; and the sums with it
-fn judge_section(coff: &Coff, owners: &Owners, i: u16, sums: Sums) -> Result<Sums, Fault>
-    requires owners { AreOwners (tables.tables_of coff.now) owners.now.firsts.now owners.now.seconds.now }
-    requires there { i < length (tables.tables_of coff.now).sections }
-    requires sums { judged.AreSums (tables.tables_of coff.now) i sums.sizes sums.bytes }
+fn judge_section(coff: &Coff, owners: &Owners, i: u32, sums: Sums) -> Result<Sums, Fault>
+    requires owners { AreOwners (files.tables_in coff.now) owners.now.firsts.now owners.now.seconds.now }
+    requires there { i < length (files.tables_in coff.now).sections }
+    requires sums { judged.AreSums (files.tables_in coff.now) i sums.sizes sums.bytes }
     ensures clean { OnOk result (judged.section_fault_of coff.now i ≡ None) }
-    ensures sums { IfOk result (λ s. judged.AreSums (tables.tables_of coff.now) (i + 1) s.sizes s.bytes) }
+    ensures sums { IfOk result (λ s. judged.AreSums (files.tables_in coff.now) (i + 1) s.sizes s.bytes) }
     ensures fault { IfErr result (λ fault. judged.section_fault_of coff.now i ≡ Some fault) }
 {
+    coff.has_few();
     let h = coff.section(i);
     let kind = kind_in(coff, &h);
     let size = size_of(kind, &h);
@@ -194,9 +200,9 @@ fn judge_section(coff: &Coff, owners: &Owners, i: u16, sums: Sums) -> Result<Sum
 ///
 /// Stops exactly where a section has a fault, with the first. Linear in the sections and their names.
 pub(crate) fn check_sections(coff: &Coff, owners: &Owners) -> Result<(), Fault>
-    requires owners { AreOwners (tables.tables_of coff.now) owners.now.firsts.now owners.now.seconds.now }
-    ensures clean { OnOk result (stage_fault (rules.section_stage coff.now (tables.tables_of coff.now)) ≡ None) }
-    ensures fault { IfErr result (λ fault. stage_fault (rules.section_stage coff.now (tables.tables_of coff.now)) ≡ Some fault) }
+    requires owners { AreOwners (files.tables_in coff.now) owners.now.firsts.now owners.now.seconds.now }
+    ensures clean { OnOk result (stage_fault (rules.section_stage coff.now.bytes (files.tables_in coff.now)) ≡ None) }
+    ensures fault { IfErr result (λ fault. stage_fault (rules.section_stage coff.now.bytes (files.tables_in coff.now)) ≡ Some fault) }
 {
     let count = coff.section_count();
     let mut sums = Sums { sizes: 0, bytes: 0 };

@@ -4,8 +4,8 @@ use Rattle.std.specs.Prelude.{filter, flat_map, codes, nat_lt}
 use Rattle.std.specs.List.{enumerate_from, range_with_len}
 use Rattle.std.proofs.lemmas.List.{length-append}
 use Rattle.std.proofs.lemmas.List.Elements.{filter-append}
-use Rattle.oc_base.specs.declared.format.Word.{Word}
-use Rattle.oc_base.specs.declared.format.Word.TheVariants.{W32, W64}
+use Rattle.oc_coff_read.specs.declared.form.CoffForm.{CoffForm}
+use Rattle.oc_coff_read.specs.declared.form.CoffForm.TheVariants.{Usual32, Usual64, Big32, Big64}
 use Rattle.oc_linking.specs.declared.terms.Binding.{Binding}
 use Rattle.oc_linking.specs.declared.terms.Binding.TheVariants.{Local, Global, Undefined, Common, Weak}
 use Rattle.oc_neutral.specs.declared.section.Section.{Section}
@@ -17,7 +17,7 @@ use Rattle.oc_neutral.specs.KeySymbols.{is_key_at}
 use Rattle.oc_neutral.specs.SymbolLines.{needs_default, is_weak_with}
 use Rattle.oc_neutral.specs.Coff.Strings.{is_long, is_tabled, has_default, default_name, defaults_of, names_where, key_strings, coff_strings}
 use Rattle.oc_neutral.specs.CoffMeets.{strings_of}
-use Rattle.oc_coff_read.specs.Fields.{coff_format}
+use Rattle.oc_coff_read.specs.Forms.{format_of}
 use Rattle.oc_coff_read.specs.Lines.{Line, LocalLine, DefaultLine, OuterLine, lines_where, section_lines, is_written_local, is_free, lines_of}
 use Rattle.oc_coff_write.specs.Strings.{line_strings, table_names}
 
@@ -93,20 +93,22 @@ default_names n = by 0 n.symbols
         ∙ sym (filter-append is_long (defaults_of x.name x.binding) (flat_map (λ (s : Symbol). defaults_of s.name s.binding) xs))
 
 -- the names of an output in its own format are those of its sections
-own_names : (w : Word) (n : Object) → n.format ≡ coff_format w → output_names (coff_format w) n ≡ map (λ (s : Section). s.name) n.sections
+own_names : (w : CoffForm) (n : Object) → n.format ≡ format_of w → output_names (format_of w) n ≡ map (λ (s : Section). s.name) n.sections
 unfolding output_names
-own_names w n format = ap (λ f. cond (same_format (coff_format w) f) (map (λ (s : Section). s.name) n.sections) (names_across (coff_format w) n)) format ∙ by w
+own_names w n format = ap (λ f. cond (same_format (format_of w) f) (map (λ (s : Section). s.name) n.sections) (names_across (format_of w) n)) format ∙ by w
   where
-    by : (w : Word) → cond (same_format (coff_format w) (coff_format w)) (map (λ (s : Section). s.name) n.sections) (names_across (coff_format w) n) ≡ map (λ (s : Section). s.name) n.sections
-    by W32 = refl
-    by W64 = refl
+    by : (w : CoffForm) → cond (same_format (format_of w) (format_of w)) (map (λ (s : Section). s.name) n.sections) (names_across (format_of w) n) ≡ map (λ (s : Section). s.name) n.sections
+    by Usual32 = refl
+    by Usual64 = refl
+    by Big32 = refl
+    by Big64 = refl
 
 -- the names that are given for section headers and all lines
-pub all_given_names : (w : Word) (n : Object) → n.format ≡ coff_format w → table_names w n ≡ strings_of (coff_format w) n
+pub all_given_names : (w : CoffForm) (n : Object) → n.format ≡ format_of w → table_names w n ≡ strings_of (format_of w) n
 unfolding lines_of coff_strings
 all_given_names w n format =
     ap (λ zs. filter is_tabled zs ++ flat_map line_strings (sections ++ (locals ++ (defaults ++ free)))) (sym (own_names w n format))
-    ∙ ap (λ zs. filter is_tabled (output_names (coff_format w) n) ++ zs) (
+    ∙ ap (λ zs. filter is_tabled (output_names (format_of w) n) ++ zs) (
     flat_append line_strings sections (locals ++ (defaults ++ free))
     ∙ ap (λ zs. zs ++ flat_map line_strings (locals ++ (defaults ++ free))) (section_names n 0 n.sections)
     ∙ ap (λ zs. flat_map (key_strings n) (range_with_len 0 (length n.sections)) ++ zs) (

@@ -1,7 +1,7 @@
 -- The string table of a COFF output (PE/COFF, "COFF String Table"; our profile).
 use Rattle.std.specs.Prelude.{ℕ, List, [], ◌∷◌, ◌++◌, filter, flat_map, map}
 use Rattle.std.specs.Option.{unwrap_or}
-use Rattle.oc_base.specs.declared.format.Word.{Word}
+use Rattle.oc_coff_read.specs.declared.form.CoffForm.{CoffForm}
 use Rattle.oc_base.specs.Strings.{table_place}
 use Rattle.oc_neutral.specs.Coff.Strings.{is_long, is_tabled, default_name}
 use Rattle.oc_neutral.specs.declared.section.Section.{Section}
@@ -9,12 +9,12 @@ use Rattle.oc_neutral.specs.Objects.{Object}
 use Rattle.oc_neutral.specs.CoffMeets.{strings_of}
 use Rattle.oc_strings.specs.Tables.{StringTable}
 use Rattle.oc_neutral.specs.declared.coff.TheConstants.{STRINGS_HEAD}
-use Rattle.oc_coff_read.specs.Fields.{coff_format}
+use Rattle.oc_coff_read.specs.Forms.{format_of}
 use Rattle.oc_coff_read.specs.Lines.{Line, SectionLine, LocalLine, DefaultLine, OuterLine, lines_of}
 
 -- the table of an object's names, whose first text stands behind its size
-abbrev pub table_for : Word → Object → StringTable
-table_for w n = record { head = STRINGS_HEAD; names = strings_of (coff_format w) n }
+abbrev pub table_for : CoffForm → Object → StringTable
+table_for w n = record { head = STRINGS_HEAD; names = strings_of (format_of w) n }
 
 -- where a name stands in a table, 0 where it does not
 abbrev pub place_in : StringTable → List ℕ → ℕ
@@ -28,5 +28,5 @@ line_strings (DefaultLine k s) = default_name s.name ∷ []
 line_strings (OuterLine k s) = filter is_long (s.name ∷ [])
 
 -- the names that are given for the section headers, and then for the lines of the symbol table
-abbrev pub table_names : Word → Object → List (List ℕ)
+abbrev pub table_names : CoffForm → Object → List (List ℕ)
 table_names w n = filter is_tabled (map (λ (s : Section). s.name) n.sections) ++ flat_map line_strings (lines_of w n)

@@ -1,7 +1,7 @@
 //! The entries of the symbol table (PE/COFF, "COFF Symbol Table" and "Auxiliary Symbol Records").
 ghost use Rattle.std.specs.Prelude.{◌≡◌, ◌+◌, ◌^◌, ◌<◌, ◌++◌, ℕ, List, IfOk, IfSome, OnOk, Some, None, true, length, map, slice_get, slice_index_or};
-ghost use Rattle.oc_base.specs.Formats.{word_for};
-ghost use Rattle.oc_base.specs.declared.format.Word.{Word};
+ghost use Rattle.oc_coff_write.specs.FormFor.{form_for};
+ghost use Rattle.oc_coff_read.specs.declared.form.CoffForm.{CoffForm};
 ghost use Rattle.oc_linking.specs.declared.terms.Binding.TheVariants.{Weak};
 ghost use Rattle.oc_chains.specs.Lists.{list_of};
 ghost use Rattle.oc_linking.specs.Parts.{is_local};
@@ -13,6 +13,7 @@ ghost use Rattle.oc_neutral.specs.Objects.{Object};
 ghost use Rattle.oc_neutral.specs.declared.section.Section.{Section as Held};
 ghost use Rattle.oc_shelf.specs.Writing.Parts.{Laid};
 ghost use Rattle.oc_coff_read.specs.Canonical as canonical;
+ghost use Rattle.oc_coff_read.specs.Forms.{shape_of};
 ghost use Rattle.oc_coff_read.specs.Lines as coff_lines;
 ghost use Rattle.oc_coff_write.specs.Entries.{entry_bytes, IsMadeOf};
 ghost use Rattle.oc_coff_write.specs.Keys.{AreLeaders, key_position, leader_position};
@@ -31,7 +32,7 @@ use crate::values;
 use oc_base::NoMemory;
 use oc_coff_read::{
     IMAGE_COMDAT_SELECT_ANY, IMAGE_COMDAT_SELECT_ASSOCIATIVE, IMAGE_SYM_CLASS_STATIC,
-    IMAGE_WEAK_EXTERN_SEARCH_ALIAS, SectionAux, SymbolEntry, WeakAux,
+    IMAGE_WEAK_EXTERN_SEARCH_ALIAS, SectionAux, Shape, SymbolEntry, WeakAux,
 };
 use oc_neutral::{Binding, Neutral, Section, Symbol};
 use oc_shelf::Packed;
@@ -62,26 +63,26 @@ pub(crate) struct Made<'a> {
     pub(crate) numbers: &'a Numbers,
 }
 
-/// The bytes of an entry. Constant time.
-pub(crate) fn pack_entry(entry: &Entry) -> Packed
-    ensures { result ≡ entry_bytes entry.now }
+/// The bytes of an entry in a file of that shape. Constant time.
+pub(crate) fn pack_entry(shape: Shape, entry: &Entry) -> Packed
+    ensures { result ≡ entry_bytes shape entry.now }
 {
     match entry {
-        Entry::Symbol(symbol) => pack_symbol(symbol),
-        Entry::SectionAux(aux) => pack_section_aux(aux),
-        Entry::WeakAux(aux) => pack_weak_aux(aux),
+        Entry::Symbol(symbol) => pack_symbol(shape, symbol),
+        Entry::SectionAux(aux) => pack_section_aux(shape, aux),
+        Entry::WeakAux(aux) => pack_weak_aux(shape, aux),
     }
 }
 
 // the entry of the symbol of the section at a position
 fn section_entry(names: &Table, near: usize, position: u32, section: &Section) -> SymbolEntry
-    requires { position + 1 < 2 ^ 16 }
-    ensures { (w : Word) (n : Object) → names.now ≡ table_for w n → result ≡ canonical.line_entry w n (coff_lines.SectionLine position section.now) }
+    requires { position + 1 < 2 ^ 31 }
+    ensures { (w : CoffForm) (n : Object) → names.now ≡ table_for w n → result ≡ canonical.line_entry w n (coff_lines.SectionLine position section.now) }
 {
     SymbolEntry {
         Name: symbol_field(names, near, section.name.as_slice()),
         Value: 0,
-        SectionNumber: (position + 1) as u16,
+        SectionNumber: position + 1,
         Type: 0,
         StorageClass: IMAGE_SYM_CLASS_STATIC,
         NumberOfAuxSymbols: 1,
@@ -91,7 +92,7 @@ fn section_entry(names: &Table, near: usize, position: u32, section: &Section) -
 // the entry of a symbol
 fn symbol_entry(names: &Table, near: usize, symbol: &Symbol) -> SymbolEntry
     requires { HasRoom (canonical.numbers_by symbol.now.binding) }
-    ensures { (w : Word) (n : Object) (k : ℕ) → names.now ≡ table_for w n → result ≡ canonical.line_entry w n (coff_lines.OuterLine k symbol.now) }
+    ensures { (w : CoffForm) (n : Object) (k : ℕ) → names.now ≡ table_for w n → result ≡ canonical.line_entry w n (coff_lines.OuterLine k symbol.now) }
 {
     let numbers = values::of_binding(symbol.binding);
     SymbolEntry {
@@ -112,7 +113,7 @@ fn default_entry(
     symbol: &Symbol,
 ) -> Result<SymbolEntry, NoMemory>
     requires { HasRoom (canonical.default_numbers symbol.now.binding) }
-    ensures { IfOk result (λ entry. (w : Word) (n : Object) (k : ℕ) → names.now ≡ table_for w n → entry ≡ canonical.line_entry w n (coff_lines.DefaultLine k symbol.now)) }
+    ensures { IfOk result (λ entry. (w : CoffForm) (n : Object) (k : ℕ) → names.now ≡ table_for w n → entry ≡ canonical.line_entry w n (coff_lines.DefaultLine k symbol.now)) }
 {
     let name = default_name(alloc, symbol.name.as_slice())?;
     let numbers = values::of_default(symbol.binding);
@@ -138,21 +139,21 @@ fn selection_of(key: Option<u32>, group: Option<u32>) -> u8
 }
 
 // the number of the section that leads a group, from 1, and 0 where none does
-fn leader_number(leaders: &[Option<u32>], group: u32) -> u16
+fn leader_number(leaders: &[Option<u32>], group: u32) -> u32
     requires there { group < length leaders.now }
-    requires room { IfSome (slice_index_or leaders.now group None) (λ k. k + 1 < 2 ^ 16) }
+    requires room { IfSome (slice_index_or leaders.now group None) (λ k. k + 1 < 2 ^ 31) }
     ensures { (n : Object) → slice_index_or leaders.now group None ≡ leader_position n group → result ≡ canonical.leader_number n group }
 {
     match leaders[group as usize] {
-        Some(section) => (section + 1) as u16,
+        Some(section) => section + 1,
         None => 0,
     }
 }
 
 // the number of the section with which one in this group is kept, where that is another one
-fn kept_with(leaders: &[Option<u32>], key: Option<u32>, group: Option<u32>) -> u16
+fn kept_with(leaders: &[Option<u32>], key: Option<u32>, group: Option<u32>) -> u32
     requires there { IfSome group (λ g. g < length leaders.now) }
-    requires room { (g : ℕ) → g < length leaders.now → IfSome (slice_index_or leaders.now g None) (λ k. k + 1 < 2 ^ 16) }
+    requires room { (g : ℕ) → g < length leaders.now → IfSome (slice_index_or leaders.now g None) (λ k. k + 1 < 2 ^ 31) }
     ensures { (n : Object) (k : ℕ) → AreLeaders n leaders.now → key ≡ key_position n k → result ≡ canonical.kept_with n k group }
 {
     match (group, key) {
@@ -173,9 +174,9 @@ fn reloc_count(neutral: &Neutral, position: u32) -> usize
 // the auxiliary entry of the symbol of the section at a position
 fn section_aux(neutral: &Neutral, made: Made<'_>, position: u32) -> SectionAux
     requires there { position < length neutral.now.sections }
-    requires few { length neutral.now.sections < 2 ^ 16 }
-    requires made { IsMadeOf (word_for neutral.now.format) neutral.now made }
-    ensures { (s : Held) → slice_get neutral.now.sections position ≡ Some s → result ≡ canonical.section_aux (word_for neutral.now.format) neutral.now position s }
+    requires few { length neutral.now.sections < 2 ^ 31 }
+    requires made { IsMadeOf (form_for neutral.now.format) neutral.now made }
+    ensures { (s : Held) → slice_get neutral.now.sections position ≡ Some s → result ≡ canonical.section_aux (form_for neutral.now.format) neutral.now position s }
 {
     neutral.is_object();
     let section = neutral.section(position);
@@ -199,9 +200,9 @@ fn add_section(
     position: u32,
 ) -> Result<(), NoMemory>
     requires there { position < length neutral.now.sections }
-    requires few { length neutral.now.sections < 2 ^ 16 }
-    requires made { IsMadeOf (word_for neutral.now.format) neutral.now made }
-    ensures { OnOk result ((s : Held) → slice_get neutral.now.sections position ≡ Some s → map entry_bytes entries.new.items ≡ map entry_bytes entries.old.items ++ canonical.line_rows (word_for neutral.now.format) neutral.now (coff_lines.SectionLine position s)) }
+    requires few { length neutral.now.sections < 2 ^ 31 }
+    requires made { IsMadeOf (form_for neutral.now.format) neutral.now made }
+    ensures { OnOk result ((s : Held) → slice_get neutral.now.sections position ≡ Some s → map (entry_bytes (shape_of (form_for neutral.now.format))) entries.new.items ≡ map (entry_bytes (shape_of (form_for neutral.now.format))) entries.old.items ++ canonical.line_rows (form_for neutral.now.format) neutral.now (coff_lines.SectionLine position s)) }
 {
     let symbol = section_entry(made.names, near, position, neutral.section(position));
     entries.push(Entry::Symbol(symbol))?;
@@ -230,7 +231,7 @@ fn add_outer(
 ) -> Result<(), NoMemory>
     requires room { HasRoom (canonical.numbers_by symbol.now.binding) }
     requires tag { (f : Fallback) → symbol.now.binding ≡ Weak f → HasTag numbers.now position f }
-    ensures { OnOk result ((w : Word) (n : Object) → names.now ≡ table_for w n → IsNumbered w n numbers.now → map entry_bytes entries.new.items ≡ map entry_bytes entries.old.items ++ canonical.line_rows w n (coff_lines.OuterLine position symbol.now)) }
+    ensures { OnOk result ((w : CoffForm) (n : Object) → names.now ≡ table_for w n → IsNumbered w n numbers.now → map (entry_bytes (shape_of w)) entries.new.items ≡ map (entry_bytes (shape_of w)) entries.old.items ++ canonical.line_rows w n (coff_lines.OuterLine position symbol.now)) }
 {
     entries.push(Entry::Symbol(symbol_entry(names, near, symbol)))?;
     if let Binding::Weak(fallback) = symbol.binding {
@@ -249,7 +250,7 @@ fn add_local(
 ) -> Result<(), NoMemory>
     requires local { is_local symbol.now.binding ≡ true }
     requires room { HasRoom (canonical.numbers_by symbol.now.binding) }
-    ensures { OnOk result ((w : Word) (n : Object) (k : ℕ) → names.now ≡ table_for w n → map entry_bytes entries.new.items ≡ map entry_bytes entries.old.items ++ canonical.line_rows w n (coff_lines.LocalLine k symbol.now)) }
+    ensures { OnOk result ((w : CoffForm) (n : Object) (k : ℕ) → names.now ≡ table_for w n → map (entry_bytes (shape_of w)) entries.new.items ≡ map (entry_bytes (shape_of w)) entries.old.items ++ canonical.line_rows w n (coff_lines.LocalLine k symbol.now)) }
 {
     entries.push(Entry::Symbol(symbol_entry(names, near, symbol)))?;
     Ok(())
@@ -264,7 +265,7 @@ fn add_default(
     symbol: &Symbol,
 ) -> Result<(), NoMemory>
     requires { HasRoom (canonical.default_numbers symbol.now.binding) }
-    ensures { OnOk result ((w : Word) (n : Object) (k : ℕ) → names.now ≡ table_for w n → map entry_bytes entries.new.items ≡ map entry_bytes entries.old.items ++ canonical.line_rows w n (coff_lines.DefaultLine k symbol.now)) }
+    ensures { OnOk result ((w : CoffForm) (n : Object) (k : ℕ) → names.now ≡ table_for w n → map (entry_bytes (shape_of w)) entries.new.items ≡ map (entry_bytes (shape_of w)) entries.old.items ++ canonical.line_rows w n (coff_lines.DefaultLine k symbol.now)) }
 {
     entries.push(Entry::Symbol(default_entry(alloc, names, near, symbol)?))?;
     Ok(())
@@ -281,9 +282,9 @@ fn add_line(
 ) -> Result<(), NoMemory>
     requires coff { container_of neutral.now.format ≡ IsCoff }
     requires fitted { IsFitted neutral.now.format neutral.now }
-    requires made { IsMadeOf (word_for neutral.now.format) neutral.now made }
-    requires listed { IsListed (word_for neutral.now.format) neutral.now line }
-    ensures { OnOk result ((is : coff_lines.Line) → line_in neutral.now line ≡ Some is → map entry_bytes entries.new.items ≡ map entry_bytes entries.old.items ++ canonical.line_rows (word_for neutral.now.format) neutral.now is) }
+    requires made { IsMadeOf (form_for neutral.now.format) neutral.now made }
+    requires listed { IsListed (form_for neutral.now.format) neutral.now line }
+    ensures { OnOk result ((is : coff_lines.Line) → line_in neutral.now line ≡ Some is → map (entry_bytes (shape_of (form_for neutral.now.format))) entries.new.items ≡ map (entry_bytes (shape_of (form_for neutral.now.format))) entries.old.items ++ canonical.line_rows (form_for neutral.now.format) neutral.now is) }
 {
     match line {
         Line::Section(k) => add_section(entries, neutral, made, near, k),
@@ -311,10 +312,10 @@ pub(crate) fn entries_of(
 ) -> Result<Vec<Entry>, NoMemory>
     requires coff { container_of neutral.now.format ≡ IsCoff }
     requires fitted { IsFitted neutral.now.format neutral.now }
-    requires made { IsMadeOf (word_for neutral.now.format) neutral.now made }
-    requires lines { AreLines (word_for neutral.now.format) neutral.now lines.now }
-    ensures rows { IfOk result (λ entries. map entry_bytes entries.items ≡ canonical.entry_rows (word_for neutral.now.format) neutral.now) }
-    ensures count { IfOk result (λ entries. length entries.items ≡ coff_lines.entry_count (word_for neutral.now.format) neutral.now) }
+    requires made { IsMadeOf (form_for neutral.now.format) neutral.now made }
+    requires lines { AreLines (form_for neutral.now.format) neutral.now lines.now }
+    ensures rows { IfOk result (λ entries. map (entry_bytes (shape_of (form_for neutral.now.format))) entries.items ≡ canonical.entry_rows (form_for neutral.now.format) neutral.now) }
+    ensures count { IfOk result (λ entries. length entries.items ≡ coff_lines.entry_count (form_for neutral.now.format) neutral.now) }
 {
     neutral.is_object();
     let mut entries = Vec::with_capacity(alloc, made.numbers.count() as usize)?;

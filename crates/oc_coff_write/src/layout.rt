@@ -1,10 +1,10 @@
 //! Where the parts of the file begin.
 ghost use Rattle.std.specs.Prelude.{◌≡◌, ◌+◌, ◌<◌, ◌^◌, ◌++◌, [], ◌∷◌, IfOk, List, OnOk, flat_map, map};
 ghost use Rattle.std.specs.List.{enumerate_from};
-ghost use Rattle.oc_base.specs.declared.format.Word.{Word as Width};
+ghost use Rattle.oc_coff_read.specs.declared.form.CoffForm.{CoffForm as Width};
 ghost use Rattle.oc_neutral.specs.Fitted.{IsFitted};
 ghost use Rattle.oc_neutral.specs.Objects.{Object};
-ghost use Rattle.oc_coff_read.specs.Fields.{coff_format};
+ghost use Rattle.oc_coff_read.specs.Forms.{format_of};
 ghost use Rattle.oc_coff_read.specs.Layout.{Part, FileHead, SectionHeads, parts_of, part_size, section_parts};
 ghost use Rattle.oc_coff_read.specs.Lines.{entry_count};
 ghost use Rattle.oc_coff_write.specs.Bodies.{relocations_in};
@@ -12,9 +12,10 @@ ghost use Rattle.oc_coff_write.specs.LaidParts.{AreLaid};
 ghost use Rattle.oc_coff_write.specs.Strings.{table_for};
 
 use crate::counts;
-use oc_base::{NoMemory, Word};
+use oc_base::NoMemory;
 use oc_coff_read::{
-    FILE_HEADER_SIZE, RELOCATION_SIZE, Relocation, SECTION_HEADER_SIZE, STRINGS_HEAD, SYMBOL_SIZE,
+    CoffForm, RELOCATION_SIZE, Relocation, SECTION_HEADER_SIZE, STRINGS_HEAD, header_size,
+    shape_of, symbol_size,
 };
 use oc_neutral::Neutral;
 use oc_shelf::Layout;
@@ -33,14 +34,14 @@ fn lay(layout: &mut Layout, size: usize) -> Result<(), NoMemory>
 // lays the parts of the sections behind the headers
 fn lay_sections(
     layout: &mut Layout,
-    word: Word,
+    form: CoffForm,
     neutral: &Neutral,
     relocs: &[Vec<Relocation>],
 ) -> Result<(), NoMemory>
-    requires fitted { IsFitted (coff_format word) neutral.now }
-    requires relocs { map (λ v. v.items) relocs.now ≡ relocations_in word neutral.now }
-    requires before { AreLaid word neutral.now layout.old.places.items layout.old.end (FileHead ∷ SectionHeads ∷ []) }
-    ensures { OnOk result (AreLaid word neutral.now layout.new.places.items layout.new.end (FileHead ∷ SectionHeads ∷ flat_map section_parts (enumerate_from 0 neutral.now.sections))) }
+    requires fitted { IsFitted (format_of form) neutral.now }
+    requires relocs { map (λ v. v.items) relocs.now ≡ relocations_in form neutral.now }
+    requires before { AreLaid form neutral.now layout.old.places.items layout.old.end (FileHead ∷ SectionHeads ∷ []) }
+    ensures { OnOk result (AreLaid form neutral.now layout.new.places.items layout.new.end (FileHead ∷ SectionHeads ∷ flat_map section_parts (enumerate_from 0 neutral.now.sections))) }
 {
     for k in 0..neutral.section_count() {
         let count = counts::entry_count(relocs[k as usize].len());
@@ -54,26 +55,26 @@ fn lay_sections(
 /// symbol table, and this string table. `NoMemory` where memory ran out. Linear in the sections.
 pub(crate) fn layout_of(
     alloc: Global,
-    word: Word,
+    form: CoffForm,
     neutral: &Neutral,
     relocs: &[Vec<Relocation>],
     entries: usize,
     names: &Table,
 ) -> Result<Layout, NoMemory>
-    requires fitted { IsFitted (coff_format word) neutral.now }
-    requires relocs { map (λ v. v.items) relocs.now ≡ relocations_in word neutral.now }
-    requires entries { entries ≡ entry_count word neutral.now }
-    requires names { names.now ≡ table_for word neutral.now }
-    ensures { IfOk result (λ layout. AreLaid word neutral.now layout.places.items layout.end (parts_of neutral.now)) }
+    requires fitted { IsFitted (format_of form) neutral.now }
+    requires relocs { map (λ v. v.items) relocs.now ≡ relocations_in form neutral.now }
+    requires entries { entries ≡ entry_count form neutral.now }
+    requires names { names.now ≡ table_for form neutral.now }
+    ensures { IfOk result (λ layout. AreLaid form neutral.now layout.places.items layout.end (parts_of neutral.now)) }
 {
     let mut layout = Layout::new(alloc);
-    lay(&mut layout, FILE_HEADER_SIZE)?;
+    lay(&mut layout, header_size(shape_of(form)))?;
     lay(
         &mut layout,
         SECTION_HEADER_SIZE * neutral.section_count() as usize,
     )?;
-    lay_sections(&mut layout, word, neutral, relocs)?;
-    lay(&mut layout, SYMBOL_SIZE * entries)?;
+    lay_sections(&mut layout, form, neutral, relocs)?;
+    lay(&mut layout, symbol_size(shape_of(form)) * entries)?;
     lay(&mut layout, STRINGS_HEAD + names.bytes().len())?;
     Ok(layout)
 }

@@ -1,5 +1,5 @@
-//! The writers of COFF: the symbol table and the string table of an object, the layout of its file, and
-//! the plan, which gives any window of the file.
+//! Writing in each form of COFF, and the writers of the two forms for few sections: the symbol table and the
+//! string table of an object, the layout of its file, and the plan, which gives any window of the file.
 #![tactic(auto)]
 
 mod alignment;
@@ -27,4 +27,5 @@ mod values;
 mod writer;
 
 pub use plan::Plan;
+pub use planning::plan_object;
 pub use writer::{CoffWriter32, CoffWriter64};

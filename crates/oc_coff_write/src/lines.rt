@@ -11,7 +11,8 @@ ghost use Rattle.oc_coff_write.specs.Lines.{lines_in, AreLines};
 ghost use Rattle.oc_coff_write.specs.declared.lines.Line.TheVariants as made;
 
 use crate::keys::is_key;
-use oc_base::{NoMemory, Word};
+use oc_base::NoMemory;
+use oc_coff_read::CoffForm;
 use oc_neutral::{Binding, Fallback, Neutral, Symbol, Value};
 use std::alloc::Global;
 
@@ -41,11 +42,13 @@ fn is_local(binding: Binding) -> bool
 }
 
 // whether a symbol is a Local that is written: in 64 bits all but those of long numbers
-fn is_written_local(word: Word, symbol: &Symbol) -> bool
-    ensures { result ≡ coff_lines.is_written_local word symbol.now }
+fn is_written_local(form: CoffForm, symbol: &Symbol) -> bool
+    ensures { result ≡ coff_lines.is_written_local form symbol.now }
 {
-    match (word, symbol.binding) {
-        (Word::W64, Binding::Local(Value::Absolute(number))) => number < 1 << 32,
+    match (form, symbol.binding) {
+        (CoffForm::Usual64 | CoffForm::Big64, Binding::Local(Value::Absolute(number))) => {
+            number < 1 << 32
+        }
         (_, binding) => is_local(binding),
     }
 }
@@ -82,12 +85,12 @@ fn give_line(lines: &mut Vec<Line>, line: Line, wanted: bool) -> Result<(), NoMe
 }
 
 // adds the lines of the Locals that are written
-fn add_locals(lines: &mut Vec<Line>, word: Word, neutral: &Neutral) -> Result<(), NoMemory>
-    ensures { OnOk result (lines_in neutral.now lines.new.items ≡ lines_in neutral.now lines.old.items ++ map Some (coff_lines.lines_where coff_lines.LocalLine (coff_lines.is_written_local word) neutral.now)) }
+fn add_locals(lines: &mut Vec<Line>, form: CoffForm, neutral: &Neutral) -> Result<(), NoMemory>
+    ensures { OnOk result (lines_in neutral.now lines.new.items ≡ lines_in neutral.now lines.old.items ++ map Some (coff_lines.lines_where coff_lines.LocalLine (coff_lines.is_written_local form) neutral.now)) }
 {
     for k in 0..neutral.symbol_count() {
         let symbol = neutral.symbol(k);
-        let wanted = is_written_local(word, symbol);
+        let wanted = is_written_local(form, symbol);
         give_line(lines, Line::Local(k), wanted)?;
     }
     Ok(())
@@ -148,16 +151,16 @@ fn add_sections(
 /// out. Linear in the sections, the symbols and their names.
 pub(crate) fn lines_of(
     alloc: Global,
-    word: Word,
+    form: CoffForm,
     neutral: &Neutral,
     keys: &[Option<u32>],
 ) -> Result<Vec<Line>, NoMemory>
     requires { AreKeys neutral.now keys.now }
-    ensures { IfOk result (λ lines. AreLines word neutral.now lines.items) }
+    ensures { IfOk result (λ lines. AreLines form neutral.now lines.items) }
 {
     let mut lines = Vec::new(alloc);
     add_sections(&mut lines, neutral, keys)?;
-    add_locals(&mut lines, word, neutral)?;
+    add_locals(&mut lines, form, neutral)?;
     add_defaults(&mut lines, neutral)?;
     add_outers(&mut lines, neutral)?;
     Ok(lines)

@@ -1,7 +1,7 @@
 //! The numbers of the symbols in the symbol table (PE/COFF, "COFF Symbol Table").
 ghost use Rattle.std.specs.Prelude.{◌≡◌, ◌+◌, ◌^◌, ◌<◌, ℕ, if◌then◌else◌, IfOk, IsSome, Some, true, nat_eq, slice_index_or, length};
-ghost use Rattle.oc_base.specs.Formats.{word_for};
-ghost use Rattle.oc_base.specs.declared.format.Word.{Word};
+ghost use Rattle.oc_coff_write.specs.FormFor.{form_for};
+ghost use Rattle.oc_coff_read.specs.declared.form.CoffForm.{CoffForm};
 ghost use Rattle.oc_neutral.specs.Families.{container_of};
 ghost use Rattle.oc_neutral.specs.Family.{IsCoff};
 ghost use Rattle.oc_neutral.specs.Fitted.{IsFitted};
@@ -100,8 +100,8 @@ impl Numbers {
     pub(crate) fn of(alloc: Global, neutral: &Neutral, lines: &[Line]) -> Result<Numbers, NoMemory>
         requires coff { container_of neutral.now.format ≡ IsCoff }
         requires fitted { IsFitted neutral.now.format neutral.now }
-        requires lines { AreLines (word_for neutral.now.format) neutral.now lines.now }
-        ensures { IfOk result (λ numbers. IsNumbered (word_for neutral.now.format) neutral.now numbers) }
+        requires lines { AreLines (form_for neutral.now.format) neutral.now lines.now }
+        ensures { IfOk result (λ numbers. IsNumbered (form_for neutral.now.format) neutral.now numbers) }
     {
         let mut numbers = Numbers::new(alloc, neutral)?;
         for line in lines {
@@ -121,7 +121,7 @@ impl Numbers {
     /// The number of a target's symbol. Constant time.
     pub(crate) fn of_target(&self, target: Target) -> u32
         requires { HasNumber self.now target }
-        ensures { (w : Word) (n : Object) → IsNumbered w n self.now → result ≡ target_number (numbered_lines w n) target }
+        ensures { (w : CoffForm) (n : Object) → IsNumbered w n self.now → result ≡ target_number (numbered_lines w n) target }
     {
         match target {
             Target::Section(k) => self.sections[k as usize],
@@ -132,7 +132,7 @@ impl Numbers {
     /// The number of the symbol that stands for the fallback of the Weak at a position. Constant time.
     pub(crate) fn of_fallback(&self, symbol: u32, fallback: Fallback) -> u32
         requires { HasTag self.now symbol fallback }
-        ensures { (w : Word) (n : Object) → IsNumbered w n self.now → result ≡ tag_of (numbered_lines w n) symbol fallback }
+        ensures { (w : CoffForm) (n : Object) → IsNumbered w n self.now → result ≡ tag_of (numbered_lines w n) symbol fallback }
     {
         match fallback {
             Fallback::Place { .. } | Fallback::Zero => self.defaults[symbol as usize],

@@ -9,7 +9,7 @@ ghost use Rattle.oc_coff_write.specs.Plans.{IsPlan, parts_by, relocation_rows};
 use crate::entries::Entry;
 use crate::structures::pack_file_header;
 use crate::tables::{entries_window, headers_window, relocations_window, strings_window};
-use oc_coff_read::{FileHeader, Relocation, SectionHeader};
+use oc_coff_read::{FileHeader, Relocation, SectionHeader, Shape};
 use oc_neutral::{Emits, Section};
 use oc_plans::end_at;
 use oc_shelf::{Layout, Parts, copy_window, window_of};
@@ -23,6 +23,7 @@ mod tests;
 /// symbol table, and its string table. Contracts see the bytes of its parts, in their order.
 #[derive(Debug, Drop)]
 pub struct Plan {
+    shape: Shape,
     header: FileHeader,
     headers: Vec<SectionHeader>,
     /// With the numbers in their fields.
@@ -42,16 +43,17 @@ impl Model for Plan {
 
     ghost Value = { List (List ℕ) };
 
-    ghost view = { λ p. parts_by p.header (map section_header_bytes p.headers.items) (map (λ s. s.bytes) p.sections.items) (map (λ v. v.items) p.relocs.items) (map entry_bytes p.entries.items) p.names };
+    ghost view = { λ p. parts_by p.shape p.header (map section_header_bytes p.headers.items) (map (λ s. s.bytes) p.sections.items) (map (λ v. v.items) p.relocs.items) (map (entry_bytes p.shape) p.entries.items) p.names };
 
-    ghost invariant = { λ p. IsPlan
-        (parts_by p.header (map section_header_bytes p.headers.items) (map (λ s. s.bytes) p.sections.items) (map (λ v. v.items) p.relocs.items) (map entry_bytes p.entries.items) p.names)
-        (map section_header_bytes p.headers.items) (map (λ s. s.bytes) p.sections.items) (map (λ v. v.items) p.relocs.items) (map entry_bytes p.entries.items) p.layout.places.items p.layout.end };
+    ghost invariant = { λ p. IsPlan p.shape
+        (parts_by p.shape p.header (map section_header_bytes p.headers.items) (map (λ s. s.bytes) p.sections.items) (map (λ v. v.items) p.relocs.items) (map (entry_bytes p.shape) p.entries.items) p.names)
+        (map section_header_bytes p.headers.items) (map (λ s. s.bytes) p.sections.items) (map (λ v. v.items) p.relocs.items) (map (entry_bytes p.shape) p.entries.items) p.layout.places.items p.layout.end };
 }
 
 impl Plan {
     /// The plan of a file of these, where the layout is that of its parts. Constant time, no memory.
     pub(crate) fn new(
+        shape: Shape,
         header: FileHeader,
         headers: Vec<SectionHeader>,
         sections: Vec<Section>,
@@ -60,12 +62,13 @@ impl Plan {
         names: Table,
         layout: Layout,
     ) -> Plan
-        requires { IsPlan
-            (parts_by header (map section_header_bytes headers.items) (map (λ s. s.bytes) sections.items) (map (λ v. v.items) relocs.items) (map entry_bytes entries.items) names)
-            (map section_header_bytes headers.items) (map (λ s. s.bytes) sections.items) (map (λ v. v.items) relocs.items) (map entry_bytes entries.items) layout.places.items layout.end }
-        ensures { result ≡ parts_by header (map section_header_bytes headers.items) (map (λ s. s.bytes) sections.items) (map (λ v. v.items) relocs.items) (map entry_bytes entries.items) names }
+        requires { IsPlan shape
+            (parts_by shape header (map section_header_bytes headers.items) (map (λ s. s.bytes) sections.items) (map (λ v. v.items) relocs.items) (map (entry_bytes shape) entries.items) names)
+            (map section_header_bytes headers.items) (map (λ s. s.bytes) sections.items) (map (λ v. v.items) relocs.items) (map (entry_bytes shape) entries.items) layout.places.items layout.end }
+        ensures { result ≡ parts_by shape header (map section_header_bytes headers.items) (map (λ s. s.bytes) sections.items) (map (λ v. v.items) relocs.items) (map (entry_bytes shape) entries.items) names }
     {
         Plan {
+            shape,
             header,
             headers,
             sections,
@@ -113,7 +116,11 @@ impl Parts for Plan {
 
     fn part_window(&self, k: usize, from: u64, out: &mut [u8]) -> usize {
         if k == 0 {
-            return copy_window(pack_file_header(&self.header).as_slice(), from, out);
+            return copy_window(
+                pack_file_header(self.shape, &self.header).as_slice(),
+                from,
+                out,
+            );
         }
         if k == 1 {
             return headers_window(&self.headers, from, out);
@@ -122,7 +129,7 @@ impl Parts for Plan {
         let section = part / 2;
         if section == self.sections.len() {
             if part % 2 == 0 {
-                return entries_window(&self.entries, from, out);
+                return entries_window(self.shape, &self.entries, from, out);
             }
             return strings_window(&self.names, from, out);
         }

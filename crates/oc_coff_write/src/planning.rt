@@ -2,12 +2,12 @@
 ghost use Rattle.std.specs.Prelude.{◌≡◌, IfOk, map};
 ghost use Rattle.oc_neutral.specs.Fitted.{IsFitted};
 ghost use Rattle.oc_coff_read.specs.Canonical as canonical;
-ghost use Rattle.oc_coff_read.specs.Fields.{coff_format};
+ghost use Rattle.oc_coff_read.specs.Forms.{format_of};
 ghost use Rattle.oc_coff_read.specs.Layout.{parts_of};
 ghost use Rattle.oc_coff_read.specs.Lines.{entry_count};
 ghost use Rattle.oc_coff_write.specs.Bodies.{raws_in, relocations_in};
+ghost use Rattle.oc_plans.specs.Joined.{file_by};
 ghost use Rattle.oc_coff_write.specs.LaidParts.{AreLaid};
-ghost use Rattle.oc_coff_write.specs.Plans.{coff_parts};
 ghost use Rattle.oc_coff_write.specs.Strings.{table_for};
 
 use crate::headers::{file_header_of, headers_of};
@@ -16,8 +16,8 @@ use crate::plan::Plan;
 use crate::raw::Addends;
 use crate::relocations::all_relocations;
 use crate::symbols::symbols_of;
-use oc_base::{NoMemory, Word};
-use oc_coff_read::{Relocation, SectionHeader};
+use oc_base::NoMemory;
+use oc_coff_read::{CoffForm, Relocation, SectionHeader, shape_of};
 use oc_neutral::{Fitted, Neutral, Section};
 use oc_plans::with_numbers;
 use oc_shelf::Layout;
@@ -25,51 +25,53 @@ use oc_strings::Table;
 use std::alloc::Global;
 
 // the sections of an object, with the numbers in their fields
-fn sections_of(word: Word, neutral: Neutral) -> Vec<Section>
-    ensures { map (λ s. s.bytes) result.items ≡ raws_in word neutral }
+fn sections_of(form: CoffForm, neutral: Neutral) -> Vec<Section>
+    ensures { map (λ s. s.bytes) result.items ≡ raws_in form neutral }
 {
     neutral.is_object();
     let (_groups, sections, _symbols, relocs) = neutral.into_parts();
-    with_numbers(&Addends { word }, &relocs, sections)
+    with_numbers(&Addends { form }, &relocs, sections)
 }
 
 // the places of the parts and the headers of the sections
 fn laid_of(
     alloc: Global,
-    word: Word,
+    form: CoffForm,
     neutral: &Neutral,
     relocs: &[Vec<Relocation>],
     entries: usize,
     names: &Table,
 ) -> Result<(Layout, Vec<SectionHeader>), NoMemory>
-    requires fitted { IsFitted (coff_format word) neutral.now }
-    requires relocs { map (λ v. v.items) relocs.now ≡ relocations_in word neutral.now }
-    requires entries { entries ≡ entry_count word neutral.now }
-    requires names { names.now ≡ table_for word neutral.now }
-    ensures layout { IfOk result (λ made. AreLaid word neutral.now made.0.places.items made.0.end (parts_of neutral.now)) }
-    ensures headers { IfOk result (λ made. made.1.items ≡ canonical.headers_of word neutral.now) }
+    requires fitted { IsFitted (format_of form) neutral.now }
+    requires relocs { map (λ v. v.items) relocs.now ≡ relocations_in form neutral.now }
+    requires entries { entries ≡ entry_count form neutral.now }
+    requires names { names.now ≡ table_for form neutral.now }
+    ensures layout { IfOk result (λ made. AreLaid form neutral.now made.0.places.items made.0.end (parts_of neutral.now)) }
+    ensures headers { IfOk result (λ made. made.1.items ≡ canonical.headers_of form neutral.now) }
 {
-    let layout = layout_of(alloc, word, neutral, relocs, entries, names)?;
-    let headers = headers_of(alloc, word, neutral, names, relocs, &layout.places)?;
+    let layout = layout_of(alloc, form, neutral, relocs, entries, names)?;
+    let headers = headers_of(alloc, form, neutral, names, relocs, &layout.places)?;
     Ok((layout, headers))
 }
 
-/// The plan of the canonical COFF file of an object that is ready to be written. `NoMemory` where memory
-/// ran out. Linear in the object, but for looking up names in the string table; what the plan does not
-/// need of the object is given back.
-pub(crate) fn plan_object(alloc: Global, word: Word, fitted: Fitted) -> Result<Plan, NoMemory>
-    requires { fitted.format ≡ coff_format word }
-    ensures { IfOk result (λ plan. plan ≡ coff_parts word fitted) }
+/// The plan of the canonical file, in a form of COFF, of an object that is ready to be written in it
+/// (PE/COFF; for many sections the structures of winnt.h, "ANON_OBJECT_HEADER_BIGOBJ", "IMAGE_SYMBOL_EX" and
+/// "IMAGE_AUX_SYMBOL_EX"). `NoMemory` where memory ran out. Linear in the object, but for looking up names
+/// in the string table; what the plan does not need of the object is given back.
+pub fn plan_object(alloc: Global, form: CoffForm, fitted: Fitted) -> Result<Plan, NoMemory>
+    requires { fitted.format ≡ format_of form }
+    ensures { IfOk result (λ plan. file_by plan ≡ canonical.coff_file form fitted) }
 {
     fitted.is_fitted();
     let neutral = fitted.neutral();
-    let made = symbols_of(alloc, word, neutral)?;
+    let made = symbols_of(alloc, form, neutral)?;
     let entries = made.entries.len();
-    let relocs = all_relocations(alloc, word, neutral, &made.numbers)?;
-    let (layout, headers) = laid_of(alloc, word, neutral, &relocs, entries, &made.names)?;
-    let header = file_header_of(word, neutral, &layout.places, entries);
-    let sections = sections_of(word, fitted.into_neutral());
+    let relocs = all_relocations(alloc, form, neutral, &made.numbers)?;
+    let (layout, headers) = laid_of(alloc, form, neutral, &relocs, entries, &made.names)?;
+    let header = file_header_of(form, neutral, &layout.places, entries);
+    let sections = sections_of(form, fitted.into_neutral());
     Ok(Plan::new(
+        shape_of(form),
         header,
         headers,
         sections,

@@ -1,6 +1,6 @@
 //! The string table (PE/COFF, "COFF String Table"; our profile).
 ghost use Rattle.std.specs.Prelude.{◌≡◌, ◌++◌, [], ◌∷◌, if◌then◌else◌, filter, map, Some, IsSome, IfOk, OnOk};
-ghost use Rattle.oc_base.specs.Formats.{word_for};
+ghost use Rattle.oc_coff_write.specs.FormFor.{form_for};
 ghost use Rattle.oc_neutral.specs.Coff.Strings as strings;
 ghost use Rattle.oc_neutral.specs.declared.section.Section.{Section as Held};
 ghost use Rattle.oc_neutral.specs.Families.{container_of};
@@ -80,8 +80,8 @@ fn give_sections(
 
 // the names that are given for the section headers and these lines
 fn given_names(alloc: Global, neutral: &Neutral, lines: &[Line]) -> Result<Vec<Bytes>, NoMemory>
-    requires { AreLines (word_for neutral.now.format) neutral.now lines.now }
-    ensures { IfOk result (λ given. given.items ≡ table_names (word_for neutral.now.format) neutral.now) }
+    requires { AreLines (form_for neutral.now.format) neutral.now lines.now }
+    ensures { IfOk result (λ given. given.items ≡ table_names (form_for neutral.now.format) neutral.now) }
 {
     let mut given = Vec::new(alloc);
     give_sections(alloc, &mut given, neutral.sections())?;
@@ -96,8 +96,8 @@ fn given_names(alloc: Global, neutral: &Neutral, lines: &[Line]) -> Result<Vec<B
 pub(crate) fn table_of(alloc: Global, neutral: &Neutral, lines: &[Line]) -> Result<Table, NoMemory>
     requires coff { container_of neutral.now.format ≡ IsCoff }
     requires fitted { IsFitted neutral.now.format neutral.now }
-    requires lines { AreLines (word_for neutral.now.format) neutral.now lines.now }
-    ensures { IfOk result (λ table. table ≡ table_for (word_for neutral.now.format) neutral.now) }
+    requires lines { AreLines (form_for neutral.now.format) neutral.now lines.now }
+    ensures { IfOk result (λ table. table ≡ table_for (form_for neutral.now.format) neutral.now) }
 {
     let given = given_names(alloc, neutral, lines)?;
     Table::of(alloc, STRINGS_HEAD as u32, &given)

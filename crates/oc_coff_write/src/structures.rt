@@ -1,7 +1,10 @@
 //! COFF structures as bytes.
-ghost use Rattle.std.specs.Prelude.{◌≡◌, ◌+◌, ◌≤◌, ◌++◌, length};
+ghost use Rattle.std.specs.Prelude.{◌≡◌, ◌+◌, ◌%◌, ◌≤◌, ◌++◌, length};
+ghost use Rattle.oc_coff_read.specs.declared.form.Shape.TheVariants.{Usual, Big};
 ghost use Rattle.oc_base.specs.Numbers.{bytes_of_number};
-ghost use Rattle.oc_coff_read.specs.FileHeader.{file_header_bytes};
+ghost use Rattle.oc_coff_read.specs.FileHeader.{class_id, file_header_bytes};
+ghost use Rattle.oc_coff_read.specs.declared.section_aux.TheConstants.{HIGH_NUMBER as HIGH};
+ghost use Rattle.oc_shelf.specs.Writing.Packed.{packed};
 ghost use Rattle.oc_coff_read.specs.Relocation.{relocation_bytes};
 ghost use Rattle.oc_coff_read.specs.SectionAux.{section_aux_bytes};
 ghost use Rattle.oc_coff_read.specs.SectionHeader.{section_header_bytes};
@@ -9,23 +12,86 @@ ghost use Rattle.oc_coff_read.specs.SymbolEntry.{symbol_bytes};
 ghost use Rattle.oc_coff_read.specs.WeakAux.{weak_aux_bytes};
 ghost use Rattle.oc_shelf.specs.declared.writing.rows.TheConstants.{ROW};
 
-use oc_coff_read::{FileHeader, Relocation, SectionAux, SectionHeader, SymbolEntry, WeakAux};
+use oc_coff_read::{
+    BIG_SIGNATURE, FileHeader, HIGH_NUMBER, IMAGE_FILE_MACHINE_UNKNOWN, Relocation, SectionAux,
+    SectionHeader, Shape, SymbolEntry, WeakAux,
+};
 use oc_shelf::Packed;
 
-/// A file header.
+/// The ClassID of an object of many sections (winnt.h, "ANON_OBJECT_HEADER_BIGOBJ").
+const CLASS_ID: [u8; 16] = [
+    0xC7, 0xA1, 0xBA, 0xD1, 0xEE, 0xBA, 0xA9, 0x4B, 0xAF, 0x20, 0xFA, 0xF6, 0x6A, 0xA4, 0xDC, 0xB8,
+];
+
+// puts the low 16 bits of a number, which are all of a number below 2^16
+#[tactic(auto, using(crate::proofs::StructureLemmas::low_bytes))]
+fn put_low(out: &mut Packed, number: u32)
+    requires room { length out.old + 2 ≤ ROW }
+    ensures low { out.new ≡ out.old ++ bytes_of_number 2 (number % HIGH) }
+    ensures whole { out.new ≡ out.old ++ bytes_of_number 2 number }
+    ensures long { length out.new ≡ length out.old + 2 }
+{
+    out.put_u16((number % HIGH_NUMBER) as u16);
+}
+
+// puts that class
+#[tactic(auto, unfolding(oc_base::specs::Numbers::bytes_of_number))]
+fn put_class_id(out: &mut Packed)
+    requires { length out.old + 16 ≤ ROW }
+    ensures bytes { out.new ≡ out.old ++ packed class_id }
+    ensures long { length out.new ≡ length out.old + 16 }
+{
+    out.put(&CLASS_ID);
+}
+
+// the usual file header
 #[tactic(auto, unfolding(oc_coff_read::specs::FileHeader::file_header_bytes))]
-pub fn pack_file_header(header: &FileHeader) -> Packed
-    ensures { result ≡ file_header_bytes header.now }
+fn pack_usual_header(header: &FileHeader) -> Packed
+    ensures { result ≡ file_header_bytes Usual header.now }
 {
     let mut out = Packed::new();
     out.put_u16(header.Machine);
-    out.put_u16(header.NumberOfSections);
+    put_low(&mut out, header.NumberOfSections);
     out.put_u32(header.TimeDateStamp);
     out.put_u32(header.PointerToSymbolTable);
     out.put_u32(header.NumberOfSymbols);
     out.put_u16(header.SizeOfOptionalHeader);
     out.put_u16(header.Characteristics);
     out
+}
+
+// that of an object of many sections
+#[tactic(auto, unfolding(oc_coff_read::specs::FileHeader::file_header_bytes))]
+fn pack_big_header(header: &FileHeader) -> Packed
+    ensures { result ≡ file_header_bytes Big header.now }
+{
+    let mut out = Packed::new();
+    out.put_u16(IMAGE_FILE_MACHINE_UNKNOWN);
+    out.put_u16(BIG_SIGNATURE);
+    out.put_u16(header.Version);
+    out.put_u16(header.Machine);
+    out.put_u32(header.TimeDateStamp);
+    put_class_id(&mut out);
+    // SizeOfData, Flags, MetaDataSize and MetaDataOffset
+    out.put_u32(0);
+    out.put_u32(0);
+    out.put_u32(0);
+    out.put_u32(0);
+    out.put_u32(header.NumberOfSections);
+    out.put_u32(header.PointerToSymbolTable);
+    out.put_u32(header.NumberOfSymbols);
+    out
+}
+
+/// A file header.
+#[tactic(auto, unfolding(oc_coff_read::specs::FileHeader::file_header_bytes))]
+pub fn pack_file_header(shape: Shape, header: &FileHeader) -> Packed
+    ensures { result ≡ file_header_bytes shape header.now }
+{
+    match shape {
+        Shape::Usual => pack_usual_header(header),
+        Shape::Big => pack_big_header(header),
+    }
 }
 
 /// A section header.
@@ -61,13 +127,16 @@ pub fn pack_relocation(relocation: Relocation) -> Packed
 
 /// A symbol table entry.
 #[tactic(auto, unfolding(oc_coff_read::specs::SymbolEntry::symbol_bytes))]
-pub fn pack_symbol(symbol: &SymbolEntry) -> Packed
-    ensures { result ≡ symbol_bytes symbol.now }
+pub fn pack_symbol(shape: Shape, symbol: &SymbolEntry) -> Packed
+    ensures { result ≡ symbol_bytes shape symbol.now }
 {
     let mut out = Packed::new();
     out.put(&symbol.Name);
     out.put_u32(symbol.Value);
-    out.put_u16(symbol.SectionNumber);
+    match shape {
+        Shape::Usual => put_low(&mut out, symbol.SectionNumber),
+        Shape::Big => out.put_u32(symbol.SectionNumber),
+    }
     out.put_u16(symbol.Type);
     out.put_u8(symbol.StorageClass);
     out.put_u8(symbol.NumberOfAuxSymbols);
@@ -83,20 +152,48 @@ fn put_three(out: &mut Packed)
     out.put(&[0; 3]);
 }
 
-/// The auxiliary entry of a section's own symbol.
+// that entry in a file of few sections
 #[tactic(auto, unfolding(oc_coff_read::specs::SectionAux::section_aux_bytes))]
-pub fn pack_section_aux(aux: &SectionAux) -> Packed
-    ensures { result ≡ section_aux_bytes aux.now }
+fn pack_usual_aux(aux: &SectionAux) -> Packed
+    ensures { result ≡ section_aux_bytes Usual aux.now }
 {
     let mut out = Packed::new();
     out.put_u32(aux.Length);
     out.put_u16(aux.NumberOfRelocations);
     out.put_u16(aux.NumberOfLinenumbers);
     out.put_u32(aux.CheckSum);
-    out.put_u16(aux.Number);
+    put_low(&mut out, aux.Number);
     out.put_u8(aux.Selection);
     put_three(&mut out);
     out
+}
+
+// and of many
+#[tactic(auto, unfolding(oc_coff_read::specs::SectionAux::section_aux_bytes))]
+fn pack_big_aux(aux: &SectionAux) -> Packed
+    ensures { result ≡ section_aux_bytes Big aux.now }
+{
+    let mut out = Packed::new();
+    out.put_u32(aux.Length);
+    out.put_u16(aux.NumberOfRelocations);
+    out.put_u16(aux.NumberOfLinenumbers);
+    out.put_u32(aux.CheckSum);
+    put_low(&mut out, aux.Number);
+    out.put_u8(aux.Selection);
+    out.put_u8(0);
+    out.put_u16((aux.Number / HIGH_NUMBER) as u16);
+    out.put_u16(0);
+    out
+}
+
+/// The auxiliary entry of a section's own symbol.
+pub fn pack_section_aux(shape: Shape, aux: &SectionAux) -> Packed
+    ensures { result ≡ section_aux_bytes shape aux.now }
+{
+    match shape {
+        Shape::Usual => pack_usual_aux(aux),
+        Shape::Big => pack_big_aux(aux),
+    }
 }
 
 // puts the ten unused bytes of a weak external's auxiliary entry
@@ -108,14 +205,26 @@ fn put_ten(out: &mut Packed)
     out.put(&[0; 10]);
 }
 
+// and the twelve in an object of many sections
+#[tactic(auto, unfolding(oc_base::specs::Numbers::bytes_of_number))]
+fn put_twelve(out: &mut Packed)
+    requires { length out.old + 12 ≤ ROW }
+    ensures { out.new ≡ out.old ++ bytes_of_number 12 0 }
+{
+    out.put(&[0; 12]);
+}
+
 /// The auxiliary entry of a weak external.
 #[tactic(auto, unfolding(oc_coff_read::specs::WeakAux::weak_aux_bytes))]
-pub fn pack_weak_aux(aux: &WeakAux) -> Packed
-    ensures { result ≡ weak_aux_bytes aux.now }
+pub fn pack_weak_aux(shape: Shape, aux: &WeakAux) -> Packed
+    ensures { result ≡ weak_aux_bytes shape aux.now }
 {
     let mut out = Packed::new();
     out.put_u32(aux.TagIndex);
     out.put_u32(aux.Characteristics);
-    put_ten(&mut out);
+    match shape {
+        Shape::Usual => put_ten(&mut out),
+        Shape::Big => put_twelve(&mut out),
+    }
     out
 }

@@ -1,12 +1,12 @@
 //! The symbol table and the string table of an object (PE/COFF, "COFF Symbol Table" and "COFF String
 //! Table"; our profile).
 ghost use Rattle.std.specs.Prelude.{◌≡◌, IfOk, length, map};
-ghost use Rattle.oc_base.specs.Formats.{word_for};
+ghost use Rattle.oc_coff_write.specs.FormFor.{form_for};
 ghost use Rattle.oc_neutral.specs.Families.{container_of};
 ghost use Rattle.oc_neutral.specs.Family.{IsCoff};
 ghost use Rattle.oc_neutral.specs.Fitted.{IsFitted};
 ghost use Rattle.oc_coff_read.specs.Canonical.{entry_rows};
-ghost use Rattle.oc_coff_read.specs.Fields.{coff_format};
+ghost use Rattle.oc_coff_read.specs.Forms.{format_of, shape_of};
 ghost use Rattle.oc_coff_read.specs.Lines.{entry_count};
 ghost use Rattle.oc_coff_write.specs.Entries.{entry_bytes};
 ghost use Rattle.oc_coff_write.specs.Keys.{AreKeys};
@@ -19,7 +19,8 @@ use crate::keys::{keys_of, leaders_of};
 use crate::lines::{Line, lines_of};
 use crate::numbers::Numbers;
 use crate::strings::table_of;
-use oc_base::{NoMemory, Word};
+use oc_base::NoMemory;
+use oc_coff_read::CoffForm;
 use oc_neutral::Neutral;
 use oc_strings::Table;
 use std::alloc::Global;
@@ -46,11 +47,11 @@ fn numbered_entries(
     requires coff { container_of neutral.now.format ≡ IsCoff }
     requires fitted { IsFitted neutral.now.format neutral.now }
     requires keys { AreKeys neutral.now keys.now }
-    requires names { names.now ≡ table_for (word_for neutral.now.format) neutral.now }
-    requires lines { AreLines (word_for neutral.now.format) neutral.now lines.now }
-    ensures numbers { IfOk result (λ made. IsNumbered (word_for neutral.now.format) neutral.now made.0) }
-    ensures rows { IfOk result (λ made. map entry_bytes made.1.items ≡ entry_rows (word_for neutral.now.format) neutral.now) }
-    ensures count { IfOk result (λ made. length made.1.items ≡ entry_count (word_for neutral.now.format) neutral.now) }
+    requires names { names.now ≡ table_for (form_for neutral.now.format) neutral.now }
+    requires lines { AreLines (form_for neutral.now.format) neutral.now lines.now }
+    ensures numbers { IfOk result (λ made. IsNumbered (form_for neutral.now.format) neutral.now made.0) }
+    ensures rows { IfOk result (λ made. map (entry_bytes (shape_of (form_for neutral.now.format))) made.1.items ≡ entry_rows (form_for neutral.now.format) neutral.now) }
+    ensures count { IfOk result (λ made. length made.1.items ≡ entry_count (form_for neutral.now.format) neutral.now) }
 {
     let leaders = leaders_of(alloc, neutral)?;
     let numbers = Numbers::of(alloc, neutral, lines)?;
@@ -66,15 +67,19 @@ fn numbered_entries(
 
 /// The symbol table of an object that is ready for COFF. `NoMemory` where memory ran out. Linear in the
 /// object, but for the string table and the look-ups in it.
-pub(crate) fn symbols_of(alloc: Global, word: Word, neutral: &Neutral) -> Result<Symbols, NoMemory>
-    requires { IsFitted (coff_format word) neutral.now }
-    ensures names { IfOk result (λ made. made.names ≡ table_for word neutral.now) }
-    ensures numbers { IfOk result (λ made. IsNumbered word neutral.now made.numbers) }
-    ensures rows { IfOk result (λ made. map entry_bytes made.entries.items ≡ entry_rows word neutral.now) }
-    ensures count { IfOk result (λ made. length made.entries.items ≡ entry_count word neutral.now) }
+pub(crate) fn symbols_of(
+    alloc: Global,
+    form: CoffForm,
+    neutral: &Neutral,
+) -> Result<Symbols, NoMemory>
+    requires { IsFitted (format_of form) neutral.now }
+    ensures names { IfOk result (λ made. made.names ≡ table_for form neutral.now) }
+    ensures numbers { IfOk result (λ made. IsNumbered form neutral.now made.numbers) }
+    ensures rows { IfOk result (λ made. map (entry_bytes (shape_of form)) made.entries.items ≡ entry_rows form neutral.now) }
+    ensures count { IfOk result (λ made. length made.entries.items ≡ entry_count form neutral.now) }
 {
     let keys = keys_of(alloc, neutral)?;
-    let lines = lines_of(alloc, word, neutral, &keys)?;
+    let lines = lines_of(alloc, form, neutral, &keys)?;
     let names = table_of(alloc, neutral, &lines)?;
     let (numbers, entries) = numbered_entries(alloc, neutral, &keys, &names, &lines)?;
     Ok(Symbols {

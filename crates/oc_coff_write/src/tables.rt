@@ -6,7 +6,7 @@ ghost use Rattle.oc_outside.specs.Windows.{IsFilled};
 ghost use Rattle.oc_shelf.specs.Writing.Parts.{table_of, HaveSize};
 ghost use Rattle.oc_neutral.specs.declared.coff.TheConstants.{STRINGS_HEAD as HEAD};
 ghost use Rattle.oc_coff_read.specs.declared.section_header.TheConstants.{SECTION_HEADER_SIZE as HEADER};
-ghost use Rattle.oc_coff_read.specs.declared.symbol.TheConstants.{SYMBOL_SIZE as SYMBOL};
+ghost use Rattle.oc_coff_read.specs.Forms as forms;
 ghost use Rattle.oc_coff_read.specs.SectionHeader.{section_header_bytes};
 ghost use Rattle.oc_coff_read.specs.Bodies as bodies;
 ghost use Rattle.oc_coff_write.specs.Entries.{entry_bytes};
@@ -16,7 +16,8 @@ use crate::counts::{count_entry, entry_count, is_crowded};
 use crate::entries::{Entry, pack_entry};
 use crate::structures::{pack_relocation, pack_section_header};
 use oc_coff_read::{
-    RELOCATION_SIZE, Relocation, SECTION_HEADER_SIZE, STRINGS_HEAD, SYMBOL_SIZE, SectionHeader,
+    RELOCATION_SIZE, Relocation, SECTION_HEADER_SIZE, STRINGS_HEAD, SectionHeader, Shape,
+    symbol_size,
 };
 use oc_shelf::{WritesRows, copy_window, rows_window};
 use oc_strings::Table;
@@ -78,7 +79,7 @@ pub(crate) fn headers_window(headers: &[SectionHeader], from: u64, out: &mut [u8
 
 // entry `k`
 fn entry(entries: &[Entry], k: usize) -> &Entry
-    requires { k < length (map entry_bytes entries.now) }
+    requires { k < length entries.now }
     ensures { slice_get entries.now k ≡ Some result.now }
 {
     &entries[k]
@@ -87,20 +88,21 @@ fn entry(entries: &[Entry], k: usize) -> &Entry
 /// The entries of the symbol table. Contracts see the bytes of each.
 #[derive(Drop)]
 struct EntryRows<'a> {
+    shape: Shape,
     entries: &'a [Entry],
 }
 
 impl<'a> Model for EntryRows<'a> {
     ghost use Rattle.std.specs.Prelude.{ℕ, List, map};
     ghost use Rattle.oc_shelf.specs.Writing.Parts.{HaveSize};
-    ghost use Rattle.oc_coff_read.specs.declared.symbol.TheConstants.{SYMBOL_SIZE};
+    ghost use Rattle.oc_coff_read.specs.Forms.{symbol_size};
     ghost use Rattle.oc_coff_write.specs.Entries.{entry_bytes};
 
     ghost Value = { List (List ℕ) };
 
-    ghost view = { λ t. map entry_bytes t.entries.now };
+    ghost view = { λ t. map (entry_bytes t.shape) t.entries.now };
 
-    ghost invariant = { λ t. HaveSize SYMBOL_SIZE (map entry_bytes t.entries.now) };
+    ghost invariant = { λ t. HaveSize (symbol_size t.shape) (map (entry_bytes t.shape) t.entries.now) };
 }
 
 impl WritesRows for EntryRows<'_> {
@@ -111,23 +113,22 @@ impl WritesRows for EntryRows<'_> {
     }
 
     fn size(&self) -> usize {
-        let _ = &self.entries;
-        SYMBOL_SIZE
+        symbol_size(self.shape)
     }
 
     fn put_row(&self, k: usize, out: &mut [u8]) {
-        out.copy_from_slice(pack_entry(entry(self.entries, k)).as_slice());
+        out.copy_from_slice(pack_entry(self.shape, entry(self.entries, k)).as_slice());
     }
 }
 
 /// A window of the symbol table, as `copy_window` gives it. The time is that of the entries that meet
 /// the window.
-pub(crate) fn entries_window(entries: &[Entry], from: u64, out: &mut [u8]) -> usize
-    requires sized { HaveSize SYMBOL (map entry_bytes entries.now) }
-    requires small { length (table_of (map entry_bytes entries.now)) < 2 ^ 32 }
-    ensures { IsFilled (table_of (map entry_bytes entries.now)) from out.old out.new result }
+pub(crate) fn entries_window(shape: Shape, entries: &[Entry], from: u64, out: &mut [u8]) -> usize
+    requires sized { HaveSize (forms.symbol_size shape) (map (entry_bytes shape) entries.now) }
+    requires small { length (table_of (map (entry_bytes shape) entries.now)) < 2 ^ 32 }
+    ensures { IsFilled (table_of (map (entry_bytes shape) entries.now)) from out.old out.new result }
 {
-    rows_window(&EntryRows { entries }, from, out)
+    rows_window(&EntryRows { shape, entries }, from, out)
 }
 
 // relocation entry `k` of a section with these relocations

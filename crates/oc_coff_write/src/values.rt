@@ -16,7 +16,7 @@ pub(crate) struct Numbers {
     /// An offset in the section, a size or a number.
     pub(crate) value: u32,
     /// The number of the section, from 1, or one of the constants `IMAGE_SYM_*`.
-    pub(crate) section: u16,
+    pub(crate) section: u32,
 }
 
 /// Nothing, in no section.
@@ -27,12 +27,12 @@ const UNDEFINED: Numbers = Numbers {
 
 // a place in a section
 fn at_place(section: u32, offset: u32) -> Numbers
-    requires { section + 1 < 2 ^ 16 }
+    requires { section + 1 < 2 ^ 32 }
     ensures { AreNumbers result (offset, section + 1) }
 {
     Numbers {
         value: offset,
-        section: (section + 1) as u16,
+        section: section + 1,
     }
 }
 

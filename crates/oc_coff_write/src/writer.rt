@@ -1,13 +1,14 @@
-//! The writers of COFF.
+//! The writers of the two forms of COFF for few sections.
 ghost use Rattle.std.specs.Prelude.{◌≡◌};
-ghost use Rattle.oc_base.specs.declared.format.Word.TheVariants.{W32, W64};
+ghost use Rattle.oc_coff_read.specs.declared.form.CoffForm.TheVariants.{Usual32, Usual64};
 ghost use Rattle.oc_coff_read.specs.Canonical.{coff_file};
 ghost use Rattle.oc_coff_read.specs.Rules.{coff_dialect};
 ghost use Rattle.oc_coff_write.specs.Writing.{writes_coff};
 
 use crate::plan::Plan;
 use crate::planning::plan_object;
-use oc_base::{NoMemory, Word};
+use oc_base::NoMemory;
+use oc_coff_read::CoffForm;
 use oc_neutral::{Fitted, Writes};
 use std::alloc::Global;
 
@@ -22,29 +23,29 @@ pub struct CoffWriter64;
 impl Writes for CoffWriter32 {
     type Plan = Plan;
 
-    ghost dialect = { coff_dialect W32 };
+    ghost dialect = { coff_dialect Usual32 };
 
-    ghost canonical = { coff_file W32 };
+    ghost canonical = { coff_file Usual32 };
 
     fn plan(&self, alloc: Global, fitted: Fitted) -> Result<Plan, NoMemory> {
-        let plan = plan_object(alloc, Word::W32, fitted)?;
+        let plan = plan_object(alloc, CoffForm::Usual32, fitted)?;
         Ok(plan)
     }
 
-    ghost law = { writes_coff W32 };
+    ghost law = { writes_coff Usual32 };
 }
 
 impl Writes for CoffWriter64 {
     type Plan = Plan;
 
-    ghost dialect = { coff_dialect W64 };
+    ghost dialect = { coff_dialect Usual64 };
 
-    ghost canonical = { coff_file W64 };
+    ghost canonical = { coff_file Usual64 };
 
     fn plan(&self, alloc: Global, fitted: Fitted) -> Result<Plan, NoMemory> {
-        let plan = plan_object(alloc, Word::W64, fitted)?;
+        let plan = plan_object(alloc, CoffForm::Usual64, fitted)?;
         Ok(plan)
     }
 
-    ghost law = { writes_coff W64 };
+    ghost law = { writes_coff Usual64 };
 }

@@ -20,6 +20,7 @@ fn a_plan_does_not_keep_the_file(rt: HostRuntime) -> Result<(), Fail> {
         object_of_data(rt.alloc(), Format::Coff64, SIZE)?,
     )?;
     let Plan {
+        shape: _,
         header: _,
         headers,
         sections,

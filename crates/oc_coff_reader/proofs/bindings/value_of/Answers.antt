@@ -1,16 +1,15 @@
 -- A symbol with a section lies where that stands among the carried ones.
-use Rattle.std.proofs.Common.{ℕ, ◌∙◌, None, sym, ap}
-use Rattle.std.specs.Prelude.{slice_index_or}
-use Rattle.oc_coff_read.specs.Tables.{tables_of}
+use Rattle.oc_coff_reader.specs.Files.{tables_in}
+use Rattle.std.proofs.Common.{◌∙◌, sym}
 use Rattle.oc_coff_reader.proofs.PlacedLemmas.{position_anywhere, value_none, value_some}
 use Rattle.oc_coff_reader.proofs.bindings.value_of.Goals as goal
 
 pub returns-in-Some : goal.returns-in-Some
 returns-in-Some c =
-    value_some (tables_of c.args.coff.now) c.args.s.now c.if-s.false c.in-Some.section
-    (sym (position_anywhere (tables_of c.args.coff.now) c.args.positions.now c.requires c.args.s.now.SectionNumber) ∙ ap (λ (n : ℕ). slice_index_or c.args.positions.now n None) (sym c.into-2.ensures) ∙ sym c.get.ensures ∙ c.in-Some.is)
+    value_some (tables_in c.args.coff.now) c.args.s.now c.if-s.false c.in-Some.section
+    (sym (position_anywhere (tables_in c.args.coff.now) c.args.positions.now c.requires c.args.s.now.SectionNumber) ∙ sym c.get.ensures ∙ c.in-Some.is)
 
 pub returns-in-None : goal.returns-in-None
 returns-in-None c =
-    value_none (tables_of c.args.coff.now) c.args.s.now c.if-s.false
-    (sym (position_anywhere (tables_of c.args.coff.now) c.args.positions.now c.requires c.args.s.now.SectionNumber) ∙ ap (λ (n : ℕ). slice_index_or c.args.positions.now n None) (sym c.into-2.ensures) ∙ sym c.get.ensures ∙ c.in-None.is)
+    value_none (tables_in c.args.coff.now) c.args.s.now c.if-s.false
+    (sym (position_anywhere (tables_in c.args.coff.now) c.args.positions.now c.requires c.args.s.now.SectionNumber) ∙ sym c.get.ensures ∙ c.in-None.is)

@@ -1,5 +1,6 @@
 -- The fault of a file is that of its header, or of the rest, and what is read without one shows the file.
-use Rattle.std.proofs.Common.{ℕ, List, Option, ◌∙◌, sym, ap, subst}
+use Rattle.oc_coff_reader.specs.Files.{CoffFile}
+use Rattle.std.proofs.Common.{Option, ◌∙◌, sym, ap, subst}
 use Rattle.oc_base.specs.declared.fault.Fault.{Fault}
 use Rattle.oc_linking.specs.FirstFault.{first_fault}
 use Rattle.oc_shelf.specs.Reading.Stops.{IsStop}
@@ -8,14 +9,14 @@ use Rattle.oc_coff_reader.proofs.JudgedFiles.{header_clean, header_stops}
 use Rattle.oc_coff_reader.proofs.reader.read_file.Goals as goal
 
 pub returns-in-Err-clause-stop : goal.returns-in-Err-clause-stop
-returns-in-Err-clause-stop c = header_stops c.args.word c.args.file.now c.args.keep.now c.in-Err.fault c.in-Err.ensures.fault
+returns-in-Err-clause-stop c = header_stops c.args.word (record { shape = c.args.shape; bytes = c.args.file.now }) c.args.keep.now c.in-Err.fault c.in-Err.ensures.fault
 
 pub returns-in-Err-check_rest-clause-stop : goal.returns-in-Err-check_rest-clause-stop
 returns-in-Err-check_rest-clause-stop c =
     subst (λ (o : Option Fault). IsStop o c.in-Err-check_rest.stop)
-    (sym (header_clean c.args.word c.args.file.now c.args.keep.now c.in-Ok.ensures.clean ∙ ap (λ (f : List ℕ). first_fault (rest_stages c.args.word f c.args.keep.now)) (sym c.in-Ok.ensures.file)))
+    (sym (header_clean c.args.word (record { shape = c.args.shape; bytes = c.args.file.now }) c.args.keep.now c.in-Ok.ensures.clean ∙ ap (λ (f : CoffFile). first_fault (rest_stages c.args.word f c.args.keep.now)) (sym c.in-Ok.ensures.file)))
     c.in-Err-check_rest.ensures.stop
 
 pub returns-clause-clean : goal.returns-clause-clean
 returns-clause-clean c =
-    header_clean c.args.word c.args.file.now c.args.keep.now c.in-Ok.ensures.clean ∙ ap (λ (f : List ℕ). first_fault (rest_stages c.args.word f c.args.keep.now)) (sym c.in-Ok.ensures.file) ∙ c.in-Ok-check_rest.ensures.clean
+    header_clean c.args.word (record { shape = c.args.shape; bytes = c.args.file.now }) c.args.keep.now c.in-Ok.ensures.clean ∙ ap (λ (f : CoffFile). first_fault (rest_stages c.args.word f c.args.keep.now)) (sym c.in-Ok.ensures.file) ∙ c.in-Ok-check_rest.ensures.clean

@@ -1,5 +1,6 @@
 -- An entry that says something is judged by its own conditions, and then by the fields before.
-use Rattle.std.proofs.Common.{◌≡◌, ℕ, ◌+◌, ◌<◌, ◌∙◌, Bool, false, cond, List, None, Option, Some, refl, sym, ap, subst, arith}
+use Rattle.oc_coff_reader.specs.Files.{CoffFile}
+use Rattle.std.proofs.Common.{◌≡◌, ℕ, ◌+◌, ◌<◌, ◌∙◌, Bool, false, cond, None, Option, Some, refl, sym, ap, subst, arith}
 use Rattle.std.specs.Option.{option_map_or}
 use Rattle.oc_base.specs.declared.code.Code.TheVariants.{Overlap}
 use Rattle.oc_base.specs.declared.fault.Fault.{Fault}
@@ -48,7 +49,7 @@ take-requires-clause-some c =
     omega (arith, some, width)
 
 -- whether a field is met is whether it meets one of the entries before
-met : (w : Word) (file : List ℕ) (table : Table) (k begin width : ℕ) (r : Relocation) (b : Bool) → begin ≡ r.VirtualAddress → width ≡ width_of w r
+met : (w : Word) (file : CoffFile) (table : Table) (k begin width : ℕ) (r : Relocation) (b : Bool) → begin ≡ r.VirtualAddress → width ≡ width_of w r
     → b ≡ any_upto (λ j. option_map_or (meets (begin, begin + width)) (span_of w file table j) false) k → b ≡ meets_upto w file table k r
 met w file table k begin width r b begins wide e =
     e ∙ ap (λ (n : ℕ). any_upto (λ j. option_map_or (meets (n, n + width)) (span_of w file table j) false) k) begins

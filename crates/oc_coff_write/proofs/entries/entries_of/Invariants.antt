@@ -1,6 +1,7 @@
 use Rattle.std.proofs.Common.{◌≡◌, ◌+◌, ◌≤◌, ◌++◌, length, map}
+use Rattle.oc_coff_read.specs.Forms.{shape_of}
 use Rattle.std.specs.Prelude.{drop, flat_map}
-use Rattle.oc_base.specs.Formats.{word_for}
+use Rattle.oc_coff_write.specs.FormFor.{form_for}
 use Rattle.oc_coff_read.specs.Lines.{lines_of}
 use Rattle.oc_coff_read.specs.Canonical.{line_rows}
 use Rattle.oc_coff_write.specs.Entries.{entry_bytes}
@@ -10,6 +11,6 @@ use Rattle.oc_coff_write.proofs.entries.entries_of.Given as goal
 abbrev pub invariant-loop-line : goal.invariant-loop-line
 invariant-loop-line l = record {
   near : (l.passed.sections ≤ l.line-index) × (l.passed.names ≤ length l.neutral.sections + l.line-index);
-  rows : map entry_bytes l.entries.items ++ flat_map (line_rows (word_for l.neutral.format) l.neutral) (drop l.line-index (lines_of (word_for l.neutral.format) l.neutral))
-      ≡ flat_map (line_rows (word_for l.neutral.format) l.neutral) (lines_of (word_for l.neutral.format) l.neutral);
+  rows : map (entry_bytes (shape_of (form_for l.neutral.format))) l.entries.items ++ flat_map (line_rows (form_for l.neutral.format) l.neutral) (drop l.line-index (lines_of (form_for l.neutral.format) l.neutral))
+      ≡ flat_map (line_rows (form_for l.neutral.format) l.neutral) (lines_of (form_for l.neutral.format) l.neutral);
 }

@@ -1,13 +1,15 @@
 -- The entries begin where the file header says.
-use Rattle.std.proofs.Common.{ℕ, List, ap, arith}
+use Rattle.oc_coff_reader.specs.Files.{CoffFile, tables_in}
+use Rattle.std.proofs.Common.{◌+◌, ◌*◌, ◌∙◌, ap, arith}
+use Rattle.oc_coff_read.specs.Forms.{symbol_size}
 use Rattle.oc_coff_read.specs.declared.file_header.FileHeader.{FileHeader}
-use Rattle.oc_coff_read.specs.Tables.{tables_of}
 use Rattle.oc_coff_reader.proofs.HeadLemmas.{entries_begin}
 use Rattle.oc_coff_reader.proofs.frame.Coff.entry_place.Goals as goal
 
 pub returns : goal.returns
 returns c =
-    let begin = entries_begin c.self.inside.file.now in
-    let same = ap (λ (f : List ℕ). (tables_of f).entries_at) c.self.view_is in
+    let begin = entries_begin (record { shape = c.self.inside.shape; bytes = c.self.inside.file.now }) in
     let said = ap (λ (h : FileHeader). h.PointerToSymbolTable) c.self.invariant.1.0 in
-    omega (arith, begin, same, said, c.from.ensures, c.from-2.ensures)
+    let same = ap (λ (f : CoffFile). (tables_in f).entries_at + symbol_size f.shape * c.args.j) c.self.view_is in
+    let size = c.entries_size.ensures.size in
+    omega (arith, begin, said, c.from.ensures, size) ∙ same

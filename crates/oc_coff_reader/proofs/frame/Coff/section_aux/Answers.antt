@@ -1,19 +1,22 @@
 -- The entry lies in the file.
-use Rattle.std.proofs.Common.{ℕ, ◌+◌, ◌*◌, List, length, ◌∙◌, ap, subst, arith}
+use Rattle.std.proofs.Common.{◌+◌, ◌*◌, ◌<◌, length, sym, ◌∙◌, ap, subst, arith}
+use Rattle.oc_coff_read.specs.Forms.{symbol_size}
 use Rattle.oc_coff_read.specs.SectionAux.{section_aux_at}
-use Rattle.oc_coff_read.specs.Tables.{tables_of, slot_at}
-use Rattle.oc_coff_reader.specs.Head.{IsHeaded}
+use Rattle.oc_coff_read.specs.Tables.{slot_at}
+use Rattle.oc_coff_reader.specs.Files.{CoffFile, tables_in}
 use Rattle.oc_coff_reader.proofs.HeadLemmas.{entry_lies}
 use Rattle.oc_coff_reader.proofs.frame.Coff.section_aux.Goals as goal
 
 pub section_aux_at-requires : goal.section_aux_at-requires
 section_aux_at-requires c =
-    let lies = entry_lies c.args.self.now (subst IsHeaded c.self.view_is c.self.invariant.0) c.args.j c.requires in
-    let same = ap length c.self.view_is in
-    omega (arith, lies, same, c.entry_place.ensures)
+    let f : CoffFile = record { shape = c.self.inside.shape; bytes = c.self.inside.file.now } in
+    let lies = entry_lies f c.self.invariant.0 c.args.j (subst (λ (g : CoffFile). c.args.j < length (tables_in g).entries) (sym c.self.view_is) c.requires) in
+    let place = c.entry_place.ensures ∙ ap (λ (g : CoffFile). (tables_in g).entries_at + symbol_size g.shape * c.args.j) (sym c.self.view_is) in
+    omega (arith, lies, place)
 
 pub returns : goal.returns
 unfolding slot_at
 returns c =
-    c.section_aux_at.ensures ∙ ap (section_aux_at c.self.inside.file.now) c.entry_place.ensures
-    ∙ ap (λ (f : List ℕ). section_aux_at f ((tables_of c.args.self.now).entries_at + 18 * c.args.j)) c.self.view_is
+    let place = c.entry_place.ensures ∙ ap (λ (g : CoffFile). (tables_in g).entries_at + symbol_size g.shape * c.args.j) (sym c.self.view_is) in
+    c.section_aux_at.ensures ∙ ap (section_aux_at c.self.inside.shape c.self.inside.file.now) place
+    ∙ ap (λ (g : CoffFile). section_aux_at g.shape g.bytes ((tables_in g).entries_at + symbol_size g.shape * c.args.j)) c.self.view_is

@@ -1,11 +1,11 @@
 -- The headers are as many as the file header says.
-use Rattle.std.proofs.Common.{ℕ, List, length, sym, ◌∙◌, ap}
+use Rattle.oc_coff_reader.specs.Files.{CoffFile, tables_in}
+use Rattle.std.proofs.Common.{length, sym, ◌∙◌, ap}
 use Rattle.oc_coff_read.specs.declared.file_header.FileHeader.{FileHeader}
-use Rattle.oc_coff_read.specs.Tables.{tables_of}
 use Rattle.oc_coff_reader.proofs.HeadLemmas.{length-sections}
 use Rattle.oc_coff_reader.proofs.frame.Coff.section_count.Goals as goal
 
 pub returns : goal.returns
 returns c =
-    ap (λ (h : FileHeader). h.NumberOfSections) c.self.invariant.1.0 ∙ sym (length-sections c.self.inside.file.now)
-    ∙ ap (λ (f : List ℕ). length (tables_of f).sections) c.self.view_is
+    ap (λ (h : FileHeader). h.NumberOfSections) c.self.invariant.1.0 ∙ sym (length-sections (record { shape = c.self.inside.shape; bytes = c.self.inside.file.now }))
+    ∙ ap (λ (f : CoffFile). length (tables_in f).sections) c.self.view_is
