@@ -18,6 +18,7 @@ use crate::kind::kind_of;
 use crate::relocs::check_table;
 use crate::section_stage::check_sections;
 use crate::symbol_stage::check_symbols;
+use crate::weight::{weigh_relocs, weigh_symbols};
 use oc_base::{Class, Fault, Word, class};
 use oc_neutral::{Keep, Kind, ReadFault};
 use oc_shelf::Stop;
@@ -82,6 +83,8 @@ fn check_rest(alloc: Global, frame: &Frame, keep: &Keep) -> Result<(), Stop>
     ensures clean { OnOk result (first_fault (rest_stages frame.now keep.now) ≡ None) }
     ensures stop { IfErr result (IsStop (first_fault (rest_stages frame.now keep.now))) }
 {
+    weigh_relocs(frame)?;
+    weigh_symbols(frame)?;
     match check_sections(frame) {
         Err(fault) => return Err(Stop::Fault(fault)),
         Ok(()) => (),
@@ -131,8 +134,9 @@ fn by_class(fault: Fault) -> ReadFault
 ///
 /// The time is that of n log2(n) steps for n sections, symbols or relocations, in any order of names,
 /// addresses and offsets. Each name is read a few times for each symbol that has it, and compared as
-/// `first_repeat` says: a file whose names are the ends of one long text costs the square of that text.
-/// Strings behind the last NUL are read once.
+/// `first_repeat` says. Strings behind the last NUL are read once. Names that weigh more than 1 GiB, and
+/// tables of more than 2^23 relocations, are want of memory before any is judged (`oc_weight`). What the
+/// worst files known take is told in docs/SAFETY.md.
 pub fn judged<'a>(
     alloc: Global,
     word: Word,

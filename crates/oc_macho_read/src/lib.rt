@@ -27,6 +27,7 @@ mod symbol_stage;
 mod symbols;
 mod symtab_command;
 mod texts;
+mod weight;
 mod words;
 
 pub use constants::{

@@ -3,6 +3,7 @@ ghost use Rattle.std.specs.Prelude.{◌≡◌, ℕ, ◌+◌, ◌≤◌, true, fa
 ghost use Rattle.oc_omf_judge.specs.Starts as specs;
 
 use oc_base::NoMemory;
+use oc_weight::with_fields;
 use std::alloc::Global;
 use std::collections::BTreeMap;
 
@@ -65,12 +66,14 @@ impl Starts {
         false
     }
 
-    /// Takes up fields that begin at these places, told from `base`. `NoMemory` where memory ran out.
-    /// For each the time is the logarithm of the number of fields.
+    /// Takes up fields that begin at these places, told from `base`. `NoMemory` where memory ran out, or
+    /// where there are more fields than `with_fields` allows. For each the time is the logarithm of the
+    /// number of fields.
     pub(crate) fn take_up(&mut self, base: u64, places: &[u32]) -> Result<(), NoMemory>
         requires { base ≤ 562949953421312 }
         ensures { OnOk result ((k : ℕ) → specs.is_start self.new k ≡ (specs.is_start self.old k || specs.is_among base places.now k)) }
     {
+        let _ = with_fields(self.starts.len() as u64, places.len() as u64)?;
         for place in places {
             let _before = self.starts.insert(base + u64::from(*place), 0)?;
         }

@@ -20,6 +20,7 @@ mod reader;
 mod searched;
 mod started;
 mod tables;
+mod weight;
 
 pub use class::Class;
 pub use fix::{Fix, Framed, reloc_of};

@@ -17,6 +17,7 @@ use crate::heard::heard_in;
 use crate::known::known_in;
 use crate::mentioned::mentions_of;
 use crate::started::start;
+use crate::weight::weigh_segments;
 use oc_base::NoMemory;
 use oc_neutral::{Keep, Neutral, ReadFault, Reads, are_bytes};
 use oc_omf_judge::judged;
@@ -40,6 +41,7 @@ pub(crate) fn object_of(
     omf.is_module();
     are_bytes(file);
     let known = known_in(alloc, omf)?;
+    weigh_segments(&known)?;
     let contents = contents_in(alloc, omf, &known)?;
     let heard = heard_in(alloc, omf)?;
     let mentions = mentions_of(alloc, heard.as_slice())?;
@@ -77,7 +79,8 @@ fn read_bytes(alloc: Global, bytes: &[u8], keep: &Keep) -> Result<Neutral, ReadF
 /// The reader of OMF object modules, for i386.
 ///
 /// The time is that of `judged`, and that of n log2(n) steps for n bytes of the file and of its
-/// segments, in any order of names and fields.
+/// segments, in any order of names and fields. Names of segments that weigh more than 1 GiB are want of
+/// memory before any is taken (`oc_weight`).
 #[derive(Clone, Copy, Debug)]
 pub struct OmfReader;
 

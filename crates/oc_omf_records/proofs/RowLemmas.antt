@@ -2,9 +2,10 @@
 use Rattle.std.proofs.Common.{rules, ◌≡◌, ℕ, zero, suc, ◌+◌, ◌-◌, ◌^◌, ◌<◌, ◌≤◌, min, Vec, Global, List, [], ◌∷◌, ◌++◌, length, get_or, take, refl, sym, ◌∙◌, ap, arith, length-append, drop, slice_range}
 use Rattle.std.proofs.lemmas.List.{take_more, append-nil, append_assoc, length-take-le, length-drop}
 use Rattle.std.proofs.Math.Seq.{drop-append_seam, take-append_seam, take-length, drop-length}
-use Rattle.oc_omf_records.specs.declared.iterated.Iterated.{Iterated, Content, Nested, the_lemmas}
+use Rattle.oc_omf_records.specs.declared.iterated.Iterated.{Iterated, Nested}
 use Rattle.oc_omf_records.specs.Blocks.{Blocks, none, content, nested, append, repeated, denotation, size_of}
 use Rattle.oc_omf_records.specs.Rows.{row_of, rows_of}
+use Rattle.oc_omf_records.proofs.SizedLemmas.{row_of-Nested}
 
 -- nothing behind a row
 pub append-none : (row : Blocks) → append row none ≡ row
@@ -101,13 +102,6 @@ size_of-take_more blocks i total size next block l is sum_so_far own e =
     = rows_of-take_more blocks i block l ∙ ap (λ x. append (rows_of (take i blocks)) (row_of x)) (sym is) in
     rw (more, size_of-append (rows_of (take i blocks)) (row_of block)) (omega arith)
 
--- a block of content, and a block of blocks, as a row
-pub row_of-Content : (count place : ℕ) (bytes : Vec ℕ Global) → row_of (Content count place bytes) ≡ content count place bytes.items none
-row_of-Content count place bytes = search (rules, the_lemmas)
-
-pub row_of-Nested : (count : ℕ) (blocks : Vec Iterated Global) → row_of (Nested count blocks) ≡ nested count (rows_of blocks.items) none
-row_of-Nested count blocks = search (rules, the_lemmas)
-
 -- how many blocks there are in a row, those in its blocks among them
 abbrev pub blocks_in : Blocks → ℕ
 blocks_in none = 0
@@ -127,5 +121,5 @@ blocks_in-item (first ∷ blocks) (suc i) block l is =
     omega (arith, blocks_in-append (row_of first) (rows_of blocks), blocks_in-item blocks i block (omega arith) is)
 
 -- what is in a block has fewer
-pub blocks_in-inside : (block : Iterated) (count : ℕ) (blocks : Vec Iterated Global) → block ≡ Nested count blocks → blocks_in (rows_of blocks.items) < blocks_in (row_of block)
-blocks_in-inside block count blocks is = omega (arith, ap (λ x. blocks_in (row_of x)) is, ap blocks_in (row_of-Nested count blocks))
+pub blocks_in-inside : (block : Iterated) (count size : ℕ) (blocks : Vec Iterated Global) → block ≡ Nested count size blocks → blocks_in (rows_of blocks.items) < blocks_in (row_of block)
+blocks_in-inside block count size blocks is = omega (arith, ap (λ x. blocks_in (row_of x)) is, ap blocks_in (row_of-Nested count size blocks))

@@ -1,9 +1,6 @@
 //! The iterated data of one entry.
-ghost use Rattle.std.specs.Prelude.{◌≡◌, ◌<◌, ◌^◌, min, IfOk, IfErr, Ok, Some};
-ghost use Rattle.oc_omf_records.specs.Blocks.{copies_of, denotation, size_of};
-ghost use Rattle.oc_omf_records.specs.BlockReading.{blocks_of};
-ghost use Rattle.oc_omf_records.specs.Refusals.{Refuses, RefusesCopies};
-ghost use Rattle.oc_omf_records.specs.Shown.{shown};
+ghost use Rattle.std.specs.Prelude.{◌≡◌, true};
+ghost use Rattle.oc_omf_records.specs.Rows.{are_sized};
 
 use crate::expanding::expand_row;
 use crate::faults::{BlockFault, CopyFault};
@@ -20,9 +17,16 @@ use std::alloc::Global;
 #[derive(Debug, Drop)]
 pub struct Block {
     blocks: Vec<Iterated>,
+    ghost sized: { are_sized blocks.items ≡ true },
 }
 
 impl Block {
+    ghost use Rattle.std.specs.Prelude.{◌≡◌, ◌<◌, ◌^◌, min, IfOk, IfErr, Ok, Some};
+    ghost use Rattle.oc_omf_records.specs.Blocks.{copies_of, denotation, size_of};
+    ghost use Rattle.oc_omf_records.specs.BlockReading.{blocks_of};
+    ghost use Rattle.oc_omf_records.specs.Refusals.{Refuses, RefusesCopies};
+    ghost use Rattle.oc_omf_records.specs.Shown.{shown};
+
     /// The blocks in `view`, which follow one another to its end. Repeat counts have four bytes where
     /// `wide`, and else two.
     ///
@@ -44,8 +48,8 @@ impl Block {
         Ok(Block { blocks })
     }
 
-    /// How many bytes the blocks stand for, or 2^32 where there are more. Linear in the encoded
-    /// blocks, whatever the counts; no memory.
+    /// How many bytes the blocks stand for, or 2^32 where there are more. Linear in the blocks that are
+    /// in no other, whatever the counts; no memory.
     pub fn size(&self) -> u64
         ensures { result ≡ min (size_of (shown self.now)) (2 ^ 32) }
     {
@@ -69,11 +73,9 @@ impl Block {
     /// first block. There is no copy where a count of 0 stands around them.
     ///
     /// `NotContent` comes exactly where the four bytes do not lie in one content. The blocks before
-    /// the content are walked once, and those behind it not at all, but for each row of blocks around
-    /// it that is repeated more than once and whose copies are given: that is walked once more, for
-    /// its size. Time is linear in the blocks walked and, at each of the at most 32 levels around the
-    /// content, in the copies there, which are never more than those given. Memory is linear in the
-    /// places given.
+    /// the content are walked once, and those behind it not at all. Time is linear in the blocks walked
+    /// and, at each of the at most 32 levels around the content, in the copies there, which are never
+    /// more than those given. Memory is linear in the places given.
     pub fn copies(&self, alloc: Global, at: u32) -> Result<Places, CopyFault>
         requires { size_of (shown self.now) < 2 ^ 31 }
         ensures well { IfOk result (λ places. copies_of (shown self.now) at ≡ Some places) }

@@ -21,7 +21,7 @@ fn expand_block(block: &Iterated, out: &mut Vec<u8>) -> Result<(), AllocError>
             out.extend_from_slice(bytes)?;
             repeat_from(out, start, *count)
         }
-        Iterated::Nested { count, blocks } => {
+        Iterated::Nested { count, blocks, .. } => {
             if *count == 0 {
                 return Ok(());
             }

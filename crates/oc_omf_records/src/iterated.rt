@@ -1,7 +1,7 @@
 //! One block of iterated data, and its size.
-ghost use Rattle.std.specs.Prelude.{◌≡◌, min, ◌^◌, ◌*◌};
+ghost use Rattle.std.specs.Prelude.{◌≡◌, min, ◌^◌, ◌*◌, true};
 ghost use Rattle.oc_omf_records.specs.Blocks.{size_of};
-ghost use Rattle.oc_omf_records.specs.Rows.{row_of, rows_of};
+ghost use Rattle.oc_omf_records.specs.Rows.{row_of, rows_of, is_sized, are_sized};
 
 /// Where sizes stop: a larger one counts as this.
 pub const MOST_BYTES: u64 = 1 << 32;
@@ -15,29 +15,32 @@ pub enum Iterated {
         place: u64,
         bytes: Vec<u8>,
     },
-    /// Blocks in a row, the row `count` times.
+    /// Blocks in a row, the row `count` times. A copy of it stands for `size` bytes, or for more where
+    /// that is 2^32.
     Nested {
         count: u32,
+        size: u64,
         blocks: Vec<Iterated>,
     },
 }
 
 impl Iterated {
-    /// How many bytes the block stands for, or 2^32 where there are more. Linear in the block.
-    #[cycle(size)]
+    /// How many bytes the block stands for, or 2^32 where there are more. Constant time.
     pub fn size(&self) -> u64
+        requires { is_sized self.now ≡ true }
         ensures { result ≡ min (size_of (row_of self.now)) (2 ^ 32) }
     {
         match self {
             Iterated::Content { count, bytes, .. } => product(*count, bytes.len() as u64),
-            Iterated::Nested { count, blocks } => product(*count, total_size(blocks)),
+            Iterated::Nested { count, size, .. } => product(*count, *size),
         }
     }
 }
 
-/// How many bytes the blocks stand for, or 2^32 where there are more. Linear in the blocks.
-#[cycle(size)]
+/// How many bytes the blocks stand for, or 2^32 where there are more. Linear in their number, whatever is
+/// in them.
 pub fn total_size(blocks: &[Iterated]) -> u64
+    requires { are_sized blocks.now ≡ true }
     ensures { result ≡ min (size_of (rows_of blocks.now)) (2 ^ 32) }
 {
     let mut total = 0u64;

@@ -1,13 +1,13 @@
 //! Reading iterated data.
-ghost use Rattle.std.specs.Prelude.{◌≡◌, ◌+◌, ◌<◌, ◌≤◌, length, IfOk, IfErr, Ok};
+ghost use Rattle.std.specs.Prelude.{◌≡◌, ◌+◌, ◌<◌, ◌≤◌, length, IfOk, IfErr, Ok, true};
 ghost use Rattle.std.specs.Result.{OkIff};
 ghost use Rattle.oc_omf_records.specs.BlockReading.{count_size, after_counts, repeat_count, content_at, block_at, row_at};
 ghost use Rattle.oc_omf_records.specs.Refusals.{Refuses};
-ghost use Rattle.oc_omf_records.specs.Rows.{row_of, rows_of};
+ghost use Rattle.oc_omf_records.specs.Rows.{row_of, rows_of, is_sized, are_sized};
 ghost use Rattle.oc_omf_records.specs.Counts.{counts_at};
 
 use crate::faults::BlockFault;
-use crate::iterated::Iterated;
+use crate::iterated::{Iterated, total_size};
 use oc_base::{OutOfView, View};
 use std::alloc::Global;
 
@@ -71,6 +71,7 @@ fn read_content(
     requires { at ≤ length view.now }
     ensures well { IfOk result (λ r. content_at view.now count at ≡ Ok (row_of r.0, r.1)) }
     ensures refused { IfErr result (λ fault. Refuses fault (content_at view.now count at)) }
+    ensures sized { IfOk result (λ r. is_sized r.0 ≡ true) }
     ensures after { IfOk result (λ r. (at < r.1) × (r.1 ≤ length view.now)) }
 {
     let end = view.len();
@@ -102,6 +103,7 @@ pub fn read_block(
     requires { at ≤ length view.now }
     ensures well { IfOk result (λ r. block_at wide view.now levels at ≡ Ok (row_of r.0, r.1)) }
     ensures refused { IfErr result (λ fault. Refuses fault (block_at wide view.now levels at)) }
+    ensures sized { IfOk result (λ r. is_sized r.0 ≡ true) }
     ensures after { IfOk result (λ r. (at < r.1) × (r.1 ≤ length view.now)) }
 {
     if levels == 0 {
@@ -113,7 +115,13 @@ pub fn read_block(
         return read_content(alloc, view, count, counts.after);
     }
     let (blocks, after) = read_row(alloc, view, wide, levels - 1, counts.blocks, counts.after)?;
-    Ok((Iterated::Nested { count, blocks }, after))
+    let size = total_size(&blocks);
+    let block = Iterated::Nested {
+        count,
+        size,
+        blocks,
+    };
+    Ok((block, after))
 }
 
 /// `many` blocks from `at` on, which with what is in them may have `levels` levels, and the place
@@ -130,6 +138,7 @@ fn read_row(
     requires { at ≤ length view.now }
     ensures well { IfOk result (λ r. row_at (block_at wide view.now levels) many at ≡ Ok (rows_of r.0.items, r.1)) }
     ensures refused { IfErr result (λ fault. Refuses fault (row_at (block_at wide view.now levels) many at)) }
+    ensures sized { IfOk result (λ r. are_sized r.0.items ≡ true) }
     ensures after { IfOk result (λ r. (at ≤ r.1) × (r.1 ≤ length view.now)) }
 {
     let mut blocks = Vec::new(alloc);

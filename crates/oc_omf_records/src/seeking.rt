@@ -1,10 +1,10 @@
 //! Where the copies of four content bytes stand.
-ghost use Rattle.std.specs.Prelude.{◌≡◌, ◌+◌, ◌^◌, ◌<◌, ◌++◌, ◌&&◌, nat_lt, All, IfOk, OnOk, IsTrue};
+ghost use Rattle.std.specs.Prelude.{◌≡◌, ◌+◌, ◌^◌, ◌<◌, ◌++◌, ◌&&◌, min, nat_lt, All, IfOk, OnOk, IsTrue, true};
 ghost use Rattle.oc_omf_records.specs.Blocks.{moved, in_each, in_content, size_of};
-ghost use Rattle.oc_omf_records.specs.Rows.{row_of, rows_of};
+ghost use Rattle.oc_omf_records.specs.Rows.{row_of, rows_of, is_sized, are_sized};
 ghost use Rattle.oc_omf_records.specs.Seeking.{Finds, places_in, kept, FitIn};
 
-use crate::iterated::{Iterated, MOST_BYTES, product, total_size};
+use crate::iterated::{Iterated, MOST_BYTES, product};
 use std::alloc::{AllocError, Global};
 
 /// What a walk over blocks finds of four content bytes.
@@ -27,7 +27,8 @@ pub fn seek_row(
     at: u32,
     live: bool,
 ) -> Result<Sought, AllocError>
-    requires { IsTrue live → size_of (rows_of blocks.now) < 2 ^ 31 }
+    requires sized { are_sized blocks.now ≡ true }
+    requires small { IsTrue live → size_of (rows_of blocks.now) < 2 ^ 31 }
     ensures { IfOk result (Finds live (rows_of blocks.now) at) }
 {
     let mut before = 0u64;
@@ -43,7 +44,8 @@ pub fn seek_row(
 /// Walks the block for the four content bytes at `at`.
 #[cycle(seeking)]
 fn seek_block(alloc: Global, block: &Iterated, at: u32, live: bool) -> Result<Sought, AllocError>
-    requires { IsTrue live → size_of (row_of block.now) < 2 ^ 31 }
+    requires sized { is_sized block.now ≡ true }
+    requires small { IsTrue live → size_of (row_of block.now) < 2 ^ 31 }
     ensures { IfOk result (Finds live (row_of block.now) at) }
 {
     match block {
@@ -58,10 +60,14 @@ fn seek_block(alloc: Global, block: &Iterated, at: u32, live: bool) -> Result<So
                 None => Ok(Sought::Beyond(product(*count, size))),
             }
         }
-        Iterated::Nested { count, blocks } => {
+        Iterated::Nested {
+            count,
+            size,
+            blocks,
+        } => {
             match seek_row(alloc, blocks, at, is_live(live, *count))? {
                 Sought::Found(places) => {
-                    Ok(Sought::Found(in_each_row(alloc, *count, blocks, places)?))
+                    Ok(Sought::Found(in_each_row(alloc, *count, *size, blocks, places)?))
                 }
                 Sought::Beyond(size) => Ok(Sought::Beyond(product(*count, size))),
             }
@@ -109,21 +115,24 @@ fn moved_by(places: Vec<u32>, by: u64) -> Vec<u32>
     places
 }
 
-/// The places in a row of blocks, in each of `count` copies of the row. The blocks are walked for
-/// the size of a copy only where a place stands in more than one.
+/// The places in a row of blocks, in each of `count` copies of the row, of which one has `size` bytes, or
+/// more where that is 2^32.
 fn in_each_row(
     alloc: Global,
     count: u32,
+    size: u64,
     blocks: &[Iterated],
     places: Vec<u32>,
 ) -> Result<Vec<u32>, AllocError>
-    requires { FitIn count (size_of (rows_of blocks.now)) places.items }
+    requires size { size ≡ min (size_of (rows_of blocks.now)) (2 ^ 32) }
+    requires fit { FitIn count (size_of (rows_of blocks.now)) places.items }
     ensures { IfOk result (λ all. all.items ≡ in_each count (size_of (rows_of blocks.now)) places.items) }
 {
+    let _ = blocks;
     if places.is_empty() || count == 1 {
         return Ok(places);
     }
-    in_each(alloc, count, total_size(blocks), &places)
+    in_each(alloc, count, size, &places)
 }
 
 /// The places in a piece of `size` bytes, in each of `count` copies of the piece.

@@ -3,6 +3,7 @@ use Rattle.std.proofs.lemmas.Result.{err_from_is_err_and}
 use Rattle.oc_omf_records.specs.BlockReading.{repeats_row}
 use Rattle.oc_omf_records.proofs.RowLemmas.{rows_of-push}
 use Rattle.oc_omf_records.proofs.ReadingLemmas.{Refuses-weaker, row_at-more, row_at-stop, row_at-end, block_at-content, block_at-nested}
+use Rattle.oc_omf_records.proofs.SizedLemmas.{are_sized-push, nested_is_sized, row_of-Nested}
 use Rattle.oc_omf_records.proofs.reading.+reading.Goals as goal
 
 pub read_block-returns-then-counts-eq0-clause-well : goal.read_block-returns-then-counts-eq0-clause-well
@@ -30,9 +31,20 @@ pub read_row-loop-read-preserved : goal.read_row-loop-read-preserved
 read_row-loop-read-preserved t c = record {
   row = rw (c.in_ok-push.ensures.items, rows_of-push c.loop-read.blocks.items c.in_ok-block.block)
       (row_at-more _ _ _ _ _ _ c.loop-read.invariant.row _ _ c.loop-read-test.true c.in_ok-block.ensures.well);
+  sized = rw c.in_ok-push.ensures.items (are_sized-push c.loop-read.blocks.items c.in_ok-block.block c.loop-read.invariant.sized c.in_ok-block.ensures.sized);
   forward = search rules;
   inside = search rules;
 }
 
 pub read_row-returns-clause-well : goal.read_row-returns-clause-well
 read_row-returns-clause-well t c = row_at-end _ _ _ _ _ _ c.loop-read.invariant.row c.loop-read-test.false
+
+pub read_block-returns-clause-sized : goal.read_block-returns-clause-sized
+read_block-returns-clause-sized t c =
+    nested_is_sized c.in_ok-counts.counts.repeats c.total_size-size.result c.in_ok-blocks.blocks (search rules) c.in_ok-blocks.ensures.sized
+
+pub read_block-returns-clause-well : goal.read_block-returns-clause-well
+read_block-returns-clause-well t c =
+    let e = block_at-nested c.args.wide c.args.view.now c.args.levels c.args.at c.in_ok-counts.counts c.if-levels-eq0.false c.in_ok-counts.ensures.0 c.in_ok-counts.ensures.1 c.if-counts-eq0.false in
+    rw (row_of-Nested c.in_ok-counts.counts.repeats c.total_size-size.result c.in_ok-blocks.blocks)
+    (e ∙ ap (repeats_row c.in_ok-counts.counts.repeats) c.in_ok-blocks.ensures.well)

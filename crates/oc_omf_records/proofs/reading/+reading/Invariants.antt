@@ -1,6 +1,6 @@
-use Rattle.std.proofs.Common.{◌≡◌, ◌+◌, ◌-◌, ◌*◌, ◌≤◌, length}
+use Rattle.std.proofs.Common.{◌≡◌, ◌+◌, ◌-◌, ◌*◌, ◌≤◌, length, true}
 use Rattle.oc_omf_records.specs.BlockReading.{in_front, block_at, row_at}
-use Rattle.oc_omf_records.specs.Rows.{rows_of}
+use Rattle.oc_omf_records.specs.Rows.{rows_of, are_sized}
 use Rattle.oc_omf_records.proofs.reading.+reading.Given as goal
 
 -- a row is read one block at a time, each one level further down
@@ -16,6 +16,7 @@ invariant-read_row-loop-read l =
     let block = block_at l.wide l.view l.levels in
     record {
       row : in_front (rows_of l.blocks.items) (row_at block (l.many - l._read) l.place) ≡ row_at block l.many l.at;
+      sized : are_sized l.blocks.items ≡ true;
       forward : l.at ≤ l.place;
       inside : l.place ≤ length l.view;
     }

@@ -22,9 +22,9 @@ returns-then-is_empty c = elim c.then-is_empty.branch [
 
 pub in_each-requires : goal.in_each-requires
 in_each-requires c =
-    rw c.deref.ensures.value (fits_low c.args.count (size_of (rows_of c.args.blocks.now)) c.total_size.result c.args.places.items c.total_size.ensures (search rules) c.requires)
+    rw c.deref.ensures.value (fits_low c.args.count (size_of (rows_of c.args.blocks.now)) c.args.size c.args.places.items c.requires.size (search rules) c.requires.fit)
 
 pub returns : goal.returns
 returns c =
-    let same = in_each-low c.args.count (size_of (rows_of c.args.blocks.now)) c.total_size.result c.args.places.items c.total_size.ensures c.requires in
+    let same = in_each-low c.args.count (size_of (rows_of c.args.blocks.now)) c.args.size c.args.places.items c.requires.size c.requires.fit in
     rw (sym same, sym c.deref.ensures.value) c.in_each.ensures

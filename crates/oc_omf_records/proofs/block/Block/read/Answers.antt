@@ -1,6 +1,7 @@
 use Rattle.std.proofs.Common.{rules, ◌<◌, ◌≤◌, length, arith}
 use Rattle.std.proofs.lemmas.Result.{err_from_is_err_and}
 use Rattle.oc_omf_records.proofs.ReadingLemmas.{Refuses-weaker, rest_at-push, rest_at-at_fault, rest_at-end, blocks_of-ok, blocks_of-err, length-pushed}
+use Rattle.oc_omf_records.proofs.SizedLemmas.{are_sized-push}
 use Rattle.oc_omf_records.proofs.block.Block.read.Goals as goal
 
 pub returns-in_err-block-clause-refused : goal.returns-in_err-block-clause-refused
@@ -16,6 +17,7 @@ loop-at-preserved c =
     let size = length-pushed c.loop-at.blocks.items c.push.new.self.items c.in_ok-block.block c.in_ok-push.ensures.items in
     record {
       whole = rest_at-push _ _ _ _ _ c.loop-at.invariant.whole c.loop-at.invariant.taken inside _ _ _ c.in_ok-push.ensures.items c.in_ok-block.ensures.well;
+      sized = rw c.in_ok-push.ensures.items (are_sized-push c.loop-at.blocks.items c.in_ok-block.block c.loop-at.invariant.sized c.in_ok-block.ensures.sized);
       taken = omega (arith, size, c.in_ok-block.ensures.after.0);
       inside = search rules;
     }

@@ -1,0 +1,15 @@
+//! What the names of segments weigh, before any of them is taken.
+
+use crate::known::Known;
+use oc_base::NoMemory;
+use oc_weight::with_name;
+
+/// Weighs the names of segments: many may have one. `NoMemory` where they are above 1 GiB. Linear in the
+/// segments.
+pub(crate) fn weigh_segments(known: &Known) -> Result<(), NoMemory> {
+    let mut weight = 0;
+    for segment in &known.tables.segments {
+        weight = with_name(weight, known.name(segment.name).len() as u64)?;
+    }
+    Ok(())
+}

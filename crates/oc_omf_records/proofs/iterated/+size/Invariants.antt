@@ -1,7 +1,0 @@
-use Rattle.std.proofs.Common.{◌≡◌, min, ◌^◌, take}
-use Rattle.oc_omf_records.specs.Blocks.{size_of}
-use Rattle.oc_omf_records.specs.Rows.{rows_of}
-use Rattle.oc_omf_records.proofs.iterated.+size.Given as goal
-
-abbrev pub invariant-total_size-loop-block : goal.invariant-total_size-loop-block
-invariant-total_size-loop-block l = l.total ≡ min (size_of (rows_of (take l.block-index l.blocks))) (2 ^ 32)
