@@ -1,23 +1,43 @@
--- The words ask for few functions.
-use Rattle.std.proofs.Common.{◌≡◌, ℕ, ◌≤◌, Bool, true, false, ◌&&◌, cond, List, [], ◌∷◌, Option, Some, None, Result, Ok, Err, refl, arith}
+-- The words ask for few functions, and for a format for few sections.
+use Rattle.std.proofs.Common.{◌≡◌, ℕ, ◌≤◌, Bool, true, false, ◌&&◌, cond, List, [], ◌∷◌, Option, Some, None, Result, Ok, Err, refl, sym, ◌∙◌, ap, subst, arith}
 use Rattle.std.specs.Prelude.{bytes_eq, codes, length, nat_le}
+use Rattle.std.specs.List.{AllByRecursion}
 use Rattle.std.specs.Option.{option_map_or}
 use Rattle.std.specs.Str.Parse.{digits_value}
 use Rattle.std.proofs.lemmas.Bool.{and_parts, leb-true}
+use Rattle.std.proofs.lemmas.Option.{none-some, same_Some}
 use Rattle.oc_base.specs.declared.format.Format.{Format}
 use Rattle.oc_linking.specs.Numbers.{first_upto}
+use Rattle.oc_neutral.specs.Families.{is_many}
 use Rattle.oc_names.specs.Wishes.{Wishes}
 use Rattle.oc_words.specs.declared.fault.WordCode.TheVariants.{BadNumber, BadTarget}
 use Rattle.oc_words.specs.declared.job.Job.{Job}
 use Rattle.oc_words.specs.declared.job.Job.TheVariants.{Make}
 use Rattle.oc_words.specs.Faults.{BadWord, bad}
-use Rattle.oc_words.specs.Formats.{format_named}
+use Rattle.oc_words.specs.Formats.{plain_names, plain_named}
 use Rattle.oc_words.specs.Jobs.{bad_at, conversion_of, converted, job_of, listing_of, made, made_for, making_of, operands, targets, wishes_of}
-use Rattle.oc_words.specs.Texts.{behind, is_decimal}
+use Rattle.oc_words.specs.Texts.{behind, is_decimal, looked_up}
 
--- where an object is to be made, it is of few functions
+-- an object of few functions, in a format for few sections
+abbrev pub IsSmall : ℕ → Format → Type 0
+IsSmall count to = (count ≤ 100000) × (is_many to ≡ false)
+
+-- where an object is to be made, it is such
 abbrev IsLow : Result Job BadWord → Type 0
-IsLow asked = (count : ℕ) (to : Format) (output : List ℕ) → asked ≡ Ok (Make count to output) → count ≤ 100000
+IsLow asked = (count : ℕ) (to : Format) (output : List ℕ) → asked ≡ Ok (Make count to output) → IsSmall count to
+
+-- what a table says is as all its rows say
+looked_up_is : {X : Type 0} (P : X → Type 0) (rows : List (List ℕ × X)) → AllByRecursion (λ (row : List ℕ × X). P row.1) rows → (text : List ℕ) (x : X) → looked_up rows text ≡ Some x → P x
+looked_up_is P [] all text x found = absurd (none-some x found)
+looked_up_is P (row ∷ rows) all text x found = by (bytes_eq text row.0) (looked_up_is P rows all.1 text x) found
+  where
+    by : (b : Bool) → (looked_up rows text ≡ Some x → P x) → cond b (Some row.1) (looked_up rows text) ≡ Some x → P x
+    by true rest e = subst P (same_Some row.1 x e) all.0
+    by false rest e = rest e
+
+-- the target of an object that is made is for few sections
+plain_few : (name : List ℕ) (to : Format) → plain_named name ≡ Some to → is_many to ≡ false
+plain_few = looked_up_is (λ to. is_many to ≡ false) plain_names (refl, (refl, (refl, (refl, (refl, (refl, (refl, tt)))))))
 
 low_converted : (count : ℕ) (wishes : Wishes) (to : List Format) (names : List (List ℕ)) → IsLow (converted count wishes to names)
 low_converted count wishes [] names n f o e = absurd (cc e)
@@ -38,18 +58,21 @@ low_listing [] n f o e = absurd (cc e)
 low_listing (input ∷ []) n f o e = absurd (cc e)
 low_listing (input ∷ extra ∷ more) n f o e = absurd (cc e)
 
-low_made_for : (count : ℕ) → count ≤ 100000 → (to : Format) (words : List (List ℕ)) → IsLow (made_for count to words)
-low_made_for count low to [] n f o e = absurd (cc e)
-low_made_for count low to (output ∷ []) n f o e = let same : count ≡ n = cc e in omega (arith, low, same)
-low_made_for count low to (output ∷ extra ∷ more) n f o e = absurd (cc e)
+low_made_for : (count : ℕ) → count ≤ 100000 → (to : Format) → is_many to ≡ false → (words : List (List ℕ)) → IsLow (made_for count to words)
+low_made_for count low to plain [] n f o e = absurd (cc e)
+low_made_for count low to plain (output ∷ []) n f o e =
+    let same : count ≡ n = cc e in
+    let own : to ≡ f = cc e in
+    (omega (arith, low, same), ap is_many (sym own) ∙ plain)
+low_made_for count low to plain (output ∷ extra ∷ more) n f o e = absurd (cc e)
 
 low_made : (count : ℕ) → count ≤ 100000 → (words : List (List ℕ)) → IsLow (made count words)
 low_made count low [] n f o e = absurd (cc e)
-low_made count low (target ∷ more) n f o e = by (format_named target) n f o e
+low_made count low (target ∷ more) n f o e = by (plain_named target) refl n f o e
   where
-    by : (t : Option Format) → IsLow (option_map_or (λ to. made_for count to more) t (bad 1 BadTarget))
-    by None n f o e = absurd (cc e)
-    by (Some to) n f o e = low_made_for count low to more n f o e
+    by : (t : Option Format) → plain_named target ≡ t → IsLow (option_map_or (λ to. made_for count to more) t (bad 1 BadTarget))
+    by None named n f o e = absurd (cc e)
+    by (Some to) named n f o e = low_made_for count low to (plain_few target to named) more n f o e
 
 low_making : (number : List ℕ) (words : List (List ℕ)) → IsLow (making_of number words)
 low_making number words = by (is_decimal number && nat_le (digits_value 10 number) 100000) refl
@@ -60,7 +83,7 @@ low_making number words = by (is_decimal number && nat_le (digits_value 10 numbe
     by false is n f o e = absurd (cc e)
 
 -- whatever the words are
-pub low_job : (words : List (List ℕ)) (count : ℕ) (to : Format) (output : List ℕ) → job_of words ≡ Ok (Make count to output) → count ≤ 100000
+pub low_job : (words : List (List ℕ)) (count : ℕ) (to : Format) (output : List ℕ) → job_of words ≡ Ok (Make count to output) → IsSmall count to
 unfolding job_of
 low_job [] = low_conversion []
 low_job (first ∷ words) = by (bytes_eq first (codes "-ds")) (behind (codes "--make=") first)

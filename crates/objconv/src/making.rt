@@ -1,6 +1,7 @@
 //! An object that is made.
-ghost use Rattle.std.specs.Prelude.{◌≡◌, ◌+◌, ◌-◌, ◌^◌, ◌<◌, ◌≤◌, length, IfOk};
+ghost use Rattle.std.specs.Prelude.{◌≡◌, ◌+◌, ◌-◌, ◌^◌, ◌<◌, ◌≤◌, false, length, IfOk};
 ghost use Rattle.oc_base.specs.Formats.{word_for};
+ghost use Rattle.oc_neutral.specs.Families.{is_many};
 ghost use Rattle.objconv.specs.Making as making;
 ghost use Rattle.objconv.specs.Runs.{IsEnd};
 ghost use Rattle.oc_runs.specs.States.{state_of};
@@ -44,9 +45,11 @@ fn summed<P: Emits + Drop>(alloc: Global, count: u32, plan: P) -> Result<Made<P>
     Ok(Made { plan, summary })
 }
 
-// the plan of the object of so many functions as a file in the format `to`, which no format refuses
+// the plan of the object of so many functions as a file in the format `to`, which no format refuses but
+// ELF for many sections
 fn plan(alloc: Global, count: u32, to: Format) -> Result<AnyPlan, NoMemory>
-    requires { count ≤ 100000 }
+    requires few { count ≤ 100000 }
+    requires plain { is_many to ≡ false }
     ensures { IfOk result (λ plan. making.IsMadeFile count to (⟦<AnyPlan as Emits>⟧.file plan)) }
 {
     let bytes = made_file(alloc, count, word_of(to))?;
@@ -60,7 +63,8 @@ fn plan(alloc: Global, count: u32, to: Format) -> Result<AnyPlan, NoMemory>
 
 // the same, with the line that says how much was made
 fn prepared(alloc: Global, count: u32, to: Format) -> Result<Made<AnyPlan>, NoMemory>
-    requires { count ≤ 100000 }
+    requires few { count ≤ 100000 }
+    requires plain { is_many to ≡ false }
     ensures planned { IfOk result (λ made. making.IsMadeFile count to (⟦<AnyPlan as Emits>⟧.file made.plan)) }
     ensures summary { IfOk result (λ made. made.summary ≡ making.summary_of count (length (⟦<AnyPlan as Emits>⟧.file made.plan))) }
 {
@@ -69,8 +73,9 @@ fn prepared(alloc: Global, count: u32, to: Format) -> Result<Made<AnyPlan>, NoMe
 }
 
 /// Makes the object of `count` functions in the file `output` in the format `to`, shows how much was
-/// made, and answers the status of the run. The output is created only once its plan and the line to be
-/// shown are made; the line is shown only once the output is whole.
+/// made, and answers the status of the run. `to` is not ELF for many sections, of which the object has
+/// too few. The output is created only once its plan and the line to be shown are made; the line is
+/// shown only once the output is whole.
 pub fn make_file<F: Files, C: Console>(
     alloc: Global,
     files: &mut F,
@@ -79,7 +84,8 @@ pub fn make_file<F: Files, C: Console>(
     to: Format,
     output: &str,
 ) -> u8
-    requires { count ≤ 100000 }
+    requires few { count ≤ 100000 }
+    requires plain { is_many to ≡ false }
     ensures job { making.IsMaking count to output.now
         (state_of F.held F.read_faults F.write_faults C.shown C.told C.out_faults C.err_faults files.old console.old) result
         (state_of F.held F.read_faults F.write_faults C.shown C.told C.out_faults C.err_faults files.new console.new) }

@@ -8,8 +8,6 @@ use Rattle.std.proofs.lemmas.Bool.{true≢false, cases_lt}
 use Rattle.std.proofs.lemmas.List.{length-map}
 use Rattle.std.proofs.lemmas.List.FromFn.{length-enumerate_from}
 use Rattle.std.proofs.lemmas.Option.{none-some, same_Some, slice_get_within}
-use Rattle.oc_base.specs.declared.format.Word.{Word}
-use Rattle.oc_base.specs.declared.format.Word.TheVariants.{W32, W64}
 use Rattle.oc_base.specs.Numbers.{bytes_of_number}
 use Rattle.oc_base.specs.Strings.{table_place, table_text}
 use Rattle.oc_linking.specs.declared.terms.Mark.{Mark}
@@ -71,13 +69,14 @@ use Rattle.oc_coff_read.specs.SymbolEntry.{symbol_bytes}
 use Rattle.oc_coff_read.specs.SectionAux.{section_aux_bytes}
 use Rattle.oc_coff_read.specs.WeakAux.{weak_aux_bytes}
 use Rattle.oc_coff_read.specs.Relocation.{relocation_bytes}
-use Rattle.oc_coff_read.specs.Tables.{usual_sizes}
-use Rattle.oc_coff_read.specs.Fields.{coff_format}
+use Rattle.oc_coff_read.specs.declared.form.CoffForm.{CoffForm}
+use Rattle.oc_coff_read.specs.declared.form.CoffForm.TheVariants.{Usual32, Usual64, Big32, Big64}
+use Rattle.oc_coff_read.specs.Forms.{format_of, word_of, shape_of, symbol_size}
 use Rattle.oc_coff_read.specs.Names.{padded}
 use Rattle.oc_coff_read.specs.Lines.{Line, SectionLine, LocalLine, DefaultLine, OuterLine, lines_where, section_lines, is_written_local, is_free, lines_of, line_size, numbered_lines, entry_count, is_section_line, is_default_line, is_outer_line, section_number, default_number, outer_number}
 use Rattle.oc_coff_read.specs.Bodies.{number_or, field_number, field_patch, field_patches, raw_of, target_number, type_of, relocation_of, relocs_of, with_count}
 use Rattle.oc_coff_read.specs.Layout.{Part, FileHead, SectionHeads, Raw, Relocs, SymbolTable, StringTable, section_parts, parts_of, text_of, part_size, laid_parts, is_raw, is_relocs, is_symbol_table, pointer_to}
-use Rattle.oc_coff_read.specs.Canonical.{symbol_field, section_field, leader_number, leads, selection_of, kept_with, section_flags, header_at, headers_of, numbers_by, default_numbers, type_by, class_by, aux_by, entry, line_entry, tag_of, outer_aux, line_aux, line_rows, entry_rows, machine_of, file_header, part_bytes, coff_file}
+use Rattle.oc_coff_read.specs.Canonical.{symbol_field, section_field, leader_number, leads, selection_of, kept_with, section_flags, header_at, headers_of, numbers_by, default_numbers, type_by, class_by, aux_by, entry, line_entry, tag_of, outer_aux, line_aux, line_rows, entry_rows, machine_of, version_of, file_header, part_bytes, coff_file}
 use Rattle.oc_coff_read.proofs.CodedLaws.{IsForCoff}
 use Rattle.oc_coff_read.proofs.GroupLaws.{key_is, leader_of, first_passing}
 use Rattle.oc_coff_read.proofs.LineLaws.{IsLineOf, numbered_is_of}
@@ -185,11 +184,13 @@ mark_same Function = refl
 mark_same ObjectMark = refl
 
 -- an object of COFF has no types for calls
-pub plain_rows : (w : Word) → AllByRecursion (λ (r : Row). same_hint r.hint Call ≡ false) (rows_of (coff_format w))
-plain_rows W32 = (refl, (refl, (refl, (refl, (refl, tt)))))
-plain_rows W64 = (refl, (refl, (refl, (refl, (refl, (refl, (refl, (refl, (refl, (refl, (refl, tt)))))))))))
+pub plain_rows : (w : CoffForm) → AllByRecursion (λ (r : Row). same_hint r.hint Call ≡ false) (rows_of (format_of w))
+plain_rows Usual32 = (refl, (refl, (refl, (refl, (refl, tt)))))
+plain_rows Usual64 = (refl, (refl, (refl, (refl, (refl, (refl, (refl, (refl, (refl, (refl, (refl, tt)))))))))))
+plain_rows Big32 = (refl, (refl, (refl, (refl, (refl, tt)))))
+plain_rows Big64 = (refl, (refl, (refl, (refl, (refl, (refl, (refl, (refl, (refl, (refl, (refl, tt)))))))))))
 
-module _ (w : Word) (n : Object) (is : IsForCoff w n) where
+module _ (w : CoffForm) (n : Object) (is : IsForCoff w n) where
   abbrev shows : IsShown n (shown n)
   shows = are_shown w n is.format
 
@@ -203,7 +204,7 @@ module _ (w : Word) (n : Object) (is : IsForCoff w n) where
   move = moved coff_manner n (shown n) shows
 
   ready : IsReady coff_manner n
-  ready = coff_ready (coff_format w) n is.object is.meets
+  ready = coff_ready (format_of w) n is.object is.meets
 
   -- ... groups and keys
 
@@ -372,8 +373,8 @@ module _ (w : Word) (n : Object) (is : IsForCoff w n) where
 
   written_local_same : (k number : ℕ) (s : Symbol) → slice_get n.symbols k ≡ Some s → is_written_local w (seen_symbol coff_manner n (shown n) number s) ≡ is_written_local w s
   written_local_same k number s here =
-      ap (λ b. b && is_written (coff_format w) (seen_symbol coff_manner n (shown n) number s)) (local_same number s)
-      ∙ ap (λ b. is_local s.binding && b) (written_same (family_of (coff_format w)).writes_local n (shown n) s.name s.binding)
+      ap (λ b. b && is_written (format_of w) (seen_symbol coff_manner n (shown n) number s)) (local_same number s)
+      ∙ ap (λ b. is_local s.binding && b) (written_same (family_of (format_of w)).writes_local n (shown n) s.name s.binding)
 
   needs_default_same : (k number : ℕ) (s : Symbol) → slice_get n.symbols k ≡ Some s → needs_default (seen_symbol coff_manner n (shown n) number s) ≡ needs_default s
   needs_default_same k number s here = default_same n (shown n) s.binding
@@ -406,11 +407,11 @@ module _ (w : Word) (n : Object) (is : IsForCoff w n) where
 
   -- ... names
 
-  names_same : output_names (coff_format w) a ≡ output_names (coff_format w) n
+  names_same : output_names (format_of w) a ≡ output_names (format_of w) n
   names_same =
-      own_names (coff_format w) a is.format
+      own_names (format_of w) a is.format
       ∙ by 0 n.sections
-      ∙ sym (own_names (coff_format w) n is.format)
+      ∙ sym (own_names (format_of w) n is.format)
     where
       by : (i : ℕ) (xs : List Section) → map (λ (s : Section). s.name) (map (seen_section coff_manner n) (enumerate_from i xs)) ≡ map (λ (s : Section). s.name) xs
       by i [] = refl
@@ -425,7 +426,7 @@ module _ (w : Word) (n : Object) (is : IsForCoff w n) where
       ∙ ap (λ xs. key_strings n i ++ xs) (key_strings_same (i + 1) count (omega (arith, low)))
 
   abbrev writes : List ℕ → Value → Bool
-  writes = (family_of (coff_format w)).writes_local
+  writes = (family_of (format_of w)).writes_local
 
   symbol_names_same : symbol_names writes a ≡ symbol_names writes n
   symbol_names_same =
@@ -440,10 +441,10 @@ module _ (w : Word) (n : Object) (is : IsForCoff w n) where
       ∙ ap (λ xs. names_where (is_written_local w) n ++ xs ++ names_where (is_free a) a) defaults
       ∙ ap (λ xs. names_where (is_written_local w) n ++ flat_map (λ (s : Symbol). defaults_of s.name s.binding) n.symbols ++ xs) others
 
-  strings_same : strings_of (coff_format w) a ≡ strings_of (coff_format w) n
+  strings_same : strings_of (format_of w) a ≡ strings_of (format_of w) n
   unfolding coff_strings
   strings_same =
-      let names : List (List ℕ) = output_names (coff_format w) n in
+      let names : List (List ℕ) = output_names (format_of w) n in
       let count : ℕ = length n.sections in
       let as_many : length a.sections ≡ count = length-map (enumerate_from 0 n.sections) (seen_section coff_manner n) ∙ length-enumerate_from 0 n.sections in
       ap (λ xs. filter is_tabled xs ++ (flat_map (key_strings a) (range_with_len 0 (length a.sections)) ++ filter is_long (symbol_names writes a))) names_same
@@ -451,7 +452,7 @@ module _ (w : Word) (n : Object) (is : IsForCoff w n) where
       ∙ ap (λ xs. filter is_tabled names ++ (xs ++ filter is_long (symbol_names writes a))) (key_strings_same 0 count (omega arith))
       ∙ ap (λ xs. filter is_tabled names ++ (flat_map (key_strings n) (range_with_len 0 count) ++ filter is_long xs)) symbol_names_same
 
-  pub offset_same : (name : List ℕ) → offset_of (coff_format w) a name ≡ offset_of (coff_format w) n name
+  pub offset_same : (name : List ℕ) → offset_of (format_of w) a name ≡ offset_of (format_of w) n name
   unfolding string_offset
   offset_same name = ap (λ names. unwrap_or (table_place STRINGS_HEAD names name) 0) strings_same
 
@@ -593,13 +594,13 @@ module _ (w : Word) (n : Object) (is : IsForCoff w n) where
 
     type_again : type_of w (seen_reloc coff_manner n (shown n) r) ≡ type_of w r
     unfolding type_of
-    type_again = ap (λ o. option_map_or (λ (row : Row). row.number) o IMAGE_REL_I386_ABSOLUTE) (plain_row (coff_format w) (plain_rows w) r.form r.hint)
+    type_again = ap (λ o. option_map_or (λ (row : Row). row.number) o IMAGE_REL_I386_ABSOLUTE) (plain_row (format_of w) (plain_rows w) r.form r.hint)
 
     number_again : field_number w (seen_reloc coff_manner n (shown n) r) ≡ field_number w r
     unfolding field_number
     number_again =
-        ap (λ o. option_map_or (λ (row : Row). number_or (to_field_of w r.form.width (shift_of row) (seen_reloc coff_manner n (shown n) r).addend)) o 0) (plain_row (coff_format w) (plain_rows w) r.form r.hint)
-        ∙ ap (λ x. option_map_or (λ (row : Row). number_or (to_field_of w r.form.width (shift_of row) x)) (written_row (coff_format w) r.form r.hint) 0) reduced
+        ap (λ o. option_map_or (λ (row : Row). number_or (to_field_of (word_of w) r.form.width (shift_of row) (seen_reloc coff_manner n (shown n) r).addend)) o 0) (plain_row (format_of w) (plain_rows w) r.form r.hint)
+        ∙ ap (λ x. option_map_or (λ (row : Row). number_or (to_field_of (word_of w) r.form.width (shift_of row) x)) (written_row (format_of w) r.form r.hint) 0) reduced
 
     patch_again : field_patch w (seen_reloc coff_manner n (shown n) r) ≡ field_patch w r
     patch_again = ap patch number_again
@@ -742,25 +743,25 @@ module _ (w : Word) (n : Object) (is : IsForCoff w n) where
   tag_again k s here (fallback.Name j) own = let y = ready.names k j s here own in outer_number_again j y.symbol y.there y.outer
 
   outer_aux_again : (k : ℕ) (s : Symbol) → slice_get n.symbols k ≡ Some s → (b : Binding) → s.binding ≡ b
-      → outer_aux (numbered_lines w a) (new_position (shown n) k) (seen_binding coff_manner n (shown n) b) ≡ outer_aux (numbered_lines w n) k b
+      → outer_aux (shape_of w) (numbered_lines w a) (new_position (shown n) k) (seen_binding coff_manner n (shown n) b) ≡ outer_aux (shape_of w) (numbered_lines w n) k b
   outer_aux_again k s here (Local v) own = refl
   outer_aux_again k s here (Global v) own = refl
   outer_aux_again k s here Undefined own = refl
   outer_aux_again k s here (Common size align) own = refl
-  outer_aux_again k s here (Weak f) own = ap (λ (tag : ℕ). weak_aux_bytes (weak_as tag) ∷ []) (tag_again k s here f own)
+  outer_aux_again k s here (Weak f) own = ap (λ (tag : ℕ). weak_aux_bytes (shape_of w) (weak_as tag) ∷ []) (tag_again k s here f own)
 
   aux_again : (x : Line) → IsLineOf w n x → line_aux w a (line_again x) ≡ line_aux w n x
   aux_again (SectionLine k s) of =
-      ap (λ rs. section_aux_bytes (aux_as s.size (min (length rs) OVERFLOWED_COUNT) (kept_with a k s.group) (selection_of a k s.group)) ∷ []) (relocs_again k)
-      ∙ ap (λ (x : ℕ). section_aux_bytes (aux_as s.size (min (length (relocs_of w (numbered_lines w n) n k)) OVERFLOWED_COUNT) x (selection_of a k s.group)) ∷ []) (with_again k s of)
-      ∙ ap (λ (x : ℕ). section_aux_bytes (aux_as s.size (min (length (relocs_of w (numbered_lines w n) n k)) OVERFLOWED_COUNT) (kept_with n k s.group) x) ∷ []) (selection_again k s of)
+      ap (λ rs. section_aux_bytes (shape_of w) (aux_as s.size (min (length rs) OVERFLOWED_COUNT) (kept_with a k s.group) (selection_of a k s.group)) ∷ []) (relocs_again k)
+      ∙ ap (λ (x : ℕ). section_aux_bytes (shape_of w) (aux_as s.size (min (length (relocs_of w (numbered_lines w n) n k)) OVERFLOWED_COUNT) x (selection_of a k s.group)) ∷ []) (with_again k s of)
+      ∙ ap (λ (x : ℕ). section_aux_bytes (shape_of w) (aux_as s.size (min (length (relocs_of w (numbered_lines w n) n k)) OVERFLOWED_COUNT) (kept_with n k s.group) x) ∷ []) (selection_again k s of)
   aux_again (LocalLine k s) of = refl
   aux_again (DefaultLine k s) of = refl
   aux_again (OuterLine k s) of = outer_aux_again k s of.0 s.binding refl
 
   rows_again : (x : Line) → IsLineOf w n x → line_rows w a (line_again x) ≡ line_rows w n x
   unfolding line_rows
-  rows_again x of = ap (λ e. symbol_bytes e ∷ line_aux w a (line_again x)) (entry_again x) ∙ ap (λ xs. symbol_bytes (line_entry w n x) ∷ xs) (aux_again x of)
+  rows_again x of = ap (λ e. symbol_bytes (shape_of w) e ∷ line_aux w a (line_again x)) (entry_again x) ∙ ap (λ xs. symbol_bytes (shape_of w) (line_entry w n x) ∷ xs) (aux_again x of)
 
   entries_again : entry_rows w a ≡ entry_rows w n
   entries_again =
@@ -794,7 +795,7 @@ module _ (w : Word) (n : Object) (is : IsForCoff w n) where
   part_size_again SectionHeads = ap (λ count. SECTION_HEADER_SIZE * count) (sections_long coff_manner n (shown n) shows)
   part_size_again (Raw k s) = refl
   part_size_again (Relocs k s) = ap (λ rs. RELOCATION_SIZE * length (with_count rs)) (relocs_again k)
-  part_size_again SymbolTable = ap (λ count. usual_sizes.symbol * count) count_again
+  part_size_again SymbolTable = ap (λ count. symbol_size (shape_of w) * count) count_again
   part_size_again StringTable = ap (λ text. STRINGS_HEAD + length text) text_same
 
   laid_again : laid_parts w a ≡ map (laid_as part_again) (laid_parts w n)
@@ -875,20 +876,21 @@ module _ (w : Word) (n : Object) (is : IsForCoff w n) where
     where
       head : ℕ → ℕ → ℕ → FileHeader
       head sections place symbols = record {
-        Machine = machine_of w;
+        Machine = machine_of (word_of w);
         NumberOfSections = sections;
         TimeDateStamp = 0;
         PointerToSymbolTable = place;
         NumberOfSymbols = symbols;
         SizeOfOptionalHeader = 0;
         Characteristics = 0;
+        Version = version_of (shape_of w);
       }
 
   -- ... the file
 
   bytes_again : (x : Part) → part_bytes w a (part_again x) ≡ part_bytes w n x
   unfolding part_bytes
-  bytes_again FileHead = ap file_header_bytes file_header_again
+  bytes_again FileHead = ap (file_header_bytes (shape_of w)) file_header_again
   bytes_again SectionHeads = ap (flat_map section_header_bytes) headers_again
   bytes_again (Raw k s) = raw_again k s
   bytes_again (Relocs k s) = ap (λ rs. flat_map relocation_bytes (with_count rs)) (relocs_again k)

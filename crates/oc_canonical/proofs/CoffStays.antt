@@ -4,8 +4,6 @@ use Rattle.std.specs.Prelude.{slice_get, bytes_eq, nat_eq}
 use Rattle.std.specs.Option.{option_map, option_map_or, unwrap_or}
 use Rattle.std.proofs.lemmas.Bool.{eq-eqb, lt-ltb}
 use Rattle.std.proofs.lemmas.Slice.Eq.{bytes_eq-Decides}
-use Rattle.oc_base.specs.declared.format.Word.{Word}
-use Rattle.oc_base.specs.declared.format.Word.TheVariants.{W32, W64}
 use Rattle.oc_base.specs.declared.format.Format.{Format}
 use Rattle.oc_base.specs.declared.fault.Spot.{Spot}
 use Rattle.oc_base.specs.Formats.{word_for}
@@ -16,12 +14,11 @@ use Rattle.oc_algebra.specs.Fields.{to_field_of}
 use Rattle.oc_neutral.specs.declared.section.Section.{Section}
 use Rattle.oc_neutral.specs.declared.symbol.Symbol.{Symbol}
 use Rattle.oc_neutral.specs.declared.reloc.Reloc.{Reloc}
-use Rattle.oc_neutral.specs.declared.coff.TheConstants.{IMAGE_SYM_SECTION_MAX}
 use Rattle.oc_neutral.specs.Objects.{Object, reloc_at}
 use Rattle.oc_neutral.specs.Coff.Family.{coff_gives, coff_family, is_far}
 use Rattle.oc_neutral.specs.Coff.Kinds.{coff_kind, coff_tag}
 use Rattle.oc_neutral.specs.Coff.Strings.{is_tabled, string_offset}
-use Rattle.oc_neutral.specs.Families.{family_of}
+use Rattle.oc_neutral.specs.Families.{family_of, section_range}
 use Rattle.oc_neutral.specs.Family.{Family}
 use Rattle.oc_neutral.specs.Fitted.{IsFitted}
 use Rattle.oc_neutral.specs.HomeNames.{output_names}
@@ -37,6 +34,7 @@ use Rattle.oc_neutral.specs.Rows.{Row}
 use Rattle.oc_neutral.specs.Seen.{seen, seen_section, seen_symbol, seen_fallback, seen_reloc}
 use Rattle.oc_neutral.specs.Shifts.{field_shift, written_shift}
 use Rattle.oc_neutral.specs.Spelling.{numbers_in, spelling_of, written_row}
+use Rattle.oc_neutral.specs.TargetSections as sections_of_target
 use Rattle.oc_neutral.specs.TargetSections.{section_count, section_conditions}
 use Rattle.oc_neutral.specs.TargetSymbols.{bounded}
 use Rattle.oc_neutral.specs.TargetRelocations.{reloc_conditions, is_too_wide, section_taken, taken_end, lacks_difference, fixed_end, has_empty_end}
@@ -47,16 +45,26 @@ use Rattle.oc_neutral.proofs.SeenLaws.{seen_is_object_law}
 use Rattle.oc_neutral.proofs.SeenLines.{IsShown}
 use Rattle.oc_neutral.proofs.SeenReady.{IsReady, coff_ready}
 use Rattle.oc_shelf.proofs.WritingLaws.MemberLemmas.{member_passes}
-use Rattle.oc_coff_read.specs.Fields.{coff_format}
+use Rattle.oc_coff_read.specs.declared.form.CoffForm.{CoffForm}
+use Rattle.oc_coff_read.specs.declared.form.CoffForm.TheVariants.{Usual32, Usual64, Big32, Big64}
+use Rattle.oc_coff_read.specs.Forms.{format_of, word_of}
 use Rattle.oc_coff_read.proofs.CodedLaws.{IsForCoff, for_coff}
 use Rattle.oc_coff_read.proofs.SeenLaws.{shown, again, again_is, are_shown}
 use Rattle.oc_canonical.proofs.CoffAgain.{plain_rows, offset_same, key_again}
 use Rattle.oc_canonical.proofs.SeenFitted.{FamilyStays, seen_fitted}
 use Rattle.oc_canonical.proofs.StaysLemmas.{same_kind-self, and_false, or_false, low_not, sections_long, target_stays, plain_row}
 
-family_whole : (w : Word) → family_of (coff_format w) ≡ coff_family w
-family_whole W32 = refl
-family_whole W64 = refl
+family_whole : (w : CoffForm) → family_of (format_of w) ≡ coff_family (word_of w)
+family_whole Usual32 = refl
+family_whole Usual64 = refl
+family_whole Big32 = refl
+family_whole Big64 = refl
+
+least_none : (w : CoffForm) → (section_range (format_of w)).least ≡ 0
+least_none Usual32 = refl
+least_none Usual64 = refl
+least_none Big32 = refl
+least_none Big64 = refl
 
 -- a group with a key symbol has one
 key_told : (n : Object) (g : ℕ) → HasKeySymbol n g → has_key_symbol n g ≡ true
@@ -69,14 +77,14 @@ key_told n g has =
     ∙ (bytes_eq-Decides has.symbol.name has.symbol.name).1 refl in
     member_passes (λ (s : Symbol). lies_in n g s && is_key_name n s.name g) n.symbols has.position has.symbol has.there own
 
-module _ (w : Word) (n : Object) (fits : IsFitted (coff_format w) n) where
+module _ (w : CoffForm) (n : Object) (fits : IsFitted (format_of w) n) where
   is : IsForCoff w n
   is = for_coff w n fits
 
   abbrev target : Format
-  target = coff_format w
+  target = format_of w
 
-  whole : family_of target ≡ coff_family w
+  whole : family_of target ≡ coff_family (word_of w)
   whole = family_whole w
 
   shows : IsShown n (shown n)
@@ -93,11 +101,10 @@ module _ (w : Word) (n : Object) (fits : IsFitted (coff_format w) n) where
   counted : AreMet (section_count target a)
   counted =
       let long = sections_long coff_manner n (shown n) shows in
-      let low = is.meets.few in (
-        subst (λ (f : Family). nat_lt (f.sections (is_relocated target a) a).most (f.sections (is_relocated target a) a).counted ≡ false) (sym whole)
-            (low_not IMAGE_SYM_SECTION_MAX (length a.sections) (omega (arith, long, low))),
-        tt,
-      )
+      let low = is.meets.few in
+      let none = least_none w in
+      subst (λ (f : Family). AreMet (sections_of_target.bounded (section_range target) (f.sections (is_relocated target a) a))) (sym whole)
+      (low_not (length a.sections) (section_range target).least (omega (arith, none)), (low_not (section_range target).most (length a.sections) (omega (arith, long, low)), tt))
 
   abbrev kind_of : Section → Kind
   kind_of s = unwrap_or (coff_kind s.name s.tag) s.kind
@@ -116,7 +123,7 @@ module _ (w : Word) (n : Object) (fits : IsFitted (coff_format w) n) where
   name : (k : ℕ) (s : Section) → slice_get n.sections k ≡ Some s → (family_of target).lacks_name (output_names target a) a s.name (seen_section coff_manner n (k, s)) ≡ false
   unfolding section_conditions
   name k s here =
-      let offset : string_offset (coff_family w).writes_local (output_names target a) a s.name ≡ string_offset (coff_family w).writes_local (output_names target n) n s.name
+      let offset : string_offset (coff_family (word_of w)).writes_local (output_names target a) a s.name ≡ string_offset (coff_family (word_of w)).writes_local (output_names target n) n s.name
       = sym (ap (λ (f : Family). string_offset f.writes_local (output_names target a) a s.name) whole)
       ∙ offset_same w n is s.name
       ∙ ap (λ (f : Family). string_offset f.writes_local (output_names target n) n s.name) whole in

@@ -29,6 +29,7 @@ use Rattle.oc_neutral.specs.declared.reloc.Reloc.{Reloc}
 use Rattle.oc_neutral.specs.declared.reloc.Target.{Target}
 use Rattle.oc_neutral.specs.declared.reloc.Target.TheVariants as target
 use Rattle.oc_neutral.specs.Objects.{Object, reloc_at}
+use Rattle.oc_neutral.specs.Families.{is_many}
 use Rattle.oc_neutral.specs.KeySymbols.{global_place}
 use Rattle.oc_neutral.specs.Manners.{elf_manner, elf_mark, elf_size}
 use Rattle.oc_neutral.specs.Meets.{IsSteadyAt}
@@ -46,26 +47,26 @@ use Rattle.oc_neutral.proofs.SeenReady.{IsReady, elf_ready}
 use Rattle.oc_shelf.specs.Writing.Parts.{Laid, laid, behind, aligned, joined, place_where}
 use Rattle.oc_shelf.proofs.WritingLaws.MemberLemmas.{map-map, map-alike, member_map, filter_map-map, filter_map-results}
 use Rattle.oc_elf_read.specs.declared.class.ElfClass.{ElfClass}
-use Rattle.oc_elf_read.specs.declared.class.ElfClass.TheVariants.{Class32, Class64}
-use Rattle.oc_elf_read.specs.declared.constants.TheConstants.{ELFDATA2LSB, EV_CURRENT, ET_REL, GRP_COMDAT, GRP_ENTRY_SIZE}
+use Rattle.oc_elf_read.specs.declared.class.ElfClass.TheVariants.{Class32, Class64, Big32, Big64}
+use Rattle.oc_elf_read.specs.declared.constants.TheConstants.{ELFDATA2LSB, EV_CURRENT, ET_REL, GRP_COMDAT, GRP_ENTRY_SIZE, SHNDX_SIZE}
 use Rattle.oc_elf_read.specs.declared.ehdr.Ehdr.{Ehdr}
 use Rattle.oc_elf_read.specs.declared.shdr.Shdr.{Shdr}
 use Rattle.oc_elf_read.specs.declared.sym.Sym.{Sym}
 use Rattle.oc_elf_read.specs.declared.rel.Rel.{Rel}
-use Rattle.oc_elf_read.specs.Classes.{format_of, machine_of}
+use Rattle.oc_elf_read.specs.Classes.{format_of, machine_of, is_big}
 use Rattle.oc_elf_read.specs.Ehdr.{ehdr_size}
-use Rattle.oc_elf_read.specs.Shdr.{shdr_size}
+use Rattle.oc_elf_read.specs.Shdr.{shdr_size, null_shdr}
 use Rattle.oc_elf_read.specs.Sym.{sym_size}
 use Rattle.oc_elf_read.specs.Rel.{rel_size}
-use Rattle.oc_elf_file.specs.Structures.{ehdr_bytes, shdr_bytes, sym_bytes, rel_bytes}
-use Rattle.oc_elf_file.specs.Heads.{Head, NullHead, GroupHead, SectionHead, RelocHead, SymtabHead, StrtabHead, ShstrtabHead, placed_sections, group_head, section_head, reloc_head, group_heads, section_heads, reloc_heads, table_heads, heads_of, head_size, numbered_heads, head_where, is_group_head, is_section_head, is_symtab_head, is_strtab_head, is_shstrtab_head, group_number, section_number, head_name}
+use Rattle.oc_elf_file.specs.Structures.{ehdr_bytes, shdr_bytes, sym_bytes, index_bytes, rel_bytes}
+use Rattle.oc_elf_file.specs.Heads.{Head, NullHead, GroupHead, SectionHead, RelocHead, SymtabHead, ShndxHead, StrtabHead, ShstrtabHead, placed_sections, group_head, section_head, reloc_head, group_heads, section_heads, reloc_heads, table_heads_by, table_heads, heads_of, head_size, numbered_heads, head_where, is_group_head, is_section_head, is_symtab_head, is_strtab_head, is_shstrtab_head, group_number, section_number, head_name}
 use Rattle.oc_elf_file.specs.Lines.{Line, NullLine, SectionLine, SignatureLine, LocalLine, OuterLine, section_lines, signature_lines, lines_where, inner_lines, outer_lines, lines_of, line_size, numbered_lines, is_section_line, is_signature_line, own_number, symbol_number, signature_number, line_name}
 use Rattle.oc_elf_file.specs.Groups.{is_member_head, member_number, group_words, group_bytes}
 use Rattle.oc_elf_file.specs.Bodies.{number_or, field_number, field_patch, field_patches, raw_of, target_number, type_of, addend_of, rel_of, rels_of}
 use Rattle.oc_elf_file.specs.Layout.{Part, FileHead, Body, HeadTable, parts_of, is_named, head_names, line_names, strings_of, body_size, part_size, part_align, part_begin, laid_parts, is_head_table}
-use Rattle.oc_elf_file.specs.Headers.{shdr_of, part_header, made_headers}
+use Rattle.oc_elf_file.specs.Headers.{shdr_of, part_header, made_headers, told_names, zero_shdr, with_first, stored_headers}
 use Rattle.oc_elf_file.specs.Symbols.{offset_in, Stood, stood_at, stood_elsewhere, stood_by, stood_for, stood_of, bind_by, type_by, st_info_by, other_by, symbol_entry, line_entry}
-use Rattle.oc_elf_file.specs.Canonical.{file_header, body_bytes, part_bytes, elf_file}
+use Rattle.oc_elf_file.specs.Canonical.{shown_count, shown_names, file_header, body_bytes, part_bytes, elf_file}
 use Rattle.oc_elf_file.proofs.CodedLaws.{IsForElf}
 use Rattle.oc_elf_file.proofs.LineLaws.{IsLineAt, line_at, symbol_found, one_outer}
 use Rattle.oc_elf_file.proofs.RelocLaws.{found_in}
@@ -77,6 +78,8 @@ use Rattle.oc_canonical.proofs.SeenSymbols.{shown_ones, gathered, ones_gathered,
 written : (class : ElfClass) (name : List ℕ) (b : Binding) → (is_local b && is_written_as (format_of class) name b) ≡ is_local b
 written Class32 name (Local v) = refl
 written Class64 name (Local v) = refl
+written Big32 name (Local v) = refl
+written Big64 name (Local v) = refl
 written class name (Global v) = refl
 written class name Undefined = refl
 written class name (Common size align) = refl
@@ -333,6 +336,7 @@ module _ (class : ElfClass) (n : Object) (is : IsForElf class n) where
   head_again (SectionHead k s) = SectionHead k (seen_section elf_manner n (k, s))
   head_again (RelocHead k s) = RelocHead k (seen_section elf_manner n (k, s))
   head_again SymtabHead = SymtabHead
+  head_again ShndxHead = ShndxHead
   head_again StrtabHead = StrtabHead
   head_again ShstrtabHead = ShstrtabHead
 
@@ -350,6 +354,10 @@ module _ (class : ElfClass) (n : Object) (is : IsForElf class n) where
       by true = refl
       by false = refl
 
+  tables_again : (many : Bool) → table_heads_by many ≡ map head_again (table_heads_by many)
+  tables_again true = refl
+  tables_again false = refl
+
   heads_again : heads_of a ≡ map head_again (heads_of n)
   unfolding heads_of
   heads_again =
@@ -363,13 +371,15 @@ module _ (class : ElfClass) (n : Object) (is : IsForElf class n) where
       = ap (filter_map (reloc_head a)) sections_placed
       ∙ filter_map-map (reloc_head a) again_at (placed_sections n)
       ∙ filter_map-results (λ x. reloc_head a (again_at x)) (reloc_head n) head_again (placed_sections n) (λ k x h. reloc_head_again x) in
+      let ts : List Head = table_heads n in
       ap (λ hs. NullHead ∷ hs) (
-      ap (λ hs. hs ++ (section_heads a ++ (reloc_heads a ++ table_heads))) groups
-      ∙ ap (λ hs. map head_again gs ++ (hs ++ (reloc_heads a ++ table_heads))) sections
-      ∙ ap (λ hs. map head_again gs ++ (map head_again ss ++ (hs ++ table_heads))) relocs
-      ∙ ap (λ hs. map head_again gs ++ (map head_again ss ++ hs)) (sym (map_append head_again rs table_heads))
-      ∙ ap (λ hs. map head_again gs ++ hs) (sym (map_append head_again ss (rs ++ table_heads)))
-      ∙ sym (map_append head_again gs (ss ++ (rs ++ table_heads))))
+      ap (λ hs. hs ++ (section_heads a ++ (reloc_heads a ++ table_heads a))) groups
+      ∙ ap (λ hs. map head_again gs ++ (hs ++ (reloc_heads a ++ table_heads a))) sections
+      ∙ ap (λ hs. map head_again gs ++ (map head_again ss ++ (hs ++ table_heads a))) relocs
+      ∙ ap (λ hs. map head_again gs ++ (map head_again ss ++ (map head_again rs ++ hs))) (tables_again (is_many n.format))
+      ∙ ap (λ hs. map head_again gs ++ (map head_again ss ++ hs)) (sym (map_append head_again rs ts))
+      ∙ ap (λ hs. map head_again gs ++ hs) (sym (map_append head_again ss (rs ++ ts)))
+      ∙ sym (map_append head_again gs (ss ++ (rs ++ ts))))
 
   numbered_heads_again : numbered_heads a ≡ map (laid_as head_again) (numbered_heads n)
   numbered_heads_again = ap (laid behind head_size 0) heads_again ∙ laid_map head_again behind behind head_size head_size 0 (heads_of n) (λ k x h p. refl) (λ k x h. refl)
@@ -386,6 +396,7 @@ module _ (class : ElfClass) (n : Object) (is : IsForElf class n) where
       same (SectionHead j s) = refl
       same (RelocHead j s) = refl
       same SymtabHead = refl
+      same ShndxHead = refl
       same StrtabHead = refl
       same ShstrtabHead = refl
 
@@ -398,6 +409,7 @@ module _ (class : ElfClass) (n : Object) (is : IsForElf class n) where
       same (SectionHead j s) = refl
       same (RelocHead j s) = refl
       same SymtabHead = refl
+      same ShndxHead = refl
       same StrtabHead = refl
       same ShstrtabHead = refl
 
@@ -410,6 +422,7 @@ module _ (class : ElfClass) (n : Object) (is : IsForElf class n) where
       same (SectionHead j s) = refl
       same (RelocHead j s) = refl
       same SymtabHead = refl
+      same ShndxHead = refl
       same StrtabHead = refl
       same ShstrtabHead = refl
 
@@ -422,6 +435,7 @@ module _ (class : ElfClass) (n : Object) (is : IsForElf class n) where
       same (SectionHead j s) = refl
       same (RelocHead j s) = refl
       same SymtabHead = refl
+      same ShndxHead = refl
       same StrtabHead = refl
       same ShstrtabHead = refl
 
@@ -434,6 +448,7 @@ module _ (class : ElfClass) (n : Object) (is : IsForElf class n) where
       same (SectionHead j s) = refl
       same (RelocHead j s) = refl
       same SymtabHead = refl
+      same ShndxHead = refl
       same StrtabHead = refl
       same ShstrtabHead = refl
 
@@ -458,6 +473,7 @@ module _ (class : ElfClass) (n : Object) (is : IsForElf class n) where
   head_name_again (SectionHead j s) = refl
   head_name_again (RelocHead j s) = refl
   head_name_again SymtabHead = refl
+  head_name_again ShndxHead = refl
   head_name_again StrtabHead = refl
   head_name_again ShstrtabHead = refl
 
@@ -530,6 +546,12 @@ module _ (class : ElfClass) (n : Object) (is : IsForElf class n) where
       ∙ flat_map-mapped line_again (λ (line : Line). sym_bytes class (line_entry n line)) (λ (line : Line). sym_bytes class (line_entry a line)) (lines_of n)
       (λ k x h. ap (sym_bytes class) (entry_again k x h))
 
+  indexes_again : flat_map (λ (line : Line). index_bytes (line_entry a line)) (lines_of a) ≡ flat_map (λ (line : Line). index_bytes (line_entry n line)) (lines_of n)
+  indexes_again =
+      ap (flat_map (λ (line : Line). index_bytes (line_entry a line))) lines_again
+      ∙ flat_map-mapped line_again (λ (line : Line). index_bytes (line_entry n line)) (λ (line : Line). index_bytes (line_entry a line)) (lines_of n)
+      (λ k x h. ap index_bytes (entry_again k x h))
+
   -- ... relocations
 
   -- what is seen of a relocation has the addend
@@ -548,6 +570,8 @@ module _ (class : ElfClass) (n : Object) (is : IsForElf class n) where
     addend_again : (class : ElfClass) → addend_of class (seen_reloc elf_manner n (shown n) r) ≡ addend_of class r
     addend_again Class32 = refl
     addend_again Class64 = ap (residue_of W64) reduced
+    addend_again Big32 = refl
+    addend_again Big64 = ap (residue_of W64) reduced
 
     patch_again : field_patch (seen_reloc elf_manner n (shown n) r) ≡ field_patch r
     unfolding field_number
@@ -584,6 +608,8 @@ module _ (class : ElfClass) (n : Object) (is : IsForElf class n) where
   unfolding raw_of
   raw_again Class32 k s = ap (λ o. overlay o 0 s.bytes) (fun_ext (λ at. patches_again k at))
   raw_again Class64 k s = refl
+  raw_again Big32 k s = ap (λ o. overlay o 0 s.bytes) (fun_ext (λ at. patches_again k at))
+  raw_again Big64 k s = refl
 
   -- ... groups
 
@@ -601,6 +627,7 @@ module _ (class : ElfClass) (n : Object) (is : IsForElf class n) where
       same (SectionHead j s) = refl
       same (RelocHead j s) = refl
       same SymtabHead = refl
+      same ShndxHead = refl
       same StrtabHead = refl
       same ShstrtabHead = refl
 
@@ -612,6 +639,7 @@ module _ (class : ElfClass) (n : Object) (is : IsForElf class n) where
   body_size_again (SectionHead k s) = refl
   body_size_again (RelocHead k s) = ap (λ count. rel_size class * count) (count_again k)
   body_size_again SymtabHead = ap (λ count. sym_size class * count) (ap length lines_again ∙ length-map (lines_of n) line_again)
+  body_size_again ShndxHead = ap (λ count. SHNDX_SIZE * count) (ap length lines_again ∙ length-map (lines_of n) line_again)
   body_size_again StrtabHead = ap (λ names. length (strings_of names)) line_names_again
   body_size_again ShstrtabHead = ap (λ names. length (strings_of names)) head_names_again
 
@@ -627,6 +655,7 @@ module _ (class : ElfClass) (n : Object) (is : IsForElf class n) where
   align_again (Body (SectionHead k s)) = refl
   align_again (Body (RelocHead k s)) = refl
   align_again (Body SymtabHead) = refl
+  align_again (Body ShndxHead) = refl
   align_again (Body StrtabHead) = refl
   align_again (Body ShstrtabHead) = refl
   align_again HeadTable = refl
@@ -663,6 +692,8 @@ module _ (class : ElfClass) (n : Object) (is : IsForElf class n) where
       header_same _ _ at _ _ _ _ _ _ _ _ _ _ (ap (λ names. offset_in names (head_name class (RelocHead k s))) head_names_again) (body_size_again (RelocHead k s)) symtab_again (section_number_again k)
   shdr_again at SymtabHead =
       header_same _ _ at _ _ _ _ _ _ _ _ _ _ (ap (λ names. offset_in names (head_name class SymtabHead)) head_names_again) (body_size_again SymtabHead) strtab_again (ap length inner_again ∙ length-map (inner_lines n) line_again)
+  shdr_again at ShndxHead =
+      header_same _ _ at _ _ _ _ _ _ _ _ _ _ (ap (λ names. offset_in names (head_name class ShndxHead)) head_names_again) (body_size_again ShndxHead) symtab_again refl
   shdr_again at StrtabHead =
       header_same _ _ at _ _ _ _ _ _ _ _ _ _ (ap (λ names. offset_in names (head_name class StrtabHead)) head_names_again) (body_size_again StrtabHead) refl refl
   shdr_again at ShstrtabHead =
@@ -679,6 +710,17 @@ module _ (class : ElfClass) (n : Object) (is : IsForElf class n) where
       same at FileHead = refl
       same at (Body h) = ap Some (shdr_again at h)
       same at HeadTable = refl
+
+  zero_again : zero_shdr class a ≡ zero_shdr class n
+  zero_again =
+      ap (λ (k : ℕ). zero k (head_where a is_shstrtab_head)) (ap length heads_again ∙ length-map (heads_of n) head_again) ∙ ap (λ (k : ℕ). zero (length (heads_of n)) k) shstrtab_again
+    where
+      zero : ℕ → ℕ → Shdr
+      zero count names = cond {A = Shdr} (is_big class) (record null_shdr { sh_size = count; sh_link = told_names names }) null_shdr
+
+  stored_again : stored_headers class a ≡ stored_headers class n
+  unfolding stored_headers
+  stored_again = ap (λ s. with_first s (made_headers class a)) zero_again ∙ ap (with_first (zero_shdr class n)) headers_again
 
   table_again : place_where is_head_table (laid_parts class a) ≡ place_where is_head_table (laid_parts class n)
   table_again = ap (place_where is_head_table) laid_again ∙ place_map part_again is_head_table is_head_table (laid_parts class n) same
@@ -705,8 +747,8 @@ module _ (class : ElfClass) (n : Object) (is : IsForElf class n) where
         e_shoff = shoff;
         e_ehsize = ehdr_size class;
         e_shentsize = shdr_size class;
-        e_shnum = shnum;
-        e_shstrndx = shstrndx;
+        e_shnum = shown_count class shnum;
+        e_shstrndx = shown_names class shstrndx;
       }
 
   -- ... the file
@@ -717,6 +759,7 @@ module _ (class : ElfClass) (n : Object) (is : IsForElf class n) where
   body_again (SectionHead k s) = raw_again class k s
   body_again (RelocHead k s) = ap (flat_map (rel_bytes class)) (rels_again k)
   body_again SymtabHead = symbols_again
+  body_again ShndxHead = indexes_again
   body_again StrtabHead = ap strings_of line_names_again
   body_again ShstrtabHead = ap strings_of head_names_again
 
@@ -724,7 +767,7 @@ module _ (class : ElfClass) (n : Object) (is : IsForElf class n) where
   unfolding part_bytes
   bytes_again FileHead = ap (ehdr_bytes class) file_header_again
   bytes_again (Body h) = body_again h
-  bytes_again HeadTable = ap (flat_map (shdr_bytes class)) headers_again
+  bytes_again HeadTable = ap (flat_map (shdr_bytes class)) stored_again
 
   pub elf_file_again : elf_file class (seen n) ≡ elf_file class n
   unfolding elf_file

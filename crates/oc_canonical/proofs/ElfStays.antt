@@ -5,7 +5,7 @@ use Rattle.std.specs.Prelude.{slice_get}
 use Rattle.std.specs.List.{range_with_len}
 use Rattle.std.specs.Option.{option_map_or, option_and_then}
 use Rattle.oc_base.specs.declared.format.Format.{Format}
-use Rattle.oc_base.specs.declared.format.Format.TheVariants.{Elf32}
+use Rattle.oc_base.specs.declared.format.Word.TheVariants.{W32}
 use Rattle.oc_base.specs.declared.fault.Spot.{Spot}
 use Rattle.oc_base.specs.Formats.{word_for}
 use Rattle.oc_linking.specs.declared.terms.Kind.{Kind}
@@ -20,7 +20,7 @@ use Rattle.oc_neutral.specs.declared.reloc.Reloc.{Reloc}
 use Rattle.oc_neutral.specs.Objects.{Object, reloc_at}
 use Rattle.oc_neutral.specs.Elf.Family.{elf_gives, elf_family, header_count, signature_count, elf_symbol_count, elf_symbols}
 use Rattle.oc_neutral.specs.Elf.Kinds.{elf_kind, elf_tag_type, elf_tag_flags, is_nobits_tag, is_carried_type}
-use Rattle.oc_neutral.specs.Families.{family_of}
+use Rattle.oc_neutral.specs.Families.{family_of, is_many, Range, section_range}
 use Rattle.oc_neutral.specs.Family.{Family}
 use Rattle.oc_neutral.specs.Fitted.{IsFitted}
 use Rattle.oc_neutral.specs.HomeNames.{output_names}
@@ -28,7 +28,7 @@ use Rattle.oc_neutral.specs.Invariants.{IsObject}
 use Rattle.oc_neutral.specs.KeySymbols.{global_place}
 use Rattle.oc_neutral.specs.KindRules.{same_kind, has}
 use Rattle.oc_neutral.specs.Mach.SelfReferences.{is_self_reference}
-use Rattle.oc_neutral.specs.declared.elf.TheConstants.{SHF_ALLOC, SHN_LORESERVE}
+use Rattle.oc_neutral.specs.declared.elf.TheConstants.{SHF_ALLOC}
 use Rattle.oc_neutral.specs.Manners.{elf_manner}
 use Rattle.oc_neutral.specs.Meets.{IsSteadyAt}
 use Rattle.oc_neutral.specs.Normal.{Place}
@@ -36,6 +36,7 @@ use Rattle.oc_neutral.specs.Relocated.{is_relocated}
 use Rattle.oc_neutral.specs.Seen.{place_at, new_position, seen, seen_section, seen_symbol, seen_fallback, seen_reloc}
 use Rattle.oc_neutral.specs.Shifts.{field_shift}
 use Rattle.oc_neutral.specs.Stored.{is_stored}
+use Rattle.oc_neutral.specs.TargetSections as sections_of_target
 use Rattle.oc_neutral.specs.TargetSections.{section_count, section_conditions}
 use Rattle.oc_neutral.specs.TargetSymbols.{bounded}
 use Rattle.oc_neutral.specs.TargetRelocations.{reloc_conditions, is_too_wide, section_taken, taken_end, lacks_difference, fixed_end, has_empty_end}
@@ -46,7 +47,7 @@ use Rattle.oc_neutral.proofs.SeenLaws.{seen_is_object_law}
 use Rattle.oc_neutral.proofs.SeenLines.{IsShown}
 use Rattle.oc_neutral.proofs.SeenReady.{IsReady, elf_ready}
 use Rattle.oc_elf_read.specs.declared.class.ElfClass.{ElfClass}
-use Rattle.oc_elf_read.specs.declared.class.ElfClass.TheVariants.{Class32, Class64}
+use Rattle.oc_elf_read.specs.declared.class.ElfClass.TheVariants.{Class32, Class64, Big32, Big64}
 use Rattle.oc_elf_read.specs.Classes.{word_of, format_of}
 use Rattle.oc_elf_file.proofs.CodedLaws.{IsForElf, for_elf}
 use Rattle.oc_elf_file.proofs.SeenLaws.{shown, again, again_is, are_shown}
@@ -55,9 +56,11 @@ use Rattle.oc_canonical.proofs.SeenSums.{seen_few}
 use Rattle.oc_canonical.proofs.SeenFitted.{FamilyStays, seen_fitted}
 use Rattle.oc_canonical.proofs.StaysLemmas.{same_kind-self, and_false, or_false, low_not, none_member, sections_long, relocated_same, target_stays}
 
-family_whole : (class : ElfClass) → family_of (format_of class) ≡ elf_family (word_of class)
+family_whole : (class : ElfClass) → family_of (format_of class) ≡ elf_family (is_many (format_of class)) (word_of class)
 family_whole Class32 = refl
 family_whole Class64 = refl
+family_whole Big32 = refl
+family_whole Big64 = refl
 
 module _ (class : ElfClass) (n : Object) (fits : IsFitted (format_of class) n) where
   is : IsForElf class n
@@ -66,7 +69,10 @@ module _ (class : ElfClass) (n : Object) (fits : IsFitted (format_of class) n) w
   abbrev target : Format
   target = format_of class
 
-  whole : family_of target ≡ elf_family (word_of class)
+  abbrev many : Bool
+  many = is_many target
+
+  whole : family_of target ≡ elf_family many (word_of class)
   whole = family_whole class
 
   shows : IsShown n (shown n)
@@ -84,17 +90,18 @@ module _ (class : ElfClass) (n : Object) (fits : IsFitted (format_of class) n) w
 
   -- ... sections
 
+  headers_same : header_count many (is_relocated target a) a ≡ header_count many (is_relocated target n) n
+  headers_same =
+      ap (λ f. header_count many f a) (fun_ext (λ k. relocated_same elf_manner n (shown n) shows target stored_same k))
+      ∙ ap (λ (k : ℕ). cond many 5 4 + length n.groups + k + count_by (is_relocated target n) (range_with_len 0 k)) (sections_long elf_manner n (shown n) shows)
+
   counted : AreMet (section_count target a)
   counted =
-      let relocated : header_count (is_relocated target a) a ≡ header_count (is_relocated target n) a
-      = ap (λ f. header_count f a) (fun_ext (λ k. relocated_same elf_manner n (shown n) shows target stored_same k)) in
-      let long = sections_long elf_manner n (shown n) shows in
-      let same : header_count (is_relocated target n) a ≡ header_count (is_relocated target n) n
-      = ap (λ (k : ℕ). 4 + length n.groups + k + count_by (is_relocated target n) (range_with_len 0 k)) long in
-      let low = is.meets.headers in (
-        subst (λ (f : Family). nat_lt (f.sections (is_relocated target a) a).most (f.sections (is_relocated target a) a).counted ≡ false) (sym whole)
-            (low_not (SHN_LORESERVE - 1) (header_count (is_relocated target a) a) (subst (λ (k : ℕ). k ≤ SHN_LORESERVE - 1) (sym (relocated ∙ same)) low)),
-        tt,
+      let range : Range = section_range target in
+      let count : ℕ = header_count many (is_relocated target a) a in
+      subst (λ (f : Family). AreMet (sections_of_target.bounded range (f.sections (is_relocated target a) a))) (sym whole) (
+        low_not count range.least (subst (λ (k : ℕ). range.least ≤ k) (sym headers_same) is.meets.least),
+        (low_not range.most count (subst (λ (k : ℕ). k ≤ range.most) (sym headers_same) is.meets.headers), tt),
       )
 
   abbrev kind_of : Section → Kind
@@ -126,28 +133,32 @@ module _ (class : ElfClass) (n : Object) (fits : IsFitted (format_of class) n) w
   signatures : signature_count a ≡ signature_count n
   signatures = ap (λ f. count_by f n.groups) (fun_ext (λ g. signature_same class n is g))
 
+  short : elf_symbol_count n < 2 ^ 24 → AreMet (option_map_or bounded (elf_symbols W32 a) [])
+  short low =
+      let long = sections_long elf_manner n (shown n) shows in
+      let fewer = seen_few elf_manner n (shown n) shows in
+      let signs = signatures in
+      (low_not 0xFFFFFF (elf_symbol_count a) (omega (arith, low, long, fewer, signs)), tt)
+
   few : AreMet (option_map_or bounded ((family_of target).symbols a) [])
   few = subst (λ (f : Family). AreMet (option_map_or bounded (f.symbols a) [])) (sym whole) (by class is.meets.table)
     where
-      by : (c : ElfClass) → (format_of c ≡ Elf32 → elf_symbol_count n < 2 ^ 24) → AreMet (option_map_or bounded (elf_symbols (word_of c) a) [])
+      by : (c : ElfClass) → (word_for (format_of c) ≡ W32 → elf_symbol_count n < 2 ^ 24) → AreMet (option_map_or bounded (elf_symbols (word_of c) a) [])
+      by Class32 table = short (table refl)
       by Class64 table = tt
-      by Class32 table =
-          let low = table refl in
-          let long = sections_long elf_manner n (shown n) shows in
-          let short = seen_few elf_manner n (shown n) shows in
-          let signs = signatures in
-          (low_not 0xFFFFFF (elf_symbol_count a) (omega (arith, low, long, short, signs)), tt)
+      by Big32 table = short (table refl)
+      by Big64 table = tt
 
   weak : (k : ℕ) (s : Symbol) (f : Fallback) → slice_get n.symbols k ≡ Some s → s.binding ≡ Weak f → (family_of target).lacks_weak a (seen_fallback elf_manner n (shown n) f) ≡ false
   weak k s f here own = ap (λ (g : Family). g.lacks_weak a (seen_fallback elf_manner n (shown n) f)) whole ∙ by f own
     where
-      by : (f : Fallback) → s.binding ≡ Weak f → (elf_family (word_of class)).lacks_weak a (seen_fallback elf_manner n (shown n) f) ≡ false
+      by : (f : Fallback) → s.binding ≡ Weak f → (elf_family many (word_of class)).lacks_weak a (seen_fallback elf_manner n (shown n) f) ≡ false
       by (fallback.Place j offset) own = refl
       by fallback.Zero own = refl
       by (fallback.Name j) own =
           let st : IsSteadyAt n j = (is.meets.symbols k s here).steady j own in
           let at : place_at n j ≡ Some st.place = ap (option_and_then (λ (x : Symbol). global_place x.binding)) st.there ∙ st.placed in
-          ap (λ o. (elf_family (word_of class)).lacks_weak a (option_map_or (λ (place : Place). fallback.Place place.0 place.1) o (fallback.Name (new_position (shown n) j)))) at
+          ap (λ o. (elf_family many (word_of class)).lacks_weak a (option_map_or (λ (place : Place). fallback.Place place.0 place.1) o (fallback.Name (new_position (shown n) j)))) at
 
   -- ... relocations
 

@@ -16,3 +16,4 @@ pub mod SeenSymbols
 pub mod Stable
 pub mod StaysLemmas
 pub mod SumLemmas
+pub mod Known

@@ -27,7 +27,7 @@ use Rattle.oc_neutral.specs.declared.reloc.Target.{Target}
 use Rattle.oc_neutral.specs.declared.reloc.Target.TheVariants as aim
 use Rattle.oc_neutral.specs.Objects.{Object, reloc_at}
 use Rattle.oc_neutral.specs.Bindings.{is_written_by}
-use Rattle.oc_neutral.specs.Families.{family_of}
+use Rattle.oc_neutral.specs.Families.{family_of, Range, upto, section_range}
 use Rattle.oc_neutral.specs.Family.{Family}
 use Rattle.oc_neutral.specs.Fitted.{IsFitted}
 use Rattle.oc_neutral.specs.HomeNames.{output_names}
@@ -45,6 +45,7 @@ use Rattle.oc_neutral.specs.Seen.{place_at, section_place, seen, seen_section, s
 use Rattle.oc_neutral.specs.Shifts.{field_shift, written_shift}
 use Rattle.oc_neutral.specs.Spelling.{numbers_in, spelling_of, written_row}
 use Rattle.oc_neutral.specs.Stored.{is_stored}
+use Rattle.oc_neutral.specs.TargetSections as sections_of_target
 use Rattle.oc_neutral.specs.TargetSections.{section_count, section_conditions}
 use Rattle.oc_neutral.specs.TargetSymbols.{bounded}
 use Rattle.oc_neutral.specs.TargetRelocations.{reloc_conditions, is_too_wide, taken_end, lacks_difference, fixed_end, global_section, has_empty_end, is_empty, is_symbol}
@@ -63,6 +64,10 @@ use Rattle.oc_canonical.proofs.StaysLemmas.{same_kind-self, and_false, or_false,
 family_whole : (w : Word) → family_of (mach_format w) ≡ mach_family w
 family_whole W32 = refl
 family_whole W64 = refl
+
+range_whole : (w : Word) → section_range (mach_format w) ≡ upto 255
+range_whole W32 = refl
+range_whole W64 = refl
 
 comma_in : (xs ys : List ℕ) → list_any is_comma (xs ++ 44 ∷ ys) ≡ true
 comma_in [] ys = refl
@@ -110,11 +115,10 @@ module _ (w : Word) (n : Object) (fits : IsFitted (mach_format w) n) where
   counted : AreMet (section_count target a)
   counted =
       let long = sections_long m n sh shows in
-      let low = is.meets.few in (
-        subst (λ (f : Family). nat_lt (f.sections (is_relocated target a) a).most (f.sections (is_relocated target a) a).counted ≡ false) (sym whole)
-            (low_not 255 (length a.sections) (omega (arith, long, low))),
-        tt,
-      )
+      let low = is.meets.few in
+      let count : ℕ = length a.sections in
+      subst (λ (f : Family). AreMet (sections_of_target.bounded (section_range target) (f.sections (is_relocated target a) a))) (sym whole)
+      (subst (λ (range : Range). AreMet (sections_of_target.bounded range count)) (sym (range_whole w)) (low_not count 0 (omega arith), (low_not 255 count (omega (arith, long, low)), tt)))
 
   abbrev kind_of : Section → Kind
   kind_of s = mach_kind (segment_of s.name) (section_of s.name) s.tag

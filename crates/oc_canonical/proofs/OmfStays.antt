@@ -112,7 +112,7 @@ module _ (n : Object) (fits : IsFitted Omf n) where
 
   omf_stays : FamilyStays Omf omf_manner n (shown n)
   omf_stays = record {
-    counted = (let long = sections_long omf_manner n (shown n) shows in let low = is.meets.few in (low_not 30000 (length a.sections) (omega (arith, long, low)), tt));
+    counted = (let long = sections_long omf_manner n (shown n) shows in let low = is.meets.few in (low_not (length a.sections) 0 (omega arith), (low_not 30000 (length a.sections) (omega (arith, long, low)), tt)));
     debug = λ k s here. ap (λ b. b && true) (kind_of k s here).debug;
     kind = λ k s here. (kind_of k s here).there;
     gives = λ k s here. ap (λ b. b && omf_gives s.kind) (eq-eqb s.tag 0 (is.meets.sections k s here).tag) ∙ (kind_of k s here).given;

@@ -20,7 +20,7 @@ use Rattle.oc_names.specs.Kept.{keep_for}
 use Rattle.oc_convert.specs.Refusals.{object_refusal, edited_refusal, kept_of_file}
 use Rattle.oc_convert.specs.Converted.{on_ok}
 use Rattle.oc_elf_read.specs.declared.class.ElfClass.{ElfClass}
-use Rattle.oc_elf_read.specs.declared.class.ElfClass.TheVariants.{Class32, Class64}
+use Rattle.oc_elf_read.specs.declared.class.ElfClass.TheVariants.{Class32, Class64, Big32, Big64}
 use Rattle.oc_elf_read.specs.Elf.{elf_dialect}
 use Rattle.oc_elf_file.specs.Canonical.{elf_file}
 use Rattle.oc_elf_file.proofs.CodedLaws.{for_elf}
@@ -31,6 +31,8 @@ use Rattle.oc_canonical.proofs.ElfAgain.{elf_file_again}
 use Rattle.oc_canonical.proofs.ElfStays.{elf_seen_fitted}
 use Rattle.oc_base.specs.declared.format.Word.{Word}
 use Rattle.oc_base.specs.declared.format.Word.TheVariants.{W32, W64}
+use Rattle.oc_coff_read.specs.declared.form.CoffForm.{CoffForm}
+use Rattle.oc_coff_read.specs.declared.form.CoffForm.TheVariants.{Usual32, Usual64, Big32, Big64}
 use Rattle.oc_coff_read.specs.Rules.{coff_dialect}
 use Rattle.oc_coff_read.specs.Canonical.{coff_file}
 use Rattle.oc_coff_read.proofs.CodedLaws.{for_coff}
@@ -106,6 +108,8 @@ own_of_all g canonical law every n fits =
 elf_keeps : (class : ElfClass) → kept_of_file no_wishes (elf_dialect class) (elf_dialect class).format ≡ all
 elf_keeps Class32 = refl
 elf_keeps Class64 = refl
+elf_keeps Big32 = refl
+elf_keeps Big64 = refl
 
 pub elf_reads_back : ElfReadsBack
 elf_reads_back class = record {
@@ -114,9 +118,11 @@ elf_reads_back class = record {
   own = λ n fits. own_of_all (elf_dialect class) (elf_file class) (elf_is_written class) (elf_keeps class) n fits;
 }
 
-coff_keeps : (w : Word) → kept_of_file no_wishes (coff_dialect w) (coff_dialect w).format ≡ all
-coff_keeps W32 = refl
-coff_keeps W64 = refl
+coff_keeps : (w : CoffForm) → kept_of_file no_wishes (coff_dialect w) (coff_dialect w).format ≡ all
+coff_keeps Usual32 = refl
+coff_keeps Usual64 = refl
+coff_keeps Big32 = refl
+coff_keeps Big64 = refl
 
 pub coff_reads_back : CoffReadsBack
 coff_reads_back w = record {

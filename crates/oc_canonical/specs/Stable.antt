@@ -16,6 +16,7 @@ use Rattle.oc_convert.specs.Converted.{planned_file}
 use Rattle.oc_elf_read.specs.declared.class.ElfClass.{ElfClass}
 use Rattle.oc_elf_read.specs.Elf.{elf_dialect}
 use Rattle.oc_elf_file.specs.Canonical.{elf_file}
+use Rattle.oc_coff_read.specs.declared.form.CoffForm.{CoffForm}
 use Rattle.oc_coff_read.specs.Rules.{coff_dialect}
 use Rattle.oc_coff_read.specs.Canonical.{coff_file}
 use Rattle.oc_macho_read.specs.Rules.{mach_dialect}
@@ -54,7 +55,7 @@ abbrev pub ElfReadsBack : Type 0
 ElfReadsBack = (class : ElfClass) → ReadsBack (elf_dialect class) (elf_file class)
 
 abbrev pub CoffReadsBack : Type 0
-CoffReadsBack = (w : Word) → ReadsBack (coff_dialect w) (coff_file w)
+CoffReadsBack = (form : CoffForm) → ReadsBack (coff_dialect form) (coff_file form)
 
 abbrev pub MachReadsBack : Type 0
 MachReadsBack = (w : Word) → ReadsBack (mach_dialect w) (mach_file w)

@@ -1,6 +1,8 @@
 //! The planned file of any format, and the writers that plan it.
 ghost use Rattle.std.specs.Prelude.{◌≡◌, ℕ, List};
 
+use oc_big_coff::{BigCoffWriter32, BigCoffWriter64};
+use oc_big_elf::{BigElfWriter32, BigElfWriter64};
 use oc_coff_write::{CoffWriter32, CoffWriter64};
 use oc_elf_write::{ElfWriter32, ElfWriter64};
 use oc_macho_write::{MachWriter32, MachWriter64};
@@ -95,5 +97,29 @@ impl PlansAny for MachWriter64 {
 impl PlansAny for OmfWriter {
     fn any(plan: oc_omf_write::Plan) -> AnyPlan {
         AnyPlan::Omf(plan)
+    }
+}
+
+impl PlansAny for BigElfWriter32 {
+    fn any(plan: oc_elf_write::Plan) -> AnyPlan {
+        AnyPlan::Elf(plan)
+    }
+}
+
+impl PlansAny for BigElfWriter64 {
+    fn any(plan: oc_elf_write::Plan) -> AnyPlan {
+        AnyPlan::Elf(plan)
+    }
+}
+
+impl PlansAny for BigCoffWriter32 {
+    fn any(plan: oc_coff_write::Plan) -> AnyPlan {
+        AnyPlan::Coff(plan)
+    }
+}
+
+impl PlansAny for BigCoffWriter64 {
+    fn any(plan: oc_coff_write::Plan) -> AnyPlan {
+        AnyPlan::Coff(plan)
     }
 }

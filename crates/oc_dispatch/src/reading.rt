@@ -10,6 +10,8 @@ ghost use Rattle.oc_dispatch.specs.Built.{IsRead, built};
 
 use crate::header::header_refusal;
 use oc_base::{Code, Format};
+use oc_big_coff::{BigCoffReader32, BigCoffReader64};
+use oc_big_elf::{BigElfReader32, BigElfReader64};
 use oc_coff_reader::{CoffReader32, CoffReader64};
 use oc_convert::{ConvertFault, identify};
 use oc_elf_read::{ElfReader32, ElfReader64};
@@ -69,5 +71,9 @@ pub fn read_any(alloc: Global, bytes: &[u8], keep: &Keep) -> Result<Neutral, Con
         Some(Format::Mac32) => read_by(alloc, &MachReader32, bytes, keep),
         Some(Format::Mac64) => read_by(alloc, &MachReader64, bytes, keep),
         Some(Format::Omf) => read_by(alloc, &OmfReader, bytes, keep),
+        Some(Format::BigElf32) => read_by(alloc, &BigElfReader32, bytes, keep),
+        Some(Format::BigElf64) => read_by(alloc, &BigElfReader64, bytes, keep),
+        Some(Format::BigCoff32) => read_by(alloc, &BigCoffReader32, bytes, keep),
+        Some(Format::BigCoff64) => read_by(alloc, &BigCoffReader64, bytes, keep),
     }
 }

@@ -3,6 +3,7 @@ ghost use Rattle.std.specs.Prelude.{◌≡◌, ◌++◌, ◌^◌, OnOk, string_b
 ghost use Rattle.oc_dump.specs.Lines as lines;
 
 use oc_base::{NoMemory, Word};
+use oc_weight::with_text;
 
 // puts a byte of a name after the text
 #[tactic(auto, using(crate::proofs::HexLemmas::hex_shown))]
@@ -20,10 +21,12 @@ fn put_byte(out: &mut String, byte: u8) -> Result<(), NoMemory>
 /// Puts a name after the text: graphic characters of ASCII but the backslash as they are, every
 /// other byte as `\x` and two digits.
 ///
-/// `NoMemory` where memory ran out; then a part may have been put. Linear in the name.
+/// `NoMemory` where the text would have more than 2^29 bytes with those of the name, or where memory ran
+/// out; then a part may have been put. Linear in the name.
 pub fn put_name(out: &mut String, name: &[u8]) -> Result<(), NoMemory>
     ensures { OnOk result (string_bytes out.new ≡ string_bytes out.old ++ lines.shown_name name.now) }
 {
+    let _ = with_text(out.len() as u64, name.len() as u64)?;
     for byte in name {
         put_byte(out, *byte)?;
     }

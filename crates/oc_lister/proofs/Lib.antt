@@ -1,5 +1,4 @@
 pub mod ReadLaws
-mod ElfFiles
 mod ElfRows
 mod CoffRows
 mod MachRows

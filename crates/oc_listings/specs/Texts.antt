@@ -2,7 +2,7 @@
 use Rattle.std.specs.Prelude.{ℕ, List, ◌++◌, codes}
 use Rattle.std.specs.Fmt.{decimal}
 use Rattle.oc_base.specs.declared.format.Format.{Format}
-use Rattle.oc_base.specs.declared.format.Format.TheVariants.{Elf32, Elf64, Coff32, Coff64, Mac32, Mac64, Omf}
+use Rattle.oc_base.specs.declared.format.Format.TheVariants.{Elf32, Elf64, Coff32, Coff64, Mac32, Mac64, Omf, BigElf32, BigElf64, BigCoff32, BigCoff64}
 use Rattle.oc_base.specs.declared.format.Word.{Word}
 use Rattle.oc_linking.specs.declared.terms.Check.{Check}
 use Rattle.oc_linking.specs.declared.terms.Check.TheVariants as check
@@ -13,7 +13,7 @@ use Rattle.oc_linking.specs.Fits.{bytes_of}
 use Rattle.oc_dump.specs.Lines.{digit_count, hex, shown_name}
 
 -- the name of a format
-abbrev pub format_text : Format → List ℕ
+unfoldable pub format_text : Format → List ℕ
 format_text Elf32 = codes "elf32"
 format_text Elf64 = codes "elf64"
 format_text Coff32 = codes "coff32"
@@ -21,6 +21,10 @@ format_text Coff64 = codes "coff64"
 format_text Mac32 = codes "mac32"
 format_text Mac64 = codes "mac64"
 format_text Omf = codes "omf"
+format_text BigElf32 = codes "bigelf32"
+format_text BigElf64 = codes "bigelf64"
+format_text BigCoff32 = codes "bigcoff32"
+format_text BigCoff64 = codes "bigcoff64"
 
 -- what a section is for
 abbrev pub kind_text : Kind → List ℕ

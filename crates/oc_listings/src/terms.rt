@@ -6,6 +6,7 @@ use oc_base::Format;
 use oc_linking::{Check, Kind};
 
 /// The name of a format. Constant time, no memory.
+#[tactic(auto, unfolding(crate::specs::Texts::format_text))]
 pub(crate) fn format_text(format: Format) -> &'static str
     ensures { result.now ≡ texts.format_text format }
 {
@@ -17,6 +18,10 @@ pub(crate) fn format_text(format: Format) -> &'static str
         Format::Mac32 => "mac32",
         Format::Mac64 => "mac64",
         Format::Omf => "omf",
+        Format::BigElf32 => "bigelf32",
+        Format::BigElf64 => "bigelf64",
+        Format::BigCoff32 => "bigcoff32",
+        Format::BigCoff64 => "bigcoff64",
     }
 }
 

@@ -1,13 +1,13 @@
--- What is made can be written in every format.
+-- What is made can be written in every format but ELF for many sections.
 use Rattle.std.proofs.Common.{◌≡◌, ◌≢◌, ℕ, zero, suc, ◌+◌, ◌*◌, ◌%◌, ◌≤◌, Bool, true, false, cond, ◌||◌, [], ◌∷◌, ◌++◌, length, map, min, Option, Some, None, refl, ◌∙◌, ap, arith}
 use Rattle.std.specs.Fmt.{decimal}
 use Rattle.std.specs.List.{AllByRecursion, range_with_len}
 use Rattle.std.specs.Option.{option_map_or}
-use Rattle.std.proofs.lemmas.Bool.{le-ltb}
+use Rattle.std.proofs.lemmas.Bool.{true≢false, le-ltb}
 use Rattle.oc_base.specs.declared.format.Word.{Word}
 use Rattle.oc_base.specs.declared.format.Word.TheVariants.{W32, W64}
 use Rattle.oc_base.specs.declared.format.Format.{Format}
-use Rattle.oc_base.specs.declared.format.Format.TheVariants.{Elf32, Elf64, Coff32, Coff64, Mac32, Mac64, Omf}
+use Rattle.oc_base.specs.declared.format.Format.TheVariants.{Elf32, Elf64, Coff32, Coff64, Mac32, Mac64, Omf, BigElf32, BigElf64, BigCoff32, BigCoff64}
 use Rattle.oc_base.specs.Formats.{word_for}
 use Rattle.oc_base.specs.declared.fault.Fault.{Fault}
 use Rattle.oc_linking.specs.FirstFault.{first_broken}
@@ -18,6 +18,8 @@ use Rattle.oc_chains.specs.declared.field.Field.{Field}
 use Rattle.oc_neutral.specs.declared.reloc.Reloc.{Reloc}
 use Rattle.oc_neutral.specs.declared.reloc.Target.TheVariants as target
 use Rattle.oc_neutral.specs.declared.symbol.Symbol.{Symbol}
+use Rattle.oc_neutral.specs.Families.{container_of}
+use Rattle.oc_neutral.specs.Family.{IsElf}
 use Rattle.oc_neutral.specs.Fitted.{first_unfit}
 use Rattle.oc_neutral.specs.HomeNames.{output_names, wanted_names}
 use Rattle.oc_neutral.specs.KindRules.{has_nul}
@@ -83,41 +85,55 @@ module _ (count : ℕ) (few : count ≤ 100000) where
 
   -- ... sections
 
-  sections_few : (to : Format) → to ≢ Elf32 → to ≢ Elf64 → first_broken (section_count to (n (word_for to))) ≡ None
-  sections_few Elf32 a b = absurd (a refl)
-  sections_few Elf64 a b = absurd (b refl)
-  sections_few Coff32 a b = refl
-  sections_few Coff64 a b = refl
-  sections_few Mac32 a b = refl
-  sections_few Mac64 a b = refl
-  sections_few Omf a b = refl
+  sections_few : (to : Format) → container_of to ≢ IsElf → first_broken (section_count to (n (word_for to))) ≡ None
+  sections_few Elf32 a = absurd (a refl)
+  sections_few Elf64 a = absurd (a refl)
+  sections_few BigElf32 a = absurd (a refl)
+  sections_few BigElf64 a = absurd (a refl)
+  sections_few Coff32 a = refl
+  sections_few Coff64 a = refl
+  sections_few Mac32 a = refl
+  sections_few Mac64 a = refl
+  sections_few Omf a = refl
+  sections_few BigCoff32 a = refl
+  sections_few BigCoff64 a = refl
 
-  section_met : (to : Format) → to ≢ Elf32 → to ≢ Elf64 → (i : ℕ) → first_broken (conditions_at to (n (word_for to)) i) ≡ None
+  section_met : (to : Format) → container_of to ≢ IsElf → (i : ℕ) → first_broken (conditions_at to (n (word_for to)) i) ≡ None
   unfolding section_conditions output_names wanted_names
-  section_met Elf32 a b i = absurd (a refl)
-  section_met Elf64 a b i = absurd (b refl)
-  section_met Coff32 a b zero = refl
-  section_met Coff32 a b (suc i) = refl
-  section_met Coff64 a b zero = refl
-  section_met Coff64 a b (suc i) = refl
-  section_met Mac32 a b zero = refl
-  section_met Mac32 a b (suc i) = refl
-  section_met Mac64 a b zero = refl
-  section_met Mac64 a b (suc i) = refl
-  section_met Omf a b zero = refl
-  section_met Omf a b (suc i) = refl
+  section_met Elf32 a i = absurd (a refl)
+  section_met Elf64 a i = absurd (a refl)
+  section_met BigElf32 a i = absurd (a refl)
+  section_met BigElf64 a i = absurd (a refl)
+  section_met Coff32 a zero = refl
+  section_met Coff32 a (suc i) = refl
+  section_met Coff64 a zero = refl
+  section_met Coff64 a (suc i) = refl
+  section_met Mac32 a zero = refl
+  section_met Mac32 a (suc i) = refl
+  section_met Mac64 a zero = refl
+  section_met Mac64 a (suc i) = refl
+  section_met Omf a zero = refl
+  section_met Omf a (suc i) = refl
+  section_met BigCoff32 a zero = refl
+  section_met BigCoff32 a (suc i) = refl
+  section_met BigCoff64 a zero = refl
+  section_met BigCoff64 a (suc i) = refl
 
   -- ... symbols
 
-  names_few : (to : Format) → to ≢ Elf32 → to ≢ Elf64 → names_length to (n (word_for to)) ≤ 268435456
+  names_few : (to : Format) → container_of to ≢ IsElf → names_length to (n (word_for to)) ≤ 268435456
   unfolding output_names wanted_names
-  names_few Elf32 a b = absurd (a refl)
-  names_few Elf64 a b = absurd (b refl)
-  names_few Coff32 a b = let e = names_short count few in omega (arith, e)
-  names_few Coff64 a b = let e = names_short count few in omega (arith, e)
-  names_few Mac32 a b = let e = names_short count few in omega (arith, e)
-  names_few Mac64 a b = let e = names_short count few in omega (arith, e)
-  names_few Omf a b = let e = names_short count few in omega (arith, e)
+  names_few Elf32 a = absurd (a refl)
+  names_few Elf64 a = absurd (a refl)
+  names_few BigElf32 a = absurd (a refl)
+  names_few BigElf64 a = absurd (a refl)
+  names_few Coff32 a = let e = names_short count few in omega (arith, e)
+  names_few Coff64 a = let e = names_short count few in omega (arith, e)
+  names_few Mac32 a = let e = names_short count few in omega (arith, e)
+  names_few Mac64 a = let e = names_short count few in omega (arith, e)
+  names_few Omf a = let e = names_short count few in omega (arith, e)
+  names_few BigCoff32 a = let e = names_short count few in omega (arith, e)
+  names_few BigCoff64 a = let e = names_short count few in omega (arith, e)
 
   mach_few : (w : Word) → length (needed_sections (n w)) ≤ 1 → mach_symbol_count w (n w) ≤ 0xFFFFFF
   mach_few W32 low =
@@ -142,46 +158,60 @@ module _ (count : ℕ) (few : count ≤ 100000) where
       let c = sum_range g (outside_symbol count) 0 (min count 10) (λ i l. omega arith) in
       omega (arith, a, b, c)
 
-  symbols_few : (to : Format) → to ≢ Elf32 → to ≢ Elf64 → first_broken (symbol_count to (n (word_for to))) ≡ None
-  symbols_few Elf32 a b = absurd (a refl)
-  symbols_few Elf64 a b = absurd (b refl)
-  symbols_few Coff32 a b = met _ _ (le-ltb 268435456 (names_length Coff32 (n W32)) (names_few Coff32 a b))
-  symbols_few Coff64 a b = met _ _ (le-ltb 268435456 (names_length Coff64 (n W64)) (names_few Coff64 a b))
-  symbols_few Mac32 a b =
-      both_met _ _ _ _ (le-ltb 0xFFFFFF (mach_symbol_count W32 (n W32)) (mach_few W32 (needed_low W32))) (le-ltb 268435456 (names_length Mac32 (n W32)) (names_few Mac32 a b))
-  symbols_few Mac64 a b =
-      both_met _ _ _ _ (le-ltb 0xFFFFFF (mach_symbol_count W64 (n W64)) (mach_few W64 (needed_low W64))) (le-ltb 268435456 (names_length Mac64 (n W64)) (names_few Mac64 a b))
-  symbols_few Omf a b =
-      both_met _ _ _ _ (le-ltb 32767 (count_by (λ (s : Symbol). is_external s.binding) (symbols_of count)) externals) (le-ltb 268435456 (names_length Omf (n W32)) (names_few Omf a b))
+  symbols_few : (to : Format) → container_of to ≢ IsElf → first_broken (symbol_count to (n (word_for to))) ≡ None
+  symbols_few Elf32 a = absurd (a refl)
+  symbols_few Elf64 a = absurd (a refl)
+  symbols_few BigElf32 a = absurd (a refl)
+  symbols_few BigElf64 a = absurd (a refl)
+  symbols_few Coff32 a = met _ _ (le-ltb 268435456 (names_length Coff32 (n W32)) (names_few Coff32 a))
+  symbols_few Coff64 a = met _ _ (le-ltb 268435456 (names_length Coff64 (n W64)) (names_few Coff64 a))
+  symbols_few Mac32 a =
+      both_met _ _ _ _ (le-ltb 0xFFFFFF (mach_symbol_count W32 (n W32)) (mach_few W32 (needed_low W32))) (le-ltb 268435456 (names_length Mac32 (n W32)) (names_few Mac32 a))
+  symbols_few Mac64 a =
+      both_met _ _ _ _ (le-ltb 0xFFFFFF (mach_symbol_count W64 (n W64)) (mach_few W64 (needed_low W64))) (le-ltb 268435456 (names_length Mac64 (n W64)) (names_few Mac64 a))
+  symbols_few Omf a =
+      both_met _ _ _ _ (le-ltb 32767 (count_by (λ (s : Symbol). is_external s.binding) (symbols_of count)) externals) (le-ltb 268435456 (names_length Omf (n W32)) (names_few Omf a))
+  symbols_few BigCoff32 a = met _ _ (le-ltb 268435456 (names_length BigCoff32 (n W32)) (names_few BigCoff32 a))
+  symbols_few BigCoff64 a = met _ _ (le-ltb 268435456 (names_length BigCoff64 (n W64)) (names_few BigCoff64 a))
 
   -- each meets its conditions
   abbrev AreMet : Format → Type 0
   AreMet to = AllByRecursion (λ (s : Symbol). first_broken (symbol_conditions to (n (word_for to)) s) ≡ None) (symbols_of count)
 
-  symbols_met : (to : Format) → to ≢ Elf32 → to ≢ Elf64 → AreMet to
+  symbols_met : (to : Format) → container_of to ≢ IsElf → AreMet to
   unfolding symbol_conditions
-  symbols_met Elf32 a b = absurd (a refl)
-  symbols_met Elf64 a b = absurd (b refl)
-  symbols_met Coff32 a b =
+  symbols_met Elf32 a = absurd (a refl)
+  symbols_met Elf64 a = absurd (a refl)
+  symbols_met BigElf32 a = absurd (a refl)
+  symbols_met BigElf64 a = absurd (a refl)
+  symbols_met Coff32 a =
       all_symbols count (λ (s : Symbol). first_broken (symbol_conditions Coff32 (n W32) s) ≡ None)
       (λ i l. met (has_nul (decimal i)) _ (number_uncut i (omega (arith, l, few))))
       (λ k l. met (has_nul (decimal k)) _ (number_uncut k (omega (arith, l))))
-  symbols_met Coff64 a b =
+  symbols_met Coff64 a =
       all_symbols count (λ (s : Symbol). first_broken (symbol_conditions Coff64 (n W64) s) ≡ None)
       (λ i l. met (has_nul (decimal i)) _ (number_uncut i (omega (arith, l, few))))
       (λ k l. met (has_nul (decimal k)) _ (number_uncut k (omega (arith, l))))
-  symbols_met Mac32 a b =
+  symbols_met Mac32 a =
       all_symbols count (λ (s : Symbol). first_broken (symbol_conditions Mac32 (n W32) s) ≡ None)
       (λ i l. met (has_nul (decimal i)) _ (number_uncut i (omega (arith, l, few))))
       (λ k l. met (has_nul (decimal k)) _ (number_uncut k (omega (arith, l))))
-  symbols_met Mac64 a b =
+  symbols_met Mac64 a =
       all_symbols count (λ (s : Symbol). first_broken (symbol_conditions Mac64 (n W64) s) ≡ None)
       (λ i l. met (has_nul (decimal i)) _ (number_uncut i (omega (arith, l, few))))
       (λ k l. met (has_nul (decimal k)) _ (number_uncut k (omega (arith, l))))
-  symbols_met Omf a b =
+  symbols_met Omf a =
       all_symbols count (λ (s : Symbol). first_broken (symbol_conditions Omf (n W32) s) ≡ None)
       (λ i l. met (is_too_long (codes "f_" ++ decimal i)) _ (let e = number_short i (omega (arith, l, few)) in le-ltb 255 (length (codes "f_" ++ decimal i)) (omega (arith, e))))
       (λ k l. met (is_too_long (codes "x_" ++ decimal k)) _ (let e = number_short k (omega (arith, l)) in le-ltb 255 (length (codes "x_" ++ decimal k)) (omega (arith, e))))
+  symbols_met BigCoff32 a =
+      all_symbols count (λ (s : Symbol). first_broken (symbol_conditions BigCoff32 (n W32) s) ≡ None)
+      (λ i l. met (has_nul (decimal i)) _ (number_uncut i (omega (arith, l, few))))
+      (λ k l. met (has_nul (decimal k)) _ (number_uncut k (omega (arith, l))))
+  symbols_met BigCoff64 a =
+      all_symbols count (λ (s : Symbol). first_broken (symbol_conditions BigCoff64 (n W64) s) ≡ None)
+      (λ i l. met (has_nul (decimal i)) _ (number_uncut i (omega (arith, l, few))))
+      (λ k l. met (has_nul (decimal k)) _ (number_uncut k (omega (arith, l))))
 
   -- ... relocations
 
@@ -192,30 +222,34 @@ module _ (count : ℕ) (few : count ≤ 100000) where
       by None e = refl
       by (Some s) e = at_symbol count (λ i (t : Symbol). is_local_number t.binding ≡ false) (λ i l. refl) (λ j l. refl) k s e
 
-  call_met : (to : Format) → to ≢ Elf32 → to ≢ Elf64 → (k at : ℕ) → first_broken (standing_conditions to (n (word_for to)) (record { section = 0; at = at; reloc = call (word_for to) k })) ≡ None
+  call_met : (to : Format) → container_of to ≢ IsElf → (k at : ℕ) → first_broken (standing_conditions to (n (word_for to)) (record { section = 0; at = at; reloc = call (word_for to) k })) ≡ None
   unfolding reloc_conditions field_shift written_row to_field_of field_for reduced_number residue_of
-  call_met Elf32 a b k at = absurd (a refl)
-  call_met Elf64 a b k at = absurd (b refl)
-  call_met Coff32 a b k at = met (is_wrong_target (n W32) (call W32 k)) _ (ap (λ b. b || false || false) (no_number W32 k))
-  call_met Coff64 a b k at = met (is_wrong_target (n W64) (call W64 k)) _ (ap (λ b. b || false || false) (no_number W64 k))
-  call_met Mac32 a b k at = met (is_wrong_target (n W32) (call W32 k)) _ (ap (λ b. b || false || false) (no_number W32 k))
-  call_met Mac64 a b k at = met (is_wrong_target (n W64) (call W64 k)) _ (ap (λ b. b || false || false) (no_number W64 k))
-  call_met Omf a b k at = met (is_wrong_target (n W32) (call W32 k)) _ (ap (λ b. b || false || false) (no_number W32 k))
+  call_met Elf32 a k at = absurd (a refl)
+  call_met Elf64 a k at = absurd (a refl)
+  call_met BigElf32 a k at = absurd (a refl)
+  call_met BigElf64 a k at = absurd (a refl)
+  call_met Coff32 a k at = met (is_wrong_target (n W32) (call W32 k)) _ (ap (λ b. b || false || false) (no_number W32 k))
+  call_met Coff64 a k at = met (is_wrong_target (n W64) (call W64 k)) _ (ap (λ b. b || false || false) (no_number W64 k))
+  call_met Mac32 a k at = met (is_wrong_target (n W32) (call W32 k)) _ (ap (λ b. b || false || false) (no_number W32 k))
+  call_met Mac64 a k at = met (is_wrong_target (n W64) (call W64 k)) _ (ap (λ b. b || false || false) (no_number W64 k))
+  call_met Omf a k at = met (is_wrong_target (n W32) (call W32 k)) _ (ap (λ b. b || false || false) (no_number W32 k))
+  call_met BigCoff32 a k at = met (is_wrong_target (n W32) (call W32 k)) _ (ap (λ b. b || false || false) (no_number W32 k))
+  call_met BigCoff64 a k at = met (is_wrong_target (n W64) (call W64 k)) _ (ap (λ b. b || false || false) (no_number W64 k))
 
-  calls_met : (to : Format) → to ≢ Elf32 → to ≢ Elf64 → AllByRecursion (λ (x : Standing). first_broken (standing_conditions to (n (word_for to)) x) ≡ None) (standing (n (word_for to)))
-  calls_met to a b =
+  calls_met : (to : Format) → container_of to ≢ IsElf → AllByRecursion (λ (x : Standing). first_broken (standing_conditions to (n (word_for to)) x) ≡ None) (standing (n (word_for to)))
+  calls_met to a =
       let w : Word = word_for to in
       all_joined (λ (x : Standing). first_broken (standing_conditions to (n w) x) ≡ None) (standing_in 0 (calls_of w count)) []
       (all_mapped (λ (x : Standing). first_broken (standing_conditions to (n w) x) ≡ None) (λ (x : Field Reloc). record { section = 0; at = x.at; reloc = x.item }) (calls_of w count)
       (all_calls w count (λ (x : Field Reloc). first_broken (standing_conditions to (n w) (record { section = 0; at = x.at; reloc = x.item })) ≡ None)
-      (λ i l. (call_met to a b ((5 * i + 1) % count) (16 * i + 1), call_met to a b (count + i % 10) (16 * i + 6)))))
+      (λ i l. (call_met to a ((5 * i + 1) % count) (16 * i + 1), call_met to a (count + i % 10) (16 * i + 6)))))
       tt
 
   -- ... all together
 
-  expressible : (to : Format) → to ≢ Elf32 → to ≢ Elf64 → first_unfit to (n (word_for to)) ≡ None
+  expressible : (to : Format) → container_of to ≢ IsElf → first_unfit to (n (word_for to)) ≡ None
   unfolding first_unfit section_stages symbol_stages
-  expressible to a b =
+  expressible to a =
       let w : Word = word_for to in
       five_none
       (first_broken (section_count to (n w)))
@@ -223,19 +257,23 @@ module _ (count : ℕ) (few : count ≤ 100000) where
       (first_broken (symbol_count to (n w)))
       (first_upto (λ i. first_broken (each_of (symbol_conditions to (n w)) (symbols_of count) i)) (length (symbols_of count)))
       (first_upto (λ i. first_broken (option_map_or (standing_conditions to (n w)) (slice_get (standing (n w)) i) [])) (length (standing (n w))))
-      (sections_few to a b)
-      (none_upto (λ i. first_broken (conditions_at to (n w) i)) 1 (section_met to a b))
-      (symbols_few to a b)
-      (none_upto (λ i. first_broken (each_of (symbol_conditions to (n w)) (symbols_of count) i)) (length (symbols_of count)) (none_broken (symbol_conditions to (n w)) (symbols_of count) (symbols_met to a b)))
+      (sections_few to a)
+      (none_upto (λ i. first_broken (conditions_at to (n w) i)) 1 (section_met to a))
+      (symbols_few to a)
+      (none_upto (λ i. first_broken (each_of (symbol_conditions to (n w)) (symbols_of count) i)) (length (symbols_of count)) (none_broken (symbol_conditions to (n w)) (symbols_of count) (symbols_met to a)))
       (none_upto (λ i. first_broken (option_map_or (standing_conditions to (n w)) (slice_get (standing (n w)) i) [])) (length (standing (n w)))
-      (none_broken (standing_conditions to (n w)) (standing (n w)) (calls_met to a b)))
+      (none_broken (standing_conditions to (n w)) (standing (n w)) (calls_met to a)))
 
 pub made_is_expressible : MadeIsExpressible
 unfolding made_object
-made_is_expressible Elf32 count few = (made_is_fitted count few W32).expressible
-made_is_expressible Elf64 count few = (made_is_fitted count few W64).expressible
-made_is_expressible Coff32 count few = expressible count few Coff32 (λ e. absurd (cc e)) (λ e. absurd (cc e))
-made_is_expressible Coff64 count few = expressible count few Coff64 (λ e. absurd (cc e)) (λ e. absurd (cc e))
-made_is_expressible Mac32 count few = expressible count few Mac32 (λ e. absurd (cc e)) (λ e. absurd (cc e))
-made_is_expressible Mac64 count few = expressible count few Mac64 (λ e. absurd (cc e)) (λ e. absurd (cc e))
-made_is_expressible Omf count few = expressible count few Omf (λ e. absurd (cc e)) (λ e. absurd (cc e))
+made_is_expressible Elf32 count many few = (made_is_fitted count few W32).expressible
+made_is_expressible Elf64 count many few = (made_is_fitted count few W64).expressible
+made_is_expressible Coff32 count many few = expressible count few Coff32 (λ e. absurd (cc e))
+made_is_expressible Coff64 count many few = expressible count few Coff64 (λ e. absurd (cc e))
+made_is_expressible Mac32 count many few = expressible count few Mac32 (λ e. absurd (cc e))
+made_is_expressible Mac64 count many few = expressible count few Mac64 (λ e. absurd (cc e))
+made_is_expressible Omf count many few = expressible count few Omf (λ e. absurd (cc e))
+made_is_expressible BigElf32 count many few = absurd (true≢false many)
+made_is_expressible BigElf64 count many few = absurd (true≢false many)
+made_is_expressible BigCoff32 count many few = expressible count few BigCoff32 (λ e. absurd (cc e))
+made_is_expressible BigCoff64 count many few = expressible count few BigCoff64 (λ e. absurd (cc e))

@@ -1,20 +1,20 @@
 -- What is made is refused by no conversion.
-use Rattle.std.proofs.Common.{◌≡◌, ℕ, suc, zero, ◌≤◌, true, cond, List, [], ◌∷◌, length, Some, None, Ok, refl, sym, ◌∙◌, ap, subst, arith}
+use Rattle.std.proofs.Common.{◌≡◌, ℕ, suc, zero, ◌≤◌, true, false, cond, List, [], ◌∷◌, length, Some, None, Ok, refl, sym, ◌∙◌, ap, subst, arith}
+use Rattle.std.proofs.lemmas.Bool.{true≢false}
 use Rattle.std.proofs.lemmas.Option.{none-some, same_Some}
 use Rattle.oc_base.specs.declared.code.Code.TheVariants.{WordSize}
 use Rattle.oc_base.specs.declared.format.Word.{Word}
 use Rattle.oc_base.specs.declared.format.Word.TheVariants.{W32, W64}
 use Rattle.oc_base.specs.declared.format.Format.{Format}
-use Rattle.oc_base.specs.declared.format.Format.TheVariants.{Elf32, Elf64, Coff32, Coff64, Mac32, Mac64, Omf}
+use Rattle.oc_base.specs.declared.format.Format.TheVariants.{Elf32, Elf64, Coff32, Coff64, Mac32, Mac64, Omf, BigElf32, BigElf64, BigCoff32, BigCoff64}
 use Rattle.oc_base.specs.Formats.{word_for}
-use Rattle.oc_base.specs.Numbers.{bytes_of_number}
 use Rattle.oc_linking.specs.declared.terms.Keep.{Keep}
 use Rattle.oc_linking.specs.Keeping.{keeps}
 use Rattle.oc_linking.specs.Numbers.{or_else}
 use Rattle.oc_neutral.specs.declared.section.Section.{Section}
 use Rattle.oc_neutral.specs.Dialects.{Dialect}
 use Rattle.oc_neutral.specs.Computed.{object_in}
-use Rattle.oc_neutral.specs.Families.{same_word}
+use Rattle.oc_neutral.specs.Families.{is_many, same_word}
 use Rattle.oc_neutral.specs.Fitted.{IsFitted}
 use Rattle.oc_neutral.specs.Objects.{Object}
 use Rattle.oc_neutral.specs.Seen.{seen}
@@ -23,15 +23,13 @@ use Rattle.oc_names.specs.Edited.{edited}
 use Rattle.oc_names.specs.Kept.{keep_for}
 use Rattle.oc_convert.specs.Refusals.{first_refusal, object_refusal, edited_refusal, kept_of_file}
 use Rattle.oc_convert.specs.Dispatched.{dispatch_refusal, refusal_from, header_refusal}
-use Rattle.oc_convert.specs.Identified.{identified}
 use Rattle.oc_dispatch.specs.Built.{built, reader_of}
+use Rattle.oc_canonical.proofs.Known.{elf_known}
 use Rattle.oc_elf_read.specs.declared.class.ElfClass.{ElfClass}
 use Rattle.oc_elf_read.specs.declared.class.ElfClass.TheVariants.{Class32, Class64}
 use Rattle.oc_elf_read.specs.Classes.{format_of}
 use Rattle.oc_elf_read.specs.Elf.{elf_dialect}
-use Rattle.oc_elf_file.specs.Structures.{ehdr_bytes}
-use Rattle.oc_elf_file.specs.Layout.{parts_of}
-use Rattle.oc_elf_file.specs.Canonical.{part_bytes, file_header, elf_file}
+use Rattle.oc_elf_file.specs.Canonical.{elf_file}
 use Rattle.oc_made.specs.Files.{class_for, made_bytes}
 use Rattle.oc_made.specs.Functions.{calls_of, elf_format, made_object, symbols_of, text_section}
 use Rattle.oc_made.proofs.ReadyElf.{made_is_fitted}
@@ -50,12 +48,7 @@ use Rattle.oc_making.proofs.Expressible.{made_is_expressible}
 use Rattle.oc_making.proofs.ElfOwn.{elf_good, elf_object}
 use Rattle.oc_making.proofs.SeenMade.{seen_made}
 
-elf_known : (class : ElfClass) (n : Object) → identified (elf_file class n) ≡ Some (format_of class)
-unfolding identified elf_file parts_of part_bytes ehdr_bytes file_header bytes_of_number
-elf_known Class32 n = refl
-elf_known Class64 n = refl
-
-module _ (to : Format) (count : ℕ) (few : count ≤ 100000) (class : ElfClass) (same : made_bytes count (word_for to) ≡ elf_file class (made_object count (word_for to))) (own : elf_format (word_for to) ≡ format_of class)
+module _ (to : Format) (count : ℕ) (many : is_many to ≡ false) (few : count ≤ 100000) (class : ElfClass) (same : made_bytes count (word_for to) ≡ elf_file class (made_object count (word_for to))) (own : elf_format (word_for to) ≡ format_of class)
     (reader : reader_of (format_of class) ≡ elf_dialect class) (words : same_word (word_for (format_of class)) (word_for to) ≡ true) (code : keeps (kept_of_file no_wishes (elf_dialect class) to) (text_section count).kind ≡ true) where
   abbrev n : Object
   n = made_object count (word_for to)
@@ -88,25 +81,29 @@ module _ (to : Format) (count : ℕ) (few : count ≤ 100000) (class : ElfClass)
       ap (λ o. or_else o (object_refusal no_wishes to (object_in (elf_dialect class) b keep))) (elf_good class n fits keep kept_seen)
       ∙ ap (object_refusal no_wishes to) object
       ∙ ap (edited_refusal to) unedited
-      ∙ made_is_expressible to count few
+      ∙ made_is_expressible to count many few
 
   all_accepted : dispatch_refusal built no_wishes to (made_bytes count (word_for to)) ≡ None
   unfolding built
   all_accepted =
       ap (dispatch_refusal built no_wishes to) same
-      ∙ ap (refusal_from built no_wishes to b) (elf_known class n)
+      ∙ ap (refusal_from built no_wishes to b) (elf_known class n (for_elf class n fits))
       ∙ ap (λ t. or_else (cond t None (Some (header_refusal WordSize))) (first_refusal no_wishes (reader_of (format_of class)) to b)) words
       ∙ ap (λ (f : Dialect). first_refusal no_wishes f to b) reader
       ∙ accepted
 
 pub made_is_accepted : MadeIsAccepted
-made_is_accepted Elf32 count few = all_accepted Elf32 count few Class32 refl refl refl refl refl
-made_is_accepted Elf64 count few = all_accepted Elf64 count few Class64 refl refl refl refl refl
-made_is_accepted Coff32 count few = all_accepted Coff32 count few Class32 refl refl refl refl refl
-made_is_accepted Coff64 count few = all_accepted Coff64 count few Class64 refl refl refl refl refl
-made_is_accepted Mac32 count few = all_accepted Mac32 count few Class32 refl refl refl refl refl
-made_is_accepted Mac64 count few = all_accepted Mac64 count few Class64 refl refl refl refl refl
-made_is_accepted Omf count few = all_accepted Omf count few Class32 refl refl refl refl refl
+made_is_accepted Elf32 count many few = all_accepted Elf32 count refl few Class32 refl refl refl refl refl
+made_is_accepted Elf64 count many few = all_accepted Elf64 count refl few Class64 refl refl refl refl refl
+made_is_accepted Coff32 count many few = all_accepted Coff32 count refl few Class32 refl refl refl refl refl
+made_is_accepted Coff64 count many few = all_accepted Coff64 count refl few Class64 refl refl refl refl refl
+made_is_accepted Mac32 count many few = all_accepted Mac32 count refl few Class32 refl refl refl refl refl
+made_is_accepted Mac64 count many few = all_accepted Mac64 count refl few Class64 refl refl refl refl refl
+made_is_accepted Omf count many few = all_accepted Omf count refl few Class32 refl refl refl refl refl
+made_is_accepted BigElf32 count many few = absurd (true≢false many)
+made_is_accepted BigElf64 count many few = absurd (true≢false many)
+made_is_accepted BigCoff32 count many few = all_accepted BigCoff32 count refl few Class32 refl refl refl refl refl
+made_is_accepted BigCoff64 count many few = all_accepted BigCoff64 count refl few Class64 refl refl refl refl refl
 
 class_is : (v : Word) → format_of (class_for v) ≡ elf_format v
 class_is W32 = refl

@@ -19,10 +19,15 @@ returns-in-Ok-Symbols g c =
     let asked : job_of c.args.words.now ≡ Ok (Symbols c.as_str-in-Ok-Symbols.result.now) = search rules in
     record { job = does_same _ _ c.list_file.result (job_of c.args.words.now) (Ok (Symbols c.as_str-in-Ok-Symbols.result.now)) asked c.list_file.ensures.job; end = c.list_file.ensures.end }
 
-pub make_file-requires : goal.make_file-requires
-make_file-requires g c =
+pub make_file-requires-clause-few : goal.make_file-requires-clause-few
+make_file-requires-clause-few g c =
     let asked : job_of c.args.words.now ≡ Ok (Make c.in-Ok-Make.count c.in-Ok-Make.to c.as_str-in-Ok-Make.result.now) = search rules in
-    low_job c.args.words.now c.in-Ok-Make.count c.in-Ok-Make.to c.as_str-in-Ok-Make.result.now asked
+    (low_job c.args.words.now c.in-Ok-Make.count c.in-Ok-Make.to c.as_str-in-Ok-Make.result.now asked).0
+
+pub make_file-requires-clause-plain : goal.make_file-requires-clause-plain
+make_file-requires-clause-plain g c =
+    let asked : job_of c.args.words.now ≡ Ok (Make c.in-Ok-Make.count c.in-Ok-Make.to c.as_str-in-Ok-Make.result.now) = search rules in
+    (low_job c.args.words.now c.in-Ok-Make.count c.in-Ok-Make.to c.as_str-in-Ok-Make.result.now asked).1
 
 pub returns-in-Ok-Make : goal.returns-in-Ok-Make
 returns-in-Ok-Make g c =

@@ -3,7 +3,8 @@ use Rattle.std.proofs.Common.{ap}
 use Rattle.std.proofs.lemmas.Result.{IfOk-weaker}
 use Rattle.oc_base.specs.declared.format.Word.TheVariants.{W32, W64}
 use Rattle.oc_coff_read.specs.Rules.{coff_dialect}
-use Rattle.oc_elf_read.specs.declared.class.ElfClass.TheVariants.{Class32, Class64}
+use Rattle.oc_elf_read.specs.declared.class.ElfClass.TheVariants.{Class32, Class64, Big32, Big64}
+use Rattle.oc_coff_read.specs.declared.form.CoffForm.TheVariants as form
 use Rattle.oc_elf_read.specs.Elf.{elf_dialect}
 use Rattle.oc_macho_read.specs.Rules.{mach_dialect}
 use Rattle.oc_omf_read.specs.Rules.{omf_dialect}
@@ -48,35 +49,35 @@ returns-in-Elf64-clause-dispatched c =
 pub returns-in-Coff32-clause-accepted : goal.returns-in-Coff32-clause-accepted
 unfolding built
 returns-in-Coff32-clause-accepted c =
-    reader_accepted c.args.edits.now c.args.to c.args.bytes.now c.args.from c.requires.identified c.requires.word (coff_dialect W32) (ap reader_of c.in-Coff32.is) c.dispatch_from-in-Coff32.result c.dispatch_from-in-Coff32.ensures.accepted
+    reader_accepted c.args.edits.now c.args.to c.args.bytes.now c.args.from c.requires.identified c.requires.word (coff_dialect form.Usual32) (ap reader_of c.in-Coff32.is) c.dispatch_from-in-Coff32.result c.dispatch_from-in-Coff32.ensures.accepted
 
 pub returns-in-Coff32-clause-refused : goal.returns-in-Coff32-clause-refused
 unfolding built
 returns-in-Coff32-clause-refused c =
-    reader_refused c.args.edits.now c.args.to c.args.bytes.now c.args.from c.requires.identified c.requires.word (coff_dialect W32) (ap reader_of c.in-Coff32.is) c.dispatch_from-in-Coff32.result c.dispatch_from-in-Coff32.ensures.refused
+    reader_refused c.args.edits.now c.args.to c.args.bytes.now c.args.from c.requires.identified c.requires.word (coff_dialect form.Usual32) (ap reader_of c.in-Coff32.is) c.dispatch_from-in-Coff32.result c.dispatch_from-in-Coff32.ensures.refused
 
 pub returns-in-Coff32-clause-dispatched : goal.returns-in-Coff32-clause-dispatched
 unfolding built
 returns-in-Coff32-clause-dispatched c =
     IfOk-weaker c.dispatch_from-in-Coff32.result _ _
-    (λ plan planned. reader_planned c.args.edits.now c.args.to c.args.bytes.now c.args.from c.requires.identified (coff_dialect W32) (ap reader_of c.in-Coff32.is) _ planned)
+    (λ plan planned. reader_planned c.args.edits.now c.args.to c.args.bytes.now c.args.from c.requires.identified (coff_dialect form.Usual32) (ap reader_of c.in-Coff32.is) _ planned)
     c.dispatch_from-in-Coff32.ensures.planned
 
 pub returns-in-Coff64-clause-accepted : goal.returns-in-Coff64-clause-accepted
 unfolding built
 returns-in-Coff64-clause-accepted c =
-    reader_accepted c.args.edits.now c.args.to c.args.bytes.now c.args.from c.requires.identified c.requires.word (coff_dialect W64) (ap reader_of c.in-Coff64.is) c.dispatch_from-in-Coff64.result c.dispatch_from-in-Coff64.ensures.accepted
+    reader_accepted c.args.edits.now c.args.to c.args.bytes.now c.args.from c.requires.identified c.requires.word (coff_dialect form.Usual64) (ap reader_of c.in-Coff64.is) c.dispatch_from-in-Coff64.result c.dispatch_from-in-Coff64.ensures.accepted
 
 pub returns-in-Coff64-clause-refused : goal.returns-in-Coff64-clause-refused
 unfolding built
 returns-in-Coff64-clause-refused c =
-    reader_refused c.args.edits.now c.args.to c.args.bytes.now c.args.from c.requires.identified c.requires.word (coff_dialect W64) (ap reader_of c.in-Coff64.is) c.dispatch_from-in-Coff64.result c.dispatch_from-in-Coff64.ensures.refused
+    reader_refused c.args.edits.now c.args.to c.args.bytes.now c.args.from c.requires.identified c.requires.word (coff_dialect form.Usual64) (ap reader_of c.in-Coff64.is) c.dispatch_from-in-Coff64.result c.dispatch_from-in-Coff64.ensures.refused
 
 pub returns-in-Coff64-clause-dispatched : goal.returns-in-Coff64-clause-dispatched
 unfolding built
 returns-in-Coff64-clause-dispatched c =
     IfOk-weaker c.dispatch_from-in-Coff64.result _ _
-    (λ plan planned. reader_planned c.args.edits.now c.args.to c.args.bytes.now c.args.from c.requires.identified (coff_dialect W64) (ap reader_of c.in-Coff64.is) _ planned)
+    (λ plan planned. reader_planned c.args.edits.now c.args.to c.args.bytes.now c.args.from c.requires.identified (coff_dialect form.Usual64) (ap reader_of c.in-Coff64.is) _ planned)
     c.dispatch_from-in-Coff64.ensures.planned
 
 pub returns-in-Mac32-clause-accepted : goal.returns-in-Mac32-clause-accepted
@@ -129,3 +130,71 @@ returns-in-Omf-clause-dispatched c =
     IfOk-weaker c.dispatch_from-in-Omf.result _ _
     (λ plan planned. reader_planned c.args.edits.now c.args.to c.args.bytes.now c.args.from c.requires.identified omf_dialect (ap reader_of c.in-Omf.is) _ planned)
     c.dispatch_from-in-Omf.ensures.planned
+
+pub returns-in-BigElf32-clause-accepted : goal.returns-in-BigElf32-clause-accepted
+unfolding built
+returns-in-BigElf32-clause-accepted c =
+    reader_accepted c.args.edits.now c.args.to c.args.bytes.now c.args.from c.requires.identified c.requires.word (elf_dialect Big32) (ap reader_of c.in-BigElf32.is) c.dispatch_from-in-BigElf32.result c.dispatch_from-in-BigElf32.ensures.accepted
+
+pub returns-in-BigElf32-clause-refused : goal.returns-in-BigElf32-clause-refused
+unfolding built
+returns-in-BigElf32-clause-refused c =
+    reader_refused c.args.edits.now c.args.to c.args.bytes.now c.args.from c.requires.identified c.requires.word (elf_dialect Big32) (ap reader_of c.in-BigElf32.is) c.dispatch_from-in-BigElf32.result c.dispatch_from-in-BigElf32.ensures.refused
+
+pub returns-in-BigElf32-clause-dispatched : goal.returns-in-BigElf32-clause-dispatched
+unfolding built
+returns-in-BigElf32-clause-dispatched c =
+    IfOk-weaker c.dispatch_from-in-BigElf32.result _ _
+    (λ plan planned. reader_planned c.args.edits.now c.args.to c.args.bytes.now c.args.from c.requires.identified (elf_dialect Big32) (ap reader_of c.in-BigElf32.is) _ planned)
+    c.dispatch_from-in-BigElf32.ensures.planned
+
+pub returns-in-BigElf64-clause-accepted : goal.returns-in-BigElf64-clause-accepted
+unfolding built
+returns-in-BigElf64-clause-accepted c =
+    reader_accepted c.args.edits.now c.args.to c.args.bytes.now c.args.from c.requires.identified c.requires.word (elf_dialect Big64) (ap reader_of c.in-BigElf64.is) c.dispatch_from-in-BigElf64.result c.dispatch_from-in-BigElf64.ensures.accepted
+
+pub returns-in-BigElf64-clause-refused : goal.returns-in-BigElf64-clause-refused
+unfolding built
+returns-in-BigElf64-clause-refused c =
+    reader_refused c.args.edits.now c.args.to c.args.bytes.now c.args.from c.requires.identified c.requires.word (elf_dialect Big64) (ap reader_of c.in-BigElf64.is) c.dispatch_from-in-BigElf64.result c.dispatch_from-in-BigElf64.ensures.refused
+
+pub returns-in-BigElf64-clause-dispatched : goal.returns-in-BigElf64-clause-dispatched
+unfolding built
+returns-in-BigElf64-clause-dispatched c =
+    IfOk-weaker c.dispatch_from-in-BigElf64.result _ _
+    (λ plan planned. reader_planned c.args.edits.now c.args.to c.args.bytes.now c.args.from c.requires.identified (elf_dialect Big64) (ap reader_of c.in-BigElf64.is) _ planned)
+    c.dispatch_from-in-BigElf64.ensures.planned
+
+pub returns-in-BigCoff32-clause-accepted : goal.returns-in-BigCoff32-clause-accepted
+unfolding built
+returns-in-BigCoff32-clause-accepted c =
+    reader_accepted c.args.edits.now c.args.to c.args.bytes.now c.args.from c.requires.identified c.requires.word (coff_dialect form.Big32) (ap reader_of c.in-BigCoff32.is) c.dispatch_from-in-BigCoff32.result c.dispatch_from-in-BigCoff32.ensures.accepted
+
+pub returns-in-BigCoff32-clause-refused : goal.returns-in-BigCoff32-clause-refused
+unfolding built
+returns-in-BigCoff32-clause-refused c =
+    reader_refused c.args.edits.now c.args.to c.args.bytes.now c.args.from c.requires.identified c.requires.word (coff_dialect form.Big32) (ap reader_of c.in-BigCoff32.is) c.dispatch_from-in-BigCoff32.result c.dispatch_from-in-BigCoff32.ensures.refused
+
+pub returns-in-BigCoff32-clause-dispatched : goal.returns-in-BigCoff32-clause-dispatched
+unfolding built
+returns-in-BigCoff32-clause-dispatched c =
+    IfOk-weaker c.dispatch_from-in-BigCoff32.result _ _
+    (λ plan planned. reader_planned c.args.edits.now c.args.to c.args.bytes.now c.args.from c.requires.identified (coff_dialect form.Big32) (ap reader_of c.in-BigCoff32.is) _ planned)
+    c.dispatch_from-in-BigCoff32.ensures.planned
+
+pub returns-in-BigCoff64-clause-accepted : goal.returns-in-BigCoff64-clause-accepted
+unfolding built
+returns-in-BigCoff64-clause-accepted c =
+    reader_accepted c.args.edits.now c.args.to c.args.bytes.now c.args.from c.requires.identified c.requires.word (coff_dialect form.Big64) (ap reader_of c.in-BigCoff64.is) c.dispatch_from-in-BigCoff64.result c.dispatch_from-in-BigCoff64.ensures.accepted
+
+pub returns-in-BigCoff64-clause-refused : goal.returns-in-BigCoff64-clause-refused
+unfolding built
+returns-in-BigCoff64-clause-refused c =
+    reader_refused c.args.edits.now c.args.to c.args.bytes.now c.args.from c.requires.identified c.requires.word (coff_dialect form.Big64) (ap reader_of c.in-BigCoff64.is) c.dispatch_from-in-BigCoff64.result c.dispatch_from-in-BigCoff64.ensures.refused
+
+pub returns-in-BigCoff64-clause-dispatched : goal.returns-in-BigCoff64-clause-dispatched
+unfolding built
+returns-in-BigCoff64-clause-dispatched c =
+    IfOk-weaker c.dispatch_from-in-BigCoff64.result _ _
+    (λ plan planned. reader_planned c.args.edits.now c.args.to c.args.bytes.now c.args.from c.requires.identified (coff_dialect form.Big64) (ap reader_of c.in-BigCoff64.is) _ planned)
+    c.dispatch_from-in-BigCoff64.ensures.planned
