@@ -52,7 +52,11 @@ fn emit<R: Clock + Eprint>(rt: &R, alloc: Global, fitted: Fitted) -> Result<()> 
         Format::Mac32 => give(rt, start, &MachWriter32.plan(alloc, fitted)?),
         Format::Mac64 => give(rt, start, &MachWriter64.plan(alloc, fitted)?),
         Format::Omf => give(rt, start, &OmfWriter.plan(alloc, fitted)?),
-        Format::Coff32 => Ok(()),
+        Format::Coff32
+        | Format::BigElf32
+        | Format::BigElf64
+        | Format::BigCoff32
+        | Format::BigCoff64 => Ok(()),
     }
 }
 

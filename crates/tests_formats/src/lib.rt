@@ -2,6 +2,8 @@
 #![tactic(auto)]
 
 #[cfg(test)]
+mod big_coff;
+#[cfg(test)]
 mod cases;
 #[cfg(test)]
 mod coff_reader;

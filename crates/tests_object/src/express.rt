@@ -134,6 +134,7 @@ fn first_conditions_of_targets(rt: HostRuntime) -> Result<(), Fail> {
     let kind = Some((Phase::TargetSection, 3, Code::KindUnavailable));
     let exception = Some((Phase::TargetSection, 3, Code::ExceptionKept));
     let weak = Some((Phase::TargetSymbol, 5, Code::WeakForm));
+    let few = Some((Phase::TargetSection, 0, Code::TooFew));
     for (target, purpose, is_weak, want) in [
         (Format::Elf32, For::Exception, true, None),
         (Format::Coff32, For::Exception, true, None),
@@ -144,6 +145,10 @@ fn first_conditions_of_targets(rt: HostRuntime) -> Result<(), Fail> {
         (Format::Omf, For::Code, true, weak),
         (Format::Omf, For::Init, true, kind),
         (Format::Omf, For::Exception, true, exception),
+        (Format::BigElf32, For::Code, false, few),
+        (Format::BigElf64, For::Exception, true, few),
+        (Format::BigCoff32, For::Exception, true, None),
+        (Format::BigCoff64, For::Init, true, None),
     ] {
         let object = object(rt.alloc(), target, purpose, is_weak)?;
         let found = match fit(rt.alloc(), target, object) {

@@ -27,7 +27,7 @@ struct Case {
 }
 
 /// The cases of the description, with the text of the first fault among them.
-const CASES: [Case; 12] = [
+const CASES: [Case; 15] = [
     Case {
         words: &[],
         want: Want::Bad(0, WordCode::MissingTarget),
@@ -79,6 +79,18 @@ const CASES: [Case; 12] = [
     Case {
         words: &["--make=100000", "elf32", "b"],
         want: Want::Make(100_000, Format::Elf32, "b"),
+    },
+    Case {
+        words: &["-fbigcoff64", "a", "b"],
+        want: Want::Convert(Format::BigCoff64, 0, Choice::Auto, Choice::Auto, "a", "b"),
+    },
+    Case {
+        words: &["a", "-fbigelf32", "b"],
+        want: Want::Convert(Format::BigElf32, 0, Choice::Auto, Choice::Auto, "a", "b"),
+    },
+    Case {
+        words: &["--make=2", "bigcoff32", "b"],
+        want: Want::Bad(1, WordCode::BadTarget),
     },
     Case {
         words: &["--make=100001", "elf32", "b"],

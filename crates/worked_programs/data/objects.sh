@@ -1,7 +1,7 @@
 #!/bin/sh
 # Makes the objects of the rows on linking that are not those of other runs: GNU as 2.40 for ELF and COFF, clang 14 for weak
 # names of COFF and for Mach-O. The call of `foo` in each format is the canonical file of one object, as in the runs of
-# conversions; `displacement.omf` and `executable.elf32` are two of them with other bytes.
+# conversions, also in the forms for many sections; `displacement.omf` and `executable.elf32` are two of them with other bytes.
 set -e
 
 as --32 -o bindings.elf32 - <<'S'

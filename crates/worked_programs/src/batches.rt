@@ -2,7 +2,7 @@
 //! fails, what parts words and lines, and jobs of which one is not done.
 //!
 //! A line for each batch tells the status, the text on standard error, what the files `b` and `c` hold, and
-//! what was shown. What must be printed comes from the command's description (docs/COMMANDS.md); the object
+//! what was shown. What must be printed comes from the command's description (docs/OBJBATCH.md); the object
 //! `batch_b.obj` comes from an independent model of the conversion of `batch_a.o`.
 ghost use Rattle.std.specs.Prelude.{◌-◌, ◌^◌, None};
 

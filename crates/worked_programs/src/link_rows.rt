@@ -16,7 +16,7 @@ pub struct LinkRow {
 pub const CALL: &str = "section 1 1000 1000 1\nname 2000 2000 2 0 foo\n";
 
 /// The object of each format: a call of `foo` at 1000, whose field holds 2000 - 1005 = ffb.
-static CALLS: [LinkRow; 7] = [
+static CALLS: [LinkRow; 9] = [
     LinkRow {
         name: "elf32",
         object: "call.elf32",
@@ -50,6 +50,16 @@ static CALLS: [LinkRow; 7] = [
     LinkRow {
         name: "mac64",
         object: "call.mac64",
+        placement: CALL,
+    },
+    LinkRow {
+        name: "bigelf64",
+        object: "call.bigelf64",
+        placement: CALL,
+    },
+    LinkRow {
+        name: "bigcoff64",
+        object: "call.bigcoff64",
         placement: CALL,
     },
 ];

@@ -2,7 +2,7 @@
 //! fails.
 //!
 //! The lines of the objects come from an independent model of a listing, but for the calls in `elf64` and
-//! `coff64`. Of those `objdump -h -t -r` shows one section of 6 bytes, two symbols, and a distance from the
+//! `coff64`, and in the forms of these for many sections. Of those `objdump -h -t -r` shows one section of 6 bytes, two symbols, and a distance from the
 //! end of the four bytes at 1 to `foo`: where both lie at 0 it is 0 - (1 + 4) = -5. The texts of the statuses
 //! are those of the command's description.
 use crate::data::stored;
@@ -12,7 +12,7 @@ use anyhow::Result;
 use std::alloc::Global;
 
 /// What is listed, and the file of it.
-const OBJECTS: [(&str, &str); 16] = [
+const OBJECTS: [(&str, &str); 18] = [
     ("a call in elf32", "call.elf32"),
     ("a call in elf64", "call.elf64"),
     ("a call in coff32", "call.coff32"),
@@ -29,6 +29,8 @@ const OBJECTS: [(&str, &str); 16] = [
     ("differences", "differences.mac64"),
     ("threads", "threads.omf"),
     ("segments of five classes", "classes.omf"),
+    ("a call in bigelf64", "call.bigelf64"),
+    ("a call in bigcoff64", "call.bigcoff64"),
 ];
 
 /// Words that ask for no listing, and what is wrong with them.

@@ -2,19 +2,19 @@
 """Writes the files of the rows on options, from the layouts of canonical files alone (docs/FORMATS.md).
 
 What the edits make of each symbol is written here by hand; no byte comes from objconv. The builders of
-all formats serve `refusals.py` and `made.py` too.
+all formats serve `refusals.py`, `made.py` and `big.py` too.
 """
 from struct import pack
 
 GLOBAL, WEAK, FUNC, SECTION = 1, 2, 2, 3
-PROGBITS, SYMTAB, STRTAB, RELA, REL = 1, 2, 3, 4, 9
+PROGBITS, SYMTAB, STRTAB, RELA, REL, SYMTAB_SHNDX = 1, 2, 3, 4, 9, 18
+LORESERVE, XINDEX = 0xFF00, 0xFFFF
 
 
 def table(names, head):
     """The bytes of a string table, and where each name stands: a name that ends another one stands in it."""
-    names = [n for n in names if n]
-    whole = [n for i, n in enumerate(names)
-             if n not in names[:i] and not any(m != n and m.endswith(n) for m in names)]
+    names = list(dict.fromkeys(n for n in names if n))
+    whole = [n for n in names if not any(m != n and m.endswith(n) for m in names)]
     places, out = {}, b"\0" * head
     for name in whole:
         places[name] = len(out)
@@ -26,17 +26,19 @@ def table(names, head):
     return out, places
 
 
-def elf(word, sections, locals_, others, kinds={}):
+def elf(word, sections, locals_, others, kinds={}, big=False):
     """sections: (name, flags, align, bytes, [(offset, symbol, type, addend)]); symbols: (name, info, section, value, size).
 
     A symbol of a relocation is a name or a number. What a REL entry adds stands in the bytes, so it has no addend here.
-    `kinds` has the types of the sections that are not PROGBITS.
+    `kinds` has the types of the sections that are not PROGBITS. A big file has extended numbering, however few its sections are
+    (gABI, "ELF Header", "Section Header", "Symbol Table"); its symbols are in sections, undefined, or nothing else.
     """
     wide = word == 64
     unit, ehdr, shdr, sym, rel = (8, 64, 64, 24, 24) if wide else (4, 52, 40, 16, 8)
     prefix, kind_of_tables = (".rela", RELA) if wide else (".rel", REL)
     tables = [(i, s) for i, s in enumerate(sections, 1) if s[4]]
-    names = [s[0] for s in sections] + [prefix + s[0] for _, s in tables] + [".symtab", ".strtab", ".shstrtab"]
+    names = [s[0] for s in sections] + [prefix + s[0] for _, s in tables]
+    names += [".symtab"] + [".symtab_shndx"] * big + [".strtab", ".shstrtab"]
     symbols = [("", 0, 0, 0, 0)] + [("", SECTION, i, 0, 0) for i in range(1, len(sections) + 1)] + locals_ + others
     number = {s[0]: i for i, s in enumerate(symbols) if s[0]}
     strtab, at = table([s[0] for s in symbols], 1)
@@ -54,6 +56,7 @@ def elf(word, sections, locals_, others, kinds={}):
         return pack("<2Qq", offset, symbol << 32 | kind, addend) if wide else pack("<2I", offset, symbol << 8 | kind)
 
     def line(name, info, section, value, size):
+        section = XINDEX if big and section >= LORESERVE else section
         if wide:
             return pack("<I2BH2Q", at[name], info, 0, section, value, size)
         return pack("<3I2BH", at[name], value, size, info, 0, section)
@@ -63,13 +66,20 @@ def elf(word, sections, locals_, others, kinds={}):
         put(name, kinds.get(name, PROGBITS), flags, align, data)
     for i, (name, _, _, _, relocs) in tables:
         put(prefix + name, kind_of_tables, 0x40, unit, b"".join(entry(*r) for r in relocs), symtab, i, rel)
-    put(".symtab", SYMTAB, 0, unit, b"".join(line(*s) for s in symbols), symtab + 1, len(symbols) - len(others), sym)
+    put(".symtab", SYMTAB, 0, unit, b"".join(line(*s) for s in symbols), symtab + 1 + big, len(symbols) - len(others), sym)
+    if big:
+        put(".symtab_shndx", SYMTAB_SHNDX, 0, 4, b"".join(pack("<I", s[2] * (s[2] >= LORESERVE)) for s in symbols), symtab, 0, 4)
     put(".strtab", STRTAB, 0, 1, strtab)
     put(".shstrtab", STRTAB, 0, 1, shstrtab)
     out.extend(bytes(-len(out) % unit))
+    count, last = len(heads), len(heads) - 1
+    if big:
+        told = last if last >= LORESERVE else 0
+        heads[0] = pack("<2I4Q2I2Q" if wide else "<10I", 0, 0, 0, 0, 0, count, told, 0, 0, 0)
+        count, last = 0, XINDEX if told else last
     out[0:ehdr] = (b"\x7fELF" + bytes([2 if wide else 1, 1, 1]) + bytes(9)
                    + pack("<2HI3QI6H" if wide else "<2H5I6H", 1, 62 if wide else 3, 1, 0, 0, len(out), 0,
-                          ehdr, 0, 0, shdr, len(heads), len(heads) - 1))
+                          ehdr, 0, 0, shdr, count, last))
     return bytes(out) + b"".join(heads)
 
 
@@ -80,20 +90,27 @@ def elf32(*parts, **kinds):
 OVERFLOW = 0x01000000
 
 
-def coff(machine, sections, symbols):
-    """sections: (name, characteristics, bytes, [(offset, symbol, type)]); symbols: (name, section, value, Type)."""
+# winnt.h, "ANON_OBJECT_HEADER_BIGOBJ"
+CLASS_ID = bytes.fromhex("c7a1bad1eebaa94baf20faf66aa4dcb8")
+
+
+def coff(machine, sections, symbols, big=False):
+    """sections: (name, characteristics, bytes, [(offset, symbol, type)]); symbols: (name, section, value, Type).
+
+    A big file has the other file header, and section numbers of four bytes.
+    """
     strings, at = table([s[0] for s in sections if len(s[0]) > 8] + [s[0] for s in symbols if len(s[0]) > 8], 4)
     number = {s[0]: 2 * len(sections) + i for i, s in enumerate(symbols)}
-    place, heads, bodies = 20 + 40 * len(sections), b"", b""
+    place, heads, bodies, line = (56 if big else 20) + 40 * len(sections), [], [], "<IiH2B" if big else "<IhH2B"
     for name, flags, data, relocs in sections:
         label = name.encode() if len(name) <= 8 else b"/%d" % at[name]
         many = len(relocs) > 0xFFFF
         rels = pack("<2IH", len(relocs) + 1, 0, 0) if many else b""
         rels += b"".join(pack("<2IH", offset, number[symbol], kind) for offset, symbol, kind in relocs)
         table_at = place + len(data) if rels else 0
-        heads += label.ljust(8, b"\0") + pack("<6I2HI", 0, 0, len(data), place, table_at, 0, min(len(relocs), 0xFFFF), 0,
-                                              flags | OVERFLOW * many)
-        bodies += data + rels
+        heads += [label.ljust(8, b"\0"), pack("<6I2HI", 0, 0, len(data), place, table_at, 0, min(len(relocs), 0xFFFF), 0,
+                                              flags | OVERFLOW * many)]
+        bodies += [data, rels]
         place += len(data) + len(rels)
 
     def named(name):
@@ -102,12 +119,15 @@ def coff(machine, sections, symbols):
     syms = []
     for i, (name, _, data, relocs) in enumerate(sections, 1):
         count = min(len(relocs), 0xFFFF)
-        syms += [named(name), pack("<IhH2B", 0, i, 0, 3, 1), pack("<I2HIH", len(data), count, 0, 0, 0), bytes(4)]
+        syms += [named(name), pack(line, 0, i, 0, 3, 1), pack("<I2HIH", len(data), count, 0, 0, 0), bytes(6 if big else 4)]
     for name, section, value, kind in symbols:
-        syms += [named(name), pack("<IhH2B", value, section, kind, 2, 0)]
+        syms += [named(name), pack(line, value, section, kind, 2, 0)]
     count = 2 * len(sections) + len(symbols)
-    head = pack("<2H3I2H", machine, len(sections), 0, place, count, 0, 0)
-    return head + heads + bodies + b"".join(syms) + pack("<I", len(strings)) + strings[4:]
+    if big:
+        head = pack("<4HI16s4x4x4x4x3I", 0, 0xFFFF, 2, machine, 0, CLASS_ID, len(sections), place, count)
+    else:
+        head = pack("<2H3I2H", machine, len(sections), 0, place, count, 0, 0)
+    return b"".join([head, *heads, *bodies, *syms]) + pack("<I", len(strings)) + strings[4:]
 
 
 def coff32(sections, symbols):

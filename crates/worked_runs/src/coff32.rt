@@ -1,4 +1,5 @@
-//! Objects of COFF for i386 that are too big to be kept as files, built apart from objconv's own code.
+//! Objects of COFF for i386 that are too big to be kept as files, built apart from objconv's own code. Section
+//! headers and relocations are those of all COFF.
 use crate::numbers::{half, word};
 use anyhow::Result;
 use oc_base::NoMemory;
@@ -7,9 +8,9 @@ use std::alloc::Global;
 /// How many bytes a file header, a section header and a relocation take.
 const HEADER_SIZE: u32 = 20;
 
-const SECTION_SIZE: u32 = 40;
+pub const SECTION_SIZE: u32 = 40;
 
-const RELOCATION_SIZE: u32 = 10;
+pub const RELOCATION_SIZE: u32 = 10;
 
 /// Data that are read and written, at multiples of 1 and of 16 (PE/COFF, "Section Flags").
 const DATA: u32 = 0xC010_0040;
@@ -24,12 +25,12 @@ const DIR32: u16 = 6;
 
 /// A section header, but for its name (PE/COFF, "Section Table").
 #[derive(Clone, Copy, Default)]
-struct Section {
-    size: u32,
-    raw: u32,
-    relocations: u32,
-    count: u16,
-    flags: u32,
+pub struct Section {
+    pub size: u32,
+    pub raw: u32,
+    pub relocations: u32,
+    pub count: u16,
+    pub flags: u32,
 }
 
 // appends a file header
@@ -47,8 +48,8 @@ fn put_header(
     word(bytes, 0)
 }
 
-// appends a section header
-fn put_section(bytes: &mut Vec<u8>, name: &[u8; 8], section: Section) -> Result<(), NoMemory> {
+/// Appends a section header.
+pub fn put_section(bytes: &mut Vec<u8>, name: &[u8; 8], section: Section) -> Result<(), NoMemory> {
     bytes.extend_from_slice(name.as_slice())?;
     for number in [
         0,
@@ -65,8 +66,13 @@ fn put_section(bytes: &mut Vec<u8>, name: &[u8; 8], section: Section) -> Result<
     Ok(())
 }
 
-// appends a relocation
-fn put_relocation(bytes: &mut Vec<u8>, at: u32, symbol: u32, kind: u16) -> Result<(), NoMemory> {
+/// Appends a relocation.
+pub fn put_relocation(
+    bytes: &mut Vec<u8>,
+    at: u32,
+    symbol: u32,
+    kind: u16,
+) -> Result<(), NoMemory> {
     word(bytes, at)?;
     word(bytes, symbol)?;
     half(bytes, kind)

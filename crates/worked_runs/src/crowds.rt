@@ -1,7 +1,7 @@
 //! Conversions of inputs that are big for what they say.
 use crate::coff32::{far_names, many_sections, overflowing_relocations};
 use crate::data::bytes_of;
-use crate::hostile::{aliases, functions, long_names, many_relocations, outside_names};
+use crate::hostile::{aliases, functions, many_relocations, outside_names, tails};
 use crate::rows::show;
 use crate::runs::{Call, Run, words_of};
 use anyhow::Result;
@@ -57,9 +57,12 @@ fn names(rt: &HostRuntime, alloc: Global) -> Result<()> {
     let input = far_names(alloc)?;
     let name = "a section's name at 10,000,000 in coff32";
     convert(rt, alloc, name, "-fcoff32", input.as_slice())?;
-    let input = long_names(alloc)?;
+    let input = tails(alloc, 300, 1_000_000)?;
     let name = "300 names in one text";
-    convert(rt, alloc, name, "-fcoff32", input.as_slice())
+    convert(rt, alloc, name, "-fcoff32", input.as_slice())?;
+    let input = tails(alloc, 4_000, 8_000_000)?;
+    let name = "4,000 names in one text of 8,000,000 letters";
+    convert(rt, alloc, name, "-felf32", input.as_slice())
 }
 
 /// Runs each, and prints what came of it.

@@ -1,7 +1,7 @@
 //! Objects that are cut to each of their lengths.
 use crate::data::bytes_of;
 use crate::runs::{Run, words_of};
-use crate::targets::{TO_COFF32, TO_ELF32};
+use crate::targets::{TO_COFF32, TO_ELF32, TO_ELF64};
 use anyhow::Result;
 use std::alloc::Global;
 
@@ -13,7 +13,7 @@ struct CutInput {
 }
 
 /// COFF without the four bytes that count its strings is whole, too.
-static CUTS: [CutInput; 3] = [
+static CUTS: [CutInput; 5] = [
     CutInput {
         input: "elf32_call_to_coff32.o",
         words: TO_COFF32,
@@ -28,6 +28,16 @@ static CUTS: [CutInput; 3] = [
         input: "empty.obj",
         words: TO_ELF32,
         want: "empty.o",
+    },
+    CutInput {
+        input: "big_call.o",
+        words: TO_ELF64,
+        want: "call_in_elf64.o",
+    },
+    CutInput {
+        input: "big_call.obj",
+        words: TO_ELF64,
+        want: "call_in_elf64.o",
     },
 ];
 

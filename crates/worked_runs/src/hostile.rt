@@ -57,17 +57,17 @@ pub fn many_relocations(alloc: Global) -> Result<Vec<u8>> {
     object.finish(symbols.as_slice(), 2, b"\0x\0")
 }
 
-/// 300 undefined names, each a tail of one text of 1,000,000 letters.
-pub fn long_names(alloc: Global) -> Result<Vec<u8>> {
+/// So many undefined names, each a tail of one text of so many letters.
+pub fn tails(alloc: Global, count: u32, letters: usize) -> Result<Vec<u8>> {
     let object = Object::new(alloc, b"\0")?;
     let mut symbols = Vec::new(alloc);
     put_symbol(&mut symbols, Sym::default())?;
-    for st_name in 1..301 {
+    for st_name in 1..count.saturating_add(1) {
         put_symbol(&mut symbols, Sym { st_name, ..OUTSIDE })?;
     }
-    let mut strings = vec![in alloc; b'a'; 1_000_002]?;
-    strings[0] = 0;
-    strings[1_000_001] = 0;
+    let mut strings = vec![in alloc; 0u8]?;
+    strings.resize(letters.saturating_add(1), b'a')?;
+    strings.push(0)?;
     object.finish(symbols.as_slice(), 1, strings.as_slice())
 }
 

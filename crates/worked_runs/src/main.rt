@@ -1,13 +1,15 @@
 //! Runs the command over files and a console in memory: with each option, between every two formats of one
 //! word, with every refusal, `--make` in each format, with a device call that fails, with inputs that are
-//! cut to each of their lengths, and with inputs whose numbers lie or that are big.
+//! cut to each of their lengths, with inputs whose numbers lie or that are big, and with many sections.
 //!
 //! A line for each run tells the status, the text on standard error, what OUT holds, and what was shown. What
 //! must be printed comes from the command's description, the outputs from an independent model of the
 //! conversion and, for the options, `--make` and the sums (FNV-1a), from the layouts of canonical files
-//! (`data/layouts.py`, `data/made.py`); the inputs of refusals are made by `data/refusals.py`.
+//! (`data/layouts.py`, `data/made.py`, `data/big.py`); the inputs of refusals are made by `data/refusals.py`.
 #![tactic(auto)]
 
+mod big;
+mod big_coff;
 mod coff32;
 mod conversions;
 mod crowds;
@@ -24,6 +26,7 @@ mod rows;
 mod runs;
 mod targets;
 
+use crate::big::big;
 use crate::conversions::conversions;
 use crate::crowds::crowds;
 use crate::cuts::cuts;
@@ -84,5 +87,6 @@ fn main(rt: HostRuntime) -> Result<()> {
     failing_calls(&rt, alloc)?;
     refusals(&rt, alloc)?;
     cuts(&rt, alloc)?;
-    crowds(&rt, alloc)
+    crowds(&rt, alloc)?;
+    big(&rt, alloc)
 }

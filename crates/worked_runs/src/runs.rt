@@ -11,10 +11,10 @@ use std::fmt::{Display, Formatter, Write};
 const IN: &str = "a";
 
 /// The output.
-const OUT: &str = "b";
+pub const OUT: &str = "b";
 
 /// How many bytes the output may grow to.
-const ROOM: u64 = 6_000_000;
+const ROOM: u64 = 7_000_000;
 
 /// How many bytes each text on the console may grow to.
 const TEXT_ROOM: u64 = 1_000_000;
@@ -51,6 +51,12 @@ impl<'a> Run<'a> {
 
     /// Runs the command, and says what came of it.
     pub fn outcome(&self, alloc: Global) -> Result<Outcome> {
+        let (outcome, _files) = self.ended(alloc)?;
+        Ok(outcome)
+    }
+
+    /// The same, with the files as they are then.
+    pub fn ended(&self, alloc: Global) -> Result<(Outcome, MemFiles)> {
         let mut files = MemFiles::new(alloc);
         files.set(IN, self.input)?;
         files.room(OUT, ROOM)?;
@@ -62,13 +68,14 @@ impl<'a> Run<'a> {
             None => {}
         }
         let status = run(alloc, self.words, &mut files, &mut console);
-        Ok(Outcome {
+        let outcome = Outcome {
             status,
             told: String::from_utf8(console.told().to_vec(alloc)?)?,
             shown: String::from_utf8(console.shown().to_vec(alloc)?)?,
             out: output_of(&files, self.want),
             calm: files.file(IN) == Some(self.input),
-        })
+        };
+        Ok((outcome, files))
     }
 }
 

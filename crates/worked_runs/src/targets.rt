@@ -14,4 +14,12 @@ pub const TO_COFF64: &[&str] = &["-fcoff64", "a", "b"];
 
 pub const TO_MAC64: &[&str] = &["-fmac64", "a", "b"];
 
+pub const TO_BIGELF32: &[&str] = &["-fbigelf32", "a", "b"];
+
+pub const TO_BIGELF64: &[&str] = &["-fbigelf64", "a", "b"];
+
+pub const TO_BIGCOFF32: &[&str] = &["-fbigcoff32", "a", "b"];
+
+pub const TO_BIGCOFF64: &[&str] = &["-fbigcoff64", "a", "b"];
+
 pub const LISTED: &[&str] = &["-ds", "a"];
