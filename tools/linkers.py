@@ -1,4 +1,7 @@
-"""Links an object with the driver by each linker of its format, and runs what this machine can run."""
+"""Links an object with the driver by each linker of its format, and runs what this machine can run.
+
+A run under wine that printed nothing is repeated once.
+"""
 import collections
 import os
 import re

@@ -3,12 +3,17 @@ import collections
 import datetime
 import platform
 import re
+import textwrap
 
 import builds
 import linkers
 import readers
 from chains import KNOWN, REFUSED, RIGHT, WRONG
 from linkers import said
+
+
+# the widest line of the page, and how many pairs a row has
+COLUMNS, PAIRS = 120, 3
 
 
 def rows(outcomes):
@@ -21,13 +26,20 @@ def rows(outcomes):
 
 
 def details(outcomes, end):
-    """What outcomes of one end come to: the detail, the pairs, how many."""
+    """Rows of what outcomes of one end come to: the detail, the pairs, how many; the first and last once each."""
     counts = collections.defaultdict(collections.Counter)
     for it in outcomes:
         if it.end == end:
             counts[it.detail][f"{it.source} to {it.target}"] += 1
     for detail, pairs in sorted(counts.items(), key=lambda it: -sum(it[1].values())):
-        yield detail, ", ".join(f"{pair} {count}" for pair, count in sorted(pairs.items())), sum(pairs.values())
+        each = [f"{pair} {count}" for pair, count in sorted(pairs.items())]
+        for k in range(0, len(each), PAIRS):
+            yield "" if k else detail, ", ".join(each[k:k + PAIRS]), "" if k else sum(pairs.values())
+
+
+def paragraph(text):
+    """A paragraph of the page."""
+    return textwrap.fill(text, COLUMNS, break_long_words=False, break_on_hyphens=False)
 
 
 def table(head, lines):
@@ -62,9 +74,11 @@ def totals(outcomes, count):
 def page(outcomes, count, left_out):
     """The tables, the date and the tools."""
     head = ("From", "To", "Tried", "Right", "Refused", "Known difference", "Wrong")
+    system = platform.freedesktop_os_release()["PRETTY_NAME"]
+    absent = f" Not on the machine: {', '.join(left_out)}." if left_out else ""
     parts = [
-        f"{datetime.date.today().isoformat()}, {platform.freedesktop_os_release()['PRETTY_NAME']}. {totals(outcomes, count)}.",
-        f"With {versions(left_out)}." + (f" Not on the machine: {', '.join(left_out)}." if left_out else ""),
+        paragraph(f"{datetime.date.today().isoformat()}, {system}. {totals(outcomes, count)}."),
+        paragraph(f"With {versions(left_out)}.{absent}"),
         table(head, rows(outcomes)),
         table(("Refused with", "Pairs", "Conversions"), details(outcomes, REFUSED)),
         table(("Known difference", "Pairs", "Conversions"), details(outcomes, KNOWN)),
