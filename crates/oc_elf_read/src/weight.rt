@@ -12,9 +12,16 @@ use crate::symbols::{entry_of, is_section_symbol, symbol_count};
 use oc_base::NoMemory;
 use oc_weight::{with_entries, with_name};
 
-// how many entries a section has as a relocation table, none where it is no such table
+// whether the contents of a section end behind the file
+fn passes_end(frame: &Frame, s: &Shdr) -> bool {
+    let size = frame.file().len() as u64;
+    size < s.sh_offset || size - s.sh_offset < s.sh_size
+}
+
+// how many entries a section has as a relocation table; none where it is no such table, or does not lie
+// in the file, which is a fault
 fn entry_weight(frame: &Frame, s: &Shdr) -> u64 {
-    if s.sh_type != frame.class().reloc_type() {
+    if s.sh_type != frame.class().reloc_type() || passes_end(frame, s) {
         return 0;
     }
     s.sh_size / rel_size(frame.class())
@@ -22,8 +29,8 @@ fn entry_weight(frame: &Frame, s: &Shdr) -> u64 {
 
 /// What the names of the section headers weigh.
 ///
-/// `NoMemory` where that is above 1 GiB, or where the relocation tables have together more entries
-/// than 2^23. Linear in the headers and in what they weigh.
+/// `NoMemory` where that is above 1 GiB, or where the relocation tables in the file have together more
+/// entries than 2^23. Linear in the headers and in what they weigh.
 pub(crate) fn header_weight(frame: &Frame) -> Result<u64, NoMemory> {
     let strings = frame.names();
     let (mut names, mut entries) = (0, 0);

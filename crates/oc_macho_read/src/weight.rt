@@ -1,17 +1,28 @@
 //! What the names and the relocation tables of a file weigh, before any of them is taken.
 
 use crate::frame::Frame;
+use crate::relocation_info::RELOCATION_INFO_SIZE;
+use crate::section_header::SectionHeader;
 use crate::symbols::name_of;
 use oc_base::NoMemory;
 use oc_weight::{with_entries, with_name};
 
-/// Weighs the relocation tables. `NoMemory` where they have together more entries than 2^23. Linear in
-/// the sections.
+// how many relocations a section has, none where they do not lie in the file, which is a fault
+fn entry_weight(frame: &Frame, h: &SectionHeader) -> u64 {
+    let table = RELOCATION_INFO_SIZE as u64 * u64::from(h.nreloc);
+    if frame.size() < u64::from(h.reloff) + table {
+        return 0;
+    }
+    h.nreloc.into()
+}
+
+/// Weighs the relocation tables. `NoMemory` where those in the file have together more entries than
+/// 2^23. Linear in the sections.
 pub(crate) fn weigh_relocs(frame: &Frame) -> Result<(), NoMemory> {
     let count = frame.section_count();
     let mut weight = 0;
     for i in 0..count {
-        weight = with_entries(weight, frame.section(i).nreloc.into())?;
+        weight = with_entries(weight, entry_weight(frame, &frame.section(i)))?;
     }
     Ok(())
 }
