@@ -38,7 +38,24 @@ EMPTY_END = mach(32, [
 PINNED = mach(64, [("__DATA", "__data", 3, 0, bytes(8), [(0, 0 | 3 << 25 | 1 << 27 | 5 << 28), (0, 1 | 3 << 25 | 1 << 27)])],
               [("base", 0xF, 1, 0), ("x", 1, 0, 0)])
 
+
+
+def with_number(file, at, number):
+    """The file with another number of four bytes at a place."""
+    return file[:at] + number.to_bytes(4, "little") + file[at + 4:]
+
+
+# a call of the undefined `foo`: R_386_PC32; and X86_64_RELOC_BRANCH
+CALL_ELF = elf(32, [TEXT + ([(1, "foo", 2)],)], [], [("foo", GLOBAL << 4, 0, 0, 0)])
+CALL_MACH = mach(64, [("__TEXT", "__text", 4, 0x80000400, b"\xe8\0\0\0\0\xc3", [(1, 0 | 1 << 24 | 2 << 25 | 1 << 27 | 2 << 28)])],
+                 [("_foo", 1, 0, 0)])
+# sh_size of section header 2, the relocations (gABI, "Section Header"); nreloc of the first section_64 (Mach-O reference)
+SH_SIZE = int.from_bytes(CALL_ELF[32:36], "little") + 2 * 40 + 20
+NRELOC = 32 + 72 + 60
+
 FILES = {
+    "table_of_2_gib.o": with_number(CALL_ELF, SH_SIZE, 0x7FFFFFF8),
+    "relocations_past_the_end.mac.o": with_number(CALL_MACH, NRELOC, 0xFFFFFFFF),
     "aligned_to_65536.o": elf(32, [(".data", 3, 65536, bytes(8), [])], [], []),
     "sections_256.o": elf(32, [(f".d{i}", 3, 1, b"", []) for i in range(256)], [], []),
     "init_array.o": elf(32, [(".init_array", 3, 4, bytes(4), [])], [], [], kinds={".init_array": 14}),

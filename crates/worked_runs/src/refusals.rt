@@ -18,7 +18,7 @@ const EXCEPTIONS_TO_OMF: &[&str] = &["-fomf", "--keep-exceptions", "a", "b"];
 
 const STRIPPED: &[&str] = &["-felf32", "--strip-debug", "a", "b"];
 
-static REFUSALS: [Refusal; 50] = [
+static REFUSALS: [Refusal; 52] = [
     (
         "a field past its section",
         TO_COFF32,
@@ -26,6 +26,12 @@ static REFUSALS: [Refusal; 50] = [
     ),
     ("fields that meet", TO_COFF32, "fields_that_meet.o"),
     ("a section of 2^31 bytes", TO_COFF32, "section_too_big.o"),
+    ("relocations of 2^31 bytes", TO_ELF32, "table_of_2_gib.o"),
+    (
+        "2^32 - 1 relocations in mac64",
+        TO_MAC64,
+        "relocations_past_the_end.mac.o",
+    ),
     ("256 sections in mac32", TO_MAC32, "sections_256.o"),
     ("debug sections in coff32", DEBUG_TO_COFF32, "call_debug.o"),
     ("debug sections in omf", DEBUG_TO_OMF, "debug_segment.obj"),
