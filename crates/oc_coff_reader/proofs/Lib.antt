@@ -39,5 +39,5 @@ pub mod StartLemmas
 pub mod StartedFile
 pub mod SymbolPositions
 pub mod TaggedLemmas
-pub mod TakenSpans
+pub mod TakenBytes
 pub mod WholeSymbols

@@ -97,7 +97,8 @@ fn by_class(fault: Fault) -> ReadFault
 /// or all relocation tables have more than 2^23 entries (`oc_weight`).
 ///
 /// The time is linear in the bytes of the file, and that of n log2(n) steps for n symbols or relocations,
-/// in any order of names and offsets. What the worst files known take is told in docs/SAFETY.md.
+/// in any order of names and offsets: some 1 GiB and 10 seconds for the worst files known (measured:
+/// docs/SAFETY.md).
 pub fn read_object(
     alloc: Global,
     form: CoffForm,

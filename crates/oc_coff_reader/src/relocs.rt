@@ -14,7 +14,7 @@ use crate::meaning::meaning_of;
 use oc_base::{Code, Fault, Phase, Word};
 use oc_coff_read::{IMAGE_REL_I386_ABSOLUTE, RELOCATION_SIZE, Relocation, relocation_at};
 use oc_neutral::{Base, Less};
-use oc_shelf::{Spans, Stop};
+use oc_shelf::{Bitmap, Stop};
 use std::alloc::Global;
 
 /// The relocation table of a section that is carried.
@@ -120,6 +120,17 @@ fn reloc_fault(code: Code, i: u32, place: u64) -> Fault
     }
 }
 
+// how many bytes of the file are the section's
+fn stored_size(table: &Table) -> u64
+    ensures { result ≡ rules.stored_size table.now }
+{
+    if table.stored {
+        u64::from(table.size)
+    } else {
+        0
+    }
+}
+
 // whether the field passes the bytes of its section that are in the file
 fn passes_bytes(word: Word, table: &Table, r: &Relocation) -> bool
     ensures { result ≡ rules.passes_bytes word table.now r.now }
@@ -152,22 +163,22 @@ fn own_fault(aims: &Aims, i: u32, table: &Table, place: u64, r: &Relocation) -> 
     }
 }
 
-// judges entry `k`, where `spans` has the bytes of the fields before, and takes up its own
+// judges entry `k`, where the bytes of the fields before are taken, and takes its own
 fn judge_entry(
     coff: &Coff,
     aims: &Aims,
     i: u32,
     table: &Table,
-    spans: &mut Spans,
+    bytes: &mut Bitmap,
     k: u32,
 ) -> Result<(), Stop>
     requires low { i < 2 ^ 21 }
     requires aims { aims.now.symbols.now ≡ aimed.aims_in (files.tables_in coff.now) }
     requires table { rules.IsTable coff.now i table.now }
     requires there { k < table.now.count }
-    requires spans { rules.AreTaken aims.now.word coff.now table.now k spans.old }
+    requires taken { rules.AreTaken aims.now.word coff.now table.now k bytes.old }
     ensures clean { OnOk result (rules.entry_fault aims.now.word (files.tables_in coff.now) i k ≡ None) }
-    ensures spans { OnOk result (rules.AreTaken aims.now.word coff.now table.now (k + 1) spans.new) }
+    ensures taken { OnOk result (rules.AreTaken aims.now.word coff.now table.now (k + 1) bytes.new) }
     ensures stop { IfErr result (IsStop (rules.entry_fault aims.now.word (files.tables_in coff.now) i k)) }
 {
     coff.is_headed();
@@ -182,17 +193,18 @@ fn judge_entry(
     }
     let begin = u64::from(r.VirtualAddress);
     let end = begin + u64::from(width_of(aims.word, &r));
-    if spans.is_met(begin, end) {
+    if bytes.is_met(begin, end) {
         return Err(Stop::Fault(reloc_fault(Code::Overlap, i, place)));
     }
-    spans.take(begin, end)?;
+    bytes.take(begin, end);
     Ok(())
 }
 
 /// Judges the relocation entries of section `i`, counted from 0.
 ///
 /// Stops exactly where an entry has a fault, with the first; or where memory ran out. The time is
-/// n log n in the entries, in any order of offsets.
+/// linear in the entries, in any order of offsets, and in the section's bytes where there are entries;
+/// the memory is a bit for each of these bytes.
 pub(crate) fn check_table(
     alloc: Global,
     coff: &Coff,
@@ -207,9 +219,12 @@ pub(crate) fn check_table(
     ensures stop { IfErr result (IsStop (first_upto (rules.entry_fault aims.now.word (files.tables_in coff.now) i) table.now.count)) }
 {
     let count = table.count;
-    let mut spans = Spans::new(alloc);
+    if count == 0 {
+        return Ok(());
+    }
+    let mut bytes = Bitmap::new(alloc, stored_size(table))?;
     for k in 0..count {
-        match judge_entry(coff, aims, i, table, &mut spans, k) {
+        match judge_entry(coff, aims, i, table, &mut bytes, k) {
             Err(stop) => return Err(stop),
             Ok(()) => (),
         }

@@ -1,19 +1,20 @@
 -- The fields of a section, judged one after the other.
-use Rattle.std.proofs.Common.{◌≡◌, ℕ, ◌+◌, ◌<◌, Bool, true, false, cond, eqb, List, [], Option, None, Some, refl, sym, ◌∙◌, ap, subst, arith, inl, inr}
-use Rattle.std.specs.Prelude.{slice_get}
+use Rattle.std.proofs.Common.{◌≡◌, ℕ, ◌+◌, ◌*◌, ◌<◌, ◌≤◌, Bool, true, false, cond, List, [], Option, None, Some, refl, sym, ◌∙◌, ap, subst, arith}
+use Rattle.std.specs.Prelude.{◌||◌, length, nat_lt, slice_get}
 use Rattle.std.specs.Option.{option_map, option_map_or}
-use Rattle.std.proofs.lemmas.Bool.{cases_eq, eq-eqb, ne_eqb}
-use Rattle.std.proofs.lemmas.Option.{none-some, same_Some}
+use Rattle.std.proofs.lemmas.Bool.{true≢false}
+use Rattle.std.proofs.lemmas.Bool.Decides.{nat_tests}
 use Rattle.oc_base.specs.declared.format.Word.{Word}
 use Rattle.oc_linking.specs.FirstFault.{first_broken}
 use Rattle.oc_linking.specs.Numbers.{first_upto, or_else}
-use Rattle.oc_shelf.specs.Reading.Spans.{IsMet, end_at}
-use Rattle.oc_shelf.proofs.ReadingLaws.SpanLemmas.{spans_more, spans_none, spans_same}
+use Rattle.oc_shelf.specs.Reading.Bitmaps.{has, is_between, room}
+use Rattle.oc_shelf.proofs.ReadingLaws.BitmapLemmas.{bytes_more, bytes_none, bytes_same}
 use Rattle.oc_shelf.proofs.ReadingLaws.StageLemmas.{all_hold, broken_of_three}
 use Rattle.oc_macho_read.specs.declared.entries.Item.{Item}
 use Rattle.oc_macho_read.specs.Tables.{SectionTable, Tables}
 use Rattle.oc_macho_read.specs.Judged.{AreTaken, entry_fault}
-use Rattle.oc_macho_read.specs.RelocationFaults.{entry_conditions, form_conditions, is_outside, item_conditions, last_conditions, refers_wrongly, span_at, span_of, target_conditions}
+use Rattle.oc_macho_read.specs.RelocationFaults.{entry_conditions, form_conditions, is_outside, item_conditions, last_conditions, refers_wrongly, span_at, span_of, stored_size, target_conditions}
+use Rattle.oc_macho_read.specs.Sections.{is_zerofill}
 use Rattle.oc_macho_read.specs.declared.relocation_info.RelocationInfo.{RelocationInfo}
 use Rattle.oc_macho_read.specs.Entries.{begins, is_first, item_at, item_with}
 
@@ -30,34 +31,35 @@ pub item_is : (w : Word) (entries : List RelocationInfo) (k : ℕ) (e : Relocati
 item_is w entries k e b is here first =
     item_there w entries k e is here ∙ ap (λ (b : Bool). Some (record { first = e; second = cond b (slice_get entries (k + 1)) None })) (sym first)
 
--- ... the spans of fields
+-- ... the bytes of fields
 
--- these are the spans of the fields that begin with the first k entries, and each has a byte
-pub spans_start : (t : Tables) (x : SectionTable) (spans : List (ℕ × ℕ)) → spans ≡ [] → AreTaken t x 0 spans
-spans_start t x spans is = subst (AreTaken t x 0) (sym is) (record { fields = spans_none (span_at t x); wide = λ b e h. absurd (none-some e h) })
+pub taken_none : (t : Tables) (x : SectionTable) (words : List ℕ) → ((q : ℕ) → has words q ≡ false) → stored_size x.header ≤ room words → AreTaken t x 0 words
+taken_none t x words none enough = record { fields = bytes_none (span_at t x) words none; room = enough }
 
-pub taken_same : (t : Tables) (x : SectionTable) (k : ℕ) (spans : List (ℕ × ℕ)) → AreTaken t x k spans → span_at t x k ≡ None → AreTaken t x (k + 1) spans
-taken_same t x k spans are none = record { fields = spans_same (span_at t x) k spans are.fields none; wide = are.wide }
+pub taken_same : (t : Tables) (x : SectionTable) (k : ℕ) (words : List ℕ) → AreTaken t x k words → span_at t x k ≡ None → AreTaken t x (k + 1) words
+taken_same t x k words are none = record { fields = bytes_same (span_at t x) k words are.fields none; room = are.room }
 
--- where a span begins that none meets, there is none yet
-taken_new : (t : Tables) (x : SectionTable) (k begin end : ℕ) (spans : List (ℕ × ℕ)) → AreTaken t x k spans → begin < end → (IsMet spans begin end → ⊥) → end_at spans begin ≡ None
-taken_new t x k begin end spans are some free = by (end_at spans begin) refl
-  where
-    by : (o : Option ℕ) → end_at spans begin ≡ o → end_at spans begin ≡ None
-    by None e = e
-    by (Some stop) e = absurd (free (record { start = begin; stop = stop; there = e; before = some; behind = are.wide begin stop e }))
-
-pub taken_more : (t : Tables) (x : SectionTable) (k begin end : ℕ) (old new : List (ℕ × ℕ)) → AreTaken t x k old → span_at t x k ≡ Some (begin, end) → begin < end → (IsMet old begin end → ⊥)
-    → ((q : ℕ) → end_at new q ≡ cond (eqb q begin) (Some end) (end_at old q)) → AreTaken t x (k + 1) new
-taken_more t x k begin end old new are is some free taken = record {
-  fields = spans_more (span_at t x) k begin end old new are.fields is (taken_new t x k begin end old are some free) taken;
-  wide = λ q e h. elim (cases_eq q begin) [
-    | inl same ↦
-        let stop : end ≡ e = same_Some end e (sym (taken q ∙ ap (λ b. cond b (Some end) (end_at old q)) (eq-eqb q begin same)) ∙ h) in
-        omega (arith, same, stop, some)
-    | inr other ↦ are.wide q e (sym (taken q ∙ ap (λ b. cond b (Some end) (end_at old q)) (ne_eqb q begin other)) ∙ h)
-  ];
+pub taken_more : (t : Tables) (x : SectionTable) (k begin end : ℕ) (old new : List ℕ) → AreTaken t x k old → span_at t x k ≡ Some (begin, end) → begin < end → length new ≡ length old
+    → ((q : ℕ) → has new q ≡ (is_between begin end q || has old q)) → AreTaken t x (k + 1) new
+taken_more t x k begin end old new are is some long taken = record {
+  fields = bytes_more (span_at t x) k begin end old new are.fields is some taken;
+  room = subst (λ n. stored_size x.header ≤ 64 * n) (sym long) are.room;
 }
+
+-- a field that lies in bytes of the section ends in the room
+pub field_in_room : (t : Tables) (x : SectionTable) (k : ℕ) (words : List ℕ) (item : Item) → AreTaken t x k words → is_outside x.header item ≡ false → (span_of item).1 ≤ room words
+field_in_room t x k words item are inside = by (is_zerofill x.header) refl inside
+  where
+    by : (b : Bool) → is_zerofill x.header ≡ b → (b || nat_lt x.header.size (span_of item).1) ≡ false → (span_of item).1 ≤ room words
+    by true e h = absurd (true≢false h)
+    by false e h =
+        let size : stored_size x.header ≡ x.header.size = ap (λ b. cond b 0 x.header.size) e in
+        let enough = are.room in
+        let low : (span_of item).1 ≤ x.header.size = past (span_of item).1 x.header.size h in
+        omega (arith, low, size, enough)
+      where
+        past : (a size : ℕ) → nat_lt size a ≡ false → a ≤ size
+        past a size h = grind (arith, nat_tests)
 
 -- ... faults
 
@@ -86,8 +88,8 @@ kinds_of t i x k item clean = (all_hold (target_conditions t i x k item) clean).
 pub span_is : (t : Tables) (x : SectionTable) (k : ℕ) (item : Item) → item_at t.word x.relocs k ≡ Some item → span_at t x k ≡ Some (span_of item)
 span_is t x k item here = ap (option_map span_of) here
 
--- the entries so far have no fault, and the spans are those of their fields; and it is known whether a field begins with the next
-pub record IsJudging (t : Tables) (i : ℕ) (x : SectionTable) (k : ℕ) (begun : Bool) (spans : List (ℕ × ℕ)) : Type 0 where
+-- the entries so far have no fault, and the bytes taken are those of their fields; and it is known whether a field begins with the next
+pub record IsJudging (t : Tables) (i : ℕ) (x : SectionTable) (k : ℕ) (begun : Bool) (words : List ℕ) : Type 0 where
   pub clean : first_upto (entry_fault t i x) k ≡ None
-  pub taken : AreTaken t x k spans
+  pub taken : AreTaken t x k words
   pub is : begun ≡ begins t.word x.relocs k

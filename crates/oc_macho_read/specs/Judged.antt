@@ -4,10 +4,10 @@ use Rattle.std.specs.Option.{option_map_or}
 use Rattle.oc_neutral.specs.declared.repeats.Repeat.{Repeat}
 use Rattle.oc_base.specs.declared.fault.Fault.{Fault}
 use Rattle.oc_linking.specs.FirstFault.{first_broken}
-use Rattle.oc_shelf.specs.Reading.Spans.{AreSpansOf, end_at}
+use Rattle.oc_shelf.specs.Reading.Bitmaps.{AreBytesOf, room}
 use Rattle.oc_shelf.specs.Reading.Stops.{sum_upto}
 use Rattle.oc_macho_read.specs.Tables.{SectionTable, Tables}
-use Rattle.oc_macho_read.specs.RelocationFaults.{entry_conditions, span_at}
+use Rattle.oc_macho_read.specs.RelocationFaults.{entry_conditions, span_at, stored_size}
 use Rattle.oc_macho_read.specs.SectionFaults.{size_at, stored_at}
 
 -- the sums of the first i sections, which keep the limits
@@ -21,10 +21,10 @@ pub record AreSums (t : Tables) (i sizes bytes : ℕ) : Type 0 where
 abbrev pub ends_at : Option Repeat → ℕ → Bool
 ends_at found j = option_map_or (λ (r : Repeat). nat_eq r.later j) found false
 
--- the spans are those of the fields that begin with the first k entries of a section, and each has a byte
-pub record AreTaken (t : Tables) (x : SectionTable) (k : ℕ) (spans : List (ℕ × ℕ)) : Type 0 where
-  pub fields : AreSpansOf (span_at t x) k spans
-  pub wide : (begin end : ℕ) → end_at spans begin ≡ Some end → begin < end
+-- the bytes taken are those of the fields that begin with the first k entries of a section, and there is room for all of it
+pub record AreTaken (t : Tables) (x : SectionTable) (k : ℕ) (words : List ℕ) : Type 0 where
+  pub fields : AreBytesOf (span_at t x) k words
+  pub room : stored_size x.header ≤ room words
 
 -- the fault of entry k of section i
 abbrev pub entry_fault : Tables → ℕ → SectionTable → ℕ → Option Fault

@@ -73,6 +73,10 @@ span_at t x k = option_map span_of (item_at t.word x.relocs k)
 abbrev pub meets_upto : Tables → SectionTable → ℕ → Item → Bool
 meets_upto t x n i = any_upto (λ k. option_map_or (meets (span_of i)) (span_at t x k) false) n
 
+-- how many bytes of the file are a section's
+abbrev pub stored_size : SectionHeader → ℕ
+stored_size h = if is_zerofill h then 0 else h.size
+
 -- the field lies not in bytes of the file that are the section's
 abbrev pub is_outside : SectionHeader → Item → Bool
 is_outside h i = is_zerofill h || nat_lt h.size (span_of i).1

@@ -1,6 +1,7 @@
 //! Which section holds an address of the file.
 ghost use Rattle.std.specs.Prelude.{◌≡◌, ℕ, ◌+◌, ◌≤◌, ◌<◌, ◌&&◌, true, not, nat_eq, nat_le, nat_lt, if◌then◌else◌, is_some, length, None, Some, IfNone, IfSome, IfOk, IsSome, OnOk};
-ghost use Rattle.std.specs.BTreeMap.{get};
+ghost use Rattle.std.specs.BTreeMap.{get, IsOrdered};
+ghost use Rattle.std.specs.List.{All, filter_map};
 ghost use Rattle.std.specs.Ordering.{nat_cmp};
 ghost use Rattle.oc_linking.specs.Numbers.{or_else};
 ghost use Rattle.oc_macho_read.specs.Framed.{table_at};
@@ -14,21 +15,38 @@ use std::alloc::Global;
 use std::collections::BTreeMap;
 use std::marker::Model;
 
-/// Which section holds an address, in any order of sections, whether they overlap or not. Contracts
-/// see two maps, by address in ascending order: the number of the first section that begins or ends
-/// there; and at each such address that of the first that has a byte there.
+/// An address of 32 bits at which a section begins or ends.
+#[derive(Clone, Copy)]
+struct Edge {
+    // the address
+    at: u32,
+    // the number of the first section that begins or ends there
+    number: u32,
+    // that of the first section that has a byte there
+    byte: Option<u32>,
+}
+
+/// Which section holds an address of 32 bits, in any order of sections, whether they overlap or not.
+/// Contracts see the addresses at which a section begins or ends, in ascending order, each with the
+/// first section that does, and the first that has a byte there. Takes 20 bytes for each address.
 #[derive(Drop)]
 pub struct Holders {
-    edges: BTreeMap<u128, u32>,
-    bytes: BTreeMap<u128, u32>,
+    edges: Vec<Edge>,
+    // their addresses alone, close together for the search
+    places: Vec<u32>,
 }
 
 impl Model for Holders {
-    ghost use Rattle.std.specs.Prelude.{ℕ, List};
+    ghost use Rattle.std.specs.Prelude.{List};
+    ghost use Rattle.oc_macho_read.specs.declared.holders.Edge.{Edge};
+    ghost use Rattle.std.specs.Prelude.{◌≡◌};
+    ghost use Rattle.oc_macho_read.specs.Holders.{AreInOrder, places_of};
 
-    ghost Value = { List (ℕ × ℕ) × List (ℕ × ℕ) };
+    ghost Value = { List Edge };
 
-    ghost view = { λ h. (h.edges.entries, h.bytes.entries) };
+    ghost view = { λ h. h.edges.items };
+
+    ghost invariant = { λ h. AreInOrder h.edges.items × (h.places.items ≡ places_of h.edges.items) };
 }
 
 // the number at an address
@@ -125,28 +143,91 @@ fn bytes_of(
     Ok(bytes)
 }
 
-// the greatest address in the map that is not above `v`
-fn last_upto(edges: &BTreeMap<u128, u32>, v: u128) -> Option<u128>
-    ensures none { IfNone result ((q : ℕ) → q ≤ v → get nat_cmp edges.now q ≡ None) }
-    ensures held { IfSome result (λ at. IsSome (get nat_cmp edges.now at)) }
-    ensures below { IfSome result (λ at. at ≤ v) }
-    ensures greatest { IfSome result (λ at. (q : ℕ) → q ≤ v → IsSome (get nat_cmp edges.now q) → q ≤ at) }
+// what is listed of an address: nothing above 32 bits
+fn edge_of(bytes: &BTreeMap<u128, u32>, at: u128, number: u32) -> Option<Edge>
+    ensures { result ≡ holders.edge_of bytes.now.entries (at, number) }
 {
-    match edges.range(..=v).next_back() {
-        Some((at, _)) => Some(*at),
-        None => None,
+    match u32::try_from(at) {
+        Ok(low) => Some(Edge {
+            at: low,
+            number,
+            byte: number_at(bytes, at),
+        }),
+        Err(_) => None,
+    }
+}
+
+// what is listed of the addresses in `edges`, in ascending order
+fn list_edges(
+    alloc: Global,
+    edges: &BTreeMap<u128, u32>,
+    bytes: &BTreeMap<u128, u32>,
+) -> Result<Vec<Edge>, NoMemory>
+    ensures order { IsOrdered nat_cmp edges.now }
+    ensures list { IfOk result (λ list. list.items ≡ filter_map (holders.edge_of bytes.now.entries) edges.now.entries) }
+{
+    let mut list = Vec::with_capacity(alloc, edges.len())?;
+    for (at, number) in edges {
+        if let Some(edge) = edge_of(bytes, *at, *number) {
+            list.push(edge)?;
+        }
+    }
+    Ok(list)
+}
+
+// their addresses
+fn places_of(alloc: Global, edges: &[Edge]) -> Result<Vec<u32>, NoMemory>
+    ensures { IfOk result (λ places. places.items ≡ holders.places_of edges.now) }
+{
+    let mut places = Vec::with_capacity(alloc, edges.len())?;
+    for edge in edges {
+        places.push(edge.at)?;
+    }
+    Ok(places)
+}
+
+// the last edge that is not above `v`
+fn last_upto(edges: &[Edge], places: &[u32], v: u32) -> Option<Edge>
+    requires order { holders.AreInOrder edges.now }
+    requires places { places.now ≡ holders.places_of edges.now }
+    ensures none { IfNone result (All (holders.IsAbove v) edges.now) }
+    ensures some { IfSome result (holders.IsLastUpto v edges.now) }
+{
+    let upto = places.partition_point(|at| *at <= v);
+    if upto == 0 {
+        return None;
+    }
+    Some(edges[upto - 1])
+}
+
+impl Edge {
+    // the section that holds an address, where this is the last edge up to it
+    fn holder(self, v: u32) -> Option<u32>
+        ensures { result ≡ holders.holder_by self v }
+    {
+        match self.byte {
+            Some(number) => Some(number),
+            None if self.at == v => Some(self.number),
+            None => None,
+        }
     }
 }
 
 impl Holders {
     /// Which sections of a file hold addresses. `NoMemory` where memory ran out. The time is about
-    /// n log2(n) steps for n sections, whatever their addresses are.
+    /// n log2(n) steps for n sections, whatever their addresses are. Takes two maps of the addresses at
+    /// which a section begins or ends, until they are listed.
     pub fn of(alloc: Global, frame: &Frame) -> Result<Holders, NoMemory>
         ensures { IfOk result (λ h. holders.AreHolders frame.now h) }
     {
         let edges = edges_of(alloc, frame)?;
         let bytes = bytes_of(alloc, frame, &edges)?;
-        Ok(Holders { edges, bytes })
+        let list = list_edges(alloc, &edges, &bytes)?;
+        let places = places_of(alloc, &list)?;
+        Ok(Holders {
+            edges: list,
+            places,
+        })
     }
 
     /// The number of the section that holds an address: the first that has a byte there, or else the
@@ -154,12 +235,8 @@ impl Holders {
     pub fn holder(&self, v: u32) -> Option<u32>
         ensures { (t : Tables) → holders.AreHolders t self.now → result ≡ holder_of t v }
     {
-        let v = u128::from(v);
-        match last_upto(&self.edges, v) {
-            Some(at) => match number_at(&self.bytes, at) {
-                Some(number) => Some(number),
-                None => number_at(&self.edges, v),
-            },
+        match last_upto(&self.edges, &self.places, v) {
+            Some(edge) => edge.holder(v),
             None => None,
         }
     }

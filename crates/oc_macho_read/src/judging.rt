@@ -132,11 +132,12 @@ fn by_class(fault: Fault) -> ReadFault
 /// it is read under `keep`: an error exactly where it is not, with its first fault; `NoMemory` where
 /// memory ran out.
 ///
-/// The time is that of n log2(n) steps for n sections, symbols or relocations, in any order of names,
-/// addresses and offsets. Each name is read a few times for each symbol that has it, and compared as
-/// `first_repeat` says. Strings behind the last NUL are read once. Names that weigh more than 1 GiB, and
-/// tables of more than 2^23 relocations, are want of memory before any is judged (`oc_weight`). What the
-/// worst files known take is told in docs/SAFETY.md.
+/// The time is linear in the relocations and in the bytes of their sections, in any order of offsets, and
+/// that of n log2(n) steps for n sections or symbols, in any order of names and addresses; each scattered
+/// relocation takes the logarithm of the number of sections. Each name is read a few times for each
+/// symbol that has it, and compared as `first_repeat` says. Strings behind the last NUL are read once.
+/// Names that weigh more than 1 GiB, and tables of more than 2^23 relocations, are want of memory before
+/// any is judged (`oc_weight`). What the worst files known take is told in docs/SAFETY.md.
 pub fn judged<'a>(
     alloc: Global,
     word: Word,

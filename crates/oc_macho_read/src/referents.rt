@@ -14,7 +14,9 @@ use crate::holders::Holders;
 use crate::kind::has;
 use crate::nlist::Nlist;
 use crate::relocation_info::Reference;
-use crate::symbols::{header_numbered, is_external, is_named, is_nameless, is_stab, is_type};
+use crate::symbols::{
+    header_numbered, is_external, is_named, is_nameless, is_numbered, is_stab, is_type,
+};
 use oc_base::{NoMemory, Word};
 use std::alloc::Global;
 
@@ -127,7 +129,7 @@ fn section_referent(frame: &Frame, k: u32) -> Referent
     if k == 0 {
         return Referent::Unfit;
     }
-    if header_numbered(frame, k).is_none() {
+    if !is_numbered(frame, k) {
         return Referent::Nothing;
     }
     INSIDE

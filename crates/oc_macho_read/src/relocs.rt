@@ -22,7 +22,7 @@ use crate::relocation_info::{RELOCATION_INFO_SIZE, RelocationInfo};
 use crate::section_header::SectionHeader;
 use oc_base::{Code, Fault, NoMemory, Phase, Word};
 use oc_neutral::Base;
-use oc_shelf::{Spans, Stop};
+use oc_shelf::{Bitmap, Stop};
 use std::alloc::Global;
 
 // the entry behind entry `k`, where there is one
@@ -77,6 +77,13 @@ fn span_of(item: &Item) -> (u64, u64)
 {
     let begin = u64::from(item.first.r_address);
     (begin, begin + (1 << item.first.r_length))
+}
+
+// how many bytes of the file are the section's
+fn stored_size(h: &SectionHeader) -> u64
+    ensures { result ≡ rules.stored_size h.now }
+{
+    if is_zerofill(h) { 0 } else { h.size }
 }
 
 // whether a field lies not in bytes of the file that are the section's
@@ -195,23 +202,23 @@ pub fn begins_behind(frame: &Frame, i: u32, h: &SectionHeader, k: u32, begins: b
     !(begins && is_first(frame.word(), &frame.entry(i, h, k)))
 }
 
-// judges the field that begins with entry `k`, where `spans` has those before, and takes up its own
+// judges the field that begins with entry `k`, where the bytes of those before are taken, and takes its own
 fn judge_item(
     alloc: Global,
     frame: &Frame,
     holders: &Holders,
     i: u32,
     h: &SectionHeader,
-    spans: &mut Spans,
+    bytes: &mut Bitmap,
     k: u32,
 ) -> Result<(), Stop>
     requires holders { AreHolders frame.now holders.now }
     requires table { IsTable frame.now i h.now }
     requires there { k < h.now.nreloc }
     requires begins { entries.begins frame.now.word (framed.table_at frame.now i).relocs k ≡ true }
-    requires spans { judged.AreTaken frame.now (framed.table_at frame.now i) k spans.old }
+    requires taken { judged.AreTaken frame.now (framed.table_at frame.now i) k bytes.old }
     ensures clean { OnOk result (judged.entry_fault frame.now i (framed.table_at frame.now i) k ≡ None) }
-    ensures spans { OnOk result (judged.AreTaken frame.now (framed.table_at frame.now i) (k + 1) spans.new) }
+    ensures taken { OnOk result (judged.AreTaken frame.now (framed.table_at frame.now i) (k + 1) bytes.new) }
     ensures stop { IfErr result (IsStop (judged.entry_fault frame.now i (framed.table_at frame.now i) k)) }
 {
     let item = item_of(frame, i, h, k);
@@ -225,14 +232,14 @@ fn judge_item(
         None => (),
     }
     let (begin, end) = span_of(&item);
-    if spans.is_met(begin, end) {
+    if bytes.is_met(begin, end) {
         return Err(Stop::Fault(entry_fault(frame, i, h, k, Code::Overlap)));
     }
     let wide = is_too_wide(alloc, frame, holders, i, h, &item)?;
     if wide {
         return Err(Stop::Fault(entry_fault(frame, i, h, k, Code::FoldTooWide)));
     }
-    spans.take(begin, end)?;
+    bytes.take(begin, end);
     Ok(())
 }
 
@@ -243,7 +250,7 @@ fn judge_entry(
     holders: &Holders,
     i: u32,
     h: &SectionHeader,
-    spans: &mut Spans,
+    bytes: &mut Bitmap,
     k: u32,
     begins: bool,
 ) -> Result<(), Stop>
@@ -251,15 +258,15 @@ fn judge_entry(
     requires table { IsTable frame.now i h.now }
     requires there { k < h.now.nreloc }
     requires begins { begins ≡ entries.begins frame.now.word (framed.table_at frame.now i).relocs k }
-    requires spans { judged.AreTaken frame.now (framed.table_at frame.now i) k spans.old }
+    requires taken { judged.AreTaken frame.now (framed.table_at frame.now i) k bytes.old }
     ensures clean { OnOk result (judged.entry_fault frame.now i (framed.table_at frame.now i) k ≡ None) }
-    ensures spans { OnOk result (judged.AreTaken frame.now (framed.table_at frame.now i) (k + 1) spans.new) }
+    ensures taken { OnOk result (judged.AreTaken frame.now (framed.table_at frame.now i) (k + 1) bytes.new) }
     ensures stop { IfErr result (IsStop (judged.entry_fault frame.now i (framed.table_at frame.now i) k)) }
 {
     if !begins {
         return Ok(());
     }
-    match judge_item(alloc, frame, holders, i, h, spans, k) {
+    match judge_item(alloc, frame, holders, i, h, bytes, k) {
         Ok(()) => Ok(()),
         Err(stop) => Err(stop),
     }
@@ -268,8 +275,9 @@ fn judge_entry(
 /// Judges the relocation entries of section `i`, counted from 0, which has that header.
 ///
 /// Stops exactly where a field has a fault, with the first; or where memory ran out. The time is
-/// n log n in the entries, in any order of offsets, and for each that is scattered the logarithm of the
-/// number of sections.
+/// linear in the entries, in any order of offsets, and in the section's bytes where there are entries,
+/// and for each entry that is scattered the logarithm of the number of sections; the memory is a bit for
+/// each of these bytes.
 pub(crate) fn check_table(
     alloc: Global,
     frame: &Frame,
@@ -282,10 +290,13 @@ pub(crate) fn check_table(
     ensures clean { OnOk result (stage_fault (rules.entry_stage frame.now i (framed.table_at frame.now i)) ≡ None) }
     ensures stop { IfErr result (IsStop (stage_fault (rules.entry_stage frame.now i (framed.table_at frame.now i)))) }
 {
-    let mut spans = Spans::new(alloc);
+    if h.nreloc == 0 {
+        return Ok(());
+    }
+    let mut bytes = Bitmap::new(alloc, stored_size(h))?;
     let mut begins = true;
     for k in 0..h.nreloc {
-        match judge_entry(alloc, frame, holders, i, h, &mut spans, k, begins) {
+        match judge_entry(alloc, frame, holders, i, h, &mut bytes, k, begins) {
             Err(stop) => return Err(stop),
             Ok(()) => (),
         }

@@ -1,5 +1,5 @@
 //! Symbols: what they say by themselves, and the conditions on each.
-ghost use Rattle.std.specs.Prelude.{◌≡◌, ◌<◌, ◌≤◌, bytes_eq, [], length, slice_get, None, Some, MatchOption};
+ghost use Rattle.std.specs.Prelude.{◌≡◌, ◌<◌, ◌≤◌, bytes_eq, [], is_some, length, slice_get, None, Some, MatchOption};
 ghost use Rattle.oc_linking.specs.FirstFault.{first_broken};
 ghost use Rattle.oc_macho_read.specs.Sections as sections;
 ghost use Rattle.oc_macho_read.specs.SymbolFaults as rules;
@@ -12,6 +12,13 @@ use crate::nlist::Nlist;
 use crate::section_header::SectionHeader;
 use oc_base::{Code, Fault, Phase};
 use oc_shelf::{earlier, text_at};
+
+/// Whether there is a section of number `k`, counted from 1. Constant time; no header is read.
+pub(crate) fn is_numbered(frame: &Frame, k: u32) -> bool
+    ensures { result ≡ is_some (sections.header_numbered frame.now k) }
+{
+    k != 0 && k <= frame.section_count()
+}
 
 /// The header of section number `k`, counted from 1, where there is one. Constant time.
 pub fn header_numbered(frame: &Frame, k: u32) -> Option<SectionHeader>

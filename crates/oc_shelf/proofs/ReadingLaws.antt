@@ -7,3 +7,4 @@ pub mod SlotLemmas
 pub mod TextLemmas
 pub mod OrderLemmas
 pub mod RowLemmas
+pub mod BitmapLemmas

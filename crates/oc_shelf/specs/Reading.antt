@@ -1,3 +1,4 @@
+pub mod Bitmaps
 pub mod Collected
 pub mod Firsts
 pub mod Order

@@ -1,4 +1,6 @@
-//! What readers share: why reading stops, tables, positions by number, texts, spans, entries in order.
+//! What readers share: why reading stops, tables, positions by number, texts, taken bytes,
+//! spans, entries in order.
+mod bitmap;
 mod order;
 mod rows;
 mod slots;
@@ -6,6 +8,7 @@ mod spans;
 mod stop;
 mod texts;
 
+pub use bitmap::Bitmap;
 pub use order::{Placed, sort_by_place};
 pub use rows::Rows;
 pub use slots::Slots;

@@ -8,7 +8,7 @@ pub returns-then-not-begins-clause-clean : goal.returns-then-not-begins-clause-c
 returns-then-not-begins-clause-clean c =
     (idle_clean c.args.frame.now c.args.i (table_at c.args.frame.now c.args.i) c.args.k (sym c.requires.begins ∙ c.if-not-begins.true)).0
 
-pub returns-then-not-begins-clause-spans : goal.returns-then-not-begins-clause-spans
-returns-then-not-begins-clause-spans c =
-    taken_same c.args.frame.now (table_at c.args.frame.now c.args.i) c.args.k c.args.spans.now c.requires.spans
+pub returns-then-not-begins-clause-taken : goal.returns-then-not-begins-clause-taken
+returns-then-not-begins-clause-taken c =
+    taken_same c.args.frame.now (table_at c.args.frame.now c.args.i) c.args.k c.args.bytes.now c.requires.taken
     (idle_clean c.args.frame.now c.args.i (table_at c.args.frame.now c.args.i) c.args.k (sym c.requires.begins ∙ c.if-not-begins.true)).1

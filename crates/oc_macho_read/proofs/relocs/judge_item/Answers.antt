@@ -7,13 +7,13 @@ use Rattle.oc_linking.specs.FirstFault.{first_broken}
 use Rattle.oc_linking.specs.Numbers.{or_else}
 use Rattle.oc_shelf.specs.Reading.Firsts.{any_upto}
 use Rattle.oc_shelf.specs.Reading.Spans.{meets}
-use Rattle.oc_shelf.proofs.ReadingLaws.SpanLemmas.{met_upto}
+use Rattle.oc_shelf.proofs.ReadingLaws.BitmapLemmas.{met_in_upto}
 use Rattle.oc_macho_read.specs.declared.entries.Item.{Item}
 use Rattle.oc_macho_read.specs.declared.section_header.SectionHeader.{SectionHeader}
 use Rattle.oc_macho_read.specs.Framed.{table_at}
 use Rattle.oc_macho_read.specs.Tables.{SectionTable, Tables}
 use Rattle.oc_macho_read.specs.RelocationFaults.{form_conditions, is_outside, is_too_wide, last_conditions, meets_upto, relocation_fault, span_at, span_of, target_conditions}
-use Rattle.oc_macho_read.proofs.RelocLemmas.{inside_of, item_broken, kinds_of, span_is, taken_more}
+use Rattle.oc_macho_read.proofs.RelocLemmas.{field_in_room, inside_of, item_broken, kinds_of, span_is, taken_more}
 use Rattle.oc_macho_read.proofs.relocs.judge_item.Goals as goal
 
 -- what the first two parts leave
@@ -59,9 +59,13 @@ returns-then-is_met-clause-stop c =
     let t = c.args.frame.now in
     let x = table_at t c.args.i in
     let item = c.item_of-item.result in
+    let some = positive item.first.r_length c.item_of-item.ensures.length in
+    let begins = c.span_of-begin.ensures.begin in
+    let ends = c.span_of-begin.ensures.end in
+    let wide : c.span_of-begin.result.0 < c.span_of-begin.result.1 = omega (arith, some, begins, ends) in
     let upto : c.is_met.result ≡ meets_upto t x c.args.k item
     = met t x c.args.k c.span_of-begin.result.0 c.span_of-begin.result.1 item c.is_met.result c.span_of-begin.ensures.begin c.span_of-begin.ensures.end
-    (met_upto (span_at t x) c.args.k c.span_of-begin.result.0 c.span_of-begin.result.1 c.args.spans.now c.is_met.result c.requires.spans.fields c.is_met.ensures.met c.is_met.ensures.free) in
+    (met_in_upto (span_at t x) c.args.k c.span_of-begin.result.0 c.span_of-begin.result.1 c.args.bytes.now c.is_met.result c.requires.taken.fields wide c.is_met.ensures.met c.is_met.ensures.free) in
     item_broken t c.args.i x c.args.k item c.item_of-item.ensures.item
     ∙ past_both t c.args.i x c.args.k item c.in-None.ensures (sym c.in_ok-fault.ensures ∙ c.in-None-fault.is)
     ∙ ap (λ (b : Bool). first_broken ((b, relocation_fault c.args.i x c.args.k Overlap) ∷ (is_too_wide t c.args.i x item, relocation_fault c.args.i x c.args.k FoldTooWide) ∷ [])) (sym upto ∙ c.if-is_met.true)
@@ -81,9 +85,13 @@ returns-then-wide-clause-stop c =
     let t = c.args.frame.now in
     let x = table_at t c.args.i in
     let item = c.item_of-item.result in
+    let some = positive item.first.r_length c.item_of-item.ensures.length in
+    let begins = c.span_of-begin.ensures.begin in
+    let ends = c.span_of-begin.ensures.end in
+    let wide : c.span_of-begin.result.0 < c.span_of-begin.result.1 = omega (arith, some, begins, ends) in
     let upto : c.is_met.result ≡ meets_upto t x c.args.k item
     = met t x c.args.k c.span_of-begin.result.0 c.span_of-begin.result.1 item c.is_met.result c.span_of-begin.ensures.begin c.span_of-begin.ensures.end
-    (met_upto (span_at t x) c.args.k c.span_of-begin.result.0 c.span_of-begin.result.1 c.args.spans.now c.is_met.result c.requires.spans.fields c.is_met.ensures.met c.is_met.ensures.free) in
+    (met_in_upto (span_at t x) c.args.k c.span_of-begin.result.0 c.span_of-begin.result.1 c.args.bytes.now c.is_met.result c.requires.taken.fields wide c.is_met.ensures.met c.is_met.ensures.free) in
     item_broken t c.args.i x c.args.k item c.item_of-item.ensures.item
     ∙ past_both t c.args.i x c.args.k item c.in-None.ensures (sym c.in_ok-fault.ensures ∙ c.in-None-fault.is)
     ∙ ap (λ (b : Bool). first_broken ((b, relocation_fault c.args.i x c.args.k Overlap) ∷ (is_too_wide t c.args.i x item, relocation_fault c.args.i x c.args.k FoldTooWide) ∷ [])) (sym upto ∙ c.if-is_met.false)
@@ -95,16 +103,28 @@ returns-clause-clean c =
     let t = c.args.frame.now in
     let x = table_at t c.args.i in
     let item = c.item_of-item.result in
+    let some = positive item.first.r_length c.item_of-item.ensures.length in
+    let begins = c.span_of-begin.ensures.begin in
+    let ends = c.span_of-begin.ensures.end in
+    let wide : c.span_of-begin.result.0 < c.span_of-begin.result.1 = omega (arith, some, begins, ends) in
     let upto : c.is_met.result ≡ meets_upto t x c.args.k item
     = met t x c.args.k c.span_of-begin.result.0 c.span_of-begin.result.1 item c.is_met.result c.span_of-begin.ensures.begin c.span_of-begin.ensures.end
-    (met_upto (span_at t x) c.args.k c.span_of-begin.result.0 c.span_of-begin.result.1 c.args.spans.now c.is_met.result c.requires.spans.fields c.is_met.ensures.met c.is_met.ensures.free) in
+    (met_in_upto (span_at t x) c.args.k c.span_of-begin.result.0 c.span_of-begin.result.1 c.args.bytes.now c.is_met.result c.requires.taken.fields wide c.is_met.ensures.met c.is_met.ensures.free) in
     item_broken t c.args.i x c.args.k item c.item_of-item.ensures.item
     ∙ past_both t c.args.i x c.args.k item c.in-None.ensures (sym c.in_ok-fault.ensures ∙ c.in-None-fault.is)
     ∙ ap (λ (b : Bool). first_broken ((b, relocation_fault c.args.i x c.args.k Overlap) ∷ (is_too_wide t c.args.i x item, relocation_fault c.args.i x c.args.k FoldTooWide) ∷ [])) (sym upto ∙ c.if-is_met.false)
     ∙ ap (λ (b : Bool). first_broken ((b, relocation_fault c.args.i x c.args.k FoldTooWide) ∷ [])) (sym c.in_ok-wide.ensures ∙ c.if-wide.false)
 
-pub returns-clause-spans : goal.returns-clause-spans
-returns-clause-spans c =
+pub take-requires : goal.take-requires
+take-requires c =
+    let t = c.args.frame.now in
+    let x = table_at t c.args.i in
+    let inside = field_in_room t x c.args.k c.args.bytes.now c.item_of-item.result c.requires.taken (inside_of t c.args.i x c.args.k c.item_of-item.result (sym c.in-None.ensures)) in
+    let ends = c.span_of-begin.ensures.end in
+    omega (arith, inside, ends)
+
+pub returns-clause-taken : goal.returns-clause-taken
+returns-clause-taken c =
     let t = c.args.frame.now in
     let x = table_at t c.args.i in
     let item = c.item_of-item.result in
@@ -114,4 +134,4 @@ returns-clause-spans c =
     let wide : c.span_of-begin.result.0 < c.span_of-begin.result.1 = omega (arith, some, begins, ends) in
     let span : span_at t x c.args.k ≡ Some (c.span_of-begin.result.0, c.span_of-begin.result.1)
     = span_is t x c.args.k item c.item_of-item.ensures.item ∙ ap (λ (p : ℕ). Some (p, (span_of item).1)) (sym begins) ∙ ap (λ (q : ℕ). Some (c.span_of-begin.result.0, q)) (sym ends) in
-    taken_more t x c.args.k c.span_of-begin.result.0 c.span_of-begin.result.1 c.args.spans.now c.take.new.self c.requires.spans span wide (c.is_met.ensures.free c.if-is_met.false) c.in_ok-take.ensures.ok
+    taken_more t x c.args.k c.span_of-begin.result.0 c.span_of-begin.result.1 c.args.bytes.now c.take.new.self c.requires.taken span wide c.take.ensures.room c.take.ensures.taken
