@@ -1,12 +1,14 @@
 //! Which sections have names that lie too far in a string table (PE/COFF, "Section Table").
 ghost use Rattle.std.specs.Prelude.{◌≡◌, ℕ, [], IfOk, false, get_or, length, map, slice_get, slice_index_or};
 ghost use Rattle.std.specs.Option.{option_and_then, option_map_or};
+ghost use Rattle.std.specs.List.{list_any};
 ghost use Rattle.oc_neutral.specs.Coff.Family as coff;
+ghost use Rattle.oc_neutral.specs.Coff.Strings as strings;
 ghost use Rattle.oc_neutral.specs.Families.{family_of};
 ghost use Rattle.oc_neutral.specs.HomeNames.{output_names};
 ghost use Rattle.oc_express.specs.Far.{lies_far, lies_far_in};
 
-use crate::strings::{default_names, given_names};
+use crate::strings::{default_names, given_names, is_tabled};
 use oc_base::{Bytes, Format, NoMemory};
 use oc_neutral::Neutral;
 use oc_neutral::coff::{MOST_NAME_OFFSET, STRINGS_HEAD};
@@ -48,7 +50,15 @@ fn far_places(
     Ok(far)
 }
 
-// for each section whether its name lies too far in the string table of a COFF output
+// whether one of these names of sections stands in the string table
+fn is_any_tabled(names: &[Bytes]) -> bool
+    ensures { result ≡ list_any strings.is_tabled names.now }
+{
+    names.iter().any(|name| is_tabled(name.as_slice()))
+}
+
+// for each section whether its name lies too far in the string table of a COFF output; the table is
+// laid out only where one of these names stands in it
 fn far_in_table(
     alloc: Global,
     target: Format,
@@ -57,6 +67,9 @@ fn far_in_table(
 ) -> Result<Vec<bool>, NoMemory>
     ensures { IfOk result (λ far. (i : ℕ) → slice_index_or far.items i false ≡ lies_far_in (family_of target).writes_local names.now neutral.now (get_or names.now i [])) }
 {
+    if !is_any_tabled(names) {
+        return Ok(Vec::new(alloc));
+    }
     let defaults = default_names(alloc, neutral)?;
     let given = given_names(alloc, target, neutral, names, &defaults)?;
     let offsets = offsets(alloc, STRINGS_HEAD as u32, &given.names)?;
@@ -66,8 +79,9 @@ fn far_in_table(
 /// For each section, which have these names in the output, whether its name lies too far in the
 /// target's string table; no section past the last one is told of. `NoMemory` where memory ran out.
 ///
-/// Where the target is COFF, the table is laid out once: the time is that of sorting the names of the
-/// symbols and sections from their last bytes on. Else it is constant.
+/// Where the target is COFF and one of the names stands in the table, the table is laid out once: the
+/// time is that of sorting the names of the symbols and sections from their last bytes on. Where none
+/// does, it is linear in the sections; with another target it is constant.
 pub(crate) fn far_names(
     alloc: Global,
     target: Format,

@@ -21,11 +21,28 @@ pub(crate) struct Entry<'a> {
 /// How many bytes are compared at once, while they are the same.
 const BLOCK: usize = 32;
 
-/// Whether both names have a last block, and it is the same.
-fn shares_block(a: &[u8], b: &[u8]) -> bool
-    ensures { IsTrue result ↔ SharesEnd BLOCK a.now b.now }
+/// How many bytes are compared at once before that, while they are the same.
+const BIG_BLOCK: usize = 256;
+
+/// Whether both names have that many bytes, and their last ones are the same.
+fn shares_block(a: &[u8], b: &[u8], size: usize) -> bool
+    ensures { IsTrue result ↔ SharesEnd size a.now b.now }
 {
-    a.len() >= BLOCK && b.len() >= BLOCK && a[a.len() - BLOCK..] == b[b.len() - BLOCK..]
+    a.len() >= size && b.len() >= size && a[a.len() - size..] == b[b.len() - size..]
+}
+
+/// Two names without the blocks of that many bytes that are the same, from the last one on. They
+/// stay as they are where `size` is 0.
+fn without_shared<'a, 'b>(a: &'a [u8], b: &'b [u8], size: usize) -> (&'a [u8], &'b [u8])
+    ensures { slice_cmp nat_cmp (reverse result.0.now) (reverse result.1.now) ≡ slice_cmp nat_cmp (reverse a.now) (reverse b.now) }
+{
+    let mut a_left = a;
+    let mut b_left = b;
+    while size > 0 && shares_block(a_left, b_left, size) {
+        a_left = &a_left[..a_left.len() - size];
+        b_left = &b_left[..b_left.len() - size];
+    }
+    (a_left, b_left)
 }
 
 /// Compares two names byte by byte, from their last bytes on.
@@ -39,12 +56,8 @@ fn compare_bytes(a: &[u8], b: &[u8]) -> Ordering
 pub(crate) fn compare_backward(a: &[u8], b: &[u8]) -> Ordering
     ensures { result ≡ slice_cmp nat_cmp (reverse a.now) (reverse b.now) }
 {
-    let mut a_left = a;
-    let mut b_left = b;
-    while shares_block(a_left, b_left) {
-        a_left = &a_left[..a_left.len() - BLOCK];
-        b_left = &b_left[..b_left.len() - BLOCK];
-    }
+    let (a_left, b_left) = without_shared(a, b, BIG_BLOCK);
+    let (a_left, b_left) = without_shared(a_left, b_left, BLOCK);
     compare_bytes(a_left, b_left)
 }
 
