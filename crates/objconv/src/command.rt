@@ -30,10 +30,11 @@ use std::alloc::Global;
 /// There is no other status, and a read or write that fails ends the run. With every status but 0
 /// and 5, and 6 where an object is made, no file is changed. Where telling a text fails, the status
 /// stays. Takes memory for the input, which is also made, for the object with a copy of its contents
-/// and names, and for the plan or the listing; none for the output's bytes. That was at most 1.5 GiB for
-/// the worst files known, and 4 GiB for modules of OMF with millions of symbols that have names of
-/// their own; how long they took is told in docs/SAFETY.md. Both were measured (`bench/hostile`), and
-/// no clause speaks of them.
+/// and names, and for the plan or the listing; none for the output's bytes. A run is to take at most
+/// 1.5 GiB and 10 seconds on one processor of today, and 4 GiB and 60 seconds for a module of OMF with
+/// millions of symbols that have names of their own; beside that, each word that edits names goes once
+/// over the symbols. No clause speaks of this: it is measured with the worst files known
+/// (`bench/hostile`, docs/SAFETY.md).
 pub fn run<F: Files, C: Console>(alloc: Global, words: &Words, files: &mut F, console: &mut C) -> u8
     ensures { IsRun words.now
         (state_of F.held F.read_faults F.write_faults C.shown C.told C.out_faults C.err_faults files.old console.old) result

@@ -54,7 +54,8 @@ fn read_by<R: Reads>(
 /// `Refused` exactly where there is a first refusal: in the file header `UnknownFormat`, where the
 /// first bytes are those of no format; else the first fault of the file, of any class. Where there is
 /// none, it is the one object that shows the file. `NoMemory` where memory ran out. Takes the memory
-/// and time of reading.
+/// and time of reading: some 1 GiB and 10 seconds for the worst files known, but for modules of OMF with
+/// millions of names (measured: docs/SAFETY.md).
 #[tactic(auto, unfolding(crate::specs::Built::built))]
 pub fn read_any(alloc: Global, bytes: &[u8], keep: &Keep) -> Result<Neutral, ConvertFault>
     requires { length bytes.now ≤ 67108864 }

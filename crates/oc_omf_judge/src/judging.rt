@@ -56,7 +56,8 @@ fn by_class(fault: Fault) -> ReadFault
 /// steps for the n bytes of the file and the n places at which relocated fields begin, in any order of
 /// these. There are never more fields than the segments have bytes: where two meet, reading stops. For
 /// each of at most 1,024 places in the data of an entry, the blocks of iterated data are walked once
-/// more.
+/// more. What the worst files known take is told in docs/SAFETY.md: seconds, and tens of seconds where
+/// millions of symbols have names of their own.
 pub fn judged<'a>(alloc: Global, bytes: &'a [u8], keep: &Keep) -> Result<Module<'a>, ReadFault>
     requires { length bytes.now ≤ 67108864 }
     ensures well_formed { OnOk result (fault_of bytes.now keep.now ≡ None) }

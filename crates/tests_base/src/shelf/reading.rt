@@ -1,6 +1,6 @@
 //! Worked cases at the borders, worked out by hand.
 
-use oc_shelf::{Placed, Rows, Spans, sort_by_place, text_at};
+use oc_shelf::{Bitmap, Placed, Rows, Spans, sort_by_place, text_at};
 use std::test::Fail;
 
 /// Tables of entries of 10 bytes from 20 on, in a file of 50 bytes, and numbers that lie.
@@ -60,6 +60,34 @@ fn spans_in_any_order(rt: HostRuntime) -> Result<(), Fail> {
         assert_eq!(rt; met, want, "from {begin} to {end}");
         if !met {
             spans.take(begin, end)?;
+        }
+    }
+    Ok(())
+}
+
+/// Bytes that are taken in no order, on both sides of a word's end: those that touch do not meet.
+#[test]
+fn bytes_in_any_order(rt: HostRuntime) -> Result<(), Fail> {
+    let mut bytes = Bitmap::new(rt.alloc(), 130)?;
+    let cases = [
+        (60, 68, false),
+        (68, 72, false),
+        (56, 60, false),
+        (63, 64, true),
+        (64, 65, true),
+        (71, 79, true),
+        (72, 73, false),
+        (122, 130, false),
+        (129, 130, true),
+        (0, 56, false),
+        (0, 1, true),
+        (73, 122, false),
+    ];
+    for (begin, end, want) in cases {
+        let met = bytes.is_met(begin, end);
+        assert_eq!(rt; met, want, "from {begin} to {end}");
+        if !met {
+            bytes.take(begin, end);
         }
     }
     Ok(())
