@@ -1,9 +1,10 @@
 //! What files of all formats are made of, and how they are read.
 ghost use Rattle.std.specs.Prelude.{◌<◌, ◌≤◌, length, IfOk};
+ghost use Rattle.oc_base.specs.declared.limits.TheConstants.{MOST_INPUT};
 
 use crate::timing::micros;
 use anyhow::{Result, anyhow};
-use oc_base::NoMemory;
+use oc_base::{MOST_INPUT, NoMemory};
 use oc_neutral::{Keep, Reads};
 use std::alloc::Global;
 use std::rt::Clock;
@@ -11,9 +12,6 @@ use std::time::Instant;
 
 /// The most relocations or symbols of a file.
 pub(crate) const MOST: u32 = 8_000_000;
-
-/// The most bytes of a file.
-const MOST_BYTES: usize = 67_108_864;
 
 /// Sections of all kinds are kept.
 pub(crate) const KEEP_ALL: Keep = Keep {
@@ -102,10 +100,10 @@ pub(crate) fn counted(count: u32) -> Result<u32>
 
 /// Asks that a file is not longer than the longest that is read.
 pub(crate) fn ask_size(size: usize) -> Result<()>
-    ensures { IfOk result (λ _. size ≤ 67108864) }
+    ensures { IfOk result (λ _. size ≤ MOST_INPUT) }
 {
-    if size > MOST_BYTES {
-        return Err(anyhow!("a file has at most {MOST_BYTES} bytes, not {size}"));
+    if size as u64 > MOST_INPUT {
+        return Err(anyhow!("a file has at most {MOST_INPUT} bytes, not {size}"));
     }
     Ok(())
 }
@@ -117,7 +115,7 @@ pub(crate) fn read_file<R: Clock + Print + Eprint, F: Reads>(
     reader: &F,
     bytes: &[u8],
 ) -> Result<()>
-    requires { length bytes.now ≤ 67108864 }
+    requires { length bytes.now ≤ MOST_INPUT }
 {
     let start = Instant::now(rt)?;
     let read = reader.read(alloc, bytes, &KEEP_ALL);

@@ -1,5 +1,6 @@
 //! The text of a list, and its jobs.
 ghost use Rattle.std.specs.Prelude.{◌≡◌, ◌++◌, ◌∷◌, [], ◌<◌, ◌≤◌, ◌-◌, ◌^◌, length, filter, IfOk, OnOk};
+ghost use Rattle.oc_base.specs.declared.limits.TheConstants.{MOST_INPUT};
 ghost use Rattle.oc_batch.specs.Lists.{is_filled, jobs_in, words_in};
 
 use oc_base::NoMemory;
@@ -19,7 +20,7 @@ fn add_word(words: &mut Words, word: &str) -> Result<(), NoMemory>
 
 // the words of a line
 fn words_of(alloc: Global, line: &str) -> Result<Words, NoMemory>
-    requires { length line.now ≤ 67108864 }
+    requires { length line.now ≤ MOST_INPUT }
     ensures { IfOk result (λ words. words ≡ words_in line.now) }
 {
     let mut words = Words::new(alloc);
@@ -45,7 +46,7 @@ fn add_job(jobs: &mut Vec<Words>, words: Words) -> Result<(), NoMemory>
 /// which the words are copies.
 #[tactic(auto, unfolding(crate::specs::Lists::jobs_in))]
 pub(crate) fn jobs_of(alloc: Global, text: &str) -> Result<Vec<Words>, NoMemory>
-    requires { length text.now ≤ 67108864 }
+    requires { length text.now ≤ MOST_INPUT }
     ensures { IfOk result (λ jobs. jobs.items ≡ jobs_in text.now) }
 {
     let mut jobs = Vec::new(alloc);

@@ -1,5 +1,6 @@
 //! The jobs of a list that is read.
 ghost use Rattle.std.specs.Prelude.{◌≡◌, ℕ, ◌+◌, ◌-◌, ◌^◌, ◌<◌, ◌≤◌, ◌⊎◌, length, Ok, Err, IfOk, IfErr};
+ghost use Rattle.oc_base.specs.declared.limits.TheConstants.{MOST_INPUT};
 ghost use Rattle.oc_batch.specs.Lists.{IsNoText, IsText, jobs_in};
 ghost use Rattle.oc_outside.specs.Causes.{Counts};
 ghost use Rattle.oc_batch.specs.Batches as batches;
@@ -14,7 +15,7 @@ use std::alloc::Global;
 
 // the jobs of the bytes that were read
 fn jobs_of_bytes(alloc: Global, bytes: &[u8]) -> Result<Vec<Words>, ListFault>
-    requires { length bytes.now ≤ 67108864 }
+    requires { length bytes.now ≤ MOST_INPUT }
     ensures text { IfOk result (λ jobs. IsText bytes.now) }
     ensures jobs { IfOk result (λ jobs. jobs.items ≡ jobs_in bytes.now) }
     ensures fault { IfErr result (λ fault. (fault ≡ ListFault.NoMemory) ⊎ ((fault ≡ ListFault.NotText) × IsNoText bytes.now)) }

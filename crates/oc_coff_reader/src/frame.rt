@@ -1,5 +1,6 @@
 //! A file whose header has no fault: its tables, read where they stand.
 ghost use Rattle.std.specs.Prelude.{◌≡◌, ◌+◌, ◌*◌, ◌<◌, ◌≤◌, ◌^◌, length, take, drop, slice_get, None, Some, IfErr, IfOk, OnOk};
+ghost use Rattle.oc_base.specs.declared.limits.TheConstants.{MOST_INPUT};
 ghost use Rattle.oc_linking.specs.FirstFault.{stage_fault};
 ghost use Rattle.oc_coff_read.specs.FileHeader.{file_header_of};
 ghost use Rattle.oc_coff_read.specs.Forms.{symbol_size};
@@ -69,7 +70,7 @@ fn strings_of<'a>(shape: Shape, file: &'a [u8], h: &FileHeader) -> &'a [u8]
 /// The file with its header. An error exactly where the header has a fault, with the first. Linear in
 /// what stands behind the last NUL of the string table.
 pub(crate) fn read_coff<'a>(shape: Shape, file: &'a [u8]) -> Result<Coff<'a>, Fault>
-    requires { length file.now ≤ 67108864 }
+    requires { length file.now ≤ MOST_INPUT }
     ensures file { IfOk result (λ c. c ≡ record { shape = shape; bytes = file.now }) }
     ensures clean { OnOk result (stage_fault (header_stage shape file.now) ≡ None) }
     ensures fault { IfErr result (λ fault. stage_fault (header_stage shape file.now) ≡ Some fault) }

@@ -1,7 +1,6 @@
 //! Judging a file: the first of its faults.
 ghost use Rattle.std.specs.Prelude.{◌≡◌, ◌+◌, ◌<◌, ◌≤◌, ◌∷◌, [], length, slice_get, None, Some, IfErr, IfOk, OnOk};
 ghost use Rattle.oc_linking.specs.FirstFault.{first_fault, stage_fault};
-ghost use Rattle.oc_linking.specs.Keeping.{keeps};
 ghost use Rattle.oc_shelf.specs.Reading.Stops.{IsStop};
 ghost use Rattle.oc_coff_read.specs.RelocationFaults.{relocation_stage};
 ghost use Rattle.oc_coff_read.specs.SectionFaults.{section_stage};
@@ -27,18 +26,6 @@ use oc_coff_read::{RELOCATION_SIZE, SectionHeader, Shape};
 use oc_neutral::{Keep, Kind};
 use oc_shelf::Stop;
 use std::alloc::Global;
-
-/// Whether a kind is kept. Constant time.
-pub(crate) fn keeps(keep: &Keep, kind: Kind) -> bool
-    ensures { result ≡ keeps keep.now kind }
-{
-    match kind {
-        Kind::Debug => keep.debug,
-        Kind::Exception => keep.exceptions,
-        Kind::Note => keep.notes,
-        Kind::Code | Kind::ReadOnly | Kind::Data | Kind::Zero | Kind::Init | Kind::Fini => true,
-    }
-}
 
 // where the relocation entries of a section begin in the file, behind the one that has their count
 fn relocs_place(h: &SectionHeader) -> u64
@@ -93,7 +80,7 @@ fn check_relocs_of(alloc: Global, coff: &Coff, keep: &Keep, aims: &Aims, i: u32)
     let h = coff.section(i);
     match kind_in(coff, &h) {
         Some(kind) => {
-            if !keeps(keep, kind) {
+            if !keep.keeps(kind) {
                 return Ok(());
             }
             let table = table_of(coff, i, &h, kind);

@@ -1,5 +1,6 @@
 //! Reading in a form of COFF, and the readers of the two forms for few sections.
 ghost use Rattle.std.specs.Prelude.{◌≡◌, ◌≤◌, length, None, Some, IfErr, IfOk, OnOk};
+ghost use Rattle.oc_base.specs.declared.limits.TheConstants.{MOST_INPUT};
 ghost use Rattle.oc_linking.specs.FirstFault.{first_fault};
 ghost use Rattle.oc_neutral.specs.Readable.{IsReadable, IsReadFault};
 ghost use Rattle.oc_neutral.specs.Shows.{Shows};
@@ -15,7 +16,7 @@ use crate::frame::{Coff, read_coff};
 use crate::judging::check_rest;
 use crate::positions::symbol_positions;
 use crate::started::start;
-use oc_base::{Class, Fault, NoMemory, Word, class};
+use oc_base::{NoMemory, Word};
 use oc_coff_read::{CoffForm, Shape, shape_of, word_of};
 use oc_neutral::{Keep, Neutral, ReadFault, Reads, are_bytes};
 use oc_shelf::Stop;
@@ -57,7 +58,7 @@ fn read_file(
     file: &[u8],
     keep: &Keep,
 ) -> Result<Neutral, Stop>
-    requires { length file.now ≤ 67108864 }
+    requires { length file.now ≤ MOST_INPUT }
     ensures clean { OnOk result (fault_by word shape file.now keep.now ≡ None) }
     ensures stop { IfErr result (IsStop (fault_by word shape file.now keep.now)) }
     ensures shows { IfOk result (Shows (dialect_by word shape) file.now keep.now) }
@@ -74,17 +75,6 @@ fn read_file(
     match object_of(alloc, word, &coff, keep, &found) {
         Err(NoMemory) => Err(Stop::NoMemory),
         Ok(object) => Ok(object),
-    }
-}
-
-// a fault of reading, in the variant of its class
-fn by_class(fault: Fault) -> ReadFault
-    ensures { IsReadFault (Some fault) result }
-{
-    match class(fault.code) {
-        Class::Malformed => ReadFault::Malformed(fault),
-        Class::Refused => ReadFault::Outside(fault),
-        Class::Limit => ReadFault::Limit(fault),
     }
 }
 
@@ -105,7 +95,7 @@ pub fn read_object(
     bytes: &[u8],
     keep: &Keep,
 ) -> Result<Neutral, ReadFault>
-    requires { length bytes.now ≤ 67108864 }
+    requires { length bytes.now ≤ MOST_INPUT }
     ensures well_formed { OnOk result (fault_of form bytes.now keep.now ≡ None) }
     ensures shows { IfOk result (Shows (coff_dialect form) bytes.now keep.now) }
     ensures readable { IfOk result IsReadable }
@@ -114,7 +104,7 @@ pub fn read_object(
     match read_file(alloc, word_of(form), shape_of(form), bytes, keep) {
         Ok(object) => Ok(object),
         Err(Stop::NoMemory) => Err(ReadFault::NoMemory),
-        Err(Stop::Fault(fault)) => Err(by_class(fault)),
+        Err(Stop::Fault(fault)) => Err(ReadFault::of(fault)),
     }
 }
 

@@ -1,5 +1,6 @@
 //! Relocation entries, and the conditions on each.
 ghost use Rattle.std.specs.Prelude.{◌≡◌, ◌+◌, ◌*◌, ◌<◌, ◌≤◌, length, is_some, slice_index_or, None, Some, IfErr, OnOk, ◌^◌};
+ghost use Rattle.oc_base.specs.declared.limits.TheConstants.{MOST_INPUT};
 ghost use Rattle.oc_linking.specs.FirstFault.{first_broken};
 ghost use Rattle.oc_linking.specs.Numbers.{first_upto};
 ghost use Rattle.oc_shelf.specs.Reading.Stops.{IsStop};
@@ -42,7 +43,7 @@ pub(crate) struct Aims<'a> {
 /// Where entry `k` of a table stands, in bytes from the start of the file. Constant time.
 pub(crate) fn reloc_place(table: &Table, k: u32) -> u64
     requires there { k < table.now.count }
-    requires lies { table.now.place + RELOCATION_SIZE * table.now.count ≤ 67108864 }
+    requires lies { table.now.place + RELOCATION_SIZE * table.now.count ≤ MOST_INPUT }
     ensures { result ≡ rules.reloc_place table.now k }
 {
     table.place + RELOCATION_SIZE as u64 * u64::from(k)

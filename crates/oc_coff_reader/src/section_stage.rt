@@ -14,7 +14,7 @@ use crate::kind::{align_bits, is_comdat};
 use crate::names::section_name;
 use crate::owners::{Owners, definition_in, lacks_key};
 use crate::sections::{header_place, kind_in, raw_fault, section_fault, table_fault};
-use oc_base::{Code, Fault};
+use oc_base::{Code, Fault, MOST_CONTENTS};
 use oc_coff_read::{
     IMAGE_COMDAT_SELECT_ANY, IMAGE_COMDAT_SELECT_ASSOCIATIVE, SectionAux, SectionHeader,
 };
@@ -25,8 +25,6 @@ use oc_shelf::earlier;
 const MOST_SIZE: u64 = 2_147_483_647;
 
 const MOST_SIZES: u64 = 2_147_483_648;
-
-const MOST_BYTES: u64 = 67_108_864;
 
 // whether the section with which another is kept is itself kept with one
 fn follows_follower(coff: &Coff, owners: &Owners, d: Option<SectionAux>) -> bool
@@ -165,7 +163,7 @@ fn limit_fault(i: u32, size: u64, sizes: u64, bytes: u64) -> Option<Fault>
     if sizes > MOST_SIZES {
         return section_fault(i, sizes, Code::LimitSum);
     }
-    if bytes > MOST_BYTES {
+    if bytes > MOST_CONTENTS {
         return section_fault(i, bytes, Code::LimitBytes);
     }
     None

@@ -1,6 +1,7 @@
 //! The steps of a conversion, each with the answers of a conversion.
 ghost use Rattle.std.specs.Prelude.{◌≡◌, ◌^◌, ◌≤◌, length, None, Ok, IfErr, IfOk, OnOk};
 ghost use Rattle.oc_base.specs.Formats.{word_for};
+ghost use Rattle.oc_base.specs.declared.limits.TheConstants.{MOST_INPUT};
 ghost use Rattle.oc_neutral.specs.Fitted.{CanFit, IsFit, IsFitted, first_unfit};
 ghost use Rattle.oc_neutral.specs.Fitting.{fit_of};
 ghost use Rattle.oc_neutral.specs.Invariants.{IsObject};
@@ -24,7 +25,7 @@ fn read<R: Reads>(
     bytes: &[u8],
     keep: &Keep,
 ) -> Result<Neutral, ConvertFault>
-    requires { length bytes.now ≤ 67108864 }
+    requires { length bytes.now ≤ MOST_INPUT }
     ensures well_formed { OnOk result (R.dialect.rules.fault bytes.now keep.now ≡ None) }
     ensures object { IfOk result IsObject }
     ensures shows { IfOk result (Shows R.dialect bytes.now keep.now) }
@@ -94,7 +95,7 @@ pub fn ready<R: Reads>(
     bytes: &[u8],
     edits: &Edits,
 ) -> Result<Fitted, ConvertFault>
-    requires size { length bytes.now ≤ 67108864 }
+    requires size { length bytes.now ≤ MOST_INPUT }
     requires source { R.dialect.format ≡ from }
     requires word { word_for to ≡ word_for from }
     ensures ready { IfOk result (IsReady edits.now R.dialect to bytes.now) }

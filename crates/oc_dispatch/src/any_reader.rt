@@ -1,5 +1,6 @@
 //! Reading any file, as a trait: what is proved over it needs no reader's proofs.
 ghost use Rattle.std.specs.Prelude.{◌≡◌, ◌≤◌, length, None, IfErr, IfOk, OnOk};
+ghost use Rattle.oc_base.specs.declared.limits.TheConstants.{MOST_INPUT};
 ghost use Rattle.oc_convert.specs.Dispatched.{reading_refusal};
 ghost use Rattle.oc_convert.specs.Refusals.{IsFaultOf};
 ghost use Rattle.oc_dispatch.specs.Built.{IsRead, built};
@@ -13,7 +14,7 @@ use std::alloc::Global;
 pub trait ReadsAny {
     /// The object of a file of at most 67,108,864 bytes, as `read_any` gives it.
     fn read(&self, alloc: Global, bytes: &[u8], keep: &Keep) -> Result<Neutral, ConvertFault>
-        requires { length bytes.now ≤ 67108864 }
+        requires { length bytes.now ≤ MOST_INPUT }
         ensures well_formed { OnOk result (reading_refusal built keep.now bytes.now ≡ None) }
         ensures refused { IfErr result (IsFaultOf (reading_refusal built keep.now bytes.now)) }
         ensures read { IfOk result (IsRead keep.now bytes.now) };

@@ -1,5 +1,6 @@
 //! The object of a file of any format.
 ghost use Rattle.std.specs.Prelude.{◌≡◌, ◌≤◌, length, None, IfErr, IfOk, OnOk};
+ghost use Rattle.oc_base.specs.declared.limits.TheConstants.{MOST_INPUT};
 ghost use Rattle.oc_neutral.specs.Computed.{object_in};
 ghost use Rattle.oc_neutral.specs.Readable.{IsReadable};
 ghost use Rattle.oc_neutral.specs.Shows.{Shows};
@@ -27,7 +28,7 @@ fn read_by<R: Reads>(
     bytes: &[u8],
     keep: &Keep,
 ) -> Result<Neutral, ConvertFault>
-    requires { length bytes.now ≤ 67108864 }
+    requires { length bytes.now ≤ MOST_INPUT }
     ensures well_formed { OnOk result (R.dialect.rules.fault bytes.now keep.now ≡ None) }
     ensures refused { IfErr result (IsFaultOf (R.dialect.rules.fault bytes.now keep.now)) }
     ensures computed { IfOk result (λ n. n ≡ object_in R.dialect bytes.now keep.now) }
@@ -58,7 +59,7 @@ fn read_by<R: Reads>(
 /// millions of names (measured: docs/SAFETY.md).
 #[tactic(auto, unfolding(crate::specs::Built::built))]
 pub fn read_any(alloc: Global, bytes: &[u8], keep: &Keep) -> Result<Neutral, ConvertFault>
-    requires { length bytes.now ≤ 67108864 }
+    requires { length bytes.now ≤ MOST_INPUT }
     ensures well_formed { OnOk result (reading_refusal built keep.now bytes.now ≡ None) }
     ensures refused { IfErr result (IsFaultOf (reading_refusal built keep.now bytes.now)) }
     ensures read { IfOk result (IsRead keep.now bytes.now) }

@@ -1,5 +1,6 @@
 //! The readers of objects with few sections, and the reading that all classes share.
 ghost use Rattle.std.specs.Prelude.{◌≡◌, ◌≤◌, length, None, IfErr, IfOk, OnOk};
+ghost use Rattle.oc_base.specs.declared.limits.TheConstants.{MOST_INPUT};
 ghost use Rattle.oc_linking.specs.FirstFault.{first_fault};
 ghost use Rattle.oc_neutral.specs.Readable.{IsReadable, IsReadFault};
 ghost use Rattle.oc_neutral.specs.Shows.{Shows};
@@ -10,7 +11,7 @@ ghost use Rattle.oc_elf_read.specs.Known.{IsFound};
 use crate::added_relocs::add_relocations;
 use crate::class::ElfClass;
 use crate::frame::{Frame, read_frame};
-use crate::judging::{Found, by_class, check_rest};
+use crate::judging::{Found, check_rest};
 use crate::relocs::Aims;
 use crate::started::start;
 use oc_base::NoMemory;
@@ -48,7 +49,7 @@ fn object_of(alloc: Global, frame: &Frame, keep: &Keep, found: &Found) -> Result
 
 // reads a file
 fn read_file(alloc: Global, class: ElfClass, file: &[u8], keep: &Keep) -> Result<Neutral, Stop>
-    requires { length file.now ≤ 67108864 }
+    requires { length file.now ≤ MOST_INPUT }
     ensures clean { OnOk result (fault_in class file.now keep.now ≡ None) }
     ensures stop { IfErr result (IsStop (fault_in class file.now keep.now)) }
     ensures shows { IfOk result (Shows (elf_dialect class) file.now keep.now) }
@@ -81,7 +82,7 @@ pub fn read_elf(
     bytes: &[u8],
     keep: &Keep,
 ) -> Result<Neutral, ReadFault>
-    requires { length bytes.now ≤ 67108864 }
+    requires { length bytes.now ≤ MOST_INPUT }
     ensures well_formed { OnOk result (fault_in class bytes.now keep.now ≡ None) }
     ensures shows { IfOk result (Shows (elf_dialect class) bytes.now keep.now) }
     ensures readable { IfOk result IsReadable }

@@ -1,6 +1,7 @@
 //! The text of linking the object of a file at the placement of another.
 ghost use Rattle.std.specs.Prelude.{◌≡◌, ℕ, ◌+◌, ◌-◌, ◌^◌, ◌<◌, ◌≤◌, Ok, Err, Some, IfOk, IfErr, length};
 ghost use Rattle.std.specs.Option.{ForSome};
+ghost use Rattle.oc_base.specs.declared.limits.TheConstants.{MOST_INPUT};
 ghost use Rattle.oc_outside.specs.Causes.{Counts};
 ghost use Rattle.oc_outside.specs.Held.{file_of};
 ghost use Rattle.oc_runs.specs.Reports as reports;
@@ -43,7 +44,7 @@ pub(crate) enum LinkFault {
 
 // the text of an object at a placement
 fn text_at(alloc: Global, object: &Neutral, placement: &[u8]) -> Result<Bytes, LinkFault>
-    requires { length placement.now ≤ 67108864 }
+    requires { length placement.now ≤ MOST_INPUT }
     ensures text { IfOk result (λ text. causes.outcome_with object.now placement.now ≡ LinkText text) }
     ensures fault { IfErr result (causes.ExplainsText object.now placement.now) }
 {
@@ -87,7 +88,7 @@ fn object_of<R: ReadsAny, F: Files>(
 // the bytes of a placement
 fn placement_of<F: Files>(alloc: Global, files: &mut F, name: &str) -> Result<Vec<u8>, LinkFault>
     ensures bytes { ForSome (F.held files.old) (λ m. IfOk result (λ v. file_of name.now m ≡ Some v.items)) }
-    ensures short { IfOk result (λ v. length v.items ≤ 67108864) }
+    ensures short { IfOk result (λ v. length v.items ≤ MOST_INPUT) }
     ensures fault { IfErr result (causes.ExplainsPlacement name.now (F.held files.old)
         (F.read_faults files.old) (F.read_faults files.new)) }
     ensures same { F.held files.new ≡ F.held files.old }

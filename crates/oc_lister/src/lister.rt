@@ -1,5 +1,6 @@
 //! One run of the command.
 ghost use Rattle.std.specs.Prelude.{◌≡◌, ◌+◌, ◌-◌, ◌^◌, ◌<◌, ◌≤◌, length, Err, IfOk, IfErr, None, OnOk};
+ghost use Rattle.oc_base.specs.declared.limits.TheConstants.{MOST_INPUT};
 ghost use Rattle.oc_outside.specs.Causes.{Counts};
 ghost use Rattle.oc_linking.specs.Keeping.{all};
 ghost use Rattle.oc_convert.specs.Dispatched.{reading_refusal};
@@ -42,7 +43,7 @@ fn text_of<R: ReadsAny>(
     bytes: &[u8],
     listing: Listing,
 ) -> Result<Bytes, ConvertFault>
-    requires { length bytes.now ≤ 67108864 }
+    requires { length bytes.now ≤ MOST_INPUT }
     ensures accepted { OnOk result (reading_refusal built all bytes.now ≡ None) }
     ensures listed { IfOk result (runs.IsListed listing bytes.now) }
     ensures refused { IfErr result (IsFaultOf (reading_refusal built all bytes.now)) }

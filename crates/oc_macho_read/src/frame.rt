@@ -1,5 +1,6 @@
 //! A file whose header has no fault: its tables, read where they stand.
 ghost use Rattle.std.specs.Prelude.{◌≡◌, ◌+◌, ◌*◌, ◌<◌, ◌≤◌, false, length, take, drop, slice_get, Some, None, IfErr, IfOk, OnOk};
+ghost use Rattle.oc_base.specs.declared.limits.TheConstants.{MOST_INPUT};
 ghost use Rattle.oc_linking.specs.FirstFault.{stage_fault};
 ghost use Rattle.oc_macho_read.specs.Framed as framed;
 ghost use Rattle.oc_macho_read.specs.Framed.{EndsTexts, IsTable};
@@ -60,7 +61,7 @@ impl<'a> Frame<'a> {
     #[tactic(auto, unfolding(crate::specs::Tables::tables_of))]
     pub fn size(&self) -> u64
         ensures size { result ≡ self.now.file_size }
-        ensures small { result ≤ 67108864 }
+        ensures small { result ≤ MOST_INPUT }
     {
         self.file.len() as u64
     }
@@ -82,7 +83,7 @@ impl<'a> Frame<'a> {
     /// How many sections there are. Constant time.
     pub fn section_count(&self) -> u32
         ensures count { result ≡ length self.now.sections }
-        ensures few { result ≤ 67108864 }
+        ensures few { result ≤ MOST_INPUT }
     {
         self.nsects
     }
@@ -116,7 +117,7 @@ impl<'a> Frame<'a> {
     /// How many symbols there are. Constant time.
     pub fn symbol_count(&self) -> u32
         ensures count { result ≡ length self.now.symbols }
-        ensures few { result ≤ 67108864 }
+        ensures few { result ≤ MOST_INPUT }
     {
         self.nsyms
     }

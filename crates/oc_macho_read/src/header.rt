@@ -1,6 +1,7 @@
 //! The stage of the header: what it says, and what the commands place.
 ghost use Rattle.std.specs.Prelude.{◌≡◌, ◌+◌, ◌≤◌, ℕ, false, true, length, Some, None, MatchOption, IfErr, IfOk, OnOk};
 ghost use Rattle.std.specs.Option.{option_map, option_map_or};
+ghost use Rattle.oc_base.specs.declared.limits.TheConstants.{MOST_INPUT};
 ghost use Rattle.oc_linking.specs.FirstFault.{first_broken, stage_fault};
 ghost use Rattle.oc_macho_read.specs.HeaderFaults as rules;
 ghost use Rattle.oc_macho_read.specs.MachHeader as header;
@@ -58,7 +59,7 @@ fn good_commands(word: Word, file: &[u8], h: MachHeader) -> Option<Commands>
 
 // the commands of a file; an error where the header or a command has a fault, with the first
 fn read_commands(word: Word, file: &[u8]) -> Result<Commands, Fault>
-    requires { length file.now ≤ 67108864 }
+    requires { length file.now ≤ MOST_INPUT }
     ensures clean { OnOk result (first_broken (rules.command_conditions word file.now) ≡ None) }
     ensures found { IfOk result (λ c. walked.AreCommands word file.now (tables.command_count file.now) c) }
     ensures fault { IfErr result (λ fault. first_broken (rules.command_conditions word file.now) ≡ Some fault) }
@@ -130,7 +131,7 @@ fn headers_of(word: Word, file: &[u8], place: Option<u64>) -> (u64, u32)
 
 // the tables of a file whose commands have no fault, where these commands place symbols and strings
 fn placed<'a>(word: Word, file: &'a [u8], found: Commands, c: SymtabCommand) -> Frame<'a>
-    requires small { length file.now ≤ 67108864 }
+    requires small { length file.now ≤ MOST_INPUT }
     requires found { walked.AreCommands word file.now (tables.command_count file.now) found }
     requires commands { first_broken (rules.command_conditions word file.now) ≡ None }
     requires symtab { tables.symtab_of word file.now ≡ Some c }
@@ -154,7 +155,7 @@ fn placed<'a>(word: Word, file: &'a [u8], found: Commands, c: SymtabCommand) -> 
 /// The tables of a file of a word. An error exactly where the header or what the commands place has a
 /// fault, with the first. Linear in the commands.
 pub(crate) fn read_frame<'a>(word: Word, file: &'a [u8]) -> Result<Frame<'a>, Fault>
-    requires { length file.now ≤ 67108864 }
+    requires { length file.now ≤ MOST_INPUT }
     ensures frame { IfOk result (λ f. f ≡ tables.tables_of word file.now) }
     ensures clean { OnOk result (stage_fault (rules.header_stage word file.now) ≡ None) }
     ensures fault { IfErr result (λ fault. stage_fault (rules.header_stage word file.now) ≡ Some fault) }

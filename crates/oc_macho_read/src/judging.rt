@@ -1,7 +1,7 @@
 //! Judging a file: the first of its faults.
 ghost use Rattle.std.specs.Prelude.{◌≡◌, ◌<◌, ◌≤◌, length, None, Some, IfErr, IfOk, OnOk};
+ghost use Rattle.oc_base.specs.declared.limits.TheConstants.{MOST_INPUT};
 ghost use Rattle.oc_linking.specs.FirstFault.{first_fault, stage_fault};
-ghost use Rattle.oc_linking.specs.Keeping.{keeps};
 ghost use Rattle.oc_neutral.specs.Readable.{IsReadFault};
 ghost use Rattle.oc_shelf.specs.Reading.Stops.{IsStop};
 ghost use Rattle.oc_macho_read.specs.Framed as framed;
@@ -19,22 +19,10 @@ use crate::relocs::check_table;
 use crate::section_stage::check_sections;
 use crate::symbol_stage::check_symbols;
 use crate::weight::{weigh_relocs, weigh_symbols};
-use oc_base::{Class, Fault, Word, class};
-use oc_neutral::{Keep, Kind, ReadFault};
+use oc_base::{Fault, Word};
+use oc_neutral::{Keep, ReadFault};
 use oc_shelf::Stop;
 use std::alloc::Global;
-
-/// Whether a kind is kept. Constant time.
-pub fn keeps(keep: &Keep, kind: Kind) -> bool
-    ensures { result ≡ keeps keep.now kind }
-{
-    match kind {
-        Kind::Debug => keep.debug,
-        Kind::Exception => keep.exceptions,
-        Kind::Note => keep.notes,
-        Kind::Code | Kind::ReadOnly | Kind::Data | Kind::Zero | Kind::Init | Kind::Fini => true,
-    }
-}
 
 // judges the relocations of section `i`, counted from 0, where it is kept
 fn check_relocs_of(
@@ -51,7 +39,7 @@ fn check_relocs_of(
     ensures stop { IfErr result (IsStop (stage_fault (rules.relocation_stage frame.now keep.now i))) }
 {
     let h = frame.section(i);
-    if !keeps(keep, kind_of(&h)) {
+    if !keep.keeps(kind_of(&h)) {
         return Ok(());
     }
     frame.has_entries(i, &h);
@@ -101,7 +89,7 @@ fn check_rest(alloc: Global, frame: &Frame, keep: &Keep) -> Result<(), Stop>
 
 // the tables of a file, where it has no fault
 fn check_file<'a>(alloc: Global, word: Word, file: &'a [u8], keep: &Keep) -> Result<Frame<'a>, Stop>
-    requires { length file.now ≤ 67108864 }
+    requires { length file.now ≤ MOST_INPUT }
     ensures clean { OnOk result (fault_of word file.now keep.now ≡ None) }
     ensures frame { IfOk result (λ f. f ≡ tables_of word file.now) }
     ensures rest { IfOk result (λ f. first_fault (rest_stages f keep.now) ≡ None) }
@@ -114,17 +102,6 @@ fn check_file<'a>(alloc: Global, word: Word, file: &'a [u8], keep: &Keep) -> Res
     match check_rest(alloc, &frame, keep) {
         Err(stop) => Err(stop),
         Ok(()) => Ok(frame),
-    }
-}
-
-// a fault of reading, in the variant of its class
-fn by_class(fault: Fault) -> ReadFault
-    ensures { IsReadFault (Some fault) result }
-{
-    match class(fault.code) {
-        Class::Malformed => ReadFault::Malformed(fault),
-        Class::Refused => ReadFault::Outside(fault),
-        Class::Limit => ReadFault::Limit(fault),
     }
 }
 
@@ -144,7 +121,7 @@ pub fn judged<'a>(
     bytes: &'a [u8],
     keep: &Keep,
 ) -> Result<Frame<'a>, ReadFault>
-    requires { length bytes.now ≤ 67108864 }
+    requires { length bytes.now ≤ MOST_INPUT }
     ensures well_formed { OnOk result (fault_of word bytes.now keep.now ≡ None) }
     ensures frame { IfOk result (λ f. f ≡ tables_of word bytes.now) }
     ensures rest { IfOk result (λ f. first_fault (rest_stages f keep.now) ≡ None) }
@@ -153,6 +130,6 @@ pub fn judged<'a>(
     match check_file(alloc, word, bytes, keep) {
         Ok(frame) => Ok(frame),
         Err(Stop::NoMemory) => Err(ReadFault::NoMemory),
-        Err(Stop::Fault(fault)) => Err(by_class(fault)),
+        Err(Stop::Fault(fault)) => Err(ReadFault::of(fault)),
     }
 }

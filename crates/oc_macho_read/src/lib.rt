@@ -38,7 +38,7 @@ pub use constants::{
 pub use entries::Item;
 pub use frame::Frame;
 pub use holders::Holders;
-pub use judging::{judged, keeps};
+pub use judging::judged;
 pub use kind::{has, is_zerofill, kind_of, until_nul};
 pub use load_command::{DYSYMTAB_COMMAND_SIZE, LOAD_COMMAND_SIZE, LoadCommand, load_command_at};
 pub use mach_header::{MACH_HEADER_SIZE, MachHeader, mach_header_of, mach_header_size};

@@ -12,15 +12,13 @@ use crate::frame::Frame;
 use crate::kind::{is_odd, is_zerofill, kind_of};
 use crate::relocation_info::RELOCATION_INFO_SIZE;
 use crate::section_header::SectionHeader;
-use oc_base::{Code, Fault, Phase, Word};
+use oc_base::{Code, Fault, MOST_CONTENTS, Phase, Word};
 use oc_neutral::Kind;
 
 /// The most bytes that a section may take, that all take, and that all store.
 const MOST_SIZE: u64 = 2_147_483_647;
 
 const MOST_SIZES: u64 = 2_147_483_648;
-
-const MOST_BYTES: u64 = 67_108_864;
 
 // a fault of section `i`, counted from 0, at a place
 fn section_fault(frame: &Frame, i: u32, place: u64, code: Code) -> Fault
@@ -127,7 +125,7 @@ fn with_section(frame: &Frame, i: u32, h: &SectionHeader, sums: Sums) -> Result<
         return Err(section_fault(frame, i, sizes, Code::LimitSum));
     }
     let bytes = sums.bytes + stored_of(h);
-    if bytes > MOST_BYTES {
+    if bytes > MOST_CONTENTS {
         return Err(section_fault(frame, i, bytes, Code::LimitBytes));
     }
     Ok(Sums { sizes, bytes })

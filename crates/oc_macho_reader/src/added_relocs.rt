@@ -13,7 +13,7 @@ ghost use Rattle.oc_macho_reader.specs.Given as given;
 use crate::aims::Known;
 use crate::built_relocs::{in_order, reloc_for};
 use oc_base::NoMemory;
-use oc_macho_read::{Frame, SectionHeader, item_of, keeps, kind_of};
+use oc_macho_read::{Frame, SectionHeader, item_of, kind_of};
 use oc_neutral::{Builder, Keep};
 use oc_shelf::Placed;
 use std::alloc::Global;
@@ -83,7 +83,7 @@ fn add_relocs_of(
     ensures { OnOk result (HasAdded (started frame.now keep.now) builder.new (given.given_before frame.now keep.now (i + 1))) }
 {
     let h = frame.section(i);
-    if !keeps(keep, kind_of(&h)) {
+    if !keep.keeps(kind_of(&h)) {
         return Ok(());
     }
     frame.has_entries(i, &h);

@@ -8,7 +8,7 @@ ghost use Rattle.oc_macho_read.specs.SectionFaults.{section_stage};
 ghost use Rattle.oc_macho_reader.specs.Pins as pins;
 
 use oc_base::NoMemory;
-use oc_macho_read::{Frame, Reference, SectionHeader, begins_behind, item_of, keeps, kind_of};
+use oc_macho_read::{Frame, Reference, SectionHeader, begins_behind, item_of, kind_of};
 use oc_neutral::Keep;
 use std::alloc::Global;
 
@@ -62,7 +62,7 @@ fn mark_section(frame: &Frame, keep: &Keep, marks: &mut Vec<bool>, i: u32)
     ensures { pins.AreMarks frame.now (pins.is_pinned_upto frame.now keep.now (i + 1)) marks.new.items }
 {
     let h = frame.section(i);
-    if !keeps(keep, kind_of(&h)) {
+    if !keep.keeps(kind_of(&h)) {
         return;
     }
     frame.has_entries(i, &h);

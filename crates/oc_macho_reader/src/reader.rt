@@ -1,5 +1,6 @@
 //! The readers of both words.
 ghost use Rattle.std.specs.Prelude.{◌≡◌, ◌≤◌, length, None, IfErr, IfOk, OnOk};
+ghost use Rattle.oc_base.specs.declared.limits.TheConstants.{MOST_INPUT};
 ghost use Rattle.oc_linking.specs.FirstFault.{first_fault};
 ghost use Rattle.oc_neutral.specs.Readable.{IsReadable, IsReadFault};
 ghost use Rattle.oc_neutral.specs.Shows.{Shows};
@@ -76,7 +77,7 @@ fn object_of(
 
 // reads a file
 fn read_bytes(alloc: Global, word: Word, bytes: &[u8], keep: &Keep) -> Result<Neutral, ReadFault>
-    requires { length bytes.now ≤ 67108864 }
+    requires { length bytes.now ≤ MOST_INPUT }
     ensures well_formed { OnOk result (fault_of word bytes.now keep.now ≡ None) }
     ensures shows { IfOk result (Shows (mach_dialect word) bytes.now keep.now) }
     ensures readable { IfOk result IsReadable }

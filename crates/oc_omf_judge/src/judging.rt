@@ -1,12 +1,13 @@
 //! Judging a module: the first of its faults.
 ghost use Rattle.std.specs.Prelude.{◌≡◌, ◌≤◌, length, None, Some, IfErr, IfOk, OnOk};
+ghost use Rattle.oc_base.specs.declared.limits.TheConstants.{MOST_INPUT};
 ghost use Rattle.oc_neutral.specs.Readable.{IsReadFault};
 ghost use Rattle.oc_shelf.specs.Reading.Stops.{IsStop};
 ghost use Rattle.oc_omf_read.specs.Rules.{fault_of};
 
 use crate::relocation_loop::check_relocations;
 use crate::whole::Whole;
-use oc_base::{Class, Fault, class};
+use oc_base::Fault;
 use oc_neutral::{Keep, ReadFault};
 use oc_omf_read::{Module, judge_front, local_segments};
 use oc_shelf::Stop;
@@ -14,7 +15,7 @@ use std::alloc::Global;
 
 // the module in a file, where it has no fault
 fn check_file<'a>(alloc: Global, file: &'a [u8], keep: &Keep) -> Result<Module<'a>, Stop>
-    requires { length file.now ≤ 67108864 }
+    requires { length file.now ≤ MOST_INPUT }
     ensures clean { OnOk result (fault_of file.now keep.now ≡ None) }
     ensures module { IfOk result (λ m. m ≡ file.now) }
     ensures stop { IfErr result (IsStop (fault_of file.now keep.now)) }
@@ -35,17 +36,6 @@ fn check_file<'a>(alloc: Global, file: &'a [u8], keep: &Keep) -> Result<Module<'
     }
 }
 
-// a fault of reading, in the variant of its class
-fn by_class(fault: Fault) -> ReadFault
-    ensures { IsReadFault (Some fault) result }
-{
-    match class(fault.code) {
-        Class::Malformed => ReadFault::Malformed(fault),
-        Class::Refused => ReadFault::Outside(fault),
-        Class::Limit => ReadFault::Limit(fault),
-    }
-}
-
 /// The module in a file of at most 67,108,864 bytes, where it is a well formed object module of 32-bit
 /// segments when it is read under `keep` (TIS OMF 1.1; our profile): an error exactly where it is not,
 /// with its first fault, `Malformed`, `Outside` or `Limit` by the class of that; `NoMemory` where
@@ -59,7 +49,7 @@ fn by_class(fault: Fault) -> ReadFault
 /// more. What the worst files known take is told in docs/SAFETY.md: seconds, and tens of seconds where
 /// millions of symbols have names of their own.
 pub fn judged<'a>(alloc: Global, bytes: &'a [u8], keep: &Keep) -> Result<Module<'a>, ReadFault>
-    requires { length bytes.now ≤ 67108864 }
+    requires { length bytes.now ≤ MOST_INPUT }
     ensures well_formed { OnOk result (fault_of bytes.now keep.now ≡ None) }
     ensures module { IfOk result (λ m. m ≡ bytes.now) }
     ensures fault { IfErr result (IsReadFault (fault_of bytes.now keep.now)) }
@@ -67,6 +57,6 @@ pub fn judged<'a>(alloc: Global, bytes: &'a [u8], keep: &Keep) -> Result<Module<
     match check_file(alloc, bytes, keep) {
         Ok(module) => Ok(module),
         Err(Stop::NoMemory) => Err(ReadFault::NoMemory),
-        Err(Stop::Fault(fault)) => Err(by_class(fault)),
+        Err(Stop::Fault(fault)) => Err(ReadFault::of(fault)),
     }
 }

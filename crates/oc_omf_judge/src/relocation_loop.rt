@@ -1,5 +1,6 @@
 //! Judging threads and fixups, entry by entry.
 ghost use Rattle.std.specs.Prelude.{◌≡◌, ℕ, ◌+◌, ◌≤◌, Bool, length, Ok, None, IfErr, OnOk};
+ghost use Rattle.oc_base.specs.declared.limits.TheConstants.{MOST_INPUT};
 ghost use Rattle.oc_linking.specs.FirstFault.{first_fault};
 ghost use Rattle.oc_shelf.specs.Reading.Stops.{IsStop};
 ghost use Rattle.oc_shelf.specs.declared.reading.stop.Stop.TheVariants as stop;
@@ -58,7 +59,7 @@ fn take_parts(
     contents: &View<'_>,
 ) -> Result<(), Stop>
     requires whole { IsWhole whole.now }
-    requires small { spot.place + length contents.now ≤ 67108864 }
+    requires small { spot.place + length contents.now ≤ MOST_INPUT }
     ensures taken { OnOk result (specs.ArePartsTaken whole.now reached.old spot.index (in_file spot.place (each_read (subrecord_read wide) contents.now 0)) reached.new) }
     ensures stop { IfErr result (specs.ArePartsStopped whole.now reached.old spot.index (in_file spot.place (each_read (subrecord_read wide) contents.now 0))) }
 {
@@ -137,7 +138,7 @@ fn take_entry<'a>(
     contents: &View<'a>,
 ) -> Result<(), Stop>
     requires whole { IsWhole whole.now }
-    requires small { spot.place + length contents.now ≤ 67108864 }
+    requires small { spot.place + length contents.now ≤ MOST_INPUT }
     ensures taken { OnOk result (specs.IsEntryTaken whole.now reached.old spot.index (said_on topic spot.place wide contents.now) reached.new) }
     ensures stop { IfErr result (specs.IsEntryStopped whole.now reached.old spot.index (said_on topic spot.place wide contents.now)) }
 {

@@ -3,7 +3,7 @@ ghost use Rattle.std.specs.Prelude.{◌≡◌};
 ghost use Rattle.oc_omf_judge.specs.Whole as specs;
 
 use oc_neutral::Keep;
-use oc_omf_read::{Front, Method, keeps, kind_at, name_at};
+use oc_omf_read::{Front, Method, kind_at, name_at};
 use std::collections::BTreeMap;
 
 /// A module whose entries, sections and symbols have no fault, and what of it is kept.
@@ -26,7 +26,7 @@ fn is_kept_at(whole: &Whole<'_>, segment: u16) -> bool
     if index == 0 || index > whole.front.defined.segments.len() {
         return true;
     }
-    keeps(&whole.keep, kind_at(&whole.front.defined, index - 1))
+    whole.keep.keeps(kind_at(&whole.front.defined, index - 1))
 }
 
 /// Whether a fixup in data of a segment is judged: one of a segment that is there and that is not kept

@@ -1,5 +1,6 @@
 //! A module with the places of its entries.
 ghost use Rattle.std.specs.Prelude.{◌≡◌, ◌<◌, ◌≤◌, ◌^◌, IfOk, OnOk, IfErr, length, Some, None, slice_get};
+ghost use Rattle.oc_base.specs.declared.limits.TheConstants.{MOST_INPUT};
 ghost use Rattle.oc_linking.specs.FirstFault.{stage_fault};
 ghost use Rattle.oc_omf_records.specs.NextEntry.{entry_of, end_of_entry, is_whole};
 ghost use Rattle.oc_omf_read.specs.Entries as specs;
@@ -26,7 +27,7 @@ pub fn is_kind(even: u8, kind: u8) -> bool
 
 // where the entry behind the one at `at` is looked for; none behind the last
 fn next_place(file: &View<'_>, at: u32) -> Option<u32>
-    requires small { length file.now ≤ 67108864 }
+    requires small { length file.now ≤ MOST_INPUT }
     requires inside { at ≤ length file.now }
     ensures { result ≡ specs.next_place file.now at }
 {
@@ -44,7 +45,7 @@ fn next_place(file: &View<'_>, at: u32) -> Option<u32>
 /// The places at which an entry is looked for, in bytes from the start of the file; the last is that
 /// of MODEND, or of what is no entry. `NoMemory` where memory ran out. Linear in the entries.
 pub fn places_of(alloc: Global, file: &View<'_>) -> Result<Vec<u32>, NoMemory>
-    requires { length file.now ≤ 67108864 }
+    requires { length file.now ≤ MOST_INPUT }
     ensures { IfOk result (λ places. places.items ≡ specs.places_in file.now) }
 {
     let mut places = Vec::new(alloc);

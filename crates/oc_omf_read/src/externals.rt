@@ -1,6 +1,7 @@
 //! Externals and communals.
 ghost use Rattle.std.specs.Prelude.{◌≡◌, ◌+◌, ◌≤◌, ◌&&◌, length, false, is_some, not, nat_eq, Some, None, OnOk, IfErr};
 ghost use Rattle.std.specs.Option.{option_map_or};
+ghost use Rattle.oc_base.specs.declared.limits.TheConstants.{MOST_INPUT};
 ghost use Rattle.oc_omf_read.specs.Cursor.{each_read};
 ghost use Rattle.oc_omf_read.specs.Entries.{in_file};
 ghost use Rattle.oc_omf_read.specs.Held.{Held, value_at};
@@ -59,7 +60,7 @@ pub(crate) fn take_externals<'a>(
     local: bool,
     contents: &View<'a>,
 ) -> Result<(), Stop>
-    requires { spot.place + length contents.now ≤ 67108864 }
+    requires { spot.place + length contents.now ≤ MOST_INPUT }
     ensures taken { OnOk result (specs.AreExternalsTaken known.now seen.old spot.index (in_file spot.place (each_read (structures.external_read local) contents.now 0)) seen.new) }
     ensures stop { IfErr result (specs.AreExternalsStopped known.now seen.old spot.index (in_file spot.place (each_read (structures.external_read local) contents.now 0))) }
 {
@@ -121,7 +122,7 @@ pub(crate) fn take_communals<'a>(
     spot: Spot,
     contents: &View<'a>,
 ) -> Result<(), Stop>
-    requires { spot.place + length contents.now ≤ 67108864 }
+    requires { spot.place + length contents.now ≤ MOST_INPUT }
     ensures taken { OnOk result ((known : Held) → specs.AreExternalsTaken known seen.old spot.index (in_file spot.place (each_read structures.communal_read contents.now 0)) seen.new) }
     ensures stop { IfErr result (λ s. (known : Held) → specs.AreExternalsStopped known seen.old spot.index (in_file spot.place (each_read structures.communal_read contents.now 0)) s) }
 {

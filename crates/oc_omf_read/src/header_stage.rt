@@ -1,6 +1,7 @@
 //! The stage of entries, before their contents are looked at.
 ghost use Rattle.std.specs.Prelude.{◌≡◌, ℕ, ◌<◌, ◌≤◌, length, take, get_or, ◌||◌, OnOk, IfOk, IfErr, Some, None};
 ghost use Rattle.std.specs.Option.{option_map};
+ghost use Rattle.oc_base.specs.declared.limits.TheConstants.{MOST_INPUT};
 ghost use Rattle.oc_linking.specs.FirstFault.{fault_of, first_broken, stage_fault};
 ghost use Rattle.oc_shelf.specs.Reading.Stops.{IsStop};
 ghost use Rattle.oc_omf_records.specs.NextEntry.{entry_of};
@@ -117,7 +118,7 @@ fn is_begun(begun: bool, kind: u8) -> bool
 /// Stops exactly where one has a fault, with the first. Linear in the file.
 pub(crate) fn check_entries(file: &View<'_>, places: &[u32]) -> Result<(), Stop>
     requires places { places.now ≡ places_in file.now }
-    requires small { length file.now ≤ 67108864 }
+    requires small { length file.now ≤ MOST_INPUT }
     ensures clean { OnOk result (stage_fault (rules.header_stage file.now) ≡ None) }
     ensures stop { IfErr result (IsStop (stage_fault (rules.header_stage file.now))) }
 {

@@ -1,5 +1,6 @@
 //! Judging a module, as far as its symbols.
 ghost use Rattle.std.specs.Prelude.{◌≡◌, ◌≤◌, length, None, IfErr, IfOk, OnOk};
+ghost use Rattle.oc_base.specs.declared.limits.TheConstants.{MOST_INPUT};
 ghost use Rattle.oc_linking.specs.FirstFault.{first_fault};
 ghost use Rattle.oc_shelf.specs.Reading.Stops.{IsStop};
 ghost use Rattle.oc_omf_read.specs.Judged.{IsFront, front_stages};
@@ -29,7 +30,7 @@ pub struct Front<'a> {
 /// the file; for each symbol there are about log2(n) comparisons of names, and for each data about
 /// log2(n) of numbers.
 pub fn judge_front<'a>(alloc: Global, file: &'a [u8]) -> Result<Front<'a>, Stop>
-    requires { length file.now ≤ 67108864 }
+    requires { length file.now ≤ MOST_INPUT }
     ensures clean { OnOk result (first_fault (front_stages file.now) ≡ None) }
     ensures front { IfOk result (λ f. IsFront file.now f) }
     ensures stop { IfErr result (IsStop (first_fault (front_stages file.now))) }

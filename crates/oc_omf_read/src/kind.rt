@@ -1,9 +1,8 @@
 //! Kinds of segments.
 ghost use Rattle.std.specs.Prelude.{◌≡◌};
-ghost use Rattle.oc_linking.specs.Keeping.{keeps};
 ghost use Rattle.oc_neutral.specs.Omf.Kinds.{omf_kind};
 
-use oc_neutral::{Keep, Kind};
+use oc_neutral::Kind;
 
 /// The kind of a segment of this class, some byte of which is covered by data or none. Linear in the
 /// class.
@@ -24,16 +23,4 @@ pub fn kind_of(class: &[u8], covered: bool) -> Kind
         return Kind::Zero;
     }
     Kind::Data
-}
-
-/// Whether a kind is kept. Constant time.
-pub fn keeps(keep: &Keep, kind: Kind) -> bool
-    ensures { result ≡ keeps keep.now kind }
-{
-    match kind {
-        Kind::Debug => keep.debug,
-        Kind::Exception => keep.exceptions,
-        Kind::Note => keep.notes,
-        Kind::Code | Kind::ReadOnly | Kind::Data | Kind::Zero | Kind::Init | Kind::Fini => true,
-    }
 }

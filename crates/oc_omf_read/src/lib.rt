@@ -43,7 +43,7 @@ pub use defined::{Defined, name_at, segment_at};
 pub use entries::{is_kind, is_wide};
 pub use held::{take_up, value_of};
 pub use judging::{Front, judge_front};
-pub use kind::{keeps, kind_of};
+pub use kind::kind_of;
 pub use laws::omf_is_dialect;
 pub use locals::local_segments;
 pub use module::{Module, read_module};

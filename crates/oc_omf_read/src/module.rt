@@ -1,5 +1,6 @@
 //! A module whose entries have no fault by themselves, with their places.
 ghost use Rattle.std.specs.Prelude.{◌≡◌, ◌+◌, ◌<◌, ◌≤◌, length, true, Some, slice_get, OnOk, IfOk, IfErr, None};
+ghost use Rattle.oc_base.specs.declared.limits.TheConstants.{MOST_INPUT};
 ghost use Rattle.oc_linking.specs.FirstFault.{stage_fault};
 ghost use Rattle.oc_omf_records.specs.NextEntry.{entry_of, is_whole};
 ghost use Rattle.oc_shelf.specs.Reading.Stops.{IsStop};
@@ -46,7 +47,7 @@ impl<'a> Module<'a> {
         requires { i < length (places_in self.now) }
         ensures place { slice_get (places_in self.now) i ≡ Some result.place }
         ensures entry { result ≡ entry_of self.now result.place }
-        ensures small { result.place + length result.contents ≤ 67108864 }
+        ensures small { result.place + length result.contents ≤ MOST_INPUT }
     {
         let at = self.places[i as usize];
         entry_in(self.file, at as usize)
@@ -78,7 +79,7 @@ fn entry_in(file: &[u8], at: usize) -> Entry<'_>
 /// Stops exactly where an entry has a fault by itself, with the first; or where memory ran out, of
 /// which it takes four bytes an entry. Linear in the file.
 pub fn read_module<'a>(alloc: Global, file: &'a [u8]) -> Result<Module<'a>, Stop>
-    requires { length file.now ≤ 67108864 }
+    requires { length file.now ≤ MOST_INPUT }
     ensures module { IfOk result (λ m. m ≡ file.now) }
     ensures clean { OnOk result (stage_fault (header_stage file.now) ≡ None) }
     ensures stop { IfErr result (IsStop (stage_fault (header_stage file.now))) }

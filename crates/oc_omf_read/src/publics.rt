@@ -1,5 +1,6 @@
 //! Symbols at offsets of segments.
 ghost use Rattle.std.specs.Prelude.{◌≡◌, ◌+◌, ◌≤◌, length, OnOk, IfErr};
+ghost use Rattle.oc_base.specs.declared.limits.TheConstants.{MOST_INPUT};
 ghost use Rattle.oc_omf_read.specs.Cursor.{each_read};
 ghost use Rattle.oc_omf_read.specs.Entries.{in_file};
 ghost use Rattle.oc_omf_read.specs.Held.{Held};
@@ -24,7 +25,7 @@ use oc_shelf::Stop;
 
 /// What stands at a place in an entry, counted from the first byte of its contents. Constant time.
 pub fn spot_in(spot: Spot, at: u64) -> Spot
-    requires { spot.place + at ≤ 67108864 }
+    requires { spot.place + at ≤ MOST_INPUT }
     ensures index { result.index ≡ spot.index }
     ensures place { result.place ≡ spot.place + 3 + at }
 {
@@ -85,7 +86,7 @@ fn take_publics<'a>(
     contents: &View<'a>,
     at: u64,
 ) -> Result<(), Stop>
-    requires { spot.place + length contents.now ≤ 67108864 }
+    requires { spot.place + length contents.now ≤ MOST_INPUT }
     ensures taken { OnOk result (specs.ArePublicsTaken seen.old spot.index (in_file spot.place (each_read (public_read wide local segment) contents.now at)) seen.new) }
     ensures stop { IfErr result (specs.ArePublicsStopped seen.old spot.index (in_file spot.place (each_read (public_read wide local segment) contents.now at))) }
 {
@@ -114,7 +115,7 @@ pub(crate) fn take_public_entry<'a>(
     local: bool,
     contents: &View<'a>,
 ) -> Result<(), Stop>
-    requires { spot.place + length contents.now ≤ 67108864 }
+    requires { spot.place + length contents.now ≤ MOST_INPUT }
     ensures taken { OnOk result ((known : Held) → specs.IsEntrySeen known seen.old spot.index (said_on (topic.Publics local) spot.place wide contents.now) seen.new) }
     ensures stop { IfErr result (λ s. (known : Held) → specs.IsEntryStopped known seen.old spot.index (said_on (topic.Publics local) spot.place wide contents.now) s) }
 {

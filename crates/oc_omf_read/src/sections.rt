@@ -19,13 +19,10 @@ use crate::pieces::take_data;
 use crate::section_stage::{Spot, limit_fault, segment_size};
 use crate::segments::take_segment;
 use crate::topics::{Topic, topic_of};
-use oc_base::{Code, Fault, View};
+use oc_base::{Code, Fault, MOST_CONTENTS, View};
 use oc_neutral::Kind;
 use oc_shelf::Stop;
 use std::alloc::Global;
-
-/// The most bytes that all segments may have whose kind is not `Zero`.
-const MOST_BYTES: u64 = 67_108_864;
 
 /// The kind of segment `k`, counted from 0. Linear in its class.
 pub fn kind_at(defined: &Defined<'_>, k: usize) -> Kind
@@ -80,7 +77,7 @@ fn judge_others(defined: &Defined<'_>, spot: Spot, ends: bool) -> Option<Fault>
         return None;
     }
     let bytes = all_bytes(defined);
-    if bytes > MOST_BYTES {
+    if bytes > MOST_CONTENTS {
         return Some(limit_fault(spot, bytes, Code::LimitBytes));
     }
     None

@@ -1,5 +1,6 @@
 //! Judging symbols, entry by entry.
 ghost use Rattle.std.specs.Prelude.{◌≡◌, ◌+◌, ◌++◌, ◌∷◌, [], ◌≤◌, List, length, true, None, IfErr, IfOk, OnOk};
+ghost use Rattle.oc_base.specs.declared.limits.TheConstants.{MOST_INPUT};
 ghost use Rattle.oc_linking.specs.FirstFault.{first_fault};
 ghost use Rattle.oc_shelf.specs.Reading.Stops.{IsStop};
 ghost use Rattle.oc_omf_read.specs.Entries.{entries_in};
@@ -65,7 +66,7 @@ fn see_entry<'a>(
     wide: bool,
     contents: &View<'a>,
 ) -> Result<(), Stop>
-    requires { spot.place + length contents.now ≤ 67108864 }
+    requires { spot.place + length contents.now ≤ MOST_INPUT }
     ensures taken { OnOk result (specs.IsEntrySeen known.now seen.old spot.index (said_on topic spot.place wide contents.now) seen.new) }
     ensures stop { IfErr result (specs.IsEntryStopped known.now seen.old spot.index (said_on topic spot.place wide contents.now)) }
 {

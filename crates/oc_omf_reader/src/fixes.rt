@@ -6,7 +6,7 @@ ghost use Rattle.oc_omf_reader.specs.Aims as aims;
 ghost use Rattle.oc_omf_reader.specs.Mentioned.{seen_of};
 
 use crate::fix::{Fix, Framed};
-use crate::known::{Known, keeps};
+use crate::known::Known;
 use crate::mentioned::{Mentioned, Mentions};
 use oc_neutral::{Keep, Target};
 use oc_omf_read::{Datum, Fixup, Method, Module, OFFSET_32, Threads};
@@ -218,7 +218,7 @@ fn is_kept(sight: &Sight, segment: u16) -> bool
     if index > sight.known.tables.segments.len() {
         return false;
     }
-    keeps(&sight.keep, sight.known.kind(index - 1))
+    sight.keep.keeps(sight.known.kind(index - 1))
 }
 
 /// What a fixup of data of a segment does, where that is kept and the fixup has a row. Constant time,

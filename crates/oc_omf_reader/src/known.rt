@@ -1,7 +1,5 @@
 //! What segments are as sections.
 ghost use Rattle.std.specs.Prelude.{◌≡◌, ◌+◌, ◌-◌, ◌<◌, IfOk, length, slice_get, Some};
-ghost use Rattle.oc_neutral.specs.Omf.Kinds.{omf_kind};
-ghost use Rattle.oc_linking.specs.Keeping as keeping;
 ghost use Rattle.oc_omf_read.specs.Entries.{entries_in};
 ghost use Rattle.oc_omf_read.specs.Sections as sections;
 ghost use Rattle.oc_omf_read.specs.Tables as all;
@@ -10,8 +8,8 @@ ghost use Rattle.oc_omf_reader.specs.Sections as own;
 use crate::covered::covered_in;
 use crate::tables::{Tables, tables_in};
 use oc_base::NoMemory;
-use oc_neutral::{Keep, Kind};
-use oc_omf_read::{Module, Segment};
+use oc_neutral::Kind;
+use oc_omf_read::{Module, Segment, kind_of};
 use std::alloc::Global;
 
 /// What entries define, and which segments data cover.
@@ -21,26 +19,6 @@ pub struct Known<'a> {
     pub(crate) tables: Tables<'a>,
     /// Of each segment, whether data cover some byte of it.
     pub(crate) covered: Vec<bool>,
-}
-
-// the kind of a segment of that class
-#[tactic(auto, unfolding(oc_neutral::specs::Omf::Kinds::omf_kind))]
-fn kind_by(class: &[u8], covered: bool) -> Kind
-    ensures { result ≡ omf_kind class.now covered }
-{
-    if class.ends_with(b"CODE") {
-        return Kind::Code;
-    }
-    if class.starts_with(b"DEB") {
-        return Kind::Debug;
-    }
-    if class == b"CONST".as_slice() {
-        return Kind::ReadOnly;
-    }
-    if class == b"BSS".as_slice() && !covered {
-        return Kind::Zero;
-    }
-    Kind::Data
 }
 
 /// The alignment of a segment, 0 where it has none. Constant time.
@@ -54,18 +32,6 @@ pub(crate) fn align_of(segment: &Segment) -> u32
         4 => 256,
         5 => 4,
         0 | 6.. => 0,
-    }
-}
-
-/// Whether a kind is kept. Constant time.
-pub(crate) fn keeps(keep: &Keep, kind: Kind) -> bool
-    ensures { result ≡ keeping.keeps keep.now kind }
-{
-    match kind {
-        Kind::Debug => keep.debug,
-        Kind::Exception => keep.exceptions,
-        Kind::Note => keep.notes,
-        Kind::Code | Kind::ReadOnly | Kind::Data | Kind::Zero | Kind::Init | Kind::Fini => true,
     }
 }
 
@@ -88,7 +54,7 @@ impl<'a> Known<'a> {
         ensures { own.kind_in self.now k ≡ Some result }
     {
         let segment = self.tables.segments[k];
-        kind_by(self.name(segment.class), self.covered[k])
+        kind_of(self.name(segment.class), self.covered[k])
     }
 }
 

@@ -1,5 +1,6 @@
 //! The reader.
 ghost use Rattle.std.specs.Prelude.{◌≡◌, ◌≤◌, length, None, IfErr, IfOk, OnOk};
+ghost use Rattle.oc_base.specs.declared.limits.TheConstants.{MOST_INPUT};
 ghost use Rattle.oc_linking.specs.FirstFault.{first_fault, stage_fault};
 ghost use Rattle.oc_neutral.specs.Readable.{IsReadable, IsReadFault};
 ghost use Rattle.oc_neutral.specs.Shows.{Shows};
@@ -60,7 +61,7 @@ pub(crate) fn object_of(
 
 // reads a file
 fn read_bytes(alloc: Global, bytes: &[u8], keep: &Keep) -> Result<Neutral, ReadFault>
-    requires { length bytes.now ≤ 67108864 }
+    requires { length bytes.now ≤ MOST_INPUT }
     ensures well_formed { OnOk result (fault_of bytes.now keep.now ≡ None) }
     ensures shows { IfOk result (Shows omf_dialect bytes.now keep.now) }
     ensures readable { IfOk result IsReadable }

@@ -6,11 +6,12 @@ ghost use Rattle.oc_outside.specs.Reading.{IsAbsent, IsWholeOrLonger};
 
 use crate::failed::Failed;
 use crate::files::Files;
+use oc_base::MOST_INPUT;
 use std::alloc::{AllocError, Global};
 use thiserror::Error;
 
 /// How many bytes an input may have, at most: 64 MiB.
-pub const LIMIT: u64 = 67_108_864;
+pub const LIMIT: u64 = MOST_INPUT;
 
 /// How many bytes one call reads, at most.
 pub const BUFFER: usize = 65_536;

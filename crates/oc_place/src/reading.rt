@@ -1,6 +1,7 @@
 //! Reading a placement.
 ghost use Rattle.std.specs.Prelude.{◌≡◌, ◌+◌, ◌≤◌, [], ◌∷◌, length, Ok, IfOk, IfErr, MatchOption, OnOk};
 ghost use Rattle.std.specs.List.{slice_split};
+ghost use Rattle.oc_base.specs.declared.limits.TheConstants.{MOST_INPUT};
 ghost use Rattle.oc_neutral.specs.Faces.{shown_symbols};
 ghost use Rattle.oc_place.specs.Faults.{AreAsMany, IsBadOf, IsFor};
 ghost use Rattle.oc_place.specs.Indexes.{IsIndex};
@@ -68,7 +69,7 @@ fn read_lines(
     text: &[u8],
 ) -> Result<Notebook, PlaceFault>
     requires index { IsIndex (lines.names_of (shown_symbols object.now)) names.now }
-    requires short { length text.now ≤ 67108864 }
+    requires short { length text.now ≤ MOST_INPUT }
     ensures ok { IfOk result (λ notes. lines.notes_of (footprint_of object.now) text.now ≡ Ok notes) }
     ensures err { IfErr result (IsBadOf (lines.notes_of (footprint_of object.now) text.now)) }
     ensures counted { IfOk result (IsFor object.now) }
@@ -118,7 +119,7 @@ fn read_lines(
 /// each name; takes memory for the names, sections, groups and symbols.
 #[tactic(auto, unfolding(crate::specs::Placings::placed_in))]
 pub fn read_place(alloc: Global, text: &[u8], object: &Neutral) -> Result<Placed, PlaceFault>
-    requires { length text.now ≤ 67108864 }
+    requires { length text.now ≤ MOST_INPUT }
     ensures ok { IfOk result (λ placed. placed_in (footprint_of object.now) text.now ≡ Ok placed) }
     ensures err { IfErr result (IsBadOf (placed_in (footprint_of object.now) text.now)) }
     ensures placing { IfOk result (IsPlacingOf object.now) }

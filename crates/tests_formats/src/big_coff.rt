@@ -1,5 +1,6 @@
 //! COFF objects of many sections, read, and their faults, told by hand from the structures of winnt.h.
 ghost use Rattle.std.specs.Prelude.{◌≤◌, length};
+ghost use Rattle.oc_base.specs.declared.limits.TheConstants.{MOST_INPUT};
 
 use crate::cases::{Edits, KEEP, expected, fault_in, put};
 use oc_base::Code::{self, BadHeader, BadSymbol, BadTable, Short};
@@ -129,7 +130,7 @@ fn cases() -> &'static [BigCase] {
 
 // the fault of a file, if it has one that memory sufficed to read
 fn fault_of(alloc: Global, word: Word, file: &[u8]) -> Option<Fault>
-    requires { length file.now ≤ 67108864 }
+    requires { length file.now ≤ MOST_INPUT }
 {
     let read = match word {
         Word::W32 => BigCoffReader32.read(alloc, file, &KEEP),

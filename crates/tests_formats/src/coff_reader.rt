@@ -6,6 +6,7 @@ mod sections;
 mod symbols;
 
 ghost use Rattle.std.specs.Prelude.{◌≤◌, length};
+ghost use Rattle.oc_base.specs.declared.limits.TheConstants.{MOST_INPUT};
 
 use crate::cases::{Case, Edits, KEEP, expected, fault_in, put};
 use objects::{ALL, CALL, COMPILED, COUNT, FLAGS, R_SYMBOL, R_TYPE, SELECTION, STRINGS};
@@ -86,7 +87,7 @@ fn compileds() -> &'static [CompiledCase] {
 
 // the fault of a file, if it has one that memory sufficed to read
 fn fault_of(alloc: Global, word: Word, file: &[u8], keep: &Keep) -> Option<Fault>
-    requires { length file.now ≤ 67108864 }
+    requires { length file.now ≤ MOST_INPUT }
 {
     let read = match word {
         Word::W32 => CoffReader32.read(alloc, file, keep),
@@ -107,7 +108,7 @@ fn found(
     edits: Edits,
     exceptions: bool,
 ) -> Option<Fault>
-    requires { length file.old ≤ 67108864 }
+    requires { length file.old ≤ MOST_INPUT }
 {
     put(file, edits);
     let len = len.min(file.len());

@@ -9,6 +9,7 @@ mod sections;
 mod symbols;
 
 ghost use Rattle.std.specs.Prelude.{◌≤◌, length};
+ghost use Rattle.oc_base.specs.declared.limits.TheConstants.{MOST_INPUT};
 
 use crate::cases::{Case, Edits, KEEP, expected, fault_in, put};
 use objects::{
@@ -23,7 +24,7 @@ use std::test::Fail;
 
 /// The fault of a file, if it has one that memory sufficed to read.
 fn fault_of(alloc: Global, class: ElfClass, file: &[u8]) -> Option<Fault>
-    requires { length file.now ≤ 67108864 }
+    requires { length file.now ≤ MOST_INPUT }
 {
     match judge(alloc, class, file, &KEEP) {
         Ok(()) => None,
@@ -33,7 +34,7 @@ fn fault_of(alloc: Global, class: ElfClass, file: &[u8]) -> Option<Fault>
 
 /// What an object of a class is said to have at fault, where these bytes are put into it.
 fn found(alloc: Global, class: ElfClass, file: &mut [u8], len: usize, edits: Edits) -> Option<Fault>
-    requires { length file.old ≤ 67108864 }
+    requires { length file.old ≤ MOST_INPUT }
 {
     put(file, edits);
     let len = len.min(file.len());

@@ -6,6 +6,7 @@ mod sections;
 mod symbols;
 
 ghost use Rattle.std.specs.Prelude.{◌≤◌, length};
+ghost use Rattle.oc_base.specs.declared.limits.TheConstants.{MOST_INPUT};
 
 use crate::cases::{Case, Edits, KEEP, expected, fault_in, put};
 use objects::{
@@ -21,7 +22,7 @@ use std::test::Fail;
 
 /// The fault of a file under what is kept, if it has one that memory sufficed to read.
 fn fault_under(alloc: Global, word: Word, file: &[u8], keep: &Keep) -> Option<Fault>
-    requires { length file.now ≤ 67108864 }
+    requires { length file.now ≤ MOST_INPUT }
 {
     match judged(alloc, word, file, keep) {
         Ok(_) => None,
@@ -31,7 +32,7 @@ fn fault_under(alloc: Global, word: Word, file: &[u8], keep: &Keep) -> Option<Fa
 
 /// The fault of an object, where these bytes are put into it.
 fn found(alloc: Global, word: Word, file: &mut [u8], len: usize, edits: Edits) -> Option<Fault>
-    requires { length file.old ≤ 67108864 }
+    requires { length file.old ≤ MOST_INPUT }
 {
     put(file, edits);
     let len = len.min(file.len());
@@ -226,7 +227,7 @@ fn relocations_of_what_is_kept(rt: HostRuntime) -> Result<(), Fail> {
 
 /// The number of the section that holds an address, of a file.
 fn holder(alloc: Global, file: &[u8], v: u32) -> Option<u32>
-    requires { length file.now ≤ 67108864 }
+    requires { length file.now ≤ MOST_INPUT }
 {
     match judged(alloc, Word::W32, file, &KEEP) {
         Ok(frame) => match Holders::of(alloc, &frame) {

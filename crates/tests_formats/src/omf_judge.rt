@@ -3,7 +3,7 @@ mod fields;
 mod names;
 
 use crate::cases::KEEP;
-use oc_base::{Code, Fault, NoMemory, Phase};
+use oc_base::{Code, Fault, MOST_INPUT, NoMemory, Phase};
 use oc_neutral::{Keep, ReadFault};
 use oc_omf_judge::judged;
 use std::alloc::Global;
@@ -38,7 +38,7 @@ fn judge(alloc: Global, entries: &[u8], debug: bool) -> Result<(), ReadFault> {
     let Ok(file) = module_of(alloc, entries) else {
         return Err(ReadFault::NoMemory);
     };
-    if file.len() > 67_108_864 {
+    if file.len() as u64 > MOST_INPUT {
         return Err(ReadFault::NoMemory);
     }
     match judged(alloc, file.as_slice(), &keep) {

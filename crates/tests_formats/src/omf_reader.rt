@@ -1,8 +1,9 @@
 //! Objects of modules put together by hand from TIS OMF 1.1.
 ghost use Rattle.std.specs.Prelude.{◌≤◌, length};
+ghost use Rattle.oc_base.specs.declared.limits.TheConstants.{MOST_INPUT};
 
 use crate::cases::KEEP;
-use oc_base::NoMemory;
+use oc_base::{MOST_INPUT, NoMemory};
 use oc_neutral::{Binding, Keep, Kind, Less, Neutral, ReadFault, Reads, Target, Value};
 use oc_omf_reader::OmfReader;
 use std::alloc::Global;
@@ -180,7 +181,7 @@ fn sections() -> &'static [(Kind, u32, u32)] {
 
 // reads a module, with debug sections or without
 fn read(alloc: Global, file: &[u8], debug: bool) -> Result<Neutral, ReadFault>
-    requires { length file.now ≤ 67108864 }
+    requires { length file.now ≤ MOST_INPUT }
 {
     OmfReader.read(alloc, file, &Keep { debug, ..KEEP })
 }
@@ -219,7 +220,7 @@ fn sections_of(alloc: Global, object: &Neutral) -> Result<Vec<(Kind, u32, u32)>,
 #[test]
 fn relocations_are_read(rt: HostRuntime) -> Result<(), Fail> {
     for (file, debug, relocs) in cases() {
-        if file.len() <= 67_108_864 {
+        if file.len() as u64 <= MOST_INPUT {
             let object = read(rt.alloc(), file, *debug)?;
             let found = relocs_of(rt.alloc(), &object)?;
             assert_eq!(rt; found.as_slice(), *relocs);

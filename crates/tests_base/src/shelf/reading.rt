@@ -83,10 +83,11 @@ fn bytes_in_any_order(rt: HostRuntime) -> Result<(), Fail> {
         (0, 1, true),
         (73, 122, false),
     ];
-    for (begin, end, want) in cases {
+    for case in cases {
+        let (begin, end, want) = case;
         let met = bytes.is_met(begin, end);
         assert_eq!(rt; met, want, "from {begin} to {end}");
-        if !met {
+        if !met && end <= 130 {
             bytes.take(begin, end);
         }
     }

@@ -2,7 +2,7 @@
 use super::fault_of;
 use crate::cases::expected;
 use oc_base::Code::{LimitBytes, LimitSum};
-use oc_base::{NoMemory, Phase};
+use oc_base::{MOST_INPUT, NoMemory, Phase};
 use oc_elf_read::ElfClass;
 use std::alloc::Global;
 use std::test::Fail;
@@ -57,7 +57,7 @@ fn contents_of_many_sections(rt: HostRuntime) -> Result<(), Fail> {
         (2_080_374_784, 1025, Some((LimitSum, 2_147_549_184))),
     ] {
         let file = stacked(rt.alloc(), zeros, count)?;
-        assert!(rt; file.len() <= 67_108_864);
+        assert!(rt; file.len() as u64 <= MOST_INPUT);
         let want = match fault {
             Some((code, place)) => expected(Phase::Section, (1027, code, place)),
             None => None,

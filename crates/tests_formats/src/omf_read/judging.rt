@@ -1,5 +1,5 @@
 //! Modules put together by hand from TIS OMF 1.1, with the first fault of their sections and symbols.
-use oc_base::{Code, Phase};
+use oc_base::{Code, MOST_INPUT, Phase};
 use oc_omf_read::judge_front;
 use oc_shelf::Stop;
 use std::alloc::Global;
@@ -351,7 +351,7 @@ fn judged() -> &'static [Judged] {
 
 // the stages before relocations
 fn check(alloc: Global, bytes: &[u8]) -> Result<(), Stop> {
-    if bytes.len() > 67_108_864 {
+    if bytes.len() as u64 > MOST_INPUT {
         return Err(Stop::NoMemory);
     }
     let _front = judge_front(alloc, bytes)?;

@@ -2,7 +2,7 @@
 ghost use Rattle.std.specs.Prelude.{◌≡◌, IfOk, None};
 ghost use Rattle.oc_neutral.specs.Invariants.{HasItsBytes};
 
-use oc_base::{Bytes, Code, Format, NoMemory};
+use oc_base::{Bytes, Code, Format, MOST_CONTENTS, NoMemory};
 use oc_neutral::{BuildFault, Builder, Kind, Section};
 use std::alloc::Global;
 use std::process::Abort;
@@ -82,7 +82,7 @@ const CASES: [Case; 6] = [
         (Added::Code(2), Err((Code::LimitBytes, 67_108_865))),
     ],
     &[
-        (Added::Code(67_108_864), Ok(0)),
+        (Added::Code(MOST_CONTENTS as u32), Ok(0)),
         (Added::Zeros(2_080_374_784), Ok(1)),
     ],
     // A refused section is not counted.
