@@ -1,11 +1,12 @@
 //! What an addend has beyond the number in its field.
 ghost use Rattle.std.specs.Prelude.{◌≡◌, ◌&&◌};
+ghost use Rattle.std.specs.Option.{option_map};
 ghost use Rattle.oc_neutral.specs.Families.{family_of};
 ghost use Rattle.oc_neutral.specs.Rows.{TakesPlace, TakesSection, same_taken, taken_of};
 ghost use Rattle.oc_neutral.specs.Shifts as shifts;
+ghost use Rattle.oc_neutral.specs.Spelling as spelling;
 ghost use Rattle.oc_express.specs.Tables.{meant, meant_taken};
 
-use crate::forms::written_row;
 use crate::rows::{Row, Taken};
 use oc_base::Format;
 use oc_neutral::{Less, Reloc};
@@ -49,14 +50,15 @@ fn written_shift(at: u32, less: Less, row: Row) -> i64
 }
 
 /// What a target adds to the number in a field at an offset, where not every addend has a field and the
-/// target has the form. Constant time.
+/// target has the form, which it writes by this row. Constant time.
 #[tactic(auto, unfolding(oc_neutral::specs::Shifts::field_shift))]
-pub(crate) fn field_shift(target: Format, at: u32, reloc: Reloc) -> Option<i64>
+pub(crate) fn field_shift(target: Format, at: u32, reloc: Reloc, row: Option<Row>) -> Option<i64>
+    requires { option_map meant row ≡ spelling.written_row target reloc.form reloc.hint }
     ensures { result ≡ shifts.field_shift target at reloc }
 {
     if holds_all_addends(target) {
         return None;
     }
-    let row = written_row(target, reloc.form, reloc.hint)?;
+    let row = row?;
     Some(written_shift(at, reloc.form.less, row))
 }
