@@ -10,14 +10,15 @@ ROW_HEIGHT, ROW_GAP, ROWS_TOP = 66, 16, 222
 ROWS = ["many sections", "write", "canonical file", "read", "judge", "numbers,\nstructures"]
 # a box: column, first row, last row, crates
 BOXES = [
-    (0, 0, 0, ["oc_big_elf"]), (0, 1, 1, ["oc_elf_write"]), (0, 2, 2, ["oc_elf_file"]), (0, 3, 5, ["oc_elf_read"]),
+    (0, 0, 0, ["oc_big_elf"]), (0, 1, 1, ["oc_elf_write"]), (0, 2, 2, ["oc_elf_file"]), (0, 3, 3, ["oc_elf_read"]),
+    (0, 4, 4, ["oc_elf_judge"]), (0, 5, 5, ["oc_elf"]),
     (1, 0, 1, ["oc_express", "oc_plans"]), (1, 2, 3, ["oc_names", "oc_drop"]), (1, 4, 5, ["oc_neutral", "oc_shelf"]),
-    (2, 0, 0, ["oc_big_coff"]), (2, 1, 1, ["oc_coff_write"]), (2, 2, 2, ["oc_coff_read"]),
-    (2, 3, 4, ["oc_coff_reader"]), (2, 5, 5, ["oc_coff_read"]),
-    (3, 1, 1, ["oc_macho_write"]), (3, 2, 2, ["oc_macho_file"]), (3, 3, 3, ["oc_macho_reader"]),
-    (3, 4, 5, ["oc_macho_read"]),
-    (4, 1, 1, ["oc_omf_write"]), (4, 2, 2, ["oc_omf_file"]), (4, 3, 3, ["oc_omf_reader"]), (4, 4, 4, ["oc_omf_judge"]),
-    (4, 5, 5, ["oc_omf_read", "oc_omf_records"]),
+    (2, 0, 0, ["oc_big_coff"]), (2, 1, 1, ["oc_coff_write"]), (2, 2, 2, ["oc_coff_file"]),
+    (2, 3, 3, ["oc_coff_read"]), (2, 4, 4, ["oc_coff_judge"]), (2, 5, 5, ["oc_coff"]),
+    (3, 1, 1, ["oc_macho_write"]), (3, 2, 2, ["oc_macho_file"]), (3, 3, 3, ["oc_macho_read"]),
+    (3, 4, 4, ["oc_macho_judge"]), (3, 5, 5, ["oc_macho"]),
+    (4, 1, 1, ["oc_omf_write"]), (4, 2, 2, ["oc_omf_file"]), (4, 3, 3, ["oc_omf_read"]), (4, 4, 4, ["oc_omf_judge"]),
+    (4, 5, 5, ["oc_omf", "oc_omf_records"]),
 ]
 # what stands above the grid and below it, each with a heading, from the top
 ABOVE = [
@@ -83,8 +84,10 @@ def way(picture):
         picture.text(x + 8, 36, words, 12, bold=True, colour=WAY)
     lines = [
         [(into, 22), (into, top)], [(into, top + 50), (into, top + 66)],
-        [(column(0), 149), (column(0) - 11, 149), (column(0) - 11, middle(3, 5)), (column(0), middle(3, 5))],
-        [(column(0) + COLUMN, middle(4, 5)), (column(1), middle(4, 5))],
+        [(column(0), 149), (column(0) - 11, 149), (column(0) - 11, middle(4, 4)), (column(0), middle(4, 4))],
+        [(into + 33, ROWS_TOP + 4 * ROW_HEIGHT), (into + 33, ROWS_TOP + 4 * ROW_HEIGHT - ROW_GAP)],
+        [(column(0) + COLUMN, middle(3, 3)), (column(1) - 11, middle(3, 3)), (column(1) - 11, middle(4, 5)),
+         (column(1), middle(4, 5))],
         [(core, ROWS_TOP + 4 * ROW_HEIGHT), (core, ROWS_TOP + 4 * ROW_HEIGHT - ROW_GAP)],
         [(core, ROWS_TOP + 2 * ROW_HEIGHT), (core, ROWS_TOP + 2 * ROW_HEIGHT - ROW_GAP)],
         [(column(1) + COLUMN, middle(1, 1)), (column(2), middle(1, 1))],
@@ -97,7 +100,7 @@ def way(picture):
 
 
 def badges(picture):
-    for number, (place, y) in enumerate([(0, 149), (0, middle(3, 5)), (1, middle(4, 5)), (1, middle(2, 3)),
+    for number, (place, y) in enumerate([(0, 149), (0, middle(4, 4)), (1, middle(4, 5)), (1, middle(2, 3)),
                                          (1, middle(0, 1)), (2, middle(1, 1))], 1):
         picture.badge(column(place) + 12, y, number)
     picture.badge(column(0) + COLUMN - 14, 83, 7)

@@ -26,7 +26,7 @@ LEVELS = [
         ("elf_file_is_written, ..", "oc_elf_file, ..: WritesCanonical", [
             "The canonical file has no", "fault and shows its object."])]),
     ("relocation", [("elf_rules, coff_rules, mach_rules, omf_rules",
-                     "oc_elf_read, oc_coff_read, oc_macho_read, oc_omf_read", [
+                     "oc_elf, oc_coff, oc_macho, oc_omf", [
         "Definitions after the standards, which compute: first fault, sections, symbols and fields of any bytes; and",
         "beside them the canonical file of any object (elf_file, coff_file, mach_file, omf_file)."])]),
     ("symbol", [("call_32-file = refl, ..", "proofs/*Rows.antt of these crates", [

@@ -9,7 +9,7 @@ ghost use Rattle.std.specs.Prelude.{◌≡◌, ◌≤◌, IfOk};
 use crate::files::{Order, ask_size, counted, half, names, place, read_file, word, zeros};
 use anyhow::{Result, anyhow};
 use oc_base::NoMemory;
-use oc_coff_reader::CoffReader32;
+use oc_coff_read::CoffReader32;
 use std::alloc::Global;
 use std::rt::Clock;
 

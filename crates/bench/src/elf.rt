@@ -11,7 +11,9 @@ use crate::files::{
 use crate::timing::micros;
 use anyhow::{Result, anyhow};
 use oc_base::NoMemory;
-use oc_elf_read::{ElfClass, ElfReader32, judge};
+use oc_elf::ElfClass;
+use oc_elf_judge::judge;
+use oc_elf_read::ElfReader32;
 use std::alloc::Global;
 use std::rt::Clock;
 use std::time::Instant;

@@ -1,12 +1,12 @@
 //! The readers of objects of many sections.
 ghost use Rattle.oc_base.specs.declared.format.Word.TheVariants.{W32, W64};
-ghost use Rattle.oc_coff_read.specs.declared.form.CoffForm.TheVariants.{Big32, Big64};
-ghost use Rattle.oc_coff_read.specs.declared.form.Shape.TheVariants.{Big};
-ghost use Rattle.oc_coff_read.specs.Rules.{coff_dialect};
-ghost use Rattle.oc_coff_reader.specs.Shown.{coff_is_dialect};
+ghost use Rattle.oc_coff.specs.declared.form.CoffForm.TheVariants.{Big32, Big64};
+ghost use Rattle.oc_coff.specs.declared.form.Shape.TheVariants.{Big};
+ghost use Rattle.oc_coff.specs.Rules.{coff_dialect};
+ghost use Rattle.oc_coff_read.specs.Shown.{coff_is_dialect};
 
-use oc_coff_read::CoffForm;
-use oc_coff_reader::read_object;
+use oc_coff::CoffForm;
+use oc_coff_read::read_object;
 use oc_neutral::{Keep, Neutral, ReadFault, Reads};
 use std::alloc::Global;
 

@@ -1,11 +1,11 @@
 //! The writers of objects of many sections.
-ghost use Rattle.oc_coff_read.specs.declared.form.CoffForm.TheVariants.{Big32, Big64};
-ghost use Rattle.oc_coff_read.specs.Canonical.{coff_file};
-ghost use Rattle.oc_coff_read.specs.Rules.{coff_dialect};
+ghost use Rattle.oc_coff.specs.declared.form.CoffForm.TheVariants.{Big32, Big64};
+ghost use Rattle.oc_coff_file.specs.Canonical.{coff_file};
+ghost use Rattle.oc_coff.specs.Rules.{coff_dialect};
 ghost use Rattle.oc_coff_write.specs.Writing.{writes_coff};
 
 use oc_base::NoMemory;
-use oc_coff_read::CoffForm;
+use oc_coff::CoffForm;
 use oc_coff_write::{Plan, plan_object};
 use oc_neutral::{Fitted, Writes};
 use std::alloc::Global;

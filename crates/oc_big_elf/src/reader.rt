@@ -1,8 +1,9 @@
 //! The readers of both words.
-ghost use Rattle.oc_elf_read.specs.Elf.{elf_dialect, elf_is_dialect};
-ghost use Rattle.oc_elf_read.specs.declared.class.ElfClass.TheVariants.{Big32, Big64};
+ghost use Rattle.oc_elf.specs.Elf.{elf_dialect, elf_is_dialect};
+ghost use Rattle.oc_elf.specs.declared.class.ElfClass.TheVariants.{Big32, Big64};
 
-use oc_elf_read::{ElfClass, read_elf};
+use oc_elf::ElfClass;
+use oc_elf_read::read_elf;
 use oc_neutral::{Keep, Neutral, ReadFault, Reads};
 use std::alloc::Global;
 

@@ -1,11 +1,11 @@
 //! The writers of both words.
-ghost use Rattle.oc_elf_read.specs.Elf.{elf_dialect};
-ghost use Rattle.oc_elf_read.specs.declared.class.ElfClass.TheVariants.{Big32, Big64};
+ghost use Rattle.oc_elf.specs.Elf.{elf_dialect};
+ghost use Rattle.oc_elf.specs.declared.class.ElfClass.TheVariants.{Big32, Big64};
 ghost use Rattle.oc_elf_file.specs.Canonical.{elf_file};
 ghost use Rattle.oc_elf_write.specs.Writing.{writes_elf};
 
 use oc_base::NoMemory;
-use oc_elf_read::ElfClass;
+use oc_elf::ElfClass;
 use oc_elf_write::{Plan, plan_object};
 use oc_neutral::{Fitted, Writes};
 use std::alloc::Global;

@@ -55,32 +55,34 @@ use Rattle.oc_neutral.proofs.SeenLines.{IsShown}
 use Rattle.oc_neutral.proofs.SeenReady.{IsReady, coff_ready}
 use Rattle.oc_shelf.specs.Writing.Parts.{Laid, laid, laid_end, behind, joined, place_where}
 use Rattle.oc_shelf.proofs.WritingLaws.MemberLemmas.{map-map, map-alike}
-use Rattle.oc_coff_read.specs.declared.constants.TheConstants.{IMAGE_SYM_CLASS_STATIC, IMAGE_COMDAT_SELECT_ANY, IMAGE_COMDAT_SELECT_ASSOCIATIVE, IMAGE_WEAK_EXTERN_SEARCH_ALIAS, OVERFLOWED_COUNT, IMAGE_REL_I386_ABSOLUTE}
-use Rattle.oc_coff_read.specs.declared.section_header.TheConstants.{SECTION_HEADER_SIZE}
-use Rattle.oc_coff_read.specs.declared.relocation.TheConstants.{RELOCATION_SIZE}
-use Rattle.oc_coff_read.specs.declared.file_header.FileHeader.{FileHeader}
-use Rattle.oc_coff_read.specs.declared.section_header.SectionHeader.{SectionHeader}
-use Rattle.oc_coff_read.specs.declared.section_aux.SectionAux.{SectionAux}
-use Rattle.oc_coff_read.specs.declared.weak_aux.WeakAux.{WeakAux}
-use Rattle.oc_coff_read.specs.declared.relocation.Relocation.{Relocation}
-use Rattle.oc_coff_read.specs.FileHeader.{file_header_bytes}
-use Rattle.oc_coff_read.specs.SectionHeader.{section_header_bytes}
-use Rattle.oc_coff_read.specs.SymbolEntry.{symbol_bytes}
-use Rattle.oc_coff_read.specs.SectionAux.{section_aux_bytes}
-use Rattle.oc_coff_read.specs.WeakAux.{weak_aux_bytes}
-use Rattle.oc_coff_read.specs.Relocation.{relocation_bytes}
-use Rattle.oc_coff_read.specs.declared.form.CoffForm.{CoffForm}
-use Rattle.oc_coff_read.specs.declared.form.CoffForm.TheVariants.{Usual32, Usual64, Big32, Big64}
-use Rattle.oc_coff_read.specs.Forms.{format_of, word_of, shape_of, symbol_size}
-use Rattle.oc_coff_read.specs.Names.{padded}
-use Rattle.oc_coff_read.specs.Lines.{Line, SectionLine, LocalLine, DefaultLine, OuterLine, lines_where, section_lines, is_written_local, is_free, lines_of, line_size, numbered_lines, entry_count, is_section_line, is_default_line, is_outer_line, section_number, default_number, outer_number}
-use Rattle.oc_coff_read.specs.Bodies.{number_or, field_number, field_patch, field_patches, raw_of, target_number, type_of, relocation_of, relocs_of, with_count}
-use Rattle.oc_coff_read.specs.Layout.{Part, FileHead, SectionHeads, Raw, Relocs, SymbolTable, StringTable, section_parts, parts_of, text_of, part_size, laid_parts, is_raw, is_relocs, is_symbol_table, pointer_to}
-use Rattle.oc_coff_read.specs.Canonical.{symbol_field, section_field, leader_number, leads, selection_of, kept_with, section_flags, header_at, headers_of, numbers_by, default_numbers, type_by, class_by, aux_by, entry, line_entry, tag_of, outer_aux, line_aux, line_rows, entry_rows, machine_of, version_of, file_header, part_bytes, coff_file}
-use Rattle.oc_coff_read.proofs.CodedLaws.{IsForCoff}
-use Rattle.oc_coff_read.proofs.GroupLaws.{key_is, leader_of, first_passing}
-use Rattle.oc_coff_read.proofs.LineLaws.{IsLineOf, numbered_is_of}
-use Rattle.oc_coff_read.proofs.SeenLaws.{shown, again, again_is, are_shown}
+use Rattle.oc_coff.specs.declared.constants.TheConstants.{IMAGE_SYM_CLASS_STATIC, IMAGE_COMDAT_SELECT_ANY, IMAGE_COMDAT_SELECT_ASSOCIATIVE, IMAGE_WEAK_EXTERN_SEARCH_ALIAS, OVERFLOWED_COUNT, IMAGE_REL_I386_ABSOLUTE}
+use Rattle.oc_coff.specs.declared.section_header.TheConstants.{SECTION_HEADER_SIZE}
+use Rattle.oc_coff.specs.declared.relocation.TheConstants.{RELOCATION_SIZE}
+use Rattle.oc_coff.specs.declared.file_header.FileHeader.{FileHeader}
+use Rattle.oc_coff.specs.declared.section_header.SectionHeader.{SectionHeader}
+use Rattle.oc_coff.specs.declared.section_aux.SectionAux.{SectionAux}
+use Rattle.oc_coff.specs.declared.weak_aux.WeakAux.{WeakAux}
+use Rattle.oc_coff.specs.declared.relocation.Relocation.{Relocation}
+use Rattle.oc_coff.specs.FileHeader.{file_header_bytes}
+use Rattle.oc_coff.specs.SectionHeader.{section_header_bytes}
+use Rattle.oc_coff.specs.SymbolEntry.{symbol_bytes}
+use Rattle.oc_coff.specs.SectionAux.{section_aux_bytes}
+use Rattle.oc_coff.specs.WeakAux.{weak_aux_bytes}
+use Rattle.oc_coff.specs.Relocation.{relocation_bytes}
+use Rattle.oc_coff.specs.declared.form.CoffForm.{CoffForm}
+use Rattle.oc_coff.specs.declared.form.CoffForm.TheVariants.{Usual32, Usual64, Big32, Big64}
+use Rattle.oc_coff.specs.Forms.{format_of, word_of, shape_of, symbol_size}
+use Rattle.oc_coff.specs.Names.{padded}
+use Rattle.oc_coff_file.specs.Lines.{Line, SectionLine, LocalLine, DefaultLine, OuterLine, lines_where, section_lines, is_written_local, is_free, lines_of, line_size, numbered_lines, entry_count, is_section_line, is_default_line, is_outer_line, section_number, default_number, outer_number}
+use Rattle.oc_coff_file.specs.Bodies.{number_or, field_number, field_patch, field_patches, raw_of, target_number, type_of, relocation_of, relocs_of}
+use Rattle.oc_coff.specs.Flags.{with_count, pointer_to, section_flags, machine_of, version_of}
+use Rattle.oc_coff_file.specs.Layout.{Part, FileHead, SectionHeads, Raw, Relocs, SymbolTable, StringTable, section_parts, parts_of, text_of, part_size, laid_parts, is_raw, is_relocs, is_symbol_table}
+use Rattle.oc_coff_file.specs.Canonical.{symbol_field, section_field, leader_number, leads, selection_of, kept_with, header_at, headers_of, entry, line_entry, tag_of, outer_aux, line_aux, line_rows, entry_rows, file_header, part_bytes, coff_file}
+use Rattle.oc_coff.specs.Values.{numbers_by, default_numbers, type_by, class_by, aux_by}
+use Rattle.oc_coff_file.proofs.CodedLaws.{IsForCoff}
+use Rattle.oc_coff_file.proofs.GroupLaws.{key_is, leader_of, first_passing}
+use Rattle.oc_coff_file.proofs.LineLaws.{IsLineOf, numbered_is_of}
+use Rattle.oc_coff_file.proofs.SeenLaws.{shown, again, again_is, are_shown}
 use Rattle.oc_elf_file.proofs.RelocLaws.{found_in}
 use Rattle.oc_canonical.proofs.MapLemmas.{enumerate_map, filter-append, filter-within, filter-apart, flat_map-mapped, lists_map, map_append, filter-flat_map, flat_map-none, flat_map-filter, map-flat_map, laid_as, laid_map, laid_end_map, place_map, place_map_in, joined_map}
 use Rattle.oc_canonical.proofs.SeenSymbols.{shown_ones, gathered, ones_gathered, gathered_append, gathered_silent, gathered_where, moved, all_moved, any_same, outer_tell, listed, listed_flat}

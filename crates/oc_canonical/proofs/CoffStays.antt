@@ -45,11 +45,11 @@ use Rattle.oc_neutral.proofs.SeenLaws.{seen_is_object_law}
 use Rattle.oc_neutral.proofs.SeenLines.{IsShown}
 use Rattle.oc_neutral.proofs.SeenReady.{IsReady, coff_ready}
 use Rattle.oc_shelf.proofs.WritingLaws.MemberLemmas.{member_passes}
-use Rattle.oc_coff_read.specs.declared.form.CoffForm.{CoffForm}
-use Rattle.oc_coff_read.specs.declared.form.CoffForm.TheVariants.{Usual32, Usual64, Big32, Big64}
-use Rattle.oc_coff_read.specs.Forms.{format_of, word_of}
-use Rattle.oc_coff_read.proofs.CodedLaws.{IsForCoff, for_coff}
-use Rattle.oc_coff_read.proofs.SeenLaws.{shown, again, again_is, are_shown}
+use Rattle.oc_coff.specs.declared.form.CoffForm.{CoffForm}
+use Rattle.oc_coff.specs.declared.form.CoffForm.TheVariants.{Usual32, Usual64, Big32, Big64}
+use Rattle.oc_coff.specs.Forms.{format_of, word_of}
+use Rattle.oc_coff_file.proofs.CodedLaws.{IsForCoff, for_coff}
+use Rattle.oc_coff_file.proofs.SeenLaws.{shown, again, again_is, are_shown}
 use Rattle.oc_canonical.proofs.CoffAgain.{plain_rows, offset_same, key_again}
 use Rattle.oc_canonical.proofs.SeenFitted.{FamilyStays, seen_fitted}
 use Rattle.oc_canonical.proofs.StaysLemmas.{same_kind-self, and_false, or_false, low_not, sections_long, target_stays, plain_row}

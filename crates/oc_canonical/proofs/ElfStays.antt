@@ -46,9 +46,9 @@ use Rattle.oc_neutral.proofs.MeetsRelocs.{normal_of}
 use Rattle.oc_neutral.proofs.SeenLaws.{seen_is_object_law}
 use Rattle.oc_neutral.proofs.SeenLines.{IsShown}
 use Rattle.oc_neutral.proofs.SeenReady.{IsReady, elf_ready}
-use Rattle.oc_elf_read.specs.declared.class.ElfClass.{ElfClass}
-use Rattle.oc_elf_read.specs.declared.class.ElfClass.TheVariants.{Class32, Class64, Big32, Big64}
-use Rattle.oc_elf_read.specs.Classes.{word_of, format_of}
+use Rattle.oc_elf.specs.declared.class.ElfClass.{ElfClass}
+use Rattle.oc_elf.specs.declared.class.ElfClass.TheVariants.{Class32, Class64, Big32, Big64}
+use Rattle.oc_elf.specs.Classes.{word_of, format_of}
 use Rattle.oc_elf_file.proofs.CodedLaws.{IsForElf, for_elf}
 use Rattle.oc_elf_file.proofs.SeenLaws.{shown, again, again_is, are_shown}
 use Rattle.oc_canonical.proofs.ElfAgain.{signature_same}

@@ -8,13 +8,13 @@ use Rattle.oc_base.specs.Numbers.{bytes_of_number}
 use Rattle.oc_neutral.specs.KindRules.{begins}
 use Rattle.oc_neutral.specs.Objects.{Object}
 use Rattle.oc_convert.specs.Identified.{identified, elf32_bytes, elf64_bytes, is_big_elf32, is_big_elf64}
-use Rattle.oc_elf_read.specs.declared.class.ElfClass.{ElfClass}
-use Rattle.oc_elf_read.specs.declared.class.ElfClass.TheVariants.{Class32, Class64, Big32, Big64}
-use Rattle.oc_elf_read.specs.declared.constants.TheConstants.{SHN_XINDEX}
-use Rattle.oc_elf_read.specs.declared.ehdr.Ehdr.{Ehdr}
-use Rattle.oc_elf_read.specs.Classes.{format_of, is_big}
-use Rattle.oc_elf_read.specs.Ehdr.{ehdr_in, ehdr_size}
-use Rattle.oc_elf_file.specs.Structures as elf
+use Rattle.oc_elf.specs.declared.class.ElfClass.{ElfClass}
+use Rattle.oc_elf.specs.declared.class.ElfClass.TheVariants.{Class32, Class64, Big32, Big64}
+use Rattle.oc_elf.specs.declared.constants.TheConstants.{SHN_XINDEX}
+use Rattle.oc_elf.specs.declared.ehdr.Ehdr.{Ehdr}
+use Rattle.oc_elf.specs.Classes.{format_of, is_big}
+use Rattle.oc_elf.specs.Ehdr.{ehdr_in, ehdr_size}
+use Rattle.oc_elf.specs.Structures as elf
 use Rattle.oc_elf_file.specs.Layout as elf_layout
 use Rattle.oc_elf_file.specs.Canonical as elf_canonical
 use Rattle.oc_elf_file.specs.Canonical.{file_header, elf_file}
@@ -22,19 +22,19 @@ use Rattle.oc_elf_file.proofs.CodedLaws.{IsForElf}
 use Rattle.oc_elf_file.proofs.CodableLaws.{has_numbers}
 use Rattle.oc_elf_file.proofs.FrameLaws.{header_read}
 use Rattle.oc_elf_file.proofs.HeaderNumbers.{header_inside, some_table, big_number, plain_number, plain_names}
-use Rattle.oc_coff_read.specs.declared.form.CoffForm.{CoffForm}
-use Rattle.oc_coff_read.specs.declared.form.CoffForm.TheVariants as form
-use Rattle.oc_coff_read.specs.Forms as coff_forms
-use Rattle.oc_coff_read.specs.FileHeader as coff
-use Rattle.oc_coff_read.specs.Layout as coff_layout
-use Rattle.oc_coff_read.specs.Canonical as coff_canonical
-use Rattle.oc_coff_read.specs.Canonical.{coff_file}
-use Rattle.oc_macho_read.specs.MachHeader.{mach_format}
-use Rattle.oc_macho_file.specs.Structures as mach
+use Rattle.oc_coff.specs.declared.form.CoffForm.{CoffForm}
+use Rattle.oc_coff.specs.declared.form.CoffForm.TheVariants as form
+use Rattle.oc_coff.specs.Forms as coff_forms
+use Rattle.oc_coff.specs.FileHeader as coff
+use Rattle.oc_coff_file.specs.Layout as coff_layout
+use Rattle.oc_coff_file.specs.Canonical as coff_canonical
+use Rattle.oc_coff_file.specs.Canonical.{coff_file}
+use Rattle.oc_macho.specs.MachHeader.{mach_format}
+use Rattle.oc_macho.specs.Structures as mach
 use Rattle.oc_macho_file.specs.Layout as mach_layout
 use Rattle.oc_macho_file.specs.Canonical as mach_canonical
 use Rattle.oc_macho_file.specs.Canonical.{mach_file}
-use Rattle.oc_omf_file.specs.Structures as omf
+use Rattle.oc_omf.specs.Bytes as omf
 use Rattle.oc_omf_file.specs.Outputs as omf_outputs
 use Rattle.oc_omf_file.specs.Canonical.{omf_file}
 

@@ -66,24 +66,24 @@ use Rattle.oc_shelf.specs.Writing.Packed.{packed}
 use Rattle.oc_shelf.specs.Writing.Parts.{Laid, laid, laid_end, behind, aligned, joined, place_where}
 use Rattle.oc_shelf.proofs.WritingLaws.MemberLemmas.{map-map, map-alike}
 use Rattle.oc_shelf.proofs.WritingLaws.PartLemmas.{laid_part}
-use Rattle.oc_macho_read.specs.declared.constants.TheConstants.{MH_OBJECT, LC_DYSYMTAB, N_SECT, N_WEAK_REF, N_WEAK_DEF}
-use Rattle.oc_macho_read.specs.declared.load_command.TheConstants.{DYSYMTAB_COMMAND_SIZE}
-use Rattle.oc_macho_read.specs.declared.symtab_command.TheConstants.{SYMTAB_COMMAND_SIZE}
-use Rattle.oc_macho_read.specs.declared.name.TheConstants.{NAME_SIZE}
-use Rattle.oc_macho_read.specs.SegmentCommand.{segment_number, segment_command_size}
-use Rattle.oc_macho_read.specs.declared.relocation_info.TheConstants.{RELOCATION_INFO_SIZE}
-use Rattle.oc_macho_read.specs.declared.relocation_info.Reference.TheVariants as reference
-use Rattle.oc_macho_read.specs.declared.relocation_info.RelocationInfo.{RelocationInfo}
-use Rattle.oc_macho_read.specs.declared.mach_header.MachHeader.{MachHeader}
-use Rattle.oc_macho_read.specs.declared.section_header.SectionHeader.{SectionHeader}
-use Rattle.oc_macho_read.specs.declared.symtab_command.SymtabCommand.{SymtabCommand}
-use Rattle.oc_macho_read.specs.declared.nlist.Nlist.{Nlist}
-use Rattle.oc_macho_read.specs.MachHeader.{address_size, cpu_type, mach_format, mach_header_size}
-use Rattle.oc_macho_read.specs.SectionHeader.{section_header_size}
-use Rattle.oc_macho_read.specs.Nlist.{nlist_size}
+use Rattle.oc_macho.specs.declared.constants.TheConstants.{MH_OBJECT, LC_DYSYMTAB, N_SECT, N_WEAK_REF, N_WEAK_DEF}
+use Rattle.oc_macho.specs.declared.load_command.TheConstants.{DYSYMTAB_COMMAND_SIZE}
+use Rattle.oc_macho.specs.declared.symtab_command.TheConstants.{SYMTAB_COMMAND_SIZE}
+use Rattle.oc_macho.specs.declared.names.TheConstants.{NAME_SIZE}
+use Rattle.oc_macho.specs.SegmentCommand.{segment_number, segment_command_size}
+use Rattle.oc_macho.specs.declared.relocation_info.TheConstants.{RELOCATION_INFO_SIZE}
+use Rattle.oc_macho.specs.declared.relocation_info.Reference.TheVariants as reference
+use Rattle.oc_macho.specs.declared.relocation_info.RelocationInfo.{RelocationInfo}
+use Rattle.oc_macho.specs.declared.mach_header.MachHeader.{MachHeader}
+use Rattle.oc_macho.specs.declared.section_header.SectionHeader.{SectionHeader}
+use Rattle.oc_macho.specs.declared.symtab_command.SymtabCommand.{SymtabCommand}
+use Rattle.oc_macho.specs.declared.nlist.Nlist.{Nlist}
+use Rattle.oc_macho.specs.MachHeader.{address_size, cpu_type, mach_format, mach_header_size}
+use Rattle.oc_macho.specs.SectionHeader.{section_header_size}
+use Rattle.oc_macho.specs.Nlist.{nlist_size}
 use Rattle.oc_neutral.specs.Mach.Kinds.{segment_of, section_of}
-use Rattle.oc_macho_file.specs.declared.constants.TheConstants.{COMMAND_COUNT, CPU_SUBTYPE_ALL, VM_PROT_ALL}
-use Rattle.oc_macho_file.specs.Structures.{magic_of, padded, mach_header_bytes, symtab_bytes, section_bytes, nlist_bytes, relocation_bytes}
+use Rattle.oc_macho.specs.declared.constants.TheConstants.{COMMAND_COUNT, CPU_SUBTYPE_ALL, VM_PROT_ALL}
+use Rattle.oc_macho.specs.Structures.{magic_of, padded, mach_header_bytes, symtab_bytes, section_bytes, nlist_bytes, relocation_bytes}
 use Rattle.oc_macho_file.specs.Addresses.{Numbered, is_blank, stored_sections, blank_sections, section_begin, size_of, mapped, is_at, address_of, memory_end, stored_end}
 use Rattle.oc_macho_file.specs.Lines.{Line, OwnLine, LocalLine, OuterLine, own_lines, lines_where, local_lines, inner_lines, defined_lines, undefined_lines, lines_of, line_size, numbered_lines, is_own_line, is_symbol_line, own_number, symbol_number, line_name}
 use Rattle.oc_macho_file.specs.Bodies.{Standing, taken_section, end_address, end_section_address, said_of, alone_shift, pair_shift, field_shift, number_or, field_number, standing_at, field_patch, field_patches, raw_of, reference_to, plain_entry, scattered_entry, pair_entries, standing_entries, entries_at, entries_of}

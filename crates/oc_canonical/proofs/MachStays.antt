@@ -53,7 +53,7 @@ use Rattle.oc_neutral.proofs.MeetsConditions.{AreMet, section_met, reloc_met, ne
 use Rattle.oc_neutral.proofs.SeenLaws.{seen_is_object_law}
 use Rattle.oc_neutral.proofs.SeenAlike.{stands}
 use Rattle.oc_neutral.proofs.SeenLines.{IsShown}
-use Rattle.oc_macho_read.specs.MachHeader.{mach_format}
+use Rattle.oc_macho.specs.MachHeader.{mach_format}
 use Rattle.oc_macho_file.proofs.CodedLaws.{IsForMach, IsPlaced, for_mach, fallback_is}
 use Rattle.oc_macho_file.proofs.SeenLaws.{shown, again, again_is, are_shown}
 use Rattle.oc_canonical.proofs.MachAgain.{row_same, is_moved, written_same, ready, form_same, hint_same, target_same, long_place, self_same, needed_again, addend_same}

@@ -42,10 +42,10 @@ use Rattle.oc_neutral.proofs.SeenAlike.{relocs_same, stands}
 use Rattle.oc_neutral.proofs.SeenLines.{IsShown}
 use Rattle.oc_neutral.proofs.SeenReady.{IsReady, omf_ready}
 use Rattle.oc_shelf.proofs.WritingLaws.MemberLemmas.{map-map, map-alike}
-use Rattle.oc_omf_read.specs.declared.structures.Method.{Method}
-use Rattle.oc_omf_read.specs.declared.structures.Segment as read
-use Rattle.oc_omf_file.specs.declared.constants.TheConstants.{METHOD_EXTERNAL}
-use Rattle.oc_omf_file.specs.Structures.{entry_bytes, segment_bytes, communal_bytes, data_bytes, fixup_bytes}
+use Rattle.oc_omf.specs.declared.structures.Method.{Method}
+use Rattle.oc_omf.specs.declared.structures.Segment as read
+use Rattle.oc_omf.specs.declared.constants.TheConstants.{METHOD_EXTERNAL}
+use Rattle.oc_omf.specs.Bytes.{entry_bytes, segment_bytes, communal_bytes, data_bytes, fixup_bytes}
 use Rattle.oc_omf_file.specs.Names.{class_of, with_name, names_of, filled_from}
 use Rattle.oc_omf_file.specs.Pieces.{offsets_of, pieces_upto, pieces_of, fields_between}
 use Rattle.oc_omf_file.specs.Outputs.{Output, Header, Names, Segment, Group, External, Communal, Public, Data, Fixups, End, external_by, communal_by, public_by, external_output, communal_output, public_output, symbol_outputs, is_of_symbol, symbol_number, piece_outputs, data_outputs, segment_output, outputs_of}

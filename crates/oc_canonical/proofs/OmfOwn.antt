@@ -37,21 +37,21 @@ use Rattle.oc_names.specs.Wishes.{no_wishes}
 use Rattle.oc_convert.specs.Refusals.{kept_of_file}
 use Rattle.oc_shelf.proofs.ReadingLaws.StageLemmas.{Unbroken, IsUnbroken, no_first_fault}
 use Rattle.oc_shelf.proofs.WritingLaws.MemberLemmas.{of_map}
-use Rattle.oc_omf_read.specs.declared.structures.Subrecord.{Subrecord}
-use Rattle.oc_omf_read.specs.declared.structures.Subrecord.TheVariants as subrecord
-use Rattle.oc_omf_read.specs.declared.cut.Cut.{Cut}
-use Rattle.oc_omf_read.specs.Entries.{Entry, entries_in}
-use Rattle.oc_omf_read.specs.Fields.{fields_in}
-use Rattle.oc_omf_read.specs.Fixups.{Placed, placed_by, placed_upto, Fixed, fixed_of, fixed_in}
-use Rattle.oc_omf_read.specs.Targets.{Meaning, meaning_of}
-use Rattle.oc_omf_read.specs.Tables.{Tables, indexed}
-use Rattle.oc_omf_read.specs.Structures.{Piece}
-use Rattle.oc_omf_read.specs.declared.structures.Segment.{Segment}
-use Rattle.oc_omf_read.specs.Sections.{segment_kind}
-use Rattle.oc_omf_read.specs.SymbolFaults.{symbol_stages}
-use Rattle.oc_omf_read.specs.RelocationFaults as faults
-use Rattle.oc_omf_read.specs.RelocationFaults.{is_judged, fixup_conditions, part_conditions, relocation_conditions, relocation_stage, relocation_stages}
-use Rattle.oc_omf_read.specs.Rules.{omf_rules, omf_dialect, stages_of, fault_of}
+use Rattle.oc_omf.specs.declared.structures.Subrecord.{Subrecord}
+use Rattle.oc_omf.specs.declared.structures.Subrecord.TheVariants as subrecord
+use Rattle.oc_omf.specs.declared.cut.Cut.{Cut}
+use Rattle.oc_omf.specs.Entries.{Entry, entries_in}
+use Rattle.oc_omf.specs.Fields.{fields_in}
+use Rattle.oc_omf.specs.Fixups.{Placed, placed_by, placed_upto, Fixed, fixed_of, fixed_in}
+use Rattle.oc_omf.specs.Targets.{Meaning, meaning_of}
+use Rattle.oc_omf.specs.Tables.{Tables, indexed}
+use Rattle.oc_omf.specs.Structures.{Piece}
+use Rattle.oc_omf.specs.declared.structures.Segment.{Segment}
+use Rattle.oc_omf.specs.Sections.{segment_kind}
+use Rattle.oc_omf.specs.SymbolFaults.{symbol_stages}
+use Rattle.oc_omf.specs.RelocationFaults as faults
+use Rattle.oc_omf.specs.RelocationFaults.{is_judged, fixup_conditions, part_conditions, relocation_conditions, relocation_stage, relocation_stages}
+use Rattle.oc_omf.specs.Rules.{omf_rules, omf_dialect, stages_of, fault_of}
 use Rattle.oc_omf_file.specs.Canonical.{omf_file}
 use Rattle.oc_omf_file.proofs.CodedLaws.{IsForOmf, for_omf}
 use Rattle.oc_omf_file.proofs.FixedLaws.{entries}

@@ -19,9 +19,9 @@ use Rattle.oc_names.specs.Edited.{edited}
 use Rattle.oc_names.specs.Kept.{keep_for}
 use Rattle.oc_convert.specs.Refusals.{object_refusal, edited_refusal, kept_of_file}
 use Rattle.oc_convert.specs.Converted.{on_ok}
-use Rattle.oc_elf_read.specs.declared.class.ElfClass.{ElfClass}
-use Rattle.oc_elf_read.specs.declared.class.ElfClass.TheVariants.{Class32, Class64, Big32, Big64}
-use Rattle.oc_elf_read.specs.Elf.{elf_dialect}
+use Rattle.oc_elf.specs.declared.class.ElfClass.{ElfClass}
+use Rattle.oc_elf.specs.declared.class.ElfClass.TheVariants.{Class32, Class64, Big32, Big64}
+use Rattle.oc_elf.specs.Elf.{elf_dialect}
 use Rattle.oc_elf_file.specs.Canonical.{elf_file}
 use Rattle.oc_elf_file.proofs.CodedLaws.{for_elf}
 use Rattle.oc_elf_file.proofs.WrittenLaw.{elf_is_written}
@@ -31,15 +31,15 @@ use Rattle.oc_canonical.proofs.ElfAgain.{elf_file_again}
 use Rattle.oc_canonical.proofs.ElfStays.{elf_seen_fitted}
 use Rattle.oc_base.specs.declared.format.Word.{Word}
 use Rattle.oc_base.specs.declared.format.Word.TheVariants.{W32, W64}
-use Rattle.oc_coff_read.specs.declared.form.CoffForm.{CoffForm}
-use Rattle.oc_coff_read.specs.declared.form.CoffForm.TheVariants.{Usual32, Usual64, Big32, Big64}
-use Rattle.oc_coff_read.specs.Rules.{coff_dialect}
-use Rattle.oc_coff_read.specs.Canonical.{coff_file}
-use Rattle.oc_coff_read.proofs.CodedLaws.{for_coff}
-use Rattle.oc_coff_read.proofs.WrittenLaw.{coff_is_written}
+use Rattle.oc_coff.specs.declared.form.CoffForm.{CoffForm}
+use Rattle.oc_coff.specs.declared.form.CoffForm.TheVariants.{Usual32, Usual64, Big32, Big64}
+use Rattle.oc_coff.specs.Rules.{coff_dialect}
+use Rattle.oc_coff_file.specs.Canonical.{coff_file}
+use Rattle.oc_coff_file.proofs.CodedLaws.{for_coff}
+use Rattle.oc_coff_file.proofs.WrittenLaw.{coff_is_written}
 use Rattle.oc_canonical.proofs.CoffAgain.{coff_file_again}
 use Rattle.oc_canonical.proofs.CoffStays.{coff_seen_fitted}
-use Rattle.oc_macho_read.specs.Rules.{mach_dialect}
+use Rattle.oc_macho.specs.Rules.{mach_dialect}
 use Rattle.oc_macho_file.specs.Canonical.{mach_file}
 use Rattle.oc_macho_file.proofs.CodedLaws.{for_mach}
 use Rattle.oc_macho_file.proofs.WrittenLaw.{mach_is_written}

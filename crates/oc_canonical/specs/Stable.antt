@@ -13,15 +13,15 @@ use Rattle.oc_neutral.specs.Seen.{seen}
 use Rattle.oc_names.specs.Wishes.{no_wishes}
 use Rattle.oc_convert.specs.Refusals.{first_refusal, kept_of_file}
 use Rattle.oc_convert.specs.Converted.{planned_file}
-use Rattle.oc_elf_read.specs.declared.class.ElfClass.{ElfClass}
-use Rattle.oc_elf_read.specs.Elf.{elf_dialect}
+use Rattle.oc_elf.specs.declared.class.ElfClass.{ElfClass}
+use Rattle.oc_elf.specs.Elf.{elf_dialect}
 use Rattle.oc_elf_file.specs.Canonical.{elf_file}
-use Rattle.oc_coff_read.specs.declared.form.CoffForm.{CoffForm}
-use Rattle.oc_coff_read.specs.Rules.{coff_dialect}
-use Rattle.oc_coff_read.specs.Canonical.{coff_file}
-use Rattle.oc_macho_read.specs.Rules.{mach_dialect}
+use Rattle.oc_coff.specs.declared.form.CoffForm.{CoffForm}
+use Rattle.oc_coff.specs.Rules.{coff_dialect}
+use Rattle.oc_coff_file.specs.Canonical.{coff_file}
+use Rattle.oc_macho.specs.Rules.{mach_dialect}
 use Rattle.oc_macho_file.specs.Canonical.{mach_file}
-use Rattle.oc_omf_read.specs.Rules.{omf_dialect}
+use Rattle.oc_omf.specs.Rules.{omf_dialect}
 use Rattle.oc_omf_file.specs.Canonical.{omf_file}
 
 -- a conversion of the file c to its own format, with nothing asked for, is not refused, and its planned file is c

@@ -1,9 +1,8 @@
 //! Laws of the definitions, each the contract of a function that does nothing.
-ghost use Rattle.oc_coff_read.specs.Writing.{CoffIsWritten};
+ghost use Rattle.oc_coff_read.specs.Shown.{CleanIsShown};
 
-/// For all four forms: the rules of COFF have the word and the alignments that are told of its format,
-/// and the canonical file of every object that is ready for COFF is well formed and shows the
-/// object that is seen of it.
-pub fn coff_file_is_written()
-    ensures { CoffIsWritten }
+/// A file without a fault shows what is built of its sections and symbols, when the relocations of
+/// its entries were added, in any order.
+pub fn clean_is_shown()
+    ensures { CleanIsShown }
 {}

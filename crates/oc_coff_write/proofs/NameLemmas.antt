@@ -1,6 +1,6 @@
 -- Names of up to eight bytes.
 use Rattle.std.proofs.Common.{◌≡◌, ℕ, ◌≤◌, List, [], ◌∷◌, ◌++◌, length, drop, refl, arith}
-use Rattle.oc_coff_read.specs.Names.{padded}
+use Rattle.oc_coff.specs.Names.{padded}
 
 -- a name over eight zeros is the name with zeros behind it
 pub padding : (name : List ℕ) → length name ≤ 8 → name ++ drop (length name) (0 ∷ 0 ∷ 0 ∷ 0 ∷ 0 ∷ 0 ∷ 0 ∷ 0 ∷ []) ≡ padded name

@@ -4,8 +4,8 @@ use Rattle.std.specs.Prelude.{filter, flat_map, codes, nat_lt}
 use Rattle.std.specs.List.{enumerate_from, range_with_len}
 use Rattle.std.proofs.lemmas.List.{length-append}
 use Rattle.std.proofs.lemmas.List.Elements.{filter-append}
-use Rattle.oc_coff_read.specs.declared.form.CoffForm.{CoffForm}
-use Rattle.oc_coff_read.specs.declared.form.CoffForm.TheVariants.{Usual32, Usual64, Big32, Big64}
+use Rattle.oc_coff.specs.declared.form.CoffForm.{CoffForm}
+use Rattle.oc_coff.specs.declared.form.CoffForm.TheVariants.{Usual32, Usual64, Big32, Big64}
 use Rattle.oc_linking.specs.declared.terms.Binding.{Binding}
 use Rattle.oc_linking.specs.declared.terms.Binding.TheVariants.{Local, Global, Undefined, Common, Weak}
 use Rattle.oc_neutral.specs.declared.section.Section.{Section}
@@ -17,8 +17,8 @@ use Rattle.oc_neutral.specs.KeySymbols.{is_key_at}
 use Rattle.oc_neutral.specs.SymbolLines.{needs_default, is_weak_with}
 use Rattle.oc_neutral.specs.Coff.Strings.{is_long, is_tabled, has_default, default_name, defaults_of, names_where, key_strings, coff_strings}
 use Rattle.oc_neutral.specs.CoffMeets.{strings_of}
-use Rattle.oc_coff_read.specs.Forms.{format_of}
-use Rattle.oc_coff_read.specs.Lines.{Line, LocalLine, DefaultLine, OuterLine, lines_where, section_lines, is_written_local, is_free, lines_of}
+use Rattle.oc_coff.specs.Forms.{format_of}
+use Rattle.oc_coff_file.specs.Lines.{Line, LocalLine, DefaultLine, OuterLine, lines_where, section_lines, is_written_local, is_free, lines_of}
 use Rattle.oc_coff_write.specs.Strings.{line_strings, table_names}
 
 flat_append : {X Y : Type 0} (f : X → List Y) (xs ys : List X) → flat_map f (xs ++ ys) ≡ flat_map f xs ++ flat_map f ys

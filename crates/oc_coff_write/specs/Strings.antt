@@ -1,7 +1,7 @@
 -- The string table of a COFF output (PE/COFF, "COFF String Table"; our profile).
 use Rattle.std.specs.Prelude.{ℕ, List, [], ◌∷◌, ◌++◌, filter, flat_map, map}
 use Rattle.std.specs.Option.{unwrap_or}
-use Rattle.oc_coff_read.specs.declared.form.CoffForm.{CoffForm}
+use Rattle.oc_coff.specs.declared.form.CoffForm.{CoffForm}
 use Rattle.oc_base.specs.Strings.{table_place}
 use Rattle.oc_neutral.specs.Coff.Strings.{is_long, is_tabled, default_name}
 use Rattle.oc_neutral.specs.declared.section.Section.{Section}
@@ -9,8 +9,8 @@ use Rattle.oc_neutral.specs.Objects.{Object}
 use Rattle.oc_neutral.specs.CoffMeets.{strings_of}
 use Rattle.oc_strings.specs.Tables.{StringTable}
 use Rattle.oc_neutral.specs.declared.coff.TheConstants.{STRINGS_HEAD}
-use Rattle.oc_coff_read.specs.Forms.{format_of}
-use Rattle.oc_coff_read.specs.Lines.{Line, SectionLine, LocalLine, DefaultLine, OuterLine, lines_of}
+use Rattle.oc_coff.specs.Forms.{format_of}
+use Rattle.oc_coff_file.specs.Lines.{Line, SectionLine, LocalLine, DefaultLine, OuterLine, lines_of}
 
 -- the table of an object's names, whose first text stands behind its size
 abbrev pub table_for : CoffForm → Object → StringTable

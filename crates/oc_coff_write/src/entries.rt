@@ -1,7 +1,7 @@
 //! The entries of the symbol table (PE/COFF, "COFF Symbol Table" and "Auxiliary Symbol Records").
 ghost use Rattle.std.specs.Prelude.{◌≡◌, ◌+◌, ◌^◌, ◌<◌, ◌++◌, ℕ, List, IfOk, IfSome, OnOk, Some, None, true, length, map, slice_get, slice_index_or};
 ghost use Rattle.oc_coff_write.specs.FormFor.{form_for};
-ghost use Rattle.oc_coff_read.specs.declared.form.CoffForm.{CoffForm};
+ghost use Rattle.oc_coff.specs.declared.form.CoffForm.{CoffForm};
 ghost use Rattle.oc_linking.specs.declared.terms.Binding.TheVariants.{Weak};
 ghost use Rattle.oc_chains.specs.Lists.{list_of};
 ghost use Rattle.oc_linking.specs.Parts.{is_local};
@@ -12,27 +12,26 @@ ghost use Rattle.oc_neutral.specs.Fitted.{IsFitted};
 ghost use Rattle.oc_neutral.specs.Objects.{Object};
 ghost use Rattle.oc_neutral.specs.declared.section.Section.{Section as Held};
 ghost use Rattle.oc_shelf.specs.Writing.Parts.{Laid};
-ghost use Rattle.oc_coff_read.specs.Canonical as canonical;
-ghost use Rattle.oc_coff_read.specs.Forms.{shape_of};
-ghost use Rattle.oc_coff_read.specs.Lines as coff_lines;
+ghost use Rattle.oc_coff_file.specs.Canonical as canonical;
+ghost use Rattle.oc_coff.specs.Values as values;
+ghost use Rattle.oc_coff.specs.Forms.{shape_of};
+ghost use Rattle.oc_coff_file.specs.Lines as coff_lines;
 ghost use Rattle.oc_coff_write.specs.Entries.{entry_bytes, IsMadeOf};
 ghost use Rattle.oc_coff_write.specs.Keys.{AreLeaders, key_position, leader_position};
 ghost use Rattle.oc_coff_write.specs.Lines.{line_in, AreLines, IsListed};
 ghost use Rattle.oc_coff_write.specs.Numbers.{IsNumbered, HasTag};
 ghost use Rattle.oc_coff_write.specs.Strings.{table_for};
-ghost use Rattle.oc_coff_write.specs.Values.{HasRoom};
+ghost use Rattle.oc_coff.specs.Values.{HasRoom};
 
-use crate::counts::header_count;
 use crate::lines::Line;
 use crate::names::{default_name, symbol_field};
 use crate::numbers::Numbers;
 use crate::passed::Passed;
-use crate::structures::{pack_section_aux, pack_symbol, pack_weak_aux};
-use crate::values;
 use oc_base::NoMemory;
-use oc_coff_read::{
+use oc_coff::{
     IMAGE_COMDAT_SELECT_ANY, IMAGE_COMDAT_SELECT_ASSOCIATIVE, IMAGE_SYM_CLASS_STATIC,
-    IMAGE_WEAK_EXTERN_SEARCH_ALIAS, SectionAux, Shape, SymbolEntry, WeakAux,
+    IMAGE_WEAK_EXTERN_SEARCH_ALIAS, SectionAux, Shape, SymbolEntry, WeakAux, aux_by, class_by,
+    header_count, of_binding, of_default, pack_section_aux, pack_symbol, pack_weak_aux, type_by,
 };
 use oc_neutral::{Binding, Neutral, Section, Symbol};
 use oc_shelf::Packed;
@@ -91,17 +90,17 @@ fn section_entry(names: &Table, near: usize, position: u32, section: &Section) -
 
 // the entry of a symbol
 fn symbol_entry(names: &Table, near: usize, symbol: &Symbol) -> SymbolEntry
-    requires { HasRoom (canonical.numbers_by symbol.now.binding) }
+    requires { HasRoom (values.numbers_by symbol.now.binding) }
     ensures { (w : CoffForm) (n : Object) (k : ℕ) → names.now ≡ table_for w n → result ≡ canonical.line_entry w n (coff_lines.OuterLine k symbol.now) }
 {
-    let numbers = values::of_binding(symbol.binding);
+    let numbers = of_binding(symbol.binding);
     SymbolEntry {
         Name: symbol_field(names, near, symbol.name.as_slice()),
         Value: numbers.value,
         SectionNumber: numbers.section,
-        Type: values::type_by(symbol.mark),
-        StorageClass: values::class_by(symbol.binding),
-        NumberOfAuxSymbols: values::aux_by(symbol.binding),
+        Type: type_by(symbol.mark),
+        StorageClass: class_by(symbol.binding),
+        NumberOfAuxSymbols: aux_by(symbol.binding),
     }
 }
 
@@ -112,11 +111,11 @@ fn default_entry(
     near: usize,
     symbol: &Symbol,
 ) -> Result<SymbolEntry, NoMemory>
-    requires { HasRoom (canonical.default_numbers symbol.now.binding) }
+    requires { HasRoom (values.default_numbers symbol.now.binding) }
     ensures { IfOk result (λ entry. (w : CoffForm) (n : Object) (k : ℕ) → names.now ≡ table_for w n → entry ≡ canonical.line_entry w n (coff_lines.DefaultLine k symbol.now)) }
 {
     let name = default_name(alloc, symbol.name.as_slice())?;
-    let numbers = values::of_default(symbol.binding);
+    let numbers = of_default(symbol.binding);
     Ok(SymbolEntry {
         Name: symbol_field(names, near, name.as_slice()),
         Value: numbers.value,
@@ -229,7 +228,7 @@ fn add_outer(
     position: u32,
     symbol: &Symbol,
 ) -> Result<(), NoMemory>
-    requires room { HasRoom (canonical.numbers_by symbol.now.binding) }
+    requires room { HasRoom (values.numbers_by symbol.now.binding) }
     requires tag { (f : Fallback) → symbol.now.binding ≡ Weak f → HasTag numbers.now position f }
     ensures { OnOk result ((w : CoffForm) (n : Object) → names.now ≡ table_for w n → IsNumbered w n numbers.now → map (entry_bytes (shape_of w)) entries.new.items ≡ map (entry_bytes (shape_of w)) entries.old.items ++ canonical.line_rows w n (coff_lines.OuterLine position symbol.now)) }
 {
@@ -249,7 +248,7 @@ fn add_local(
     symbol: &Symbol,
 ) -> Result<(), NoMemory>
     requires local { is_local symbol.now.binding ≡ true }
-    requires room { HasRoom (canonical.numbers_by symbol.now.binding) }
+    requires room { HasRoom (values.numbers_by symbol.now.binding) }
     ensures { OnOk result ((w : CoffForm) (n : Object) (k : ℕ) → names.now ≡ table_for w n → map (entry_bytes (shape_of w)) entries.new.items ≡ map (entry_bytes (shape_of w)) entries.old.items ++ canonical.line_rows w n (coff_lines.LocalLine k symbol.now)) }
 {
     entries.push(Entry::Symbol(symbol_entry(names, near, symbol)))?;
@@ -264,7 +263,7 @@ fn add_default(
     near: usize,
     symbol: &Symbol,
 ) -> Result<(), NoMemory>
-    requires { HasRoom (canonical.default_numbers symbol.now.binding) }
+    requires { HasRoom (values.default_numbers symbol.now.binding) }
     ensures { OnOk result ((w : CoffForm) (n : Object) (k : ℕ) → names.now ≡ table_for w n → map (entry_bytes (shape_of w)) entries.new.items ≡ map (entry_bytes (shape_of w)) entries.old.items ++ canonical.line_rows w n (coff_lines.DefaultLine k symbol.now)) }
 {
     entries.push(Entry::Symbol(default_entry(alloc, names, near, symbol)?))?;

@@ -1,23 +1,23 @@
 //! Where the parts of the file begin.
 ghost use Rattle.std.specs.Prelude.{◌≡◌, ◌+◌, ◌<◌, ◌^◌, ◌++◌, [], ◌∷◌, IfOk, List, OnOk, flat_map, map};
 ghost use Rattle.std.specs.List.{enumerate_from};
-ghost use Rattle.oc_coff_read.specs.declared.form.CoffForm.{CoffForm as Width};
+ghost use Rattle.oc_coff.specs.declared.form.CoffForm.{CoffForm as Width};
 ghost use Rattle.oc_neutral.specs.Fitted.{IsFitted};
 ghost use Rattle.oc_neutral.specs.Objects.{Object};
-ghost use Rattle.oc_coff_read.specs.Forms.{format_of};
-ghost use Rattle.oc_coff_read.specs.Layout.{Part, FileHead, SectionHeads, parts_of, part_size, section_parts};
-ghost use Rattle.oc_coff_read.specs.Lines.{entry_count};
+ghost use Rattle.oc_coff.specs.Forms.{format_of};
+ghost use Rattle.oc_coff_file.specs.Layout.{Part, FileHead, SectionHeads, parts_of, part_size, section_parts};
+ghost use Rattle.oc_coff_file.specs.Lines.{entry_count};
 ghost use Rattle.oc_coff_write.specs.Bodies.{relocations_in};
 ghost use Rattle.oc_coff_write.specs.LaidParts.{AreLaid};
 ghost use Rattle.oc_coff_write.specs.Strings.{table_for};
 
-use crate::counts;
 use oc_base::NoMemory;
-use oc_coff_read::{
-    CoffForm, RELOCATION_SIZE, Relocation, SECTION_HEADER_SIZE, STRINGS_HEAD, header_size,
-    shape_of, symbol_size,
+use oc_coff::{
+    CoffForm, RELOCATION_SIZE, Relocation, SECTION_HEADER_SIZE, entry_count, header_size, shape_of,
+    symbol_size,
 };
 use oc_neutral::Neutral;
+use oc_neutral::coff::STRINGS_HEAD;
 use oc_shelf::Layout;
 use oc_strings::Table;
 use std::alloc::Global;
@@ -44,7 +44,7 @@ fn lay_sections(
     ensures { OnOk result (AreLaid form neutral.now layout.new.places.items layout.new.end (FileHead ∷ SectionHeads ∷ flat_map section_parts (enumerate_from 0 neutral.now.sections))) }
 {
     for k in 0..neutral.section_count() {
-        let count = counts::entry_count(relocs[k as usize].len());
+        let count = entry_count(relocs[k as usize].len());
         lay(layout, neutral.section(k).bytes.as_slice().len())?;
         lay(layout, RELOCATION_SIZE * count)?;
     }

@@ -2,10 +2,7 @@
 //! string table of an object, the layout of its file, and the plan, which gives any window of the file.
 #![tactic(auto)]
 
-mod alignment;
-mod counts;
 mod entries;
-mod flags;
 mod forms;
 mod headers;
 mod keys;
@@ -20,10 +17,8 @@ mod raw;
 mod relocations;
 mod section_names;
 mod strings;
-mod structures;
 mod symbols;
 mod tables;
-mod values;
 mod writer;
 
 pub use plan::Plan;

@@ -5,14 +5,14 @@ ghost use Rattle.std.specs.List.{enumerate_from};
 ghost use Rattle.std.specs.Option.{option_map_or};
 ghost use Rattle.oc_linking.specs.Parts as parts;
 ghost use Rattle.oc_neutral.specs.SymbolLines as symbol_lines;
-ghost use Rattle.oc_coff_read.specs.Lines as coff_lines;
+ghost use Rattle.oc_coff_file.specs.Lines as coff_lines;
 ghost use Rattle.oc_coff_write.specs.Keys.{AreKeys};
 ghost use Rattle.oc_coff_write.specs.Lines.{lines_in, AreLines};
 ghost use Rattle.oc_coff_write.specs.declared.lines.Line.TheVariants as made;
 
 use crate::keys::is_key;
 use oc_base::NoMemory;
-use oc_coff_read::CoffForm;
+use oc_coff::CoffForm;
 use oc_neutral::{Binding, Fallback, Neutral, Symbol, Value};
 use std::alloc::Global;
 

@@ -1,16 +1,16 @@
 //! The numbers of the symbols in the symbol table (PE/COFF, "COFF Symbol Table").
-ghost use Rattle.std.specs.Prelude.{◌≡◌, ◌+◌, ◌^◌, ◌<◌, ℕ, if◌then◌else◌, IfOk, IsSome, Some, true, nat_eq, slice_index_or, length};
+ghost use Rattle.std.specs.Prelude.{◌≡◌, ◌+◌, ◌<◌, ℕ, if◌then◌else◌, IfOk, IsSome, Some, true, nat_eq, slice_index_or, length};
 ghost use Rattle.oc_coff_write.specs.FormFor.{form_for};
-ghost use Rattle.oc_coff_read.specs.declared.form.CoffForm.{CoffForm};
+ghost use Rattle.oc_coff.specs.declared.form.CoffForm.{CoffForm};
 ghost use Rattle.oc_neutral.specs.Families.{container_of};
 ghost use Rattle.oc_neutral.specs.Family.{IsCoff};
 ghost use Rattle.oc_neutral.specs.Fitted.{IsFitted};
 ghost use Rattle.oc_neutral.specs.Objects.{Object};
 ghost use Rattle.oc_neutral.specs.SymbolLines.{is_weak_with};
-ghost use Rattle.oc_coff_read.specs.Bodies.{target_number};
-ghost use Rattle.oc_coff_read.specs.Canonical.{tag_of};
-ghost use Rattle.oc_coff_read.specs.Lines as coff_lines;
-ghost use Rattle.oc_coff_read.specs.Lines.{numbered_lines};
+ghost use Rattle.oc_coff_file.specs.Bodies.{target_number};
+ghost use Rattle.oc_coff_file.specs.Canonical.{tag_of};
+ghost use Rattle.oc_coff_file.specs.Lines as coff_lines;
+ghost use Rattle.oc_coff_file.specs.Lines.{numbered_lines};
 ghost use Rattle.oc_coff_write.specs.Lines.{line_in, AreLines};
 ghost use Rattle.oc_coff_write.specs.Numbers.{AreSized, CanGive, IsBlank, IsNumbered, HasNumber, HasTag};
 

@@ -2,14 +2,13 @@
 ghost use Rattle.std.specs.Prelude.{◌≡◌, ◌<◌, ◌^◌, [], length, map, slice_index_or};
 ghost use Rattle.oc_outside.specs.Windows.{IsFilled};
 ghost use Rattle.oc_shelf.specs.Writing.Parts.{table_of};
-ghost use Rattle.oc_coff_read.specs.SectionHeader.{section_header_bytes};
+ghost use Rattle.oc_coff.specs.SectionHeader.{section_header_bytes};
 ghost use Rattle.oc_coff_write.specs.Entries.{entry_bytes};
 ghost use Rattle.oc_coff_write.specs.Plans.{IsPlan, parts_by, relocation_rows};
 
 use crate::entries::Entry;
-use crate::structures::pack_file_header;
 use crate::tables::{entries_window, headers_window, relocations_window, strings_window};
-use oc_coff_read::{FileHeader, Relocation, SectionHeader, Shape};
+use oc_coff::{FileHeader, Relocation, SectionHeader, Shape, pack_file_header};
 use oc_neutral::{Emits, Section};
 use oc_plans::end_at;
 use oc_shelf::{Layout, Parts, copy_window, window_of};
@@ -37,7 +36,7 @@ pub struct Plan {
 
 impl Model for Plan {
     ghost use Rattle.std.specs.Prelude.{ℕ, List, map};
-    ghost use Rattle.oc_coff_read.specs.SectionHeader.{section_header_bytes};
+    ghost use Rattle.oc_coff.specs.SectionHeader.{section_header_bytes};
     ghost use Rattle.oc_coff_write.specs.Entries.{entry_bytes};
     ghost use Rattle.oc_coff_write.specs.Plans.{IsPlan, parts_by};
 

@@ -1,10 +1,10 @@
 //! Planning the canonical COFF file of an object that is ready to be written.
 ghost use Rattle.std.specs.Prelude.{◌≡◌, IfOk, map};
 ghost use Rattle.oc_neutral.specs.Fitted.{IsFitted};
-ghost use Rattle.oc_coff_read.specs.Canonical as canonical;
-ghost use Rattle.oc_coff_read.specs.Forms.{format_of};
-ghost use Rattle.oc_coff_read.specs.Layout.{parts_of};
-ghost use Rattle.oc_coff_read.specs.Lines.{entry_count};
+ghost use Rattle.oc_coff_file.specs.Canonical as canonical;
+ghost use Rattle.oc_coff.specs.Forms.{format_of};
+ghost use Rattle.oc_coff_file.specs.Layout.{parts_of};
+ghost use Rattle.oc_coff_file.specs.Lines.{entry_count};
 ghost use Rattle.oc_coff_write.specs.Bodies.{raws_in, relocations_in};
 ghost use Rattle.oc_plans.specs.Joined.{file_by};
 ghost use Rattle.oc_coff_write.specs.LaidParts.{AreLaid};
@@ -17,7 +17,7 @@ use crate::raw::Addends;
 use crate::relocations::all_relocations;
 use crate::symbols::symbols_of;
 use oc_base::NoMemory;
-use oc_coff_read::{CoffForm, Relocation, SectionHeader, shape_of};
+use oc_coff::{CoffForm, Relocation, SectionHeader, shape_of};
 use oc_neutral::{Fitted, Neutral, Section};
 use oc_plans::with_numbers;
 use oc_shelf::Layout;

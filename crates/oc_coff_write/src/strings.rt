@@ -6,14 +6,14 @@ ghost use Rattle.oc_neutral.specs.declared.section.Section.{Section as Held};
 ghost use Rattle.oc_neutral.specs.Families.{container_of};
 ghost use Rattle.oc_neutral.specs.Family.{IsCoff};
 ghost use Rattle.oc_neutral.specs.Fitted.{IsFitted};
-ghost use Rattle.oc_coff_read.specs.Lines as coff_lines;
+ghost use Rattle.oc_coff_file.specs.Lines as coff_lines;
 ghost use Rattle.oc_coff_write.specs.Lines.{line_in, AreLines};
 ghost use Rattle.oc_coff_write.specs.Strings.{line_strings, table_for, table_names};
 
 use crate::lines::Line;
 use crate::names::{default_name, is_long, is_tabled};
 use oc_base::{Bytes, NoMemory};
-use oc_coff_read::STRINGS_HEAD;
+use oc_neutral::coff::STRINGS_HEAD;
 use oc_neutral::{Neutral, Section};
 use oc_strings::Table;
 use std::alloc::Global;

@@ -1,24 +1,23 @@
 //! Windows of the tables of a file, and of its string table.
-ghost use Rattle.std.specs.Prelude.{◌≡◌, ◌+◌, ◌^◌, ◌<◌, ◌≤◌, Some, length, map, slice_get};
+ghost use Rattle.std.specs.Prelude.{◌≡◌, ◌+◌, ◌^◌, ◌<◌, Some, length, map, slice_get};
 ghost use Rattle.oc_base.specs.Numbers.{bytes_of_number};
 ghost use Rattle.oc_base.specs.Strings.{table_text};
 ghost use Rattle.oc_outside.specs.Windows.{IsFilled};
 ghost use Rattle.oc_shelf.specs.Writing.Parts.{table_of, HaveSize};
 ghost use Rattle.oc_neutral.specs.declared.coff.TheConstants.{STRINGS_HEAD as HEAD};
-ghost use Rattle.oc_coff_read.specs.declared.section_header.TheConstants.{SECTION_HEADER_SIZE as HEADER};
-ghost use Rattle.oc_coff_read.specs.Forms as forms;
-ghost use Rattle.oc_coff_read.specs.SectionHeader.{section_header_bytes};
-ghost use Rattle.oc_coff_read.specs.Bodies as bodies;
+ghost use Rattle.oc_coff.specs.declared.section_header.TheConstants.{SECTION_HEADER_SIZE as HEADER};
+ghost use Rattle.oc_coff.specs.Forms as forms;
+ghost use Rattle.oc_coff.specs.SectionHeader.{section_header_bytes};
+ghost use Rattle.oc_coff.specs.Flags as flags;
 ghost use Rattle.oc_coff_write.specs.Entries.{entry_bytes};
 ghost use Rattle.oc_coff_write.specs.Plans.{relocation_rows, strings_bytes};
 
-use crate::counts::{count_entry, entry_count, is_crowded};
 use crate::entries::{Entry, pack_entry};
-use crate::structures::{pack_relocation, pack_section_header};
-use oc_coff_read::{
-    RELOCATION_SIZE, Relocation, SECTION_HEADER_SIZE, STRINGS_HEAD, SectionHeader, Shape,
-    symbol_size,
+use oc_coff::{
+    RELOCATION_SIZE, Relocation, SECTION_HEADER_SIZE, SectionHeader, Shape, count_entry,
+    entry_count, is_crowded, pack_relocation, pack_section_header, symbol_size,
 };
+use oc_neutral::coff::STRINGS_HEAD;
 use oc_shelf::{WritesRows, copy_window, rows_window};
 use oc_strings::Table;
 use std::marker::Model;
@@ -40,8 +39,8 @@ struct HeaderRows<'a> {
 impl<'a> Model for HeaderRows<'a> {
     ghost use Rattle.std.specs.Prelude.{ℕ, List, map};
     ghost use Rattle.oc_shelf.specs.Writing.Parts.{HaveSize};
-    ghost use Rattle.oc_coff_read.specs.declared.section_header.TheConstants.{SECTION_HEADER_SIZE};
-    ghost use Rattle.oc_coff_read.specs.SectionHeader.{section_header_bytes};
+    ghost use Rattle.oc_coff.specs.declared.section_header.TheConstants.{SECTION_HEADER_SIZE};
+    ghost use Rattle.oc_coff.specs.SectionHeader.{section_header_bytes};
 
     ghost Value = { List (List ℕ) };
 
@@ -95,7 +94,7 @@ struct EntryRows<'a> {
 impl<'a> Model for EntryRows<'a> {
     ghost use Rattle.std.specs.Prelude.{ℕ, List, map};
     ghost use Rattle.oc_shelf.specs.Writing.Parts.{HaveSize};
-    ghost use Rattle.oc_coff_read.specs.Forms.{symbol_size};
+    ghost use Rattle.oc_coff.specs.Forms.{symbol_size};
     ghost use Rattle.oc_coff_write.specs.Entries.{entry_bytes};
 
     ghost Value = { List (List ℕ) };
@@ -134,8 +133,8 @@ pub(crate) fn entries_window(shape: Shape, entries: &[Entry], from: u64, out: &m
 // relocation entry `k` of a section with these relocations
 fn relocation_at(relocs: &[Relocation], k: usize) -> Relocation
     requires few { length relocs.now + 1 < 2 ^ 32 }
-    requires there { k < length (bodies.with_count relocs.now) }
-    ensures { slice_get (bodies.with_count relocs.now) k ≡ Some result }
+    requires there { k < length (flags.with_count relocs.now) }
+    ensures { slice_get (flags.with_count relocs.now) k ≡ Some result }
 {
     if !is_crowded(relocs.len()) {
         return relocs[k];
@@ -154,7 +153,7 @@ struct RelocationRows<'a> {
 
 impl<'a> Model for RelocationRows<'a> {
     ghost use Rattle.std.specs.Prelude.{◌+◌, ◌^◌, ◌<◌, List, length};
-    ghost use Rattle.oc_coff_read.specs.declared.relocation.Relocation.{Relocation};
+    ghost use Rattle.oc_coff.specs.declared.relocation.Relocation.{Relocation};
 
     ghost Value = { List Relocation };
 

@@ -1,14 +1,13 @@
 //! The writers of the two forms of COFF for few sections.
-ghost use Rattle.std.specs.Prelude.{◌≡◌};
-ghost use Rattle.oc_coff_read.specs.declared.form.CoffForm.TheVariants.{Usual32, Usual64};
-ghost use Rattle.oc_coff_read.specs.Canonical.{coff_file};
-ghost use Rattle.oc_coff_read.specs.Rules.{coff_dialect};
+ghost use Rattle.oc_coff.specs.declared.form.CoffForm.TheVariants.{Usual32, Usual64};
+ghost use Rattle.oc_coff_file.specs.Canonical.{coff_file};
+ghost use Rattle.oc_coff.specs.Rules.{coff_dialect};
 ghost use Rattle.oc_coff_write.specs.Writing.{writes_coff};
 
 use crate::plan::Plan;
 use crate::planning::plan_object;
 use oc_base::NoMemory;
-use oc_coff_read::CoffForm;
+use oc_coff::CoffForm;
 use oc_neutral::{Fitted, Writes};
 use std::alloc::Global;
 

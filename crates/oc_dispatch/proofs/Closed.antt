@@ -18,25 +18,25 @@ use Rattle.oc_convert.specs.Dispatched.{IsClosed, dispatch_refusal, refusal_from
 use Rattle.oc_convert.specs.Identified.{identified}
 use Rattle.oc_convert.specs.Refusals.{first_refusal}
 use Rattle.oc_dispatch.specs.Built.{built, reader_of, writer_of}
-use Rattle.oc_elf_read.specs.declared.class.ElfClass.{ElfClass}
-use Rattle.oc_elf_read.specs.declared.class.ElfClass.TheVariants.{Class32, Class64, Big32, Big64}
-use Rattle.oc_elf_read.specs.Classes.{format_of}
+use Rattle.oc_elf.specs.declared.class.ElfClass.{ElfClass}
+use Rattle.oc_elf.specs.declared.class.ElfClass.TheVariants.{Class32, Class64, Big32, Big64}
+use Rattle.oc_elf.specs.Classes.{format_of}
 use Rattle.oc_elf_file.specs.Canonical.{elf_file}
 use Rattle.oc_elf_file.proofs.CodedLaws.{for_elf}
-use Rattle.oc_coff_read.specs.declared.form.CoffForm.{CoffForm}
-use Rattle.oc_coff_read.specs.declared.form.CoffForm.TheVariants as form
-use Rattle.oc_coff_read.specs.Forms as coff_forms
-use Rattle.oc_coff_read.specs.Canonical.{coff_file}
-use Rattle.oc_macho_read.specs.MachHeader.{mach_format}
+use Rattle.oc_coff.specs.declared.form.CoffForm.{CoffForm}
+use Rattle.oc_coff.specs.declared.form.CoffForm.TheVariants as form
+use Rattle.oc_coff.specs.Forms as coff_forms
+use Rattle.oc_coff_file.specs.Canonical.{coff_file}
+use Rattle.oc_macho.specs.MachHeader.{mach_format}
 use Rattle.oc_macho_file.specs.Canonical.{mach_file}
 use Rattle.oc_omf_file.specs.Canonical.{omf_file}
 use Rattle.oc_canonical.specs.Stable.{IsStable}
 use Rattle.oc_canonical.proofs.Stable.{canonical_is_stable, elf_reads_back, coff_reads_back, mach_reads_back}
 use Rattle.oc_canonical.proofs.OmfStable.{omf_reads_back}
-use Rattle.oc_elf_read.specs.Elf.{elf_dialect}
-use Rattle.oc_coff_read.specs.Rules.{coff_dialect}
-use Rattle.oc_macho_read.specs.Rules.{mach_dialect}
-use Rattle.oc_omf_read.specs.Rules.{omf_dialect}
+use Rattle.oc_elf.specs.Elf.{elf_dialect}
+use Rattle.oc_coff.specs.Rules.{coff_dialect}
+use Rattle.oc_macho.specs.Rules.{mach_dialect}
+use Rattle.oc_omf.specs.Rules.{omf_dialect}
 use Rattle.oc_canonical.proofs.Known.{elf_known, coff_known, mach_known, omf_known}
 
 elf_stable : (class : ElfClass) (n : Object) → IsFitted (format_of class) n → IsStable (elf_dialect class) (elf_file class) (elf_file class n)

@@ -13,12 +13,12 @@ use crate::header::header_refusal;
 use oc_base::{Code, Format};
 use oc_big_coff::{BigCoffReader32, BigCoffReader64};
 use oc_big_elf::{BigElfReader32, BigElfReader64};
-use oc_coff_reader::{CoffReader32, CoffReader64};
+use oc_coff_read::{CoffReader32, CoffReader64};
 use oc_convert::{ConvertFault, identify};
 use oc_elf_read::{ElfReader32, ElfReader64};
-use oc_macho_reader::{MachReader32, MachReader64};
+use oc_macho_read::{MachReader32, MachReader64};
 use oc_neutral::{Keep, Neutral, ReadFault, Reads, shown_object_is_computed};
-use oc_omf_reader::OmfReader;
+use oc_omf_read::OmfReader;
 use std::alloc::Global;
 
 // the object of a file that this reader reads

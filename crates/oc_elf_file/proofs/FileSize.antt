@@ -18,13 +18,13 @@ use Rattle.oc_neutral.specs.Objects.{Object}
 use Rattle.oc_neutral.specs.Elf.Family.{elf_symbol_count, signature_count}
 use Rattle.oc_neutral.specs.SymbolLines.{needs_signature}
 use Rattle.oc_shelf.specs.Writing.Parts.{laid, behind}
-use Rattle.oc_elf_read.specs.declared.class.ElfClass.{ElfClass}
-use Rattle.oc_elf_read.specs.declared.class.ElfClass.TheVariants.{Class32, Class64, Big32, Big64}
-use Rattle.oc_elf_read.specs.Classes.{format_of}
-use Rattle.oc_elf_read.specs.Ehdr.{ehdr_size}
-use Rattle.oc_elf_read.specs.Shdr.{shdr_size}
-use Rattle.oc_elf_read.specs.Sym.{sym_size}
-use Rattle.oc_elf_read.specs.Rel.{rel_size}
+use Rattle.oc_elf.specs.declared.class.ElfClass.{ElfClass}
+use Rattle.oc_elf.specs.declared.class.ElfClass.TheVariants.{Class32, Class64, Big32, Big64}
+use Rattle.oc_elf.specs.Classes.{format_of}
+use Rattle.oc_elf.specs.Ehdr.{ehdr_size}
+use Rattle.oc_elf.specs.Shdr.{shdr_size}
+use Rattle.oc_elf.specs.Sym.{sym_size}
+use Rattle.oc_elf.specs.Rel.{rel_size}
 use Rattle.oc_elf_file.specs.Heads.{Head, NullHead, RelocHead, SymtabHead, ShndxHead, StrtabHead, ShstrtabHead, placed_sections, group_head, section_head, reloc_head, group_heads, section_heads, reloc_heads, table_heads_by, table_heads, heads_of, head_size, numbered_heads, head_name, reloc_prefix}
 use Rattle.oc_neutral.specs.Families.{is_many}
 use Rattle.oc_elf_file.specs.Lines.{Line, NullLine, SectionLine, SignatureLine, LocalLine, OuterLine, lines_of, line_name, section_lines, signature_lines, lines_where, inner_lines, outer_lines}

@@ -13,8 +13,8 @@ use Rattle.oc_neutral.specs.declared.section.Section.{Section}
 use Rattle.oc_neutral.specs.Families.{is_many}
 use Rattle.oc_neutral.specs.Objects.{Object, reloc_at}
 use Rattle.oc_neutral.specs.Relocated.{is_relocated, stays}
-use Rattle.oc_elf_read.specs.declared.class.ElfClass.{ElfClass}
-use Rattle.oc_elf_read.specs.Classes.{format_of, is_big}
+use Rattle.oc_elf.specs.declared.class.ElfClass.{ElfClass}
+use Rattle.oc_elf.specs.Classes.{format_of, is_big}
 use Rattle.oc_elf_file.specs.Heads.{RelocHead, placed_sections, group_head, section_head, reloc_head, group_heads, section_heads, reloc_heads, table_heads_by, table_heads, heads_of}
 use Rattle.oc_elf_file.proofs.CodedLaws.{IsForElf, most_low, most_plain}
 use Rattle.oc_elf_file.proofs.RelocLaws.{meets, found_in}

@@ -1,5 +1,5 @@
 -- The header of a canonical file is well formed.
-use Rattle.oc_elf_read.specs.declared.shdr.Shdr.{Shdr}
+use Rattle.oc_elf.specs.declared.shdr.Shdr.{Shdr}
 use Rattle.std.proofs.Common.{◌≡◌, ℕ, ◌+◌, ◌*◌, ◌≤◌, Bool, true, false, not, ◌&&◌, eqb, List, length, refl, ◌∙◌, ap, arith}
 use Rattle.std.specs.Prelude.{flat_map, nat_lt}
 use Rattle.std.proofs.lemmas.Bool.{ne_eqb}
@@ -10,13 +10,13 @@ use Rattle.oc_neutral.specs.Objects.{Object}
 use Rattle.oc_shelf.specs.Writing.Parts.{place_where}
 use Rattle.oc_shelf.proofs.ReadingLaws.StageLemmas.{Unbroken}
 use Rattle.oc_shelf.proofs.WritingLaws.StandingLemmas.{stands_inside}
-use Rattle.oc_elf_read.specs.declared.class.ElfClass.{ElfClass}
-use Rattle.oc_elf_read.specs.declared.class.ElfClass.TheVariants.{Class32, Class64, Big32, Big64}
-use Rattle.oc_elf_read.specs.Classes.{is_big, machine_of}
-use Rattle.oc_elf_read.specs.Ehdr.{ehdr_size}
-use Rattle.oc_elf_read.specs.Shdr.{shdr_size}
-use Rattle.oc_elf_read.specs.Headers.{header_conditions, names_conditions}
-use Rattle.oc_elf_file.specs.Structures.{ehdr_bytes, shdr_bytes}
+use Rattle.oc_elf.specs.declared.class.ElfClass.{ElfClass}
+use Rattle.oc_elf.specs.declared.class.ElfClass.TheVariants.{Class32, Class64, Big32, Big64}
+use Rattle.oc_elf.specs.Classes.{is_big, machine_of}
+use Rattle.oc_elf.specs.Ehdr.{ehdr_size}
+use Rattle.oc_elf.specs.Shdr.{shdr_size}
+use Rattle.oc_elf.specs.Headers.{header_conditions, names_conditions}
+use Rattle.oc_elf.specs.Structures.{ehdr_bytes, shdr_bytes}
 use Rattle.oc_elf_file.specs.Heads.{ShstrtabHead, heads_of, head_where, is_shstrtab_head}
 use Rattle.oc_elf_file.specs.Layout.{laid_parts, is_head_table}
 use Rattle.oc_elf_file.specs.Headers.{shdr_of, zero_shdr, stored_headers}

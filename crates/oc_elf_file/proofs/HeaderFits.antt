@@ -1,12 +1,12 @@
 -- The numbers in the headers of a canonical file fit their widths.
-use Rattle.oc_elf_read.specs.Shdr.{shdr_size}
-use Rattle.oc_elf_read.specs.Ehdr.{ehdr_size}
-use Rattle.oc_elf_read.specs.Sym.{sym_size}
-use Rattle.oc_elf_read.specs.Rel.{rel_size}
+use Rattle.oc_elf.specs.Shdr.{shdr_size}
+use Rattle.oc_elf.specs.Ehdr.{ehdr_size}
+use Rattle.oc_elf.specs.Sym.{sym_size}
+use Rattle.oc_elf.specs.Rel.{rel_size}
 use Rattle.std.proofs.Common.{◌≡◌, ℕ, ◌-◌, ◌^◌, ◌<◌, List, [], ◌∷◌, ◌++◌, length, Some, None, refl, sym, ◌∙◌, ap, subst, arith, length-append, Bool, true, false, not, ◌&&◌, ◌≤◌, inl, inr, cond}
 use Rattle.std.specs.Prelude.{slice_get, flat_map, nat_lt}
 use Rattle.std.proofs.lemmas.Bool.{cases_lt, lt-ltb, le-ltb}
-use Rattle.oc_elf_read.specs.Shdr.{null_shdr}
+use Rattle.oc_elf.specs.Shdr.{null_shdr}
 use Rattle.std.specs.Option.{unwrap_or}
 use Rattle.std.proofs.lemmas.Option.{same_Some, slice_get_within}
 use Rattle.oc_base.specs.Strings.{is_given, table_text, table_place, place_from, tops_of}
@@ -16,11 +16,11 @@ use Rattle.oc_shelf.specs.Writing.Parts.{place_where}
 use Rattle.oc_shelf.proofs.WritingLaws.PackedLemmas.{Fit}
 use Rattle.oc_shelf.proofs.WritingLaws.StandingLemmas.{stands_inside}
 use Rattle.oc_shelf.proofs.WritingLaws.StringLemmas.{name_in_table}
-use Rattle.oc_elf_read.specs.declared.class.ElfClass.{ElfClass}
-use Rattle.oc_elf_read.specs.declared.class.ElfClass.TheVariants.{Class32, Class64, Big32, Big64}
-use Rattle.oc_elf_read.specs.declared.shdr.Shdr.{Shdr}
-use Rattle.oc_elf_read.specs.Classes.{is_big, machine_of, reloc_type}
-use Rattle.oc_elf_file.specs.Structures.{word_bytes, ehdr_numbers, shdr_bytes, shdr_numbers}
+use Rattle.oc_elf.specs.declared.class.ElfClass.{ElfClass}
+use Rattle.oc_elf.specs.declared.class.ElfClass.TheVariants.{Class32, Class64, Big32, Big64}
+use Rattle.oc_elf.specs.declared.shdr.Shdr.{Shdr}
+use Rattle.oc_elf.specs.Classes.{is_big, machine_of, reloc_type}
+use Rattle.oc_elf.specs.Structures.{word_bytes, ehdr_numbers, shdr_bytes, shdr_numbers}
 use Rattle.oc_elf_file.specs.Heads.{Head, NullHead, GroupHead, SectionHead, RelocHead, SymtabHead, ShndxHead, StrtabHead, ShstrtabHead, heads_of, head_where, head_name, section_number, is_symtab_head, is_strtab_head, is_shstrtab_head}
 use Rattle.oc_elf_file.specs.Lines.{Line, lines_of, inner_lines, numbered_lines, signature_number, outer_lines}
 use Rattle.oc_elf_file.specs.Layout.{head_names, line_names, strings_of, body_size, laid_parts, is_head_table}

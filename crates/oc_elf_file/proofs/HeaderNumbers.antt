@@ -6,11 +6,11 @@ use Rattle.std.proofs.lemmas.Option.{slice_get_within}
 use Rattle.oc_neutral.specs.Objects.{Object}
 use Rattle.oc_shelf.specs.Writing.Parts.{laid, place_where}
 use Rattle.oc_shelf.proofs.WritingLaws.StandingLemmas.{stands_inside}
-use Rattle.oc_elf_read.specs.declared.class.ElfClass.{ElfClass}
-use Rattle.oc_elf_read.specs.declared.class.ElfClass.TheVariants.{Class32, Class64, Big32, Big64}
-use Rattle.oc_elf_read.specs.Classes.{is_big}
-use Rattle.oc_elf_read.specs.Ehdr.{ehdr_size}
-use Rattle.oc_elf_file.specs.Structures.{ehdr_bytes}
+use Rattle.oc_elf.specs.declared.class.ElfClass.{ElfClass}
+use Rattle.oc_elf.specs.declared.class.ElfClass.TheVariants.{Class32, Class64, Big32, Big64}
+use Rattle.oc_elf.specs.Classes.{is_big}
+use Rattle.oc_elf.specs.Ehdr.{ehdr_size}
+use Rattle.oc_elf.specs.Structures.{ehdr_bytes}
 use Rattle.oc_elf_file.specs.Heads.{Head, ShstrtabHead, heads_of, head_where, is_shstrtab_head}
 use Rattle.oc_elf_file.specs.Layout.{Body, HeadTable, parts_of, part_size, part_begin, is_head_table}
 use Rattle.oc_elf_file.specs.Canonical.{shown_count, shown_names, file_header, elf_file}

@@ -15,15 +15,15 @@ use Rattle.oc_neutral.specs.declared.symbol.Symbol.{Symbol}
 use Rattle.oc_neutral.specs.Invariants.{IsBinding, IsAlign, HasOffset}
 use Rattle.oc_neutral.specs.Manners.{elf_mark}
 use Rattle.oc_neutral.specs.Objects.{Object}
-use Rattle.oc_elf_read.specs.declared.class.ElfClass.{ElfClass}
-use Rattle.oc_elf_read.specs.declared.shdr.Shdr.{Shdr}
-use Rattle.oc_elf_read.specs.declared.sym.Sym.{Sym}
-use Rattle.oc_elf_read.specs.Sym.{bind_of, type_of}
-use Rattle.oc_elf_read.specs.Frames.{Framed, header_at}
-use Rattle.oc_elf_read.specs.Sections.{is_carried}
-use Rattle.oc_elf_read.specs.SectionRules.{is_power}
-use Rattle.oc_elf_read.specs.Entries.{is_local_entry, is_sectional}
-use Rattle.oc_elf_read.specs.SymbolRules.{is_odd_symbol}
+use Rattle.oc_elf.specs.declared.class.ElfClass.{ElfClass}
+use Rattle.oc_elf.specs.declared.shdr.Shdr.{Shdr}
+use Rattle.oc_elf.specs.declared.sym.Sym.{Sym}
+use Rattle.oc_elf.specs.Sym.{bind_of, type_of}
+use Rattle.oc_elf.specs.Frames.{Framed, header_at}
+use Rattle.oc_elf.specs.Sections.{is_carried}
+use Rattle.oc_elf.specs.SectionRules.{is_power}
+use Rattle.oc_elf.specs.Entries.{is_local_entry, is_sectional}
+use Rattle.oc_elf.specs.SymbolRules.{is_odd_symbol}
 use Rattle.oc_elf_file.specs.Heads.{Head, GroupHead, SectionHead, heads_of, group_number, section_number}
 use Rattle.oc_elf_file.specs.Lines.{Line, NullLine, SectionLine, SignatureLine, LocalLine, OuterLine, lines_of}
 use Rattle.oc_elf_file.specs.Headers.{shdr_of}

@@ -1,5 +1,5 @@
 -- The tables of a canonical file are well formed, and no header is of a kind that is not read.
-use Rattle.oc_elf_read.specs.Shdr.{null_shdr}
+use Rattle.oc_elf.specs.Shdr.{null_shdr}
 use Rattle.oc_neutral.proofs.Positions.{there_at}
 use Rattle.std.proofs.Common.{◌≡◌, ℕ, zero, suc, ◌+◌, ◌*◌, ◌%◌, ◌/◌, ◌<◌, inl, inr, Bool, true, false, not, ◌&&◌, ◌||◌, cond, eqb, List, [], ◌∷◌, length, Option, Some, None, refl, sym, ◌∙◌, ap, arith}
 use Rattle.std.specs.Prelude.{slice_get, nat_lt, nat_le}
@@ -15,16 +15,16 @@ use Rattle.oc_neutral.specs.KindRules.{has}
 use Rattle.oc_shelf.proofs.ReadingLaws.FirstsLemmas.{keyed_from}
 use Rattle.oc_shelf.proofs.ReadingLaws.StageLemmas.{Unbroken, upto_none}
 use Rattle.oc_shelf.proofs.WritingLaws.MemberLemmas.{keyed_once, of_append, of_filter_map}
-use Rattle.oc_elf_read.specs.declared.class.ElfClass.{ElfClass}
-use Rattle.oc_elf_read.specs.declared.class.ElfClass.TheVariants.{Class32, Class64, Big32, Big64}
-use Rattle.oc_elf_read.specs.declared.constants.TheConstants.{SHT_SYMTAB, SHT_STRTAB}
-use Rattle.oc_elf_read.specs.declared.shdr.Shdr.{Shdr}
-use Rattle.oc_elf_read.specs.Classes.{reloc_type, foreign_type}
-use Rattle.oc_elf_read.specs.Frames.{Framed, header_at}
-use Rattle.oc_elf_read.specs.Rel.{rel_size}
-use Rattle.oc_elf_read.specs.Sections.{is_type, shndx_number, symtab_among, table_among, relocated_by}
-use Rattle.oc_elf_read.specs.Sym.{sym_size}
-use Rattle.oc_elf_read.specs.SectionRules.{known_types, has_entries, is_left_out, is_good_symtab, is_good_table, is_good_shndx, table_conditions}
+use Rattle.oc_elf.specs.declared.class.ElfClass.{ElfClass}
+use Rattle.oc_elf.specs.declared.class.ElfClass.TheVariants.{Class32, Class64, Big32, Big64}
+use Rattle.oc_elf.specs.declared.constants.TheConstants.{SHT_SYMTAB, SHT_STRTAB}
+use Rattle.oc_elf.specs.declared.shdr.Shdr.{Shdr}
+use Rattle.oc_elf.specs.Classes.{reloc_type, foreign_type}
+use Rattle.oc_elf.specs.Frames.{Framed, header_at}
+use Rattle.oc_elf.specs.Rel.{rel_size}
+use Rattle.oc_elf.specs.Sections.{is_type, shndx_number, symtab_among, table_among, relocated_by}
+use Rattle.oc_elf.specs.Sym.{sym_size}
+use Rattle.oc_elf.specs.SectionRules.{known_types, has_entries, is_left_out, is_good_symtab, is_good_table, is_good_shndx, table_conditions}
 use Rattle.oc_elf_file.specs.Heads.{Head, NullHead, GroupHead, SectionHead, RelocHead, SymtabHead, ShndxHead, StrtabHead, ShstrtabHead, reloc_head, reloc_heads, table_heads_by, table_heads, heads_of, head_where, section_number, is_symtab_head, is_shndx_head, is_strtab_head, is_shstrtab_head}
 use Rattle.oc_neutral.specs.Families.{is_many}
 use Rattle.oc_elf_file.specs.Lines.{lines_of}

@@ -4,10 +4,10 @@ use Rattle.std.specs.List.{AllByRecursion}
 use Rattle.oc_linking.specs.Keeping.{all}
 use Rattle.oc_neutral.specs.Objects.{Object}
 use Rattle.oc_shelf.proofs.ReadingLaws.StageLemmas.{Unbroken, IsUnbroken, no_first_fault}
-use Rattle.oc_elf_read.specs.declared.class.ElfClass.{ElfClass}
-use Rattle.oc_elf_read.specs.Elf.{elf_is_dialect, rest_stages, stages_of, fault_in}
-use Rattle.oc_elf_read.specs.Frames.{Framed, zero_in}
-use Rattle.oc_elf_read.specs.Headers.{header_stage, names_stage, header_conditions, names_conditions}
+use Rattle.oc_elf.specs.declared.class.ElfClass.{ElfClass}
+use Rattle.oc_elf.specs.Elf.{elf_is_dialect, rest_stages, stages_of, fault_in}
+use Rattle.oc_elf.specs.Frames.{Framed, zero_in}
+use Rattle.oc_elf.specs.Headers.{header_stage, names_stage, header_conditions, names_conditions}
 use Rattle.oc_elf_file.specs.Canonical.{file_header, elf_file}
 use Rattle.oc_elf_file.specs.Writing.{ElfIsWritten}
 use Rattle.oc_elf_file.proofs.FrameLaws.{IsCodable, made_frame, header_read, zero_read, frame_read}

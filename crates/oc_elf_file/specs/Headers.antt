@@ -2,16 +2,16 @@
 use Rattle.std.specs.Prelude.{ℕ, ◌+◌, nat_lt, if◌then◌else◌, List, [], ◌∷◌, length, filter_map, Option, Some, None}
 use Rattle.oc_neutral.specs.Objects.{Object}
 use Rattle.oc_neutral.specs.Elf.Kinds.{elf_tag_type, elf_tag_flags}
-use Rattle.oc_elf_read.specs.declared.class.ElfClass.{ElfClass}
-use Rattle.oc_elf_read.specs.declared.constants.TheConstants.{SHT_SYMTAB, SHT_SYMTAB_SHNDX, SHT_STRTAB, SHT_GROUP, GRP_ENTRY_SIZE, SHNDX_SIZE}
-use Rattle.oc_elf_read.specs.declared.shdr.Shdr.{Shdr}
-use Rattle.oc_elf_read.specs.Classes.{is_big, reloc_type}
-use Rattle.oc_elf_read.specs.Shdr.{null_shdr}
-use Rattle.oc_elf_read.specs.Sym.{sym_size}
-use Rattle.oc_elf_read.specs.Rel.{rel_size}
+use Rattle.oc_elf.specs.declared.class.ElfClass.{ElfClass}
+use Rattle.oc_elf.specs.declared.constants.TheConstants.{SHT_SYMTAB, SHT_SYMTAB_SHNDX, SHT_STRTAB, SHT_GROUP, GRP_ENTRY_SIZE, SHNDX_SIZE}
+use Rattle.oc_elf.specs.declared.shdr.Shdr.{Shdr}
+use Rattle.oc_elf.specs.Classes.{is_big, reloc_type}
+use Rattle.oc_elf.specs.Shdr.{null_shdr}
+use Rattle.oc_elf.specs.Sym.{sym_size}
+use Rattle.oc_elf.specs.Rel.{rel_size}
 use Rattle.oc_shelf.specs.Writing.Parts.{Laid}
-use Rattle.oc_elf_file.specs.declared.constants.TheConstants.{FIRST_TOLD, SHF_INFO_LINK}
-use Rattle.oc_elf_file.specs.Structures.{word_bytes}
+use Rattle.oc_elf.specs.declared.constants.TheConstants.{FIRST_TOLD, SHF_INFO_LINK}
+use Rattle.oc_elf.specs.Structures.{word_bytes}
 use Rattle.oc_elf_file.specs.Heads.{Head, NullHead, GroupHead, SectionHead, RelocHead, SymtabHead, ShndxHead, StrtabHead, ShstrtabHead, heads_of, head_where, section_number, is_symtab_head, is_strtab_head, is_shstrtab_head, head_name}
 use Rattle.oc_elf_file.specs.Lines.{inner_lines, numbered_lines, signature_number}
 use Rattle.oc_elf_file.specs.Groups.{member_flag}

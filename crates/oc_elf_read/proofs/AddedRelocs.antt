@@ -33,19 +33,19 @@ use Rattle.oc_neutral.specs.Started.{stored_section}
 use Rattle.oc_neutral.proofs.BuiltSteps.{added_more, added_same, can_still}
 use Rattle.oc_neutral.proofs.CleanLaws.{clean_is_added}
 use Rattle.oc_elf_read.specs.Built.{keys_of, symboled}
-use Rattle.oc_elf_read.specs.CarriedSections.{section_with, sections_of}
-use Rattle.oc_elf_read.specs.CarriedSymbols.{symbols_of}
-use Rattle.oc_elf_read.specs.Elf.{elf_dialect}
-use Rattle.oc_elf_read.specs.Frames.{Framed, header_at}
+use Rattle.oc_elf.specs.CarriedSections.{section_with, sections_of}
+use Rattle.oc_elf.specs.CarriedSymbols.{symbols_of}
+use Rattle.oc_elf.specs.Elf.{elf_dialect}
+use Rattle.oc_elf.specs.Frames.{Framed, header_at}
 use Rattle.oc_elf_read.specs.Given.{given_at}
-use Rattle.oc_elf_read.specs.Laid.{IsFrame}
-use Rattle.oc_elf_read.specs.Sections.{is_type, section_name}
-use Rattle.oc_elf_read.specs.Tables.{reloc_of, symbol_count}
+use Rattle.oc_elf.specs.Laid.{IsFrame}
+use Rattle.oc_elf.specs.Sections.{is_type, section_name}
+use Rattle.oc_elf.specs.Tables.{reloc_of, symbol_count}
 use Rattle.oc_elf_read.proofs.AimedFields.{IsAim, local_below}
 use Rattle.oc_elf_read.proofs.CarriedLemmas.{IsHere, kind_here, number_here, section_here}
 use Rattle.oc_elf_read.proofs.FoundFields.{IsClean}
 use Rattle.oc_elf_read.proofs.RowLemmas.{IsRow, is_row}
-use Rattle.oc_elf_read.proofs.SectionLemmas.{here}
+use Rattle.oc_elf_judge.proofs.SectionLemmas.{here}
 use Rattle.oc_elf_read.proofs.StandingFields.{IsStanding, are_apart, are_of_file, differences_fit}
 
 -- ... what can be added

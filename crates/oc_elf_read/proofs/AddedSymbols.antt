@@ -25,19 +25,19 @@ use Rattle.oc_neutral.proofs.StartedLaws.{symbol_more}
 use Rattle.oc_shelf.specs.Reading.Collected.{collected}
 use Rattle.oc_shelf.proofs.ReadingLaws.CollectedLemmas.{IsFrom, collected-some, collected-from}
 use Rattle.oc_shelf.proofs.ReadingLaws.StageLemmas.{clean_at}
-use Rattle.oc_elf_read.specs.declared.constants.TheConstants.{SHN_UNDEF, SHN_COMMON, STB_WEAK}
-use Rattle.oc_elf_read.specs.declared.sym.Sym.{Sym}
-use Rattle.oc_elf_read.specs.Sym.{bind_of}
+use Rattle.oc_elf.specs.declared.constants.TheConstants.{SHN_UNDEF, SHN_COMMON, STB_WEAK}
+use Rattle.oc_elf.specs.declared.sym.Sym.{Sym}
+use Rattle.oc_elf.specs.Sym.{bind_of}
 use Rattle.oc_elf_read.specs.Built.{keys_of, symboled, symbol_as}
-use Rattle.oc_elf_read.specs.CarriedSections.{sections_of}
-use Rattle.oc_elf_read.specs.CarriedSymbols.{binding_of, defined_as, is_passed, public_binding, symbol_by, symbol_of, symbol_with, symbols_of, value_of}
-use Rattle.oc_elf_read.specs.Classes.{format_of}
-use Rattle.oc_elf_read.specs.Entries.{is_local_entry, name_of}
-use Rattle.oc_elf_read.specs.Frames.{Framed}
-use Rattle.oc_elf_read.specs.SymbolRules.{public_name, public_names, symbol_stage}
-use Rattle.oc_elf_read.specs.Tables.{entry_of, symbol_count}
+use Rattle.oc_elf.specs.CarriedSections.{sections_of}
+use Rattle.oc_elf.specs.CarriedSymbols.{binding_of, defined_as, is_passed, public_binding, symbol_by, symbol_of, symbol_with, symbols_of, value_of}
+use Rattle.oc_elf.specs.Classes.{format_of}
+use Rattle.oc_elf.specs.Entries.{is_local_entry, name_of}
+use Rattle.oc_elf.specs.Frames.{Framed}
+use Rattle.oc_elf.specs.SymbolRules.{public_name, public_names, symbol_stage}
+use Rattle.oc_elf.specs.Tables.{entry_of, symbol_count}
 use Rattle.oc_elf_read.proofs.KeyLemmas.{differs}
-use Rattle.oc_elf_read.proofs.SymbolLemmas.{no_repeat}
+use Rattle.oc_elf_judge.proofs.SymbolLemmas.{no_repeat}
 
 -- ... bindings
 

@@ -21,26 +21,26 @@ use Rattle.oc_shelf.specs.declared.reading.order.Placed.{Placed}
 use Rattle.oc_shelf.specs.Reading.Collected.{collected}
 use Rattle.oc_shelf.proofs.ReadingLaws.CollectedLemmas.{collected-at}
 use Rattle.oc_shelf.proofs.ReadingLaws.StageLemmas.{both_hold}
-use Rattle.oc_elf_read.specs.declared.rel.Rel.{Rel}
+use Rattle.oc_elf.specs.declared.rel.Rel.{Rel}
 use Rattle.oc_elf_read.specs.Built.{IsPlaced, symboled}
-use Rattle.oc_elf_read.specs.CarriedSections.{position_of, section_of, section_with, sections_of}
-use Rattle.oc_elf_read.specs.Elf.{elf_dialect}
-use Rattle.oc_elf_read.specs.Fields.{is_idle, rel_at, width_of}
-use Rattle.oc_elf_read.specs.Frames.{Framed}
+use Rattle.oc_elf.specs.CarriedSections.{position_of, section_of, section_with, sections_of}
+use Rattle.oc_elf.specs.Elf.{elf_dialect}
+use Rattle.oc_elf.specs.Fields.{is_idle, rel_at, width_of}
+use Rattle.oc_elf.specs.Frames.{Framed}
 use Rattle.oc_elf_read.specs.Given.{given_at, given_before, given_with, is_among, is_before, placed, reloc_by}
-use Rattle.oc_elf_read.specs.Laid.{IsFrame}
-use Rattle.oc_elf_read.specs.RelocRules.{entry_fault, is_kept_section}
-use Rattle.oc_elf_read.specs.Sections.{contents_of, is_carried, is_type, kind_of}
-use Rattle.oc_elf_read.specs.Tables.{reloc_count, reloc_of, symbol_count}
+use Rattle.oc_elf.specs.Laid.{IsFrame}
+use Rattle.oc_elf.specs.RelocRules.{entry_fault, is_kept_section}
+use Rattle.oc_elf.specs.Sections.{contents_of, is_carried, is_type, kind_of}
+use Rattle.oc_elf.specs.Tables.{reloc_count, reloc_of, symbol_count}
 use Rattle.oc_elf_read.proofs.AddedRelocs.{IsTaken, Standing, taken}
 use Rattle.oc_elf_read.proofs.ApartEntries.{differ_at, fit_at}
 use Rattle.oc_elf_read.proofs.BuildLemmas.{length-contents, placed_at}
 use Rattle.oc_elf_read.proofs.CarriedLemmas.{IsHere, kind_here, number_here, section_here}
 use Rattle.oc_elf_read.proofs.FoundFields.{IsClean, IsEntry, entries_clean, entry_found, entry_there}
-use Rattle.oc_elf_read.proofs.PlaceLemmas.{section_some}
+use Rattle.oc_elf_judge.proofs.PlaceLemmas.{section_some}
 use Rattle.oc_elf_read.proofs.PlacedEntries.{IsPlacedEntry, among_all, not_among, placed_at as entry_placed}
-use Rattle.oc_elf_read.proofs.RelocLemmas.{IsGood, field_inside, nameable_there}
-use Rattle.oc_elf_read.proofs.SectionLemmas.{here}
+use Rattle.oc_elf_judge.proofs.RelocLemmas.{IsGood, field_inside, nameable_there}
+use Rattle.oc_elf_judge.proofs.SectionLemmas.{here}
 use Rattle.oc_elf_read.proofs.StandingFields.{given_standing, stands}
 
 -- the first entry at the offset of an entry is that entry

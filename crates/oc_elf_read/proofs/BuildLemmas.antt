@@ -19,17 +19,17 @@ use Rattle.oc_shelf.specs.Reading.Collected.{collected}
 use Rattle.oc_shelf.specs.Reading.Stops.{sum_upto}
 use Rattle.oc_shelf.proofs.ReadingLaws.CollectedLemmas.{collected-some, collected-none, collected-sum, length-collected}
 use Rattle.oc_shelf.proofs.ReadingLaws.StageLemmas.{clean_at}
-use Rattle.oc_elf_read.specs.declared.constants.TheConstants.{SHT_NULL}
-use Rattle.oc_elf_read.specs.declared.shdr.Shdr.{Shdr}
+use Rattle.oc_elf.specs.declared.constants.TheConstants.{SHT_NULL}
+use Rattle.oc_elf.specs.declared.shdr.Shdr.{Shdr}
 use Rattle.oc_elf_read.specs.Built.{IsPlaced, keys_of, sectioned}
-use Rattle.oc_elf_read.specs.CarriedSections.{section_with, section_of}
-use Rattle.oc_elf_read.specs.Classes.{format_of}
-use Rattle.oc_elf_read.specs.Frames.{Framed}
-use Rattle.oc_elf_read.specs.Laid.{IsFrame}
-use Rattle.oc_elf_read.specs.Sections.{is_type, is_carried, kind_of, contents_of}
-use Rattle.oc_elf_read.specs.SectionRules.{has_bytes, size_counted, bytes_counted, section_stage}
-use Rattle.oc_elf_read.proofs.SectionLemmas.{IsSound, here, null_first, sound_at}
-use Rattle.oc_elf_read.proofs.PlaceLemmas.{section_some, section_none}
+use Rattle.oc_elf.specs.CarriedSections.{section_with, section_of}
+use Rattle.oc_elf.specs.Classes.{format_of}
+use Rattle.oc_elf.specs.Frames.{Framed}
+use Rattle.oc_elf.specs.Laid.{IsFrame}
+use Rattle.oc_elf.specs.Sections.{is_type, is_carried, kind_of, contents_of}
+use Rattle.oc_elf.specs.SectionRules.{has_bytes, size_counted, bytes_counted, section_stage}
+use Rattle.oc_elf_judge.proofs.SectionLemmas.{IsSound, here, null_first, sound_at}
+use Rattle.oc_elf_judge.proofs.PlaceLemmas.{section_some, section_none}
 
 -- a carried section takes bytes of the file, where it is not NOBITS
 carried_bytes : (s : Shdr) → is_carried s ≡ true → is_type SHT_NOBITS s ≡ false → has_bytes s ≡ true

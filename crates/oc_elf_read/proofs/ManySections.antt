@@ -13,23 +13,23 @@ use Rattle.oc_linking.specs.Keeping.{all}
 use Rattle.oc_linking.specs.Parts.{Symbol}
 use Rattle.oc_base.specs.Numbers.{number_at}
 use Rattle.oc_neutral.specs.Elf.Kinds.{elf_kind}
-use Rattle.oc_elf_read.specs.declared.class.ElfClass.TheVariants.{Class32, Big32}
-use Rattle.oc_elf_read.specs.CarriedSections.{section_of, section_with}
-use Rattle.oc_elf_read.specs.CarriedSymbols.{binding_of, is_passed, symbol_by, symbol_of, symbol_with, symbols_of}
-use Rattle.oc_elf_read.specs.Ehdr.{ehdr_in}
-use Rattle.oc_elf_read.specs.Elf.{fault_in}
-use Rattle.oc_elf_read.specs.Entries.{name_at}
-use Rattle.oc_elf_read.specs.Frames.{framed, header_of, headers_of}
-use Rattle.oc_elf_read.specs.Groups.{key_of}
-use Rattle.oc_elf_read.specs.Headers.{header_conditions}
-use Rattle.oc_elf_read.specs.Names.{name_in, table_bytes}
-use Rattle.oc_elf_read.specs.Rel.{rel_in}
-use Rattle.oc_elf_read.specs.RelocRules.{is_nameable, is_target_for, own_conditions, rel_conditions, reloc_conditions}
-use Rattle.oc_elf_read.specs.SectionRules.{carried_conditions, conditions_on, form_conditions, group_conditions, is_bad_member, is_good_group, is_good_shndx, is_good_symtab, is_good_table, is_left_out, section_conditions, table_conditions}
-use Rattle.oc_elf_read.specs.Shdr.{shdr_in}
-use Rattle.oc_elf_read.specs.Sym.{sym_in}
-use Rattle.oc_elf_read.specs.SymbolRules.{entry_conditions, is_odd_symbol, symbol_conditions}
-use Rattle.oc_elf_read.specs.Tables.{entry_of, reloc_of}
+use Rattle.oc_elf.specs.declared.class.ElfClass.TheVariants.{Class32, Big32}
+use Rattle.oc_elf.specs.CarriedSections.{section_of, section_with}
+use Rattle.oc_elf.specs.CarriedSymbols.{binding_of, is_passed, symbol_by, symbol_of, symbol_with, symbols_of}
+use Rattle.oc_elf.specs.Ehdr.{ehdr_in}
+use Rattle.oc_elf.specs.Elf.{fault_in}
+use Rattle.oc_elf.specs.Entries.{name_at}
+use Rattle.oc_elf.specs.Frames.{framed, header_of, headers_of}
+use Rattle.oc_elf.specs.Groups.{key_of}
+use Rattle.oc_elf.specs.Headers.{header_conditions}
+use Rattle.oc_elf.specs.Names.{name_in, table_bytes}
+use Rattle.oc_elf.specs.Rel.{rel_in}
+use Rattle.oc_elf.specs.RelocRules.{is_nameable, is_target_for, own_conditions, rel_conditions, reloc_conditions}
+use Rattle.oc_elf.specs.SectionRules.{carried_conditions, conditions_on, form_conditions, group_conditions, is_bad_member, is_good_group, is_good_shndx, is_good_symtab, is_good_table, is_left_out, section_conditions, table_conditions}
+use Rattle.oc_elf.specs.Shdr.{shdr_in}
+use Rattle.oc_elf.specs.Sym.{sym_in}
+use Rattle.oc_elf.specs.SymbolRules.{entry_conditions, is_odd_symbol, symbol_conditions}
+use Rattle.oc_elf.specs.Tables.{entry_of, reloc_of}
 use Rattle.oc_elf_read.proofs.Objects.{told}
 
 -- bytes of a file, each with its place, that are others

@@ -13,11 +13,11 @@ use Rattle.oc_linking.specs.Numbers.{first_upto}
 use Rattle.oc_shelf.specs.declared.reading.order.Placed.{Placed}
 use Rattle.oc_shelf.specs.Reading.Collected.{collected, with_option}
 use Rattle.oc_shelf.proofs.ReadingLaws.CollectedLemmas.{collected-all, collected-at, length-step}
-use Rattle.oc_elf_read.specs.Fields.{is_idle}
-use Rattle.oc_elf_read.specs.Frames.{Framed}
+use Rattle.oc_elf.specs.Fields.{is_idle}
+use Rattle.oc_elf.specs.Frames.{Framed}
 use Rattle.oc_elf_read.specs.Given.{is_among, placed}
-use Rattle.oc_elf_read.specs.RelocRules.{entry_fault}
-use Rattle.oc_elf_read.specs.Tables.{reloc_count, reloc_of}
+use Rattle.oc_elf.specs.RelocRules.{entry_fault}
+use Rattle.oc_elf.specs.Tables.{reloc_count, reloc_of}
 use Rattle.oc_elf_read.proofs.ApartEntries.{differ_at}
 
 -- two are at one place

@@ -10,21 +10,21 @@ use Rattle.oc_neutral.specs.Objects.{Object}
 use Rattle.oc_neutral.specs.Readable.{IsReadable}
 use Rattle.oc_neutral.specs.Shows.{Shows}
 use Rattle.oc_neutral.proofs.BuiltWhole.{built_is_complete, built_is_readable}
-use Rattle.oc_elf_read.specs.declared.class.ElfClass.{ElfClass}
+use Rattle.oc_elf.specs.declared.class.ElfClass.{ElfClass}
 use Rattle.oc_elf_read.specs.Built.{symboled}
-use Rattle.oc_elf_read.specs.Elf.{elf_dialect, rest_stages}
-use Rattle.oc_elf_read.specs.Frames.{Framed, framed, header_at}
+use Rattle.oc_elf.specs.Elf.{elf_dialect, rest_stages}
+use Rattle.oc_elf.specs.Frames.{Framed, framed, header_at}
 use Rattle.oc_elf_read.specs.Given.{given_at}
-use Rattle.oc_elf_read.specs.Known.{IsSymtab}
-use Rattle.oc_elf_read.specs.Laid.{IsFrame}
-use Rattle.oc_elf_read.specs.Sections.{symtab_among}
-use Rattle.oc_elf_read.specs.Tables.{symbol_count}
+use Rattle.oc_elf_judge.specs.Known.{IsSymtab}
+use Rattle.oc_elf.specs.Laid.{IsFrame}
+use Rattle.oc_elf.specs.Sections.{symtab_among}
+use Rattle.oc_elf.specs.Tables.{symbol_count}
 use Rattle.oc_elf_read.proofs.CompleteLemmas.{complete}
 use Rattle.oc_elf_read.proofs.FoundFields.{IsClean, stages_clean}
 use Rattle.oc_elf_read.proofs.ReadableLemmas.{readable}
 use Rattle.oc_elf_read.proofs.ShowableLemmas.{is_started}
 use Rattle.oc_elf_read.proofs.ShownFile.{are_final, clean_is_shown, leaves_blanks}
-use Rattle.oc_elf_read.proofs.TableLemmas.{symtab_is}
+use Rattle.oc_elf_judge.proofs.TableLemmas.{symtab_is}
 
 module _ (f : Framed) (keep : Keep) (frame : IsFrame f) (none : first_fault (rest_stages f keep) ≡ None) (draft : IsDraft (symboled f (symbol_count f))) (d : Draft)
     (added : HasAdded (symboled f (symbol_count f)) d (given_at f keep)) where

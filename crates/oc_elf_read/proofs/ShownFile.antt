@@ -30,22 +30,22 @@ use Rattle.oc_neutral.specs.Started.{stored_section}
 use Rattle.oc_neutral.proofs.BuiltLaws.{built_shows}
 use Rattle.oc_shelf.proofs.ReadingLaws.StageLemmas.{both_hold}
 use Rattle.oc_elf_read.specs.Built.{keys_of, symboled}
-use Rattle.oc_elf_read.specs.CarriedSections.{section_with, sections_of}
-use Rattle.oc_elf_read.specs.CarriedSymbols.{symbols_of}
-use Rattle.oc_elf_read.specs.Elf.{elf_dialect}
-use Rattle.oc_elf_read.specs.Frames.{Framed, header_at}
+use Rattle.oc_elf.specs.CarriedSections.{section_with, sections_of}
+use Rattle.oc_elf.specs.CarriedSymbols.{symbols_of}
+use Rattle.oc_elf.specs.Elf.{elf_dialect}
+use Rattle.oc_elf.specs.Frames.{Framed, header_at}
 use Rattle.oc_elf_read.specs.Given.{given_at}
-use Rattle.oc_elf_read.specs.Laid.{IsFrame}
-use Rattle.oc_elf_read.specs.Sections.{is_type}
+use Rattle.oc_elf.specs.Laid.{IsFrame}
+use Rattle.oc_elf.specs.Sections.{is_type}
 use Rattle.oc_elf_read.specs.Shown.{CleanIsShown}
-use Rattle.oc_elf_read.specs.Tables.{reloc_of, symbol_count}
+use Rattle.oc_elf.specs.Tables.{reloc_of, symbol_count}
 use Rattle.oc_elf_read.proofs.AddedRelocs.{Standing}
 use Rattle.oc_elf_read.proofs.AimedFields.{IsAim}
 use Rattle.oc_elf_read.proofs.CarriedLemmas.{IsHere, number_here, section_here}
 use Rattle.oc_elf_read.proofs.FoundFields.{IsClean, rules_symbols, stages_clean}
 use Rattle.oc_elf_read.proofs.ReadableLemmas.{blank_is, nobits_is}
 use Rattle.oc_elf_read.proofs.RowLemmas.{IsRow, is_row}
-use Rattle.oc_elf_read.proofs.SectionLemmas.{here}
+use Rattle.oc_elf_judge.proofs.SectionLemmas.{here}
 use Rattle.oc_elf_read.proofs.StandingFields.{free_or_given, given_standing}
 
 pub clean_is_shown : CleanIsShown

@@ -24,23 +24,23 @@ use Rattle.oc_neutral.specs.Faces.{shown_symbols}
 use Rattle.oc_neutral.specs.Normal.{cancels}
 use Rattle.oc_neutral.specs.Objects.{Object}
 use Rattle.oc_neutral.specs.Rows.{Row, Taken, TakesZero, TakesPlace, TakesGotBase, TakesImageBase, TakesHome, TakesSection, less_of, same_taken}
-use Rattle.oc_elf_read.specs.declared.rel.Rel.{Rel}
-use Rattle.oc_elf_read.specs.CarriedSections.{sections_of}
-use Rattle.oc_elf_read.specs.Elf.{elf_dialect}
-use Rattle.oc_elf_read.specs.Fields.{field_by, is_idle, rel_at, row_for, width_of}
-use Rattle.oc_elf_read.specs.Frames.{Framed}
+use Rattle.oc_elf.specs.declared.rel.Rel.{Rel}
+use Rattle.oc_elf.specs.CarriedSections.{sections_of}
+use Rattle.oc_elf.specs.Elf.{elf_dialect}
+use Rattle.oc_elf.specs.Fields.{field_by, is_idle, rel_at, row_for, width_of}
+use Rattle.oc_elf.specs.Frames.{Framed}
 use Rattle.oc_elf_read.specs.Given.{given_at, reloc_by}
-use Rattle.oc_elf_read.specs.Laid.{IsFrame}
-use Rattle.oc_elf_read.specs.RelocRules.{entry_fault}
-use Rattle.oc_elf_read.specs.Sections.{kind_of}
-use Rattle.oc_elf_read.specs.Tables.{reloc_count, reloc_of}
+use Rattle.oc_elf.specs.Laid.{IsFrame}
+use Rattle.oc_elf.specs.RelocRules.{entry_fault}
+use Rattle.oc_elf.specs.Sections.{kind_of}
+use Rattle.oc_elf.specs.Tables.{reloc_count, reloc_of}
 use Rattle.oc_elf_read.proofs.ApartEntries.{IsFit, apart_at, fit_at}
 use Rattle.oc_elf_read.proofs.CarriedLemmas.{IsHere, kind_here, number_here, section_here}
 use Rattle.oc_elf_read.proofs.FoundFields.{IsClean, IsEntry, entries_clean, entry_found, kept_here, none_here}
 use Rattle.oc_elf_read.proofs.GivenFields.{IsMeant, meant}
-use Rattle.oc_elf_read.proofs.RelocLemmas.{IsGood}
+use Rattle.oc_elf_judge.proofs.RelocLemmas.{IsGood}
 use Rattle.oc_elf_read.proofs.RowLemmas.{IsRow, is_row}
-use Rattle.oc_elf_read.proofs.SectionLemmas.{here}
+use Rattle.oc_elf_judge.proofs.SectionLemmas.{here}
 
 -- a row of ELF takes no section
 no_section : (row : Row) (k : ℕ) → IsRow row → less_of row.taken 0 ≡ less.Section k → ⊥

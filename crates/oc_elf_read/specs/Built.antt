@@ -3,7 +3,7 @@ use Rattle.std.specs.Prelude.{◌≡◌, ℕ, ◌+◌, ◌^◌, ◌<◌, ◌≤�
 use Rattle.oc_base.specs.Strings.{is_given}
 use Rattle.oc_linking.specs.Parts as parts
 use Rattle.oc_neutral.specs.declared.elf.TheConstants.{SHT_NOBITS, ALIGN_BITS}
-use Rattle.oc_elf_read.specs.declared.constants.TheConstants.{MOST_SIZE}
+use Rattle.oc_elf.specs.declared.constants.TheConstants.{MOST_SIZE}
 use Rattle.oc_neutral.specs.declared.symbol.Symbol.{Symbol}
 use Rattle.oc_neutral.specs.Building.{Draft}
 use Rattle.oc_neutral.specs.Computed.{computed_symbol, keys_after}
@@ -11,13 +11,13 @@ use Rattle.std.specs.List.{position_or_len}
 use Rattle.std.specs.Option.{option_and_then}
 use Rattle.oc_neutral.specs.Started.{groups_by, plain_draft, stored_section}
 use Rattle.oc_shelf.specs.Reading.Collected.{collected}
-use Rattle.oc_elf_read.specs.declared.shdr.Shdr.{Shdr}
-use Rattle.oc_elf_read.specs.Classes.{format_of}
-use Rattle.oc_elf_read.specs.Frames.{Framed}
-use Rattle.oc_elf_read.specs.Groups.{comdat_key, is_comdat, owner_among}
-use Rattle.oc_elf_read.specs.Sections.{is_type}
-use Rattle.oc_elf_read.specs.CarriedSections.{section_of, sections_of}
-use Rattle.oc_elf_read.specs.CarriedSymbols.{symbol_of, symbols_of}
+use Rattle.oc_elf.specs.declared.shdr.Shdr.{Shdr}
+use Rattle.oc_elf.specs.Classes.{format_of}
+use Rattle.oc_elf.specs.Frames.{Framed}
+use Rattle.oc_elf.specs.Groups.{comdat_key, is_comdat, owner_among}
+use Rattle.oc_elf.specs.Sections.{is_type}
+use Rattle.oc_elf.specs.CarriedSections.{section_of, sections_of}
+use Rattle.oc_elf.specs.CarriedSymbols.{symbol_of, symbols_of}
 
 -- a carried section lies in the file, where it takes bytes of it, and its numbers are small
 pub record IsPlaced (f : Framed) (s : Shdr) : Type 0 where

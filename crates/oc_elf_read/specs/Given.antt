@@ -8,8 +8,8 @@ use Rattle.oc_linking.specs.declared.terms.Width.TheVariants.{Eight}
 use Rattle.oc_linking.specs.Fits.{bytes_of}
 use Rattle.oc_algebra.specs.Fields.{from_field_of}
 use Rattle.oc_algebra.specs.Residues.{reduced_number}
-use Rattle.oc_elf_read.specs.declared.class.ElfClass.{ElfClass}
-use Rattle.oc_elf_read.specs.declared.class.ElfClass.TheVariants.{Class32, Class64, Big32, Big64}
+use Rattle.oc_elf.specs.declared.class.ElfClass.{ElfClass}
+use Rattle.oc_elf.specs.declared.class.ElfClass.TheVariants.{Class32, Class64, Big32, Big64}
 use Rattle.std.specs.List.{list_any}
 use Rattle.std.specs.Option.{option_map, option_map_or, option_and_then}
 use Rattle.oc_linking.specs.declared.terms.Keep.{Keep}
@@ -22,15 +22,15 @@ use Rattle.oc_neutral.specs.Normal.{moved_addend}
 use Rattle.oc_neutral.specs.Rows.{Row}
 use Rattle.oc_neutral.specs.RowValues.{row_reloc}
 use Rattle.oc_shelf.specs.declared.reading.order.Placed.{Placed}
-use Rattle.oc_elf_read.specs.declared.meaning.Meaning.{Meaning}
-use Rattle.oc_elf_read.specs.declared.rel.Rel.{Rel}
-use Rattle.oc_elf_read.specs.CarriedSymbols.{home_of, symbol_position}
-use Rattle.oc_elf_read.specs.Classes.{word_of}
-use Rattle.oc_elf_read.specs.Entries.{is_section_symbol}
-use Rattle.oc_elf_read.specs.CarriedSections.{sections_of}
-use Rattle.oc_elf_read.specs.Fields.{addend_in, is_idle, rel_at, row_for}
-use Rattle.oc_elf_read.specs.Frames.{Framed}
-use Rattle.oc_elf_read.specs.Tables.{entry_of, reloc_of}
+use Rattle.oc_elf.specs.declared.meaning.Meaning.{Meaning}
+use Rattle.oc_elf.specs.declared.rel.Rel.{Rel}
+use Rattle.oc_elf.specs.CarriedSymbols.{home_of, symbol_position}
+use Rattle.oc_elf.specs.Classes.{word_of}
+use Rattle.oc_elf.specs.Entries.{is_section_symbol}
+use Rattle.oc_elf.specs.CarriedSections.{sections_of}
+use Rattle.oc_elf.specs.Fields.{addend_in, is_idle, rel_at, row_for}
+use Rattle.oc_elf.specs.Frames.{Framed}
+use Rattle.oc_elf.specs.Tables.{entry_of, reloc_of}
 
 -- the relocation of an entry with that row: against the section for its own symbol, with the offset added, else against the symbol
 abbrev pub reloc_with : Framed → List ℕ → Rel → Row → Option Reloc

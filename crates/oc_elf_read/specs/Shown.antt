@@ -6,11 +6,11 @@ use Rattle.oc_neutral.specs.Building.{Draft}
 use Rattle.oc_neutral.specs.Built.{HasAdded, IsStarted}
 use Rattle.oc_neutral.specs.Shows.{Shows}
 use Rattle.oc_elf_read.specs.Built.{symboled}
-use Rattle.oc_elf_read.specs.Elf.{elf_dialect, rest_stages}
-use Rattle.oc_elf_read.specs.Frames.{Framed}
+use Rattle.oc_elf.specs.Elf.{elf_dialect, rest_stages}
+use Rattle.oc_elf.specs.Frames.{Framed}
 use Rattle.oc_elf_read.specs.Given.{given_at}
-use Rattle.oc_elf_read.specs.Laid.{IsFrame}
-use Rattle.oc_elf_read.specs.Tables.{symbol_count}
+use Rattle.oc_elf.specs.Laid.{IsFrame}
+use Rattle.oc_elf.specs.Tables.{symbol_count}
 
 -- a file without a fault shows what is built of its sections and symbols, with the relocations of its entries
 abbrev pub CleanIsShown : Type 0

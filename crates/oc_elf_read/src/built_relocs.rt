@@ -3,21 +3,15 @@ ghost use Rattle.std.specs.Prelude.{◌≡◌, ◌+◌, ◌<◌, ◌≤◌, ◌^
 ghost use Rattle.std.specs.List.Sorted.{IsPermutation};
 ghost use Rattle.oc_linking.specs.Fits.{bytes_of};
 ghost use Rattle.oc_shelf.specs.Reading.Collected.{collected};
-ghost use Rattle.oc_elf_read.specs.Fields as fields;
+ghost use Rattle.oc_elf.specs.Fields as fields;
 ghost use Rattle.oc_elf_read.specs.Given as given;
-ghost use Rattle.oc_elf_read.specs.Known.{IsAimed, IsTable};
-ghost use Rattle.oc_elf_read.specs.Tables as tables;
+ghost use Rattle.oc_elf_judge.specs.Known.{IsAimed, IsTable};
+ghost use Rattle.oc_elf.specs.Tables as tables;
 
-use crate::class::ElfClass;
-use crate::frame::Frame;
-use crate::homes::home_of;
-use crate::meaning::{Meaning, meaning_of};
-use crate::rel::Rel;
-use crate::relocs::{Aims, is_idle, reloc_count, reloc_of};
-use crate::shdr::Shdr;
-use crate::symbols::{entry_of, is_section_symbol};
 use oc_algebra::{field_at, from_field, reduce};
 use oc_base::NoMemory;
+use oc_elf::{ElfClass, Frame, Meaning, Rel, Shdr, meaning_of};
+use oc_elf_judge::{Aims, entry_of, home_of, is_idle, is_section_symbol, reloc_count, reloc_of};
 use oc_neutral::{Reloc, Target, Width, moved_addend};
 use oc_shelf::{Placed, sort_by_place};
 use std::alloc::Global;

@@ -7,19 +7,17 @@ ghost use Rattle.oc_neutral.specs.Building.{is_zero};
 ghost use Rattle.oc_neutral.specs.Started.{stored_section};
 ghost use Rattle.oc_shelf.specs.Reading.Slots.{AreSlots};
 ghost use Rattle.oc_elf_read.specs.Built as built;
-ghost use Rattle.oc_elf_read.specs.CarriedSections as carried;
-ghost use Rattle.oc_elf_read.specs.Frames.{header_at};
-ghost use Rattle.oc_elf_read.specs.Groups as groups;
-ghost use Rattle.oc_elf_read.specs.Sections as sections;
-ghost use Rattle.oc_elf_read.specs.SectionRules.{section_stage};
-ghost use Rattle.oc_elf_read.specs.SymbolRules.{symbol_stage};
+ghost use Rattle.oc_elf.specs.CarriedSections as carried;
+ghost use Rattle.oc_elf.specs.Frames.{header_at};
+ghost use Rattle.oc_elf.specs.Groups as groups;
+ghost use Rattle.oc_elf.specs.Sections as sections;
+ghost use Rattle.oc_elf.specs.SectionRules.{section_stage};
+ghost use Rattle.oc_elf.specs.SymbolRules.{symbol_stage};
 
 use crate::built_groups::holder_of;
-use crate::frame::Frame;
-use crate::kind::is_carried_type;
-use crate::sections::{is_zero, kind_of, section_name};
-use crate::shdr::Shdr;
 use oc_base::{Bytes, NoMemory};
+use oc_elf::{Frame, Shdr, is_carried_type};
+use oc_elf_judge::{is_zero, kind_of, section_name};
 use oc_neutral::elf::SHT_NOBITS;
 use oc_neutral::{Builder, Kind, Section};
 use oc_shelf::Slots;
@@ -75,7 +73,7 @@ pub(crate) struct Memberships<'a> {
 }
 
 // section `k` of the object
-#[tactic(auto, unfolding(crate::specs::CarriedSections::section_with))]
+#[tactic(auto, unfolding(oc_elf::specs::CarriedSections::section_with))]
 fn section_of(
     alloc: Global,
     frame: &Frame,

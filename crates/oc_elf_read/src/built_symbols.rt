@@ -3,24 +3,19 @@ ghost use Rattle.std.specs.Prelude.{◌≡◌, ◌+◌, ◌<◌, length, None, S
 ghost use Rattle.oc_linking.specs.FirstFault.{stage_fault};
 ghost use Rattle.oc_shelf.specs.Reading.Slots.{AreSlots};
 ghost use Rattle.oc_elf_read.specs.Built.{symbol_as, symboled};
-ghost use Rattle.oc_elf_read.specs.CarriedSections.{position_of};
-ghost use Rattle.oc_elf_read.specs.CarriedSymbols as symbols;
-ghost use Rattle.oc_elf_read.specs.Entries as entries;
-ghost use Rattle.oc_elf_read.specs.Known.{IsSymtab, IsValued};
-ghost use Rattle.oc_elf_read.specs.SectionRules.{section_stage};
-ghost use Rattle.oc_elf_read.specs.SymbolRules.{symbol_stage};
-ghost use Rattle.oc_elf_read.specs.Tables.{symbol_count};
+ghost use Rattle.oc_elf.specs.CarriedSections.{position_of};
+ghost use Rattle.oc_elf.specs.CarriedSymbols as symbols;
+ghost use Rattle.oc_elf.specs.Entries as entries;
+ghost use Rattle.oc_elf_judge.specs.Known.{IsSymtab, IsValued};
+ghost use Rattle.oc_elf.specs.SectionRules.{section_stage};
+ghost use Rattle.oc_elf.specs.SymbolRules.{symbol_stage};
+ghost use Rattle.oc_elf.specs.Tables.{symbol_count};
 
-use crate::bindings::is_passed;
-use crate::constants::{
-    SHN_ABS, SHN_COMMON, SHN_UNDEF, STB_WEAK, STT_COMMON, STT_FUNC, STT_OBJECT,
-};
-use crate::frame::Frame;
-use crate::homes::home_of;
-use crate::shdr::Shdr;
-use crate::sym::Sym;
-use crate::symbols::{entry_of, is_local, name_of, symbol_count};
 use oc_base::{Bytes, NoMemory};
+use oc_elf::{
+    Frame, SHN_ABS, SHN_COMMON, SHN_UNDEF, STB_WEAK, STT_COMMON, STT_FUNC, STT_OBJECT, Shdr, Sym,
+};
+use oc_elf_judge::{entry_of, home_of, is_local, is_passed, name_of, symbol_count};
 use oc_neutral::{Binding, Builder, Fallback, Mark, Symbol, Value, Visibility};
 use oc_shelf::Slots;
 use std::alloc::Global;
@@ -85,7 +80,7 @@ fn public_binding(frame: &Frame, positions: &Slots, s: &Sym) -> Option<Binding>
 }
 
 // the binding of a symbol
-#[tactic(auto, unfolding(crate::specs::CarriedSymbols::binding_of))]
+#[tactic(auto, unfolding(oc_elf::specs::CarriedSymbols::binding_of))]
 fn binding_of(frame: &Frame, positions: &Slots, s: &Sym) -> Option<Binding>
     requires positions { AreSlots (position_of frame.now) (length frame.now.headers) positions.now }
     requires valued { IsValued frame.now s.now }
@@ -124,7 +119,7 @@ fn visibility_of(s: &Sym) -> Visibility
 }
 
 // symbol `k` of the object, with a binding
-#[tactic(auto, unfolding(crate::specs::CarriedSymbols::symbol_with))]
+#[tactic(auto, unfolding(oc_elf::specs::CarriedSymbols::symbol_with))]
 fn symbol_with(
     alloc: Global,
     frame: &Frame,
@@ -161,7 +156,7 @@ fn carried_binding(frame: &Frame, table: &Shdr, positions: &Slots, s: &Sym) -> O
 }
 
 // adds symbol `k`, where it is carried
-#[tactic(auto, unfolding(crate::specs::CarriedSymbols::symbol_of, crate::specs::CarriedSymbols::symbol_by))]
+#[tactic(auto, unfolding(oc_elf::specs::CarriedSymbols::symbol_of, oc_elf::specs::CarriedSymbols::symbol_by))]
 fn add_symbol(
     alloc: Global,
     frame: &Frame,

@@ -5,16 +5,14 @@ ghost use Rattle.oc_linking.specs.FirstFault.{first_fault};
 ghost use Rattle.oc_neutral.specs.Readable.{IsReadable, IsReadFault};
 ghost use Rattle.oc_neutral.specs.Shows.{Shows};
 ghost use Rattle.oc_shelf.specs.Reading.Stops.{IsStop};
-ghost use Rattle.oc_elf_read.specs.Elf.{elf_dialect, fault_in, rest_stages};
-ghost use Rattle.oc_elf_read.specs.Known.{IsFound};
+ghost use Rattle.oc_elf.specs.Elf.{elf_dialect, fault_in, rest_stages};
+ghost use Rattle.oc_elf_judge.specs.Known.{IsFound};
 
 use crate::added_relocs::add_relocations;
-use crate::class::ElfClass;
-use crate::frame::{Frame, read_frame};
-use crate::judging::{Found, check_rest};
-use crate::relocs::Aims;
 use crate::started::start;
 use oc_base::NoMemory;
+use oc_elf::{ElfClass, Frame, read_frame};
+use oc_elf_judge::{Aims, Found, check_rest};
 use oc_neutral::{Keep, Neutral, ReadFault, Reads, are_bytes};
 use oc_shelf::Stop;
 use std::alloc::Global;
@@ -91,7 +89,7 @@ pub fn read_elf(
     match read_file(alloc, class, bytes, keep) {
         Ok(object) => Ok(object),
         Err(Stop::NoMemory) => Err(ReadFault::NoMemory),
-        Err(Stop::Fault(fault)) => Err(by_class(fault)),
+        Err(Stop::Fault(fault)) => Err(ReadFault::of(fault)),
     }
 }
 
@@ -102,8 +100,8 @@ pub fn read_elf(
 pub struct ElfReader32;
 
 impl Reads for ElfReader32 {
-    ghost use Rattle.oc_elf_read.specs.Elf.{elf_dialect, elf_is_dialect};
-    ghost use Rattle.oc_elf_read.specs.declared.class.ElfClass.TheVariants.{Class32};
+    ghost use Rattle.oc_elf.specs.Elf.{elf_dialect, elf_is_dialect};
+    ghost use Rattle.oc_elf.specs.declared.class.ElfClass.TheVariants.{Class32};
 
     ghost dialect = { elf_dialect Class32 };
 
@@ -121,8 +119,8 @@ impl Reads for ElfReader32 {
 pub struct ElfReader64;
 
 impl Reads for ElfReader64 {
-    ghost use Rattle.oc_elf_read.specs.Elf.{elf_dialect, elf_is_dialect};
-    ghost use Rattle.oc_elf_read.specs.declared.class.ElfClass.TheVariants.{Class64};
+    ghost use Rattle.oc_elf.specs.Elf.{elf_dialect, elf_is_dialect};
+    ghost use Rattle.oc_elf.specs.declared.class.ElfClass.TheVariants.{Class64};
 
     ghost dialect = { elf_dialect Class64 };
 

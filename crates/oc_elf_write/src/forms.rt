@@ -4,7 +4,7 @@ ghost use Rattle.oc_elf_file.specs.Bodies as bodies;
 
 use oc_algebra::{residue, to_field};
 use oc_base::{Format, Word};
-use oc_elf_read::{ElfClass, R_NONE};
+use oc_elf::{ElfClass, R_NONE};
 use oc_express::{Spelling, lookup};
 use oc_neutral::Reloc;
 

@@ -8,7 +8,7 @@ ghost use Rattle.oc_elf_write.specs.Words.{all_words, items_at, items_of};
 
 use crate::heads::Head;
 use oc_base::NoMemory;
-use oc_elf_read::GRP_COMDAT;
+use oc_elf::GRP_COMDAT;
 use oc_neutral::Neutral;
 use std::alloc::Global;
 

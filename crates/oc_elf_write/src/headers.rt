@@ -4,11 +4,11 @@ ghost use Rattle.oc_neutral.specs.Fitted.{IsFitted};
 ghost use Rattle.oc_neutral.specs.Objects.{Object};
 ghost use Rattle.oc_shelf.specs.Writing.Parts.{place_where};
 ghost use Rattle.oc_neutral.specs.Elf.Kinds.{elf_tag_flags, elf_tag_type};
-ghost use Rattle.oc_elf_read.specs.Classes.{format_of, is_big, reloc_type};
-ghost use Rattle.oc_elf_read.specs.Rel as sizes;
-ghost use Rattle.oc_elf_read.specs.Sym as sym_sizes;
-ghost use Rattle.oc_elf_file.specs.Structures as structures;
-ghost use Rattle.oc_elf_read.specs.declared.shdr.Shdr.{Shdr as Header};
+ghost use Rattle.oc_elf.specs.Classes.{format_of, is_big, reloc_type};
+ghost use Rattle.oc_elf.specs.Rel as sizes;
+ghost use Rattle.oc_elf.specs.Sym as sym_sizes;
+ghost use Rattle.oc_elf.specs.Structures as structures;
+ghost use Rattle.oc_elf.specs.declared.shdr.Shdr.{Shdr as Header};
 ghost use Rattle.oc_elf_file.specs.Canonical as canonical;
 ghost use Rattle.oc_elf_file.specs.Groups as groups;
 ghost use Rattle.oc_elf_file.specs.Headers as headers;
@@ -27,13 +27,11 @@ use crate::bodies::{Bodies, body_size};
 use crate::heads::{Head, section_number};
 use crate::names::{head_name, offset_in};
 use crate::numbers::Numbers;
-use crate::structures::{has_room, word_bytes};
 use oc_base::NoMemory;
-use oc_elf_file::{SHF_GROUP, SHF_INFO_LINK};
-use oc_elf_read::{
-    ELFDATA2LSB, ET_REL, EV_CURRENT, Ehdr, ElfClass, GRP_ENTRY_SIZE, SHN_XINDEX, SHNDX_SIZE,
-    SHT_GROUP, SHT_STRTAB, SHT_SYMTAB, SHT_SYMTAB_SHNDX, Shdr, ehdr_size, null_shdr, rel_size,
-    shdr_size, sym_size,
+use oc_elf::{
+    ELFDATA2LSB, ET_REL, EV_CURRENT, Ehdr, ElfClass, GRP_ENTRY_SIZE, SHF_GROUP, SHF_INFO_LINK,
+    SHN_XINDEX, SHNDX_SIZE, SHT_GROUP, SHT_STRTAB, SHT_SYMTAB, SHT_SYMTAB_SHNDX, Shdr, ehdr_size,
+    has_room, null_shdr, rel_size, shdr_size, sym_size, word_bytes,
 };
 use oc_neutral::{Neutral, Section};
 use std::alloc::Global;

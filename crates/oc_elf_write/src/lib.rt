@@ -17,7 +17,6 @@ mod planning;
 mod raw;
 mod relocations;
 mod strings;
-mod structures;
 mod symbols;
 mod tables;
 mod values;

@@ -7,7 +7,7 @@ ghost use Rattle.oc_elf_write.specs.Strings.{table_with};
 
 use crate::heads::Head;
 use oc_base::{Bytes, NoMemory};
-use oc_elf_read::ElfClass;
+use oc_elf::ElfClass;
 use oc_neutral::Neutral;
 use oc_strings::Table;
 use std::alloc::Global;

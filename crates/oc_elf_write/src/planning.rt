@@ -1,6 +1,6 @@
 //! Planning the canonical ELF file of an object that is ready to be written.
 ghost use Rattle.std.specs.Prelude.{◌≡◌, IfOk, map};
-ghost use Rattle.oc_elf_read.specs.Classes.{format_of};
+ghost use Rattle.oc_elf.specs.Classes.{format_of};
 ghost use Rattle.oc_shelf.specs.Writing.Parts.{file_of};
 ghost use Rattle.oc_elf_file.specs.Canonical.{elf_file};
 ghost use Rattle.oc_elf_write.specs.Raws.{all_raws};
@@ -15,7 +15,7 @@ use crate::numbers::Numbers;
 use crate::plan::Plan;
 use crate::raw::with_addends;
 use oc_base::NoMemory;
-use oc_elf_read::ElfClass;
+use oc_elf::ElfClass;
 use oc_neutral::{Fitted, Neutral, Section};
 use std::alloc::Global;
 

@@ -4,7 +4,7 @@ ghost use Rattle.oc_neutral.specs.Constants.{LieWithin};
 ghost use Rattle.oc_elf_write.specs.Raws.{with_addends};
 
 use crate::forms::field_number;
-use oc_elf_read::ElfClass;
+use oc_elf::ElfClass;
 use oc_neutral::{Reloc, Relocs, Section};
 use oc_plans::{FieldNumbers, with_numbers};
 

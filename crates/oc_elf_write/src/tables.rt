@@ -5,11 +5,11 @@ ghost use Rattle.oc_outside.specs.Windows.{IsFilled};
 ghost use Rattle.oc_shelf.specs.Writing.Parts.{table_of};
 ghost use Rattle.oc_elf_file.specs.Groups.{group_bytes};
 ghost use Rattle.oc_elf_file.specs.Layout.{strings_of};
-ghost use Rattle.oc_elf_file.specs.Structures.{index_bytes, rel_bytes, shdr_bytes, sym_bytes};
+ghost use Rattle.oc_elf.specs.Structures.{index_bytes, rel_bytes, shdr_bytes, sym_bytes};
 
-use crate::structures::{pack_index, pack_rel, pack_shdr, pack_sym, pack_word};
-use oc_elf_read::{
-    ElfClass, GRP_ENTRY_SIZE, Rel, SHNDX_SIZE, Shdr, Sym, rel_size, shdr_size, sym_size,
+use oc_elf::{
+    ElfClass, GRP_ENTRY_SIZE, Rel, SHNDX_SIZE, Shdr, Sym, pack_index, pack_rel, pack_shdr,
+    pack_sym, pack_word, rel_size, shdr_size, sym_size,
 };
 use oc_shelf::{WritesRows, copy_window, rows_window};
 use oc_strings::Table;
@@ -23,7 +23,7 @@ struct ShdrRows<'a> {
 
 impl WritesRows for ShdrRows<'_> {
     ghost use Rattle.std.specs.Prelude.{map};
-    ghost use Rattle.oc_elf_file.specs.Structures.{shdr_bytes};
+    ghost use Rattle.oc_elf.specs.Structures.{shdr_bytes};
 
     ghost rows = { λ t. map (shdr_bytes t.class) t.shdrs.now };
 
@@ -58,7 +58,7 @@ struct SymRows<'a> {
 
 impl WritesRows for SymRows<'_> {
     ghost use Rattle.std.specs.Prelude.{map};
-    ghost use Rattle.oc_elf_file.specs.Structures.{sym_bytes};
+    ghost use Rattle.oc_elf.specs.Structures.{sym_bytes};
 
     ghost rows = { λ t. map (sym_bytes t.class) t.syms.now };
 
@@ -92,7 +92,7 @@ struct IndexRows<'a> {
 
 impl WritesRows for IndexRows<'_> {
     ghost use Rattle.std.specs.Prelude.{map};
-    ghost use Rattle.oc_elf_file.specs.Structures.{index_bytes};
+    ghost use Rattle.oc_elf.specs.Structures.{index_bytes};
 
     ghost rows = { λ t. map index_bytes t.syms.now };
 
@@ -128,7 +128,7 @@ struct RelRows<'a> {
 
 impl WritesRows for RelRows<'_> {
     ghost use Rattle.std.specs.Prelude.{map};
-    ghost use Rattle.oc_elf_file.specs.Structures.{rel_bytes};
+    ghost use Rattle.oc_elf.specs.Structures.{rel_bytes};
 
     ghost rows = { λ t. map (rel_bytes t.class) t.rels.now };
 

@@ -9,8 +9,10 @@ ghost use Rattle.oc_elf_file.specs.Symbols as symbols;
 ghost use Rattle.oc_elf_write.specs.Values.{AreStood};
 
 use crate::heads::section_number;
-use oc_elf_file::{STB_GLOBAL, STT_NOTYPE};
-use oc_elf_read::{SHN_ABS, SHN_COMMON, SHN_UNDEF, STB_LOCAL, STB_WEAK, STT_FUNC, STT_OBJECT};
+use oc_elf::{
+    SHN_ABS, SHN_COMMON, SHN_UNDEF, STB_GLOBAL, STB_LOCAL, STB_WEAK, STT_FUNC, STT_NOTYPE,
+    STT_OBJECT,
+};
 use oc_neutral::{Binding, Fallback, Mark, Neutral, Value, Visibility};
 
 /// A value, and the section header that it counts from.

@@ -1,13 +1,13 @@
 //! The writers of ELF with few sections.
-ghost use Rattle.oc_elf_read.specs.declared.class.ElfClass.TheVariants.{Class32, Class64};
-ghost use Rattle.oc_elf_read.specs.Elf.{elf_dialect};
+ghost use Rattle.oc_elf.specs.declared.class.ElfClass.TheVariants.{Class32, Class64};
+ghost use Rattle.oc_elf.specs.Elf.{elf_dialect};
 ghost use Rattle.oc_elf_file.specs.Canonical.{elf_file};
 ghost use Rattle.oc_elf_write.specs.Writing.{writes_elf};
 
 use crate::plan::Plan;
 use crate::planning::plan_object;
 use oc_base::NoMemory;
-use oc_elf_read::ElfClass;
+use oc_elf::ElfClass;
 use oc_neutral::{Fitted, Writes};
 use std::alloc::Global;
 

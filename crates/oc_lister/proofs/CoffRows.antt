@@ -7,26 +7,26 @@ use Rattle.oc_algebra.specs.Residues.{residue_of}
 use Rattle.oc_algebra.specs.Fields.{extended}
 use Rattle.oc_base.specs.Numbers.{number_at}
 use Rattle.oc_neutral.specs.Coff.Kinds.{coff_kind, coff_tag}
-use Rattle.oc_coff_read.specs.FileHeader.{file_header_of}
-use Rattle.oc_coff_read.specs.SectionHeader.{section_header_at}
-use Rattle.oc_coff_read.specs.SymbolEntry.{symbol_at}
-use Rattle.oc_coff_read.specs.SectionAux.{section_aux_at}
-use Rattle.oc_coff_read.specs.WeakAux.{weak_aux_at}
-use Rattle.oc_coff_read.specs.Relocation.{relocation_at}
-use Rattle.oc_coff_read.specs.Tables.{section_table, slot_at, strings_of, entries_of, section_tables, tables_of}
-use Rattle.oc_coff_read.specs.Names.{string_at, section_name, symbol_name}
-use Rattle.oc_coff_read.specs.Entries.{entries_in}
-use Rattle.oc_coff_read.specs.Comdat.{definition_in, led_key, key_in}
-use Rattle.oc_coff_read.specs.Sections.{kind_in, carried_of, carried_in, position_of}
-use Rattle.oc_coff_read.specs.Symbols.{value_of, binding_of, symbol_of, symbols_in}
-use Rattle.oc_coff_read.specs.Targets.{aim_in}
-use Rattle.oc_coff_read.specs.Fields.{field_by, fields_in}
-use Rattle.oc_coff_read.specs.declared.form.CoffForm.TheVariants.{Usual32, Usual64, Big32}
+use Rattle.oc_coff.specs.FileHeader.{file_header_of}
+use Rattle.oc_coff.specs.SectionHeader.{section_header_at}
+use Rattle.oc_coff.specs.SymbolEntry.{symbol_at}
+use Rattle.oc_coff.specs.SectionAux.{section_aux_at}
+use Rattle.oc_coff.specs.WeakAux.{weak_aux_at}
+use Rattle.oc_coff.specs.Relocation.{relocation_at}
+use Rattle.oc_coff.specs.Tables.{section_table, slot_at, strings_of, entries_of, section_tables, tables_of}
+use Rattle.oc_coff.specs.Names.{string_at, section_name, symbol_name}
+use Rattle.oc_coff.specs.Entries.{entries_in}
+use Rattle.oc_coff.specs.Comdat.{definition_in, led_key, key_in}
+use Rattle.oc_coff.specs.Sections.{kind_in, carried_of, carried_in, position_of}
+use Rattle.oc_coff.specs.Symbols.{value_of, binding_of, symbol_of, symbols_in}
+use Rattle.oc_coff.specs.Targets.{aim_in}
+use Rattle.oc_coff.specs.Fields.{field_by, fields_in}
+use Rattle.oc_coff.specs.declared.form.CoffForm.TheVariants.{Usual32, Usual64, Big32}
 use Rattle.oc_neutral.specs.Dialects.{is_folded, looks_in, patches_in}
 use Rattle.oc_dump.specs.Lines.{hex}
-use Rattle.oc_coff_read.specs.Rules.{coff_dialect}
-use Rattle.oc_coff_read.proofs.BigFiles.{big_call}
-use Rattle.oc_coff_read.proofs.WorkedFiles.{call, manifold, msvc, nearer}
+use Rattle.oc_coff.specs.Rules.{coff_dialect}
+use Rattle.oc_coff.proofs.BigFiles.{big_call}
+use Rattle.oc_coff.proofs.WorkedFiles.{call, manifold, msvc, nearer}
 use Rattle.oc_listings.specs.declared.listing.Listing.TheVariants.{Header, Sections, Relocations}
 use Rattle.oc_listings.specs.Texts.{field_text, format_text, header_text, line_text, section_text}
 use Rattle.oc_listings.specs.Listings.{listing_of}

@@ -3,28 +3,28 @@ use Rattle.std.proofs.Common.{◌≡◌, refl}
 use Rattle.std.specs.Prelude.{codes}
 use Rattle.std.specs.Fmt.{digits}
 use Rattle.std.specs.Prelude.{[]}
-use Rattle.oc_elf_read.specs.Fields.{field_at, field_by, rel_at, target_of}
+use Rattle.oc_elf.specs.Fields.{field_at, field_by, rel_at, target_of}
 use Rattle.oc_base.specs.Numbers.{number_at}
 use Rattle.oc_neutral.specs.Elf.Kinds.{elf_kind}
-use Rattle.oc_elf_read.specs.CarriedSections.{section_of, section_with}
-use Rattle.oc_elf_read.specs.CarriedSymbols.{binding_of, is_passed, symbol_by, symbol_of, symbol_with}
-use Rattle.oc_elf_read.specs.Ehdr.{ehdr_in}
-use Rattle.oc_elf_read.specs.Elf.{fault_in}
-use Rattle.oc_elf_read.specs.Entries.{name_at}
-use Rattle.oc_elf_read.specs.Frames.{framed, header_of, headers_of}
-use Rattle.oc_elf_read.specs.Groups.{key_of}
-use Rattle.oc_elf_read.specs.Names.{name_in, table_bytes}
-use Rattle.oc_elf_read.specs.Rel.{rel_in}
-use Rattle.oc_elf_read.specs.RelocRules.{is_nameable, is_target_for}
-use Rattle.oc_elf_read.specs.SectionRules.{is_bad_member, is_good_group, is_good_symtab, is_good_table, is_left_out}
-use Rattle.oc_elf_read.specs.Shdr.{shdr_in}
-use Rattle.oc_elf_read.specs.Sym.{sym_in}
-use Rattle.oc_elf_read.specs.SymbolRules.{is_odd_symbol}
-use Rattle.oc_elf_read.specs.Tables.{entry_of, reloc_of}
-use Rattle.oc_elf_read.specs.declared.class.ElfClass.TheVariants.{Class32, Class64, Big32}
+use Rattle.oc_elf.specs.CarriedSections.{section_of, section_with}
+use Rattle.oc_elf.specs.CarriedSymbols.{binding_of, is_passed, symbol_by, symbol_of, symbol_with}
+use Rattle.oc_elf.specs.Ehdr.{ehdr_in}
+use Rattle.oc_elf.specs.Elf.{fault_in}
+use Rattle.oc_elf.specs.Entries.{name_at}
+use Rattle.oc_elf.specs.Frames.{framed, header_of, headers_of}
+use Rattle.oc_elf.specs.Groups.{key_of}
+use Rattle.oc_elf.specs.Names.{name_in, table_bytes}
+use Rattle.oc_elf.specs.Rel.{rel_in}
+use Rattle.oc_elf.specs.RelocRules.{is_nameable, is_target_for}
+use Rattle.oc_elf.specs.SectionRules.{is_bad_member, is_good_group, is_good_symtab, is_good_table, is_left_out}
+use Rattle.oc_elf.specs.Shdr.{shdr_in}
+use Rattle.oc_elf.specs.Sym.{sym_in}
+use Rattle.oc_elf.specs.SymbolRules.{is_odd_symbol}
+use Rattle.oc_elf.specs.Tables.{entry_of, reloc_of}
+use Rattle.oc_elf.specs.declared.class.ElfClass.TheVariants.{Class32, Class64, Big32}
 use Rattle.oc_neutral.specs.Dialects.{is_folded, looks_in, patches_in}
 use Rattle.oc_dump.specs.Lines.{hex}
-use Rattle.oc_elf_read.specs.Elf.{elf_dialect}
+use Rattle.oc_elf.specs.Elf.{elf_dialect}
 use Rattle.oc_elf_read.proofs.Objects.{call_32, grouped, weak_64, common_12, told}
 use Rattle.oc_listings.specs.declared.listing.Listing.TheVariants.{Header, Sections, Relocations}
 use Rattle.oc_listings.specs.Texts.{field_text, format_text, header_text, line_text, section_text}

@@ -7,25 +7,25 @@ use Rattle.oc_base.specs.Numbers.{number_at}
 use Rattle.oc_algebra.specs.Fields.{extended}
 use Rattle.oc_algebra.specs.Residues.{residue_of}
 use Rattle.oc_neutral.specs.Mach.Kinds.{mach_kind, mach_tag}
-use Rattle.oc_macho_read.specs.MachHeader.{mach_header_of}
-use Rattle.oc_macho_read.specs.LoadCommand.{load_command_at}
-use Rattle.oc_macho_read.specs.SegmentCommand.{segment_command_at}
-use Rattle.oc_macho_read.specs.SymtabCommand.{symtab_command_at}
-use Rattle.oc_macho_read.specs.SectionHeader.{section_header_at}
-use Rattle.oc_macho_read.specs.Nlist.{nlist_at}
-use Rattle.oc_macho_read.specs.RelocationInfo.{relocation_info_at, relocation_info_of, reference_of, scattered_of}
-use Rattle.oc_macho_read.specs.Tables.{section_table, tables_of}
-use Rattle.oc_macho_read.specs.Sections.{kind_of, contents_of, section_of, sections_in, holder_of}
-use Rattle.oc_macho_read.specs.Symbols.{name_at, is_own, binding_of, symbol_of, symbols_by}
-use Rattle.oc_macho_read.specs.Entries.{row_for, item_at, is_pinned}
-use Rattle.oc_macho_read.specs.Aims.{aim_in}
-use Rattle.oc_macho_read.specs.Fields.{found_by, added_by, field_of, item_for, fields_in}
-use Rattle.oc_macho_read.specs.Rules.{symbols_in}
+use Rattle.oc_macho.specs.MachHeader.{mach_header_of}
+use Rattle.oc_macho.specs.LoadCommand.{load_command_at}
+use Rattle.oc_macho.specs.SegmentCommand.{segment_command_at}
+use Rattle.oc_macho.specs.SymtabCommand.{symtab_command_at}
+use Rattle.oc_macho.specs.SectionHeader.{section_header_at}
+use Rattle.oc_macho.specs.Nlist.{nlist_at}
+use Rattle.oc_macho.specs.RelocationInfo.{relocation_info_at, relocation_info_of, reference_of, scattered_of}
+use Rattle.oc_macho.specs.Tables.{section_table, tables_of}
+use Rattle.oc_macho.specs.Sections.{kind_of, contents_of, section_of, sections_in, holder_of}
+use Rattle.oc_macho.specs.Symbols.{name_at, is_own, binding_of, symbol_of, symbols_by}
+use Rattle.oc_macho.specs.Entries.{row_for, item_at, is_pinned}
+use Rattle.oc_macho.specs.Aims.{aim_in}
+use Rattle.oc_macho.specs.Fields.{found_by, added_by, field_of, item_for, fields_in}
+use Rattle.oc_macho.specs.Rules.{symbols_in}
 use Rattle.oc_base.specs.declared.format.Word.TheVariants.{W32, W64}
 use Rattle.oc_neutral.specs.Dialects.{is_folded, looks_in, patches_in}
 use Rattle.oc_dump.specs.Lines.{hex}
-use Rattle.oc_macho_read.specs.Rules.{mach_dialect}
-use Rattle.oc_macho_read.proofs.WorkedFiles.{called, called32, behind, difference, folded}
+use Rattle.oc_macho.specs.Rules.{mach_dialect}
+use Rattle.oc_macho.proofs.WorkedFiles.{called, called32, behind, difference, folded}
 use Rattle.oc_listings.specs.declared.listing.Listing.TheVariants.{Header, Sections, Relocations}
 use Rattle.oc_listings.specs.Texts.{field_text, format_text, header_text, line_text, section_text}
 use Rattle.oc_listings.specs.Listings.{listing_of}

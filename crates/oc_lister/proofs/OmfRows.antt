@@ -7,22 +7,22 @@ use Rattle.oc_base.specs.Numbers.{number_at}
 use Rattle.oc_algebra.specs.Residues.{residue_of}
 use Rattle.oc_algebra.specs.Fields.{extended}
 use Rattle.oc_neutral.specs.Omf.Kinds.{omf_kind}
-use Rattle.oc_omf_read.specs.Cursor.{number_read, index_read, name_read, each_read}
-use Rattle.oc_omf_read.specs.Structures.{segment_read, member_read, group_read, base_read, public_read, external_read, communal_length, communal_read, piece_read, method_read, thread_read, frame_read, target_read, displacement_read, fixup_read, subrecord_read}
-use Rattle.oc_omf_read.specs.Entries.{said_by, places_in, entries_in}
-use Rattle.oc_omf_read.specs.Tables.{tables_of}
-use Rattle.oc_omf_read.specs.Sections.{contents_of, sections_in}
-use Rattle.oc_omf_read.specs.Symbols.{mentions_in, binding_of, symbols_in}
-use Rattle.oc_omf_read.specs.Fixups.{placed_upto, fixed_in}
-use Rattle.oc_omf_read.specs.Targets.{meaning_of}
-use Rattle.oc_omf_read.specs.Fields.{field_by, fields_in}
-use Rattle.oc_omf_read.specs.SectionFaults.{all_bytes}
-use Rattle.oc_omf_read.specs.SymbolFaults.{symbol_table}
-use Rattle.oc_omf_read.specs.Rules.{stages_of, fault_of}
+use Rattle.oc_omf.specs.Cursor.{number_read, index_read, name_read, each_read}
+use Rattle.oc_omf.specs.Structures.{segment_read, member_read, group_read, base_read, public_read, external_read, communal_length, communal_read, piece_read, method_read, thread_read, frame_read, target_read, displacement_read, fixup_read, subrecord_read}
+use Rattle.oc_omf.specs.Entries.{said_by, places_in, entries_in}
+use Rattle.oc_omf.specs.Tables.{tables_of}
+use Rattle.oc_omf.specs.Sections.{contents_of, sections_in}
+use Rattle.oc_omf.specs.Symbols.{mentions_in, binding_of, symbols_in}
+use Rattle.oc_omf.specs.Fixups.{placed_upto, fixed_in}
+use Rattle.oc_omf.specs.Targets.{meaning_of}
+use Rattle.oc_omf.specs.Fields.{field_by, fields_in}
+use Rattle.oc_omf.specs.SectionFaults.{all_bytes}
+use Rattle.oc_omf.specs.SymbolFaults.{symbol_table}
+use Rattle.oc_omf.specs.Rules.{stages_of, fault_of}
 use Rattle.oc_neutral.specs.Dialects.{is_folded, looks_in, patches_in}
 use Rattle.oc_dump.specs.Lines.{hex}
-use Rattle.oc_omf_read.specs.Rules.{omf_dialect}
-use Rattle.oc_omf_read.proofs.WorkedFiles.{call, threads, assorted}
+use Rattle.oc_omf.specs.Rules.{omf_dialect}
+use Rattle.oc_omf.proofs.WorkedFiles.{call, threads, assorted}
 use Rattle.oc_listings.specs.declared.listing.Listing.TheVariants.{Header, Sections, Relocations}
 use Rattle.oc_listings.specs.Texts.{field_text, format_text, header_text, line_text, section_text}
 use Rattle.oc_listings.specs.Listings.{listing_of}

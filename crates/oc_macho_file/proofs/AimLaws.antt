@@ -13,13 +13,13 @@ use Rattle.oc_neutral.specs.declared.section.Section.{Section}
 use Rattle.oc_neutral.specs.Mach.SectionSymbols.{section_symbol_name}
 use Rattle.oc_neutral.specs.Objects.{Object}
 use Rattle.oc_shelf.proofs.WritingLaws.MemberLemmas.{member_map, member_enumerated, of_map, find_first}
-use Rattle.oc_macho_read.specs.declared.section_header.SectionHeader.{SectionHeader}
-use Rattle.oc_macho_read.specs.declared.relocation_info.Reference.TheVariants as reference
-use Rattle.oc_macho_read.specs.Tables.{SectionTable, Tables}
-use Rattle.oc_macho_read.specs.Sections.{header_numbered, holder_of, lies_in, lies_at}
-use Rattle.oc_macho_read.specs.Sections as read
-use Rattle.oc_macho_read.specs.Symbols.{name_of, is_own_in, is_own, symbol_of}
-use Rattle.oc_macho_read.specs.Aims.{section_aim, symbol_aim, numbered_aim, aim_of, aim_in}
+use Rattle.oc_macho.specs.declared.section_header.SectionHeader.{SectionHeader}
+use Rattle.oc_macho.specs.declared.relocation_info.Reference.TheVariants as reference
+use Rattle.oc_macho.specs.Tables.{SectionTable, Tables}
+use Rattle.oc_macho.specs.Sections.{header_numbered, holder_of, lies_in, lies_at}
+use Rattle.oc_macho.specs.Sections as read
+use Rattle.oc_macho.specs.Symbols.{name_of, is_own_in, is_own, symbol_of}
+use Rattle.oc_macho.specs.Aims.{section_aim, symbol_aim, numbered_aim, aim_of, aim_in}
 use Rattle.oc_macho_file.specs.Addresses.{address_of}
 use Rattle.oc_macho_file.specs.Lines.{Line, OwnLine, lines_of, numbered_lines, own_number}
 use Rattle.oc_macho_file.specs.Symbols.{line_entry, own_entry}

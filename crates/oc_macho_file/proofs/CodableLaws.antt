@@ -21,8 +21,8 @@ use Rattle.oc_neutral.specs.Rows.{TakesPlace, same_taken}
 use Rattle.oc_shelf.specs.Writing.Parts.{laid_end, behind, place_where}
 use Rattle.oc_shelf.proofs.WritingLaws.MemberLemmas.{of_append, of_map}
 use Rattle.oc_shelf.proofs.WritingLaws.PackedLemmas.{Fit}
-use Rattle.oc_macho_read.specs.declared.relocation_info.RelocationInfo.{RelocationInfo}
-use Rattle.oc_macho_read.specs.MachHeader.{mach_format}
+use Rattle.oc_macho.specs.declared.relocation_info.RelocationInfo.{RelocationInfo}
+use Rattle.oc_macho.specs.MachHeader.{mach_format}
 use Rattle.oc_macho_file.specs.Addresses.{is_at, mapped, section_begin, size_of, address_of, memory_end}
 use Rattle.oc_macho_file.specs.Bodies.{Standing, end_place, end_section_address, reference_to, plain_entry, scattered_entry, taken_section}
 use Rattle.oc_macho_file.specs.Layout.{relocs_of}

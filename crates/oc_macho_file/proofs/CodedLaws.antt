@@ -34,7 +34,7 @@ use Rattle.oc_neutral.specs.Seen.{place_at, new_position, seen_fallback}
 use Rattle.oc_neutral.proofs.MeetsMach.{meets_mach}
 use Rattle.oc_neutral.proofs.MeetsMachKinds.{mach_zero}
 use Rattle.oc_neutral.proofs.Positions.{each_at}
-use Rattle.oc_macho_read.specs.MachHeader.{mach_format}
+use Rattle.oc_macho.specs.MachHeader.{mach_format}
 use Rattle.oc_macho_file.specs.Addresses.{is_blank}
 use Rattle.oc_macho_file.specs.Symbols.{exponent_of, stood_at, stood_elsewhere, stood_for}
 

@@ -18,7 +18,7 @@ use Rattle.oc_neutral.specs.Objects.{Object}
 use Rattle.oc_neutral.specs.SymbolLines.{is_defined, is_undefined, is_weak_with}
 use Rattle.oc_neutral.specs.Dressing.{is_common}
 use Rattle.oc_neutral.specs.WrittenSymbols.{is_written}
-use Rattle.oc_macho_read.specs.MachHeader.{mach_format}
+use Rattle.oc_macho.specs.MachHeader.{mach_format}
 use Rattle.oc_macho_file.specs.Lines.{Line, OwnLine, LocalLine, OuterLine, lines_of, lines_where, own_lines, local_lines, inner_lines, defined_lines, undefined_lines}
 use Rattle.oc_macho_file.proofs.CodedLaws.{IsForMach}
 

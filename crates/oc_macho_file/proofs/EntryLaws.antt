@@ -31,12 +31,12 @@ use Rattle.oc_neutral.proofs.Positions.{there_at}
 use Rattle.oc_neutral.proofs.Standing.{ends_by, wide_in}
 use Rattle.oc_shelf.specs.Writing.Parts.{Laid}
 use Rattle.oc_shelf.proofs.WritingLaws.MemberLemmas.{of_map, member_map}
-use Rattle.oc_macho_read.specs.declared.relocation_info.Reference.{Reference}
-use Rattle.oc_macho_read.specs.declared.relocation_info.Reference.TheVariants as reference
-use Rattle.oc_macho_read.specs.declared.relocation_info.RelocationInfo.{RelocationInfo}
-use Rattle.oc_macho_read.specs.declared.entries.Item.{Item}
-use Rattle.oc_macho_read.specs.MachHeader.{mach_format}
-use Rattle.oc_macho_read.specs.Entries.{can_refer, row_for, is_first, item_at}
+use Rattle.oc_macho.specs.declared.relocation_info.Reference.{Reference}
+use Rattle.oc_macho.specs.declared.relocation_info.Reference.TheVariants as reference
+use Rattle.oc_macho.specs.declared.relocation_info.RelocationInfo.{RelocationInfo}
+use Rattle.oc_macho.specs.declared.entries.Item.{Item}
+use Rattle.oc_macho.specs.MachHeader.{mach_format}
+use Rattle.oc_macho.specs.Entries.{can_refer, row_for, is_first, item_at}
 use Rattle.oc_macho_file.specs.Addresses.{address_of}
 use Rattle.oc_macho_file.specs.Lines.{Line, own_number}
 use Rattle.oc_macho_file.specs.Bodies.{Standing, taken_section, end_section_address, standing_at, reference_to, plain_entry, scattered_entry, pair_entries, standing_entries, entries_at, entries_of, field_patch, field_patches}

@@ -20,13 +20,13 @@ use Rattle.oc_neutral.specs.Meets.{HoldsAddend}
 use Rattle.oc_neutral.specs.Objects.{Object, reloc_at}
 use Rattle.oc_neutral.specs.RowFields.{number_in}
 use Rattle.oc_shelf.specs.Writing.Parts.{Laid}
-use Rattle.oc_macho_read.specs.declared.relocation_info.Reference.TheVariants as reference
-use Rattle.oc_macho_read.specs.declared.entries.Item.{Item}
-use Rattle.oc_macho_read.specs.MachHeader.{mach_format}
-use Rattle.oc_macho_read.specs.Tables.{SectionTable, Tables}
-use Rattle.oc_macho_read.specs.Entries.{row_for, target_entry, taken_entry}
-use Rattle.oc_macho_read.specs.Aims.{Aim, aim_in, target_in}
-use Rattle.oc_macho_read.specs.Fields.{Found, found_by, found_in, item_for, field_of, fields_in}
+use Rattle.oc_macho.specs.declared.relocation_info.Reference.TheVariants as reference
+use Rattle.oc_macho.specs.declared.entries.Item.{Item}
+use Rattle.oc_macho.specs.MachHeader.{mach_format}
+use Rattle.oc_macho.specs.Tables.{SectionTable, Tables}
+use Rattle.oc_macho.specs.Entries.{row_for, target_entry, taken_entry}
+use Rattle.oc_macho.specs.Aims.{Aim, aim_in, target_in}
+use Rattle.oc_macho.specs.Fields.{Found, found_by, found_in, item_for, field_of, fields_in}
 use Rattle.oc_macho_file.specs.Addresses.{address_of}
 use Rattle.oc_macho_file.specs.Lines.{Line, numbered_lines, own_number}
 use Rattle.oc_macho_file.specs.Bodies.{Standing, taken_section, end_section_address, field_shift, number_or, field_number, field_patch, field_patches, raw_of, reference_to, plain_entry, scattered_entry}

@@ -25,8 +25,8 @@ use Rattle.oc_neutral.specs.Objects.{Object}
 use Rattle.oc_neutral.specs.SymbolLines.{is_defined, is_undefined, is_weak_with}
 use Rattle.oc_neutral.specs.WrittenSymbols.{is_written}
 use Rattle.oc_shelf.specs.Writing.Parts.{aligned}
-use Rattle.oc_macho_read.specs.MachHeader.{address_size}
-use Rattle.oc_macho_read.specs.Nlist.{nlist_size}
+use Rattle.oc_macho.specs.MachHeader.{address_size}
+use Rattle.oc_macho.specs.Nlist.{nlist_size}
 use Rattle.oc_macho_file.specs.Addresses.{Numbered, is_blank, stored_sections}
 use Rattle.oc_macho_file.specs.Lines.{Line, OwnLine, LocalLine, OuterLine, lines_of, line_name, lines_where, own_lines, local_lines, inner_lines, defined_lines, undefined_lines, numbered_lines}
 use Rattle.oc_macho_file.specs.Layout.{Part, FileHead, SegmentHead, SectionHeads, SymtabHead, DysymtabHead, Raw, Relocs, SymbolTable, StringTable, raw_part, relocs_part, head_parts, table_parts, parts_of, contents_begin, relocs_of, line_names, strings_of, string_table, part_size, part_begin, entries_align}

@@ -38,13 +38,13 @@ use Rattle.oc_neutral.specs.Seen.{target_place, section_place, seen_target, seen
 use Rattle.oc_neutral.specs.Shifts.{said_shift}
 use Rattle.oc_neutral.specs.Worth as worth
 use Rattle.oc_neutral.specs.Worth.{base_of, target_worth, residue_at}
-use Rattle.oc_macho_read.specs.MachHeader.{mach_format}
-use Rattle.oc_macho_read.specs.Tables.{SectionTable, Tables}
-use Rattle.oc_macho_read.specs.Sections as read
-use Rattle.oc_macho_read.specs.Entries.{taken_entry}
-use Rattle.oc_macho_read.specs.Aims.{Aim, section_aim, aim_in}
-use Rattle.oc_macho_read.specs.Fields.{Found, found_by, added_by, number_of, field_with, field_of, fields_in}
-use Rattle.oc_macho_read.specs.Rules.{mach_dialect}
+use Rattle.oc_macho.specs.MachHeader.{mach_format}
+use Rattle.oc_macho.specs.Tables.{SectionTable, Tables}
+use Rattle.oc_macho.specs.Sections as read
+use Rattle.oc_macho.specs.Entries.{taken_entry}
+use Rattle.oc_macho.specs.Aims.{Aim, section_aim, aim_in}
+use Rattle.oc_macho.specs.Fields.{Found, found_by, added_by, number_of, field_with, field_of, fields_in}
+use Rattle.oc_macho.specs.Rules.{mach_dialect}
 use Rattle.oc_macho_file.specs.Addresses.{address_of}
 use Rattle.oc_macho_file.specs.Lines.{numbered_lines}
 use Rattle.oc_macho_file.specs.Bodies.{Standing, said_of, alone_shift, pair_shift, field_shift, reference_to}

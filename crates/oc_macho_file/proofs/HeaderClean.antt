@@ -10,17 +10,17 @@ use Rattle.oc_neutral.specs.Objects.{Object}
 use Rattle.oc_shelf.specs.Writing.Packed.{packed}
 use Rattle.oc_shelf.proofs.ReadingLaws.StageLemmas.{Unbroken, IsUnbroken, unbroken_append}
 use Rattle.oc_shelf.proofs.WritingLaws.StandingLemmas.{stands_inside}
-use Rattle.oc_macho_read.specs.declared.constants.TheConstants.{LC_SYMTAB, LC_DYSYMTAB}
-use Rattle.oc_macho_read.specs.declared.load_command.LoadCommand.{LoadCommand}
-use Rattle.oc_macho_read.specs.declared.mach_header.MachHeader.{MachHeader}
-use Rattle.oc_macho_read.specs.MachHeader.{mach_header_size, mach_header_of, cpu_type}
-use Rattle.oc_macho_read.specs.LoadCommand.{load_command_at}
-use Rattle.oc_macho_read.specs.SegmentCommand.{segment_number, segment_command_size}
-use Rattle.oc_macho_read.specs.SectionHeader.{section_header_size}
-use Rattle.oc_macho_read.specs.Nlist.{nlist_size}
-use Rattle.oc_macho_read.specs.Tables.{command_count, command_place, symtab_of}
-use Rattle.oc_macho_read.specs.HeaderFaults.{commands_end, is_misplaced, whole_segment, least_size, is_short, is_bad, any_bad, count_upto, has_bad_commands, is_no_object, symtab_conditions, command_conditions, header_conditions, header_stage}
-use Rattle.oc_macho_file.specs.Structures.{mach_header_bytes, nlist_bytes}
+use Rattle.oc_macho.specs.declared.constants.TheConstants.{LC_SYMTAB, LC_DYSYMTAB}
+use Rattle.oc_macho.specs.declared.load_command.LoadCommand.{LoadCommand}
+use Rattle.oc_macho.specs.declared.mach_header.MachHeader.{MachHeader}
+use Rattle.oc_macho.specs.MachHeader.{mach_header_size, mach_header_of, cpu_type}
+use Rattle.oc_macho.specs.LoadCommand.{load_command_at}
+use Rattle.oc_macho.specs.SegmentCommand.{segment_number, segment_command_size}
+use Rattle.oc_macho.specs.SectionHeader.{section_header_size}
+use Rattle.oc_macho.specs.Nlist.{nlist_size}
+use Rattle.oc_macho.specs.Tables.{command_count, command_place, symtab_of}
+use Rattle.oc_macho.specs.HeaderFaults.{commands_end, is_misplaced, whole_segment, least_size, is_short, is_bad, any_bad, count_upto, has_bad_commands, is_no_object, symtab_conditions, command_conditions, header_conditions, header_stage}
+use Rattle.oc_macho.specs.Structures.{mach_header_bytes, nlist_bytes}
 use Rattle.oc_macho_file.specs.Lines.{lines_of}
 use Rattle.oc_macho_file.specs.Layout.{segment_length, string_table, part_where, is_symbol_table, is_string_table}
 use Rattle.oc_macho_file.specs.Symbols.{line_entry}

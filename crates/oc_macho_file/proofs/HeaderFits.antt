@@ -13,8 +13,8 @@ use Rattle.oc_shelf.specs.Writing.Parts.{Laid, laid_end, aligned}
 use Rattle.oc_shelf.proofs.WritingLaws.PackedLemmas.{Fit}
 use Rattle.oc_shelf.proofs.WritingLaws.StandingLemmas.{stands_inside}
 use Rattle.oc_shelf.proofs.WritingLaws.StringLemmas.{name_in_table}
-use Rattle.oc_macho_read.specs.MachHeader.{address_size}
-use Rattle.oc_macho_file.specs.Structures.{mach_header_numbers, section_numbers, symtab_numbers, relocation_bytes}
+use Rattle.oc_macho.specs.MachHeader.{address_size}
+use Rattle.oc_macho.specs.Structures.{mach_header_numbers, section_numbers, symtab_numbers, relocation_bytes}
 use Rattle.oc_macho_file.specs.Addresses.{Numbered, stored_sections, blank_sections, section_begin, size_of, address_of, memory_end, stored_end}
 use Rattle.oc_macho_file.specs.Lines.{lines_of}
 use Rattle.oc_macho_file.specs.Layout.{Part, parts_of, part_begin, part_size, laid_parts, part_where, is_raw, is_relocs, is_symbol_table, is_string_table, relocs_of, line_names, offset_in, strings_of, string_table}

@@ -18,9 +18,9 @@ use Rattle.oc_shelf.specs.Writing.Parts.{Stands}
 use Rattle.oc_shelf.proofs.WritingLaws.MemberLemmas.{member_map}
 use Rattle.oc_shelf.proofs.WritingLaws.StandingLemmas.{stands_whole, stands_first, stands_second, stands_in}
 use Rattle.oc_shelf.proofs.WritingLaws.StringLemmas.{member_given, name_in_table, text_read}
-use Rattle.oc_macho_read.specs.Sections.{until_nul}
-use Rattle.oc_macho_read.specs.Symbols.{name_at}
-use Rattle.oc_macho_file.specs.Structures.{padded}
+use Rattle.oc_macho.specs.Sections.{until_nul}
+use Rattle.oc_macho.specs.Symbols.{name_at}
+use Rattle.oc_macho.specs.Structures.{padded}
 use Rattle.oc_macho_file.specs.Lines.{Line, OwnLine, LocalLine, OuterLine, lines_of, line_name}
 use Rattle.oc_macho_file.specs.Layout.{line_names, offset_in, strings_of, string_table}
 use Rattle.oc_macho_file.specs.Symbols.{line_entry}

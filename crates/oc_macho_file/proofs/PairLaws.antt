@@ -36,12 +36,12 @@ use Rattle.oc_neutral.specs.Rows.{Row, Taken, TakesZero, TakesPlace, TakesGotBas
 use Rattle.oc_neutral.specs.Seen.{place_at, target_place, section_place, seen_target}
 use Rattle.oc_neutral.specs.Worth as worth
 use Rattle.oc_neutral.specs.Worth.{base_of, target_worth, residue_at}
-use Rattle.oc_macho_read.specs.MachHeader.{mach_format}
-use Rattle.oc_macho_read.specs.Tables.{SectionTable, Tables}
-use Rattle.oc_macho_read.specs.Sections as read
-use Rattle.oc_macho_read.specs.Aims.{Aim, section_aim, aim_in}
-use Rattle.oc_macho_read.specs.Fields.{Found, added_by, number_of, field_with, field_of}
-use Rattle.oc_macho_read.specs.Rules.{mach_dialect}
+use Rattle.oc_macho.specs.MachHeader.{mach_format}
+use Rattle.oc_macho.specs.Tables.{SectionTable, Tables}
+use Rattle.oc_macho.specs.Sections as read
+use Rattle.oc_macho.specs.Aims.{Aim, section_aim, aim_in}
+use Rattle.oc_macho.specs.Fields.{Found, added_by, number_of, field_with, field_of}
+use Rattle.oc_macho.specs.Rules.{mach_dialect}
 use Rattle.oc_macho_file.specs.Addresses.{address_of}
 use Rattle.oc_macho_file.specs.Lines.{numbered_lines, own_number}
 use Rattle.oc_macho_file.specs.Bodies.{Standing, taken_section, alone_shift, pair_shift, field_shift, reference_to}
@@ -60,7 +60,7 @@ use Rattle.oc_neutral.specs.Mach.SelfReferences.{is_section, is_long_distance}
 use Rattle.oc_neutral.specs.Stored.{is_stored}
 use Rattle.oc_neutral.specs.TargetRelocations.{fixed_end, global_section, is_symbol}
 use Rattle.oc_neutral.proofs.Positions.{there_at}
-use Rattle.oc_macho_read.specs.declared.relocation_info.Reference.TheVariants as reference
+use Rattle.oc_macho.specs.declared.relocation_info.Reference.TheVariants as reference
 use Rattle.oc_macho_file.specs.Bodies.{end_address, end_section_address}
 use Rattle.oc_macho_file.proofs.NameLaws.{needed_low}
 use Rattle.oc_macho_file.proofs.RowLaws.{IsPairRow, IsDifferenceRow}

@@ -18,12 +18,12 @@ use Rattle.oc_shelf.proofs.WritingLaws.PackedLemmas.{length-packed}
 use Rattle.oc_shelf.proofs.WritingLaws.PartLemmas.{stands_where, stands_laid, length-joined}
 use Rattle.oc_shelf.proofs.WritingLaws.StandingLemmas.{stands_at, length-entries}
 use Rattle.oc_shelf.proofs.WritingLaws.MemberLemmas.{member_first, member_second, member_enumerated, member_map, of_map, of_append}
-use Rattle.oc_macho_read.specs.declared.section_header.SectionHeader.{SectionHeader}
-use Rattle.oc_macho_read.specs.MachHeader.{mach_header_size}
-use Rattle.oc_macho_read.specs.SegmentCommand.{segment_command_size}
-use Rattle.oc_macho_read.specs.SectionHeader.{section_header_size}
-use Rattle.oc_macho_read.specs.Nlist.{nlist_size}
-use Rattle.oc_macho_file.specs.Structures.{mach_header_bytes, symtab_bytes, section_bytes, nlist_bytes, relocation_bytes}
+use Rattle.oc_macho.specs.declared.section_header.SectionHeader.{SectionHeader}
+use Rattle.oc_macho.specs.MachHeader.{mach_header_size}
+use Rattle.oc_macho.specs.SegmentCommand.{segment_command_size}
+use Rattle.oc_macho.specs.SectionHeader.{section_header_size}
+use Rattle.oc_macho.specs.Nlist.{nlist_size}
+use Rattle.oc_macho.specs.Structures.{mach_header_bytes, symtab_bytes, section_bytes, nlist_bytes, relocation_bytes}
 use Rattle.oc_macho_file.specs.Addresses.{Numbered, is_blank, stored_sections}
 use Rattle.oc_macho_file.specs.Lines.{lines_of}
 use Rattle.oc_macho_file.specs.Bodies.{field_patches, raw_of}

@@ -28,18 +28,18 @@ use Rattle.oc_neutral.proofs.Positions.{there_at}
 use Rattle.oc_shelf.specs.Reading.Spans.{meets as spans_meet}
 use Rattle.oc_shelf.proofs.ReadingLaws.FirstsLemmas.{any_none}
 use Rattle.oc_shelf.proofs.ReadingLaws.StageLemmas.{Unbroken, IsUnbroken, unbroken_append}
-use Rattle.oc_macho_read.specs.declared.entries.Item.{Item}
-use Rattle.oc_macho_read.specs.declared.referents.Referent.{Referent}
-use Rattle.oc_macho_read.specs.declared.referents.Referent.TheVariants.{Fit}
-use Rattle.oc_macho_read.specs.declared.relocation_info.RelocationInfo.{RelocationInfo}
-use Rattle.oc_macho_read.specs.declared.relocation_info.Reference.TheVariants as reference
-use Rattle.oc_macho_read.specs.Aims.{Aim, section_aim, aim_in, target_in}
-use Rattle.oc_macho_read.specs.Entries.{row_for, item_at, target_entry, taken_entry, taken_reference}
-use Rattle.oc_macho_read.specs.Fields.{Found, found_by, field_of}
-use Rattle.oc_macho_read.specs.Referents.{fit_for, referent_by, referent_in, is_nothing, cannot_be_target, cannot_be_taken, reads_slot}
-use Rattle.oc_macho_read.specs.Sections.{is_kept}
-use Rattle.oc_macho_read.specs.Tables.{SectionTable, Tables}
-use Rattle.oc_macho_read.specs.RelocationFaults.{is_lone_second, is_odd_second, is_unknown, are_pair, is_no_pair, span_of, span_at, meets_upto, is_outside, refers_to_nothing, refers_wrongly, is_too_wide, folds_too_wide, form_conditions, target_conditions, last_conditions, item_conditions, entry_conditions, entry_stage, no_stage, relocation_stage, relocation_stages}
+use Rattle.oc_macho.specs.declared.entries.Item.{Item}
+use Rattle.oc_macho.specs.declared.referent.Referent.{Referent}
+use Rattle.oc_macho.specs.declared.referent.Referent.TheVariants.{Fit}
+use Rattle.oc_macho.specs.declared.relocation_info.RelocationInfo.{RelocationInfo}
+use Rattle.oc_macho.specs.declared.relocation_info.Reference.TheVariants as reference
+use Rattle.oc_macho.specs.Aims.{Aim, section_aim, aim_in, target_in}
+use Rattle.oc_macho.specs.Entries.{row_for, item_at, target_entry, taken_entry, taken_reference}
+use Rattle.oc_macho.specs.Fields.{Found, found_by, field_of}
+use Rattle.oc_macho.specs.Referents.{fit_for, referent_by, referent_in, is_nothing, cannot_be_target, cannot_be_taken, reads_slot}
+use Rattle.oc_macho.specs.Sections.{is_kept}
+use Rattle.oc_macho.specs.Tables.{SectionTable, Tables}
+use Rattle.oc_macho.specs.RelocationFaults.{is_lone_second, is_odd_second, is_unknown, are_pair, is_no_pair, span_of, span_at, meets_upto, is_outside, refers_to_nothing, refers_wrongly, is_too_wide, folds_too_wide, form_conditions, target_conditions, last_conditions, item_conditions, entry_conditions, entry_stage, no_stage, relocation_stage, relocation_stages}
 use Rattle.oc_macho_file.specs.Bodies.{Standing, reference_to, plain_entry}
 use Rattle.oc_macho_file.specs.Lines.{numbered_lines, own_number, symbol_number}
 use Rattle.oc_macho_file.specs.Canonical.{section_header}

@@ -19,8 +19,8 @@ use Rattle.oc_neutral.specs.Mach.Relocs.{MachRow, length_of, mach_entries, entry
 use Rattle.oc_neutral.specs.Rows.{Row, Taken, TakesZero, TakesPlace, TakesSection, same_taken}
 use Rattle.oc_neutral.specs.Spelling.{written_row}
 use Rattle.oc_neutral.proofs.Positions.{each_at}
-use Rattle.oc_macho_read.specs.declared.relocation_info.Reference.TheVariants as reference
-use Rattle.oc_macho_read.specs.Entries.{row_for}
+use Rattle.oc_macho.specs.declared.relocation_info.Reference.TheVariants as reference
+use Rattle.oc_macho.specs.Entries.{row_for}
 
 -- the types take nothing, the place or a section
 pub data IsPlain (k : Taken) : Type 0 where

@@ -22,11 +22,11 @@ use Rattle.oc_neutral.proofs.Positions.{there_at}
 use Rattle.oc_shelf.specs.Reading.Stops.{sum_upto}
 use Rattle.oc_shelf.proofs.ReadingLaws.StageLemmas.{Unbroken, IsUnbroken, unbroken_append}
 use Rattle.oc_shelf.proofs.WritingLaws.StandingLemmas.{stands_inside}
-use Rattle.oc_macho_read.specs.declared.section_header.SectionHeader.{SectionHeader}
-use Rattle.oc_macho_read.specs.Sections.{kind_of, until_nul}
-use Rattle.oc_macho_read.specs.Tables.{SectionTable, Tables}
-use Rattle.oc_macho_read.specs.SectionFaults.{is_odd, stored_of, size_at, stored_at, place_conditions, own_conditions, limit_conditions, section_conditions, section_stage}
-use Rattle.oc_macho_file.specs.Structures.{padded, relocation_bytes}
+use Rattle.oc_macho.specs.declared.section_header.SectionHeader.{SectionHeader}
+use Rattle.oc_macho.specs.Sections.{kind_of, until_nul}
+use Rattle.oc_macho.specs.Tables.{SectionTable, Tables}
+use Rattle.oc_macho.specs.SectionFaults.{is_odd, stored_of, size_at, stored_at, place_conditions, own_conditions, limit_conditions, section_conditions, section_stage}
+use Rattle.oc_macho.specs.Structures.{padded, relocation_bytes}
 use Rattle.oc_macho_file.specs.Addresses.{address_of}
 use Rattle.oc_macho_file.specs.Bodies.{raw_of}
 use Rattle.oc_macho_file.specs.Layout.{relocs_of, part_where, is_raw, is_relocs}

@@ -14,11 +14,11 @@ use Rattle.oc_neutral.specs.Mach.Kinds.{mach_name, mach_kind, mach_tag, segment_
 use Rattle.oc_neutral.specs.Mach.Kinds as kinds
 use Rattle.oc_neutral.specs.Objects.{Object}
 use Rattle.oc_shelf.proofs.WritingLaws.MemberLemmas.{member_map, member_enumerated}
-use Rattle.oc_macho_read.specs.declared.section_header.SectionHeader.{SectionHeader}
-use Rattle.oc_macho_read.specs.Tables.{SectionTable}
-use Rattle.oc_macho_read.specs.Sections.{until_nul, kind_of, contents_of, section_of, sections_in, header_numbered}
-use Rattle.oc_macho_read.specs.Sections as read
-use Rattle.oc_macho_file.specs.Structures.{padded}
+use Rattle.oc_macho.specs.declared.section_header.SectionHeader.{SectionHeader}
+use Rattle.oc_macho.specs.Tables.{SectionTable}
+use Rattle.oc_macho.specs.Sections.{until_nul, kind_of, contents_of, section_of, sections_in, header_numbered}
+use Rattle.oc_macho.specs.Sections as read
+use Rattle.oc_macho.specs.Structures.{padded}
 use Rattle.oc_macho_file.specs.Addresses.{Numbered, address_of}
 use Rattle.oc_macho_file.specs.Bodies.{raw_of}
 use Rattle.oc_macho_file.specs.Symbols.{exponent_of}

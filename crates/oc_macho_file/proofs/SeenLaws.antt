@@ -21,7 +21,7 @@ use Rattle.oc_shelf.specs.Writing.Parts.{Laid, laid, behind}
 use Rattle.oc_shelf.proofs.WritingLaws.GatheredLemmas.{laid_ones}
 use Rattle.oc_shelf.proofs.WritingLaws.MemberLemmas.{position_first, member_filter_map}
 use Rattle.oc_shelf.proofs.WritingLaws.PartLemmas.{laid_part, laid_there}
-use Rattle.oc_macho_read.specs.MachHeader.{mach_format}
+use Rattle.oc_macho.specs.MachHeader.{mach_format}
 use Rattle.oc_macho_file.specs.Lines.{Line, OwnLine, LocalLine, OuterLine, lines_of, line_size, numbered_lines, symbol_number}
 use Rattle.oc_macho_file.proofs.LineLaws.{IsLine, one_line, line_at, counted_line, lines_counted, symbol_found}
 

@@ -48,13 +48,13 @@ use Rattle.oc_neutral.proofs.Positions.{there_at}
 use Rattle.oc_neutral.proofs.SeenAlike.{relocs_same, numbers_differ}
 use Rattle.oc_neutral.proofs.SeenLaws.{seen_is_object_law}
 use Rattle.oc_shelf.proofs.WritingLaws.MemberLemmas.{of_map, map-map, map-alike}
-use Rattle.oc_macho_read.specs.declared.relocation_info.Reference.TheVariants as reference
-use Rattle.oc_macho_read.specs.MachHeader.{mach_format}
-use Rattle.oc_macho_read.specs.Tables.{Tables, tables_of}
-use Rattle.oc_macho_read.specs.Sections.{sections_in}
-use Rattle.oc_macho_read.specs.Aims.{Aim, section_aim, fixed_place, aim_in}
-use Rattle.oc_macho_read.specs.Fields.{fields_in}
-use Rattle.oc_macho_read.specs.Rules.{symbols_in, mach_dialect}
+use Rattle.oc_macho.specs.declared.relocation_info.Reference.TheVariants as reference
+use Rattle.oc_macho.specs.MachHeader.{mach_format}
+use Rattle.oc_macho.specs.Tables.{Tables, tables_of}
+use Rattle.oc_macho.specs.Sections.{sections_in}
+use Rattle.oc_macho.specs.Aims.{Aim, section_aim, fixed_place, aim_in}
+use Rattle.oc_macho.specs.Fields.{fields_in}
+use Rattle.oc_macho.specs.Rules.{symbols_in, mach_dialect}
 use Rattle.oc_macho_file.specs.Addresses.{Numbered, address_of}
 use Rattle.oc_macho_file.specs.Lines.{numbered_lines, symbol_number}
 use Rattle.oc_macho_file.specs.Bodies.{said_of, field_patch, field_patches, raw_of, reference_to}

@@ -10,19 +10,19 @@ use Rattle.oc_shelf.specs.Writing.Packed.{packed}
 use Rattle.oc_shelf.specs.Writing.Parts.{Stands}
 use Rattle.oc_shelf.proofs.WritingLaws.PackedLemmas.{Fit, widths, length-packed, number_in}
 use Rattle.oc_shelf.proofs.WritingLaws.StandingLemmas.{stands_front, stands_back, stands_take}
-use Rattle.oc_macho_read.specs.declared.mach_header.MachHeader.{MachHeader}
-use Rattle.oc_macho_read.specs.declared.section_header.SectionHeader.{SectionHeader}
-use Rattle.oc_macho_read.specs.declared.symtab_command.SymtabCommand.{SymtabCommand}
-use Rattle.oc_macho_read.specs.declared.nlist.Nlist.{Nlist}
-use Rattle.oc_macho_read.specs.declared.relocation_info.Reference.{Reference}
-use Rattle.oc_macho_read.specs.declared.relocation_info.Reference.TheVariants.{Symbol, Section, Address}
-use Rattle.oc_macho_read.specs.declared.relocation_info.RelocationInfo.{RelocationInfo}
-use Rattle.oc_macho_read.specs.MachHeader.{mach_header_size, mach_header_of}
-use Rattle.oc_macho_read.specs.SectionHeader.{section_header_size, section_header_at}
-use Rattle.oc_macho_read.specs.SymtabCommand.{symtab_command_at}
-use Rattle.oc_macho_read.specs.Nlist.{nlist_size, nlist_at}
-use Rattle.oc_macho_read.specs.RelocationInfo.{scattered_of, reference_of, relocation_info_of, relocation_info_at}
-use Rattle.oc_macho_file.specs.Structures.{padded, mach_header_numbers, mach_header_bytes, symtab_numbers, symtab_bytes, section_numbers, section_bytes, nlist_numbers, nlist_bytes, first_word, plain_word, second_word, relocation_bytes}
+use Rattle.oc_macho.specs.declared.mach_header.MachHeader.{MachHeader}
+use Rattle.oc_macho.specs.declared.section_header.SectionHeader.{SectionHeader}
+use Rattle.oc_macho.specs.declared.symtab_command.SymtabCommand.{SymtabCommand}
+use Rattle.oc_macho.specs.declared.nlist.Nlist.{Nlist}
+use Rattle.oc_macho.specs.declared.relocation_info.Reference.{Reference}
+use Rattle.oc_macho.specs.declared.relocation_info.Reference.TheVariants.{Symbol, Section, Address}
+use Rattle.oc_macho.specs.declared.relocation_info.RelocationInfo.{RelocationInfo}
+use Rattle.oc_macho.specs.MachHeader.{mach_header_size, mach_header_of}
+use Rattle.oc_macho.specs.SectionHeader.{section_header_size, section_header_at}
+use Rattle.oc_macho.specs.SymtabCommand.{symtab_command_at}
+use Rattle.oc_macho.specs.Nlist.{nlist_size, nlist_at}
+use Rattle.oc_macho.specs.RelocationInfo.{scattered_of, reference_of, relocation_info_of, relocation_info_at}
+use Rattle.oc_macho.specs.Structures.{padded, mach_header_numbers, mach_header_bytes, symtab_numbers, symtab_bytes, section_numbers, section_bytes, nlist_numbers, nlist_bytes, first_word, plain_word, second_word, relocation_bytes}
 
 -- ... their sizes
 

@@ -15,12 +15,12 @@ use Rattle.oc_neutral.specs.Repeats as repeats
 use Rattle.oc_neutral.proofs.Positions.{there_at}
 use Rattle.oc_shelf.proofs.ReadingLaws.StageLemmas.{Unbroken, IsUnbroken, unbroken_append}
 use Rattle.oc_shelf.proofs.WritingLaws.MemberLemmas.{member_map}
-use Rattle.oc_macho_read.specs.declared.constants.TheConstants.{N_SECT}
-use Rattle.oc_macho_read.specs.declared.nlist.Nlist.{Nlist}
-use Rattle.oc_macho_read.specs.Sections.{header_numbered}
-use Rattle.oc_macho_read.specs.Symbols.{name_at, name_of, is_stab, is_type, is_external}
-use Rattle.oc_macho_read.specs.Tables.{Tables}
-use Rattle.oc_macho_read.specs.SymbolFaults.{is_odd, is_outside, public_name, public_names, kind_conditions, home_conditions, name_conditions, symbol_conditions, symbol_stage}
+use Rattle.oc_macho.specs.declared.constants.TheConstants.{N_SECT}
+use Rattle.oc_macho.specs.declared.nlist.Nlist.{Nlist}
+use Rattle.oc_macho.specs.Sections.{header_numbered}
+use Rattle.oc_macho.specs.Symbols.{name_at, name_of, is_stab, is_type, is_external}
+use Rattle.oc_macho.specs.Tables.{Tables}
+use Rattle.oc_macho.specs.SymbolFaults.{is_odd, is_outside, public_name, public_names, kind_conditions, home_conditions, name_conditions, symbol_conditions, symbol_stage}
 use Rattle.oc_macho_file.specs.Addresses.{address_of}
 use Rattle.oc_macho_file.specs.Lines.{Line, OwnLine, LocalLine, OuterLine, lines_of}
 use Rattle.oc_macho_file.specs.Symbols.{line_entry, own_entry, symbol_entry}

@@ -20,7 +20,7 @@ use Rattle.oc_neutral.specs.Mach.SectionSymbols.{section_symbol_name}
 use Rattle.oc_neutral.proofs.Positions.{there_at}
 use Rattle.std.proofs.lemmas.Option.{slice_get_within}
 use Rattle.oc_shelf.proofs.WritingLaws.PackedLemmas.{Fit}
-use Rattle.oc_macho_file.specs.Structures.{nlist_numbers}
+use Rattle.oc_macho.specs.Structures.{nlist_numbers}
 use Rattle.oc_macho_file.specs.Lines.{Line, OwnLine, LocalLine, OuterLine, lines_of}
 use Rattle.oc_macho_file.specs.Layout.{line_names, offset_in}
 use Rattle.oc_macho_file.specs.Symbols.{Stood, stood_at, stood_elsewhere, stood_by, stood_for, stood_of, external_flag, private_flag, desc_by, symbol_entry, own_entry, line_entry}
@@ -28,7 +28,7 @@ use Rattle.oc_macho_file.proofs.CodedLaws.{IsForMach, IsPlaced, symbol_is, fallb
 use Rattle.oc_macho_file.proofs.LineLaws.{IsLine, line_at}
 use Rattle.oc_macho_file.proofs.NameLaws.{needed_low}
 use Rattle.oc_macho_file.proofs.AddressLaws.{memory_low, address_low}
-use Rattle.oc_macho_read.specs.declared.nlist.Nlist.{Nlist}
+use Rattle.oc_macho.specs.declared.nlist.Nlist.{Nlist}
 
 modulus_high : (w : Word) → 2 ^ 32 ≤ modulus w
 modulus_high W32 = omega arith

@@ -31,16 +31,16 @@ use Rattle.oc_neutral.specs.WrittenSymbols.{is_written, is_written_as}
 use Rattle.oc_neutral.proofs.Positions.{there_at}
 use Rattle.oc_shelf.specs.Writing.Parts.{laid, behind}
 use Rattle.oc_shelf.proofs.WritingLaws.MemberLemmas.{filter_map-results}
-use Rattle.oc_macho_read.specs.declared.constants.TheConstants.{N_SECT, N_PEXT}
-use Rattle.oc_macho_read.specs.declared.section_header.SectionHeader.{SectionHeader}
-use Rattle.oc_macho_read.specs.declared.nlist.Nlist.{Nlist}
-use Rattle.oc_macho_read.specs.MachHeader.{mach_format}
-use Rattle.oc_macho_read.specs.Tables.{Tables}
-use Rattle.oc_macho_read.specs.Sections.{header_numbered}
-use Rattle.oc_macho_read.specs.Symbols.{name_of, is_stab, is_type, is_external, offset_of, is_at_start, is_own_in, is_own, is_carried, value_of, binding_of, symbol_of, symbols_by}
-use Rattle.oc_macho_read.specs.Entries.{is_pinned}
-use Rattle.oc_macho_read.specs.SymbolFaults.{is_odd, is_outside}
-use Rattle.oc_macho_read.specs.Rules.{symbols_in}
+use Rattle.oc_macho.specs.declared.constants.TheConstants.{N_SECT, N_PEXT}
+use Rattle.oc_macho.specs.declared.section_header.SectionHeader.{SectionHeader}
+use Rattle.oc_macho.specs.declared.nlist.Nlist.{Nlist}
+use Rattle.oc_macho.specs.MachHeader.{mach_format}
+use Rattle.oc_macho.specs.Tables.{Tables}
+use Rattle.oc_macho.specs.Sections.{header_numbered}
+use Rattle.oc_macho.specs.Symbols.{name_of, is_stab, is_type, is_external, offset_of, is_at_start, is_own_in, is_own, is_carried, value_of, binding_of, symbol_of, symbols_by}
+use Rattle.oc_macho.specs.Entries.{is_pinned}
+use Rattle.oc_macho.specs.SymbolFaults.{is_odd, is_outside}
+use Rattle.oc_macho.specs.Rules.{symbols_in}
 use Rattle.oc_macho_file.specs.Addresses.{address_of}
 use Rattle.oc_macho_file.specs.Lines.{Line, OwnLine, LocalLine, OuterLine, lines_of, line_size, numbered_lines}
 use Rattle.oc_macho_file.specs.Layout.{line_names, offset_in}

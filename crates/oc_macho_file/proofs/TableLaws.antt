@@ -16,21 +16,21 @@ use Rattle.oc_shelf.specs.Writing.Parts.{Stands}
 use Rattle.oc_shelf.proofs.WritingLaws.MemberLemmas.{map-map, map-alike, of_map}
 use Rattle.oc_shelf.proofs.WritingLaws.PackedLemmas.{Fit, number_in}
 use Rattle.oc_shelf.proofs.WritingLaws.StandingLemmas.{stands_take, rows_read}
-use Rattle.oc_macho_read.specs.declared.mach_header.MachHeader.{MachHeader}
-use Rattle.oc_macho_read.specs.declared.load_command.LoadCommand.{LoadCommand}
-use Rattle.oc_macho_read.specs.declared.section_header.SectionHeader.{SectionHeader}
-use Rattle.oc_macho_read.specs.declared.symtab_command.SymtabCommand.{SymtabCommand}
-use Rattle.oc_macho_read.specs.declared.nlist.Nlist.{Nlist}
-use Rattle.oc_macho_read.specs.declared.relocation_info.RelocationInfo.{RelocationInfo}
-use Rattle.oc_macho_read.specs.MachHeader.{mach_header_size, mach_header_of}
-use Rattle.oc_macho_read.specs.LoadCommand.{load_command_at}
-use Rattle.oc_macho_read.specs.SegmentCommand.{segment_number, segment_command_size, segment_command_at}
-use Rattle.oc_macho_read.specs.SectionHeader.{section_header_size, section_header_at}
-use Rattle.oc_macho_read.specs.SymtabCommand.{symtab_command_at}
-use Rattle.oc_macho_read.specs.Nlist.{nlist_size, nlist_at}
-use Rattle.oc_macho_read.specs.RelocationInfo.{relocation_info_at}
-use Rattle.oc_macho_read.specs.Tables.{SectionTable, Tables, command_count, command_place, first_command, segment_place, symtab_place, headers_place, sections_by, symbols_by, strings_by, symtab_of, section_table, tables_of}
-use Rattle.oc_macho_file.specs.Structures.{mach_header_numbers, symtab_numbers, symtab_bytes, section_numbers, section_bytes, nlist_numbers, nlist_bytes, relocation_bytes}
+use Rattle.oc_macho.specs.declared.mach_header.MachHeader.{MachHeader}
+use Rattle.oc_macho.specs.declared.load_command.LoadCommand.{LoadCommand}
+use Rattle.oc_macho.specs.declared.section_header.SectionHeader.{SectionHeader}
+use Rattle.oc_macho.specs.declared.symtab_command.SymtabCommand.{SymtabCommand}
+use Rattle.oc_macho.specs.declared.nlist.Nlist.{Nlist}
+use Rattle.oc_macho.specs.declared.relocation_info.RelocationInfo.{RelocationInfo}
+use Rattle.oc_macho.specs.MachHeader.{mach_header_size, mach_header_of}
+use Rattle.oc_macho.specs.LoadCommand.{load_command_at}
+use Rattle.oc_macho.specs.SegmentCommand.{segment_number, segment_command_size, segment_command_at}
+use Rattle.oc_macho.specs.SectionHeader.{section_header_size, section_header_at}
+use Rattle.oc_macho.specs.SymtabCommand.{symtab_command_at}
+use Rattle.oc_macho.specs.Nlist.{nlist_size, nlist_at}
+use Rattle.oc_macho.specs.RelocationInfo.{relocation_info_at}
+use Rattle.oc_macho.specs.Tables.{SectionTable, Tables, command_count, command_place, first_command, segment_place, symtab_place, headers_place, sections_by, symbols_by, strings_by, symtab_of, section_table, tables_of}
+use Rattle.oc_macho.specs.Structures.{mach_header_numbers, symtab_numbers, symtab_bytes, section_numbers, section_bytes, nlist_numbers, nlist_bytes, relocation_bytes}
 use Rattle.oc_macho_file.specs.Addresses.{Numbered, is_blank}
 use Rattle.oc_macho_file.specs.Lines.{Line, lines_of}
 use Rattle.oc_macho_file.specs.Bodies.{raw_of}

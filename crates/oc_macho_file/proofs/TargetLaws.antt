@@ -33,10 +33,10 @@ use Rattle.oc_neutral.specs.Shows.{IsTrueToFixed}
 use Rattle.oc_neutral.specs.Worth.{base_of, target_worth}
 use Rattle.oc_neutral.proofs.RowFieldLaws.{symbol_is_target}
 use Rattle.oc_shelf.proofs.WritingLaws.MemberLemmas.{member_map}
-use Rattle.oc_macho_read.specs.declared.relocation_info.Reference.TheVariants as reference
-use Rattle.oc_macho_read.specs.Tables.{Tables}
-use Rattle.oc_macho_read.specs.Symbols.{name_of, symbol_of}
-use Rattle.oc_macho_read.specs.Aims.{fixed_place, symbol_aim, section_aim, aim_of, aim_in}
+use Rattle.oc_macho.specs.declared.relocation_info.Reference.TheVariants as reference
+use Rattle.oc_macho.specs.Tables.{Tables}
+use Rattle.oc_macho.specs.Symbols.{name_of, symbol_of}
+use Rattle.oc_macho.specs.Aims.{fixed_place, symbol_aim, section_aim, aim_of, aim_in}
 use Rattle.oc_macho_file.specs.Lines.{OuterLine, lines_of, numbered_lines, symbol_number}
 use Rattle.oc_macho_file.specs.Symbols.{line_entry}
 use Rattle.oc_macho_file.proofs.TableLaws.{made_tables}

@@ -7,9 +7,9 @@ use Rattle.oc_linking.specs.Keeping.{all}
 use Rattle.oc_neutral.specs.Objects.{Object}
 use Rattle.oc_neutral.specs.Targets.{IsDialect}
 use Rattle.oc_shelf.proofs.ReadingLaws.StageLemmas.{IsUnbroken, no_first_fault}
-use Rattle.oc_macho_read.specs.HeaderFaults.{header_stage}
-use Rattle.oc_macho_read.specs.Rules.{rest_stages, fault_of, mach_dialect}
-use Rattle.oc_macho_read.specs.Tables.{Tables, tables_of}
+use Rattle.oc_macho.specs.HeaderFaults.{header_stage}
+use Rattle.oc_macho.specs.Rules.{rest_stages, fault_of, mach_dialect}
+use Rattle.oc_macho.specs.Tables.{Tables, tables_of}
 use Rattle.oc_macho_file.specs.Canonical.{mach_file}
 use Rattle.oc_macho_file.specs.Writing.{MachIsWritten}
 use Rattle.oc_macho_file.proofs.TableLaws.{IsCodable, made_tables, tables_read}

@@ -22,10 +22,10 @@ use Rattle.oc_neutral.specs.Shifts.{Said, Symbolic, Sectional, said_shift, sectd
 use Rattle.oc_neutral.specs.Spelling.{written_row}
 use Rattle.oc_neutral.specs.TargetRelocations.{section_taken}
 use Rattle.oc_shelf.specs.Writing.Parts.{Laid}
-use Rattle.oc_macho_read.specs.declared.relocation_info.Reference.{Reference}
-use Rattle.oc_macho_read.specs.declared.relocation_info.Reference.TheVariants as reference
-use Rattle.oc_macho_read.specs.declared.relocation_info.RelocationInfo.{RelocationInfo}
-use Rattle.oc_macho_read.specs.MachHeader.{mach_format}
+use Rattle.oc_macho.specs.declared.relocation_info.Reference.{Reference}
+use Rattle.oc_macho.specs.declared.relocation_info.Reference.TheVariants as reference
+use Rattle.oc_macho.specs.declared.relocation_info.RelocationInfo.{RelocationInfo}
+use Rattle.oc_macho.specs.MachHeader.{mach_format}
 use Rattle.oc_macho_file.specs.Addresses.{address_of}
 use Rattle.oc_macho_file.specs.Lines.{Line, own_number, symbol_number}
 

@@ -6,16 +6,16 @@ use Rattle.oc_neutral.specs.Mach.Kinds.{segment_of, section_of}
 use Rattle.oc_neutral.specs.Objects.{Object}
 use Rattle.oc_shelf.specs.Writing.Packed.{packed}
 use Rattle.oc_shelf.specs.Writing.Parts.{joined}
-use Rattle.oc_macho_read.specs.declared.constants.TheConstants.{MH_OBJECT, LC_DYSYMTAB}
-use Rattle.oc_macho_read.specs.declared.load_command.TheConstants.{DYSYMTAB_COMMAND_SIZE}
-use Rattle.oc_macho_read.specs.declared.name.TheConstants.{NAME_SIZE}
-use Rattle.oc_macho_read.specs.declared.mach_header.MachHeader.{MachHeader}
-use Rattle.oc_macho_read.specs.declared.section_header.SectionHeader.{SectionHeader}
-use Rattle.oc_macho_read.specs.declared.symtab_command.SymtabCommand.{SymtabCommand}
-use Rattle.oc_macho_read.specs.MachHeader.{address_size, cpu_type}
-use Rattle.oc_macho_read.specs.SegmentCommand.{segment_number}
-use Rattle.oc_macho_file.specs.declared.constants.TheConstants.{COMMAND_COUNT, CPU_SUBTYPE_ALL, VM_PROT_ALL}
-use Rattle.oc_macho_file.specs.Structures.{magic_of, padded, mach_header_bytes, symtab_bytes, section_bytes, nlist_bytes, relocation_bytes}
+use Rattle.oc_macho.specs.declared.constants.TheConstants.{MH_OBJECT, LC_DYSYMTAB}
+use Rattle.oc_macho.specs.declared.load_command.TheConstants.{DYSYMTAB_COMMAND_SIZE}
+use Rattle.oc_macho.specs.declared.names.TheConstants.{NAME_SIZE}
+use Rattle.oc_macho.specs.declared.mach_header.MachHeader.{MachHeader}
+use Rattle.oc_macho.specs.declared.section_header.SectionHeader.{SectionHeader}
+use Rattle.oc_macho.specs.declared.symtab_command.SymtabCommand.{SymtabCommand}
+use Rattle.oc_macho.specs.MachHeader.{address_size, cpu_type}
+use Rattle.oc_macho.specs.SegmentCommand.{segment_number}
+use Rattle.oc_macho.specs.declared.constants.TheConstants.{COMMAND_COUNT, CPU_SUBTYPE_ALL, VM_PROT_ALL}
+use Rattle.oc_macho.specs.Structures.{magic_of, padded, mach_header_bytes, symtab_bytes, section_bytes, nlist_bytes, relocation_bytes}
 use Rattle.oc_macho_file.specs.Addresses.{Numbered, address_of, memory_end, stored_end}
 use Rattle.oc_macho_file.specs.Lines.{Line, inner_lines, defined_lines, undefined_lines, lines_of}
 use Rattle.oc_macho_file.specs.Bodies.{raw_of}

@@ -7,14 +7,14 @@ use Rattle.oc_base.specs.Strings.{table_text, table_place}
 use Rattle.oc_neutral.specs.declared.section.Section.{Section}
 use Rattle.oc_neutral.specs.Objects.{Object}
 use Rattle.oc_shelf.specs.Writing.Parts.{Laid, laid, aligned, place_where}
-use Rattle.oc_macho_read.specs.declared.load_command.TheConstants.{DYSYMTAB_COMMAND_SIZE}
-use Rattle.oc_macho_read.specs.declared.symtab_command.TheConstants.{SYMTAB_COMMAND_SIZE}
-use Rattle.oc_macho_read.specs.declared.relocation_info.TheConstants.{RELOCATION_INFO_SIZE}
-use Rattle.oc_macho_read.specs.declared.relocation_info.RelocationInfo.{RelocationInfo}
-use Rattle.oc_macho_read.specs.MachHeader.{address_size, mach_header_size}
-use Rattle.oc_macho_read.specs.SegmentCommand.{segment_command_size}
-use Rattle.oc_macho_read.specs.SectionHeader.{section_header_size}
-use Rattle.oc_macho_read.specs.Nlist.{nlist_size}
+use Rattle.oc_macho.specs.declared.load_command.TheConstants.{DYSYMTAB_COMMAND_SIZE}
+use Rattle.oc_macho.specs.declared.symtab_command.TheConstants.{SYMTAB_COMMAND_SIZE}
+use Rattle.oc_macho.specs.declared.relocation_info.TheConstants.{RELOCATION_INFO_SIZE}
+use Rattle.oc_macho.specs.declared.relocation_info.RelocationInfo.{RelocationInfo}
+use Rattle.oc_macho.specs.MachHeader.{address_size, mach_header_size}
+use Rattle.oc_macho.specs.SegmentCommand.{segment_command_size}
+use Rattle.oc_macho.specs.SectionHeader.{section_header_size}
+use Rattle.oc_macho.specs.Nlist.{nlist_size}
 use Rattle.oc_macho_file.specs.Addresses.{Numbered, stored_sections}
 use Rattle.oc_macho_file.specs.Lines.{lines_of, numbered_lines, line_name}
 use Rattle.oc_macho_file.specs.Bodies.{entries_of}

@@ -18,8 +18,8 @@ use Rattle.oc_neutral.specs.Mach.SectionSymbols.{section_symbol_name}
 use Rattle.oc_neutral.specs.Normal.{Place}
 use Rattle.oc_neutral.specs.Objects.{Object}
 use Rattle.oc_neutral.specs.Seen.{place_at}
-use Rattle.oc_macho_read.specs.declared.constants.TheConstants.{MOST_ALIGN_EXPONENT, N_UNDF, N_ABS, N_SECT, N_EXT, N_PEXT, N_WEAK_REF, N_WEAK_DEF}
-use Rattle.oc_macho_read.specs.declared.nlist.Nlist.{Nlist}
+use Rattle.oc_macho.specs.declared.constants.TheConstants.{MOST_ALIGN_EXPONENT, N_UNDF, N_ABS, N_SECT, N_EXT, N_PEXT, N_WEAK_REF, N_WEAK_DEF}
+use Rattle.oc_macho.specs.declared.nlist.Nlist.{Nlist}
 use Rattle.oc_macho_file.specs.Addresses.{address_of}
 use Rattle.oc_macho_file.specs.Lines.{Line, OwnLine, LocalLine, OuterLine}
 use Rattle.oc_macho_file.specs.Layout.{line_names, offset_in}

@@ -1,13 +1,18 @@
-pub mod WorkedFiles
-pub mod CommandLemmas
-pub mod FrameLemmas
-pub mod SectionLemmas
-pub mod NameLemmas
+pub mod AddedLemmas
+pub mod AimLemmas
+pub mod BindingLemmas
+pub mod CompleteLemmas
+pub mod FieldLemmas
+pub mod FitLemmas
+pub mod ItemLemmas
+pub mod ListLemmas
+pub mod MeantLemmas
+pub mod PinLemmas
+pub mod PlacedLemmas
+pub mod SectionedLemmas
+pub mod ShownLemmas
+pub mod StandingLemmas
+pub mod StepLemmas
 pub mod SymbolLemmas
-pub mod HeaderLemmas
-pub mod HolderLemmas
-pub mod RelocLemmas
-mod FaultRows
-mod ReadingRows
-pub mod WideLemmas
-pub mod JudgingLemmas
+pub mod TableLemmas
+pub mod WholeLemmas

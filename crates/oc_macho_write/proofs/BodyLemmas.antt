@@ -14,27 +14,27 @@ use Rattle.oc_shelf.specs.Writing.Packed.{packed}
 use Rattle.oc_neutral.proofs.Positions.{there_at}
 use Rattle.oc_shelf.specs.Writing.Parts.{aligned, table_of, HaveSize}
 use Rattle.oc_shelf.proofs.WritingLaws.PartLemmas.{aligned_rises}
-use Rattle.oc_macho_read.specs.Nlist.{nlist_size}
+use Rattle.oc_macho.specs.Nlist.{nlist_size}
 use Rattle.oc_shelf.proofs.WritingLaws.MemberLemmas.{of_map, member_map}
 use Rattle.oc_strings.specs.Tables.{StringTable}
-use Rattle.oc_macho_read.specs.declared.constants.TheConstants.{LC_DYSYMTAB}
-use Rattle.oc_macho_read.specs.declared.load_command.TheConstants.{DYSYMTAB_COMMAND_SIZE}
-use Rattle.oc_macho_read.specs.declared.relocation_info.RelocationInfo.{RelocationInfo}
-use Rattle.oc_macho_read.specs.MachHeader.{address_size}
-use Rattle.oc_macho_read.specs.SectionHeader.{section_header_size}
-use Rattle.oc_macho_read.specs.SegmentCommand.{segment_number}
-use Rattle.oc_macho_read.specs.declared.section_header.SectionHeader.{SectionHeader}
+use Rattle.oc_macho.specs.declared.constants.TheConstants.{LC_DYSYMTAB}
+use Rattle.oc_macho.specs.declared.load_command.TheConstants.{DYSYMTAB_COMMAND_SIZE}
+use Rattle.oc_macho.specs.declared.relocation_info.RelocationInfo.{RelocationInfo}
+use Rattle.oc_macho.specs.MachHeader.{address_size}
+use Rattle.oc_macho.specs.SectionHeader.{section_header_size}
+use Rattle.oc_macho.specs.SegmentCommand.{segment_number}
+use Rattle.oc_macho.specs.declared.section_header.SectionHeader.{SectionHeader}
 use Rattle.oc_macho_file.specs.Bodies.{raw_of}
 use Rattle.oc_macho_file.specs.Canonical.{part_bytes, segment_numbers, section_headers, dysymtab_numbers, words}
 use Rattle.oc_macho_file.specs.Layout as layout
 use Rattle.oc_macho_file.specs.Layout.{filled, relocs_of, parts_of, segment_length, string_table, strings_of}
 use Rattle.oc_macho_file.specs.Lines.{lines_of, inner_lines, defined_lines, undefined_lines}
-use Rattle.oc_macho_file.specs.Structures.{section_bytes, nlist_bytes, relocation_bytes, mach_header_bytes, symtab_bytes}
+use Rattle.oc_macho.specs.Structures.{section_bytes, nlist_bytes, relocation_bytes, mach_header_bytes, symtab_bytes}
 use Rattle.oc_macho_file.specs.Symbols.{line_entry}
 use Rattle.oc_macho_file.proofs.CodedLaws.{IsForMach}
 use Rattle.oc_macho_file.proofs.CountLaws.{few_lines}
 use Rattle.oc_macho_file.proofs.PartLaws.{header_sized}
-use Rattle.oc_macho_write.specs.declared.structures.Dysymtab.{Dysymtab}
+use Rattle.oc_macho.specs.declared.structures.Dysymtab.{Dysymtab}
 use Rattle.oc_macho_write.specs.declared.bodies.Bodies.{Bodies}
 use Rattle.oc_macho_write.specs.declared.heads.Heads.{Heads}
 use Rattle.oc_macho_write.specs.declared.parts.Part.{Part}
@@ -43,7 +43,7 @@ use Rattle.oc_macho_write.specs.Bodies.{AreBodies, body_by, HasBody, IsHeaded, s
 use Rattle.oc_macho_write.specs.Heads.{AreHeads, segment_of, dysymtab_of}
 use Rattle.oc_macho_write.specs.Parts.{AreParts, part_in}
 use Rattle.oc_macho_write.specs.Relocations.{all_raws}
-use Rattle.oc_macho_write.specs.Structures.{segment_front, segment_back, dysymtab_front}
+use Rattle.oc_macho.specs.Structures.{segment_front, segment_back, dysymtab_front}
 use Rattle.oc_macho_write.specs.Words.{items_at}
 
 -- a table of what is made of each thing

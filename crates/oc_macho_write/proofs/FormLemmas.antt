@@ -24,7 +24,7 @@ use Rattle.oc_express.specs.declared.forms.NoForm.{NoForm}
 use Rattle.oc_express.specs.declared.forms.Spelling.{Spelling}
 use Rattle.oc_express.specs.declared.forms.Spelling.TheVariants as spelling
 use Rattle.oc_express.specs.Lookup.{answer_of}
-use Rattle.oc_macho_read.specs.MachHeader.{mach_format}
+use Rattle.oc_macho.specs.MachHeader.{mach_format}
 use Rattle.oc_macho_file.specs.Addresses.{address_of}
 use Rattle.oc_macho_file.specs.Bodies as bodies
 use Rattle.oc_macho_file.specs.Bodies.{end_address, field_shift, said_of, standing_at, taken_section}

@@ -8,18 +8,18 @@ use Rattle.oc_neutral.specs.Mach.Kinds.{segment_of, section_of}
 use Rattle.oc_neutral.specs.Objects.{Object}
 use Rattle.oc_shelf.specs.Writing.Parts.{aligned}
 use Rattle.oc_shelf.proofs.WritingLaws.StandingLemmas.{stands_inside}
-use Rattle.oc_macho_read.specs.MachHeader.{address_size, cpu_type}
-use Rattle.oc_macho_read.specs.declared.constants.TheConstants.{MH_OBJECT}
-use Rattle.oc_macho_read.specs.declared.mach_header.MachHeader.{MachHeader}
-use Rattle.oc_macho_read.specs.declared.section_header.SectionHeader.{SectionHeader}
-use Rattle.oc_macho_read.specs.declared.symtab_command.SymtabCommand.{SymtabCommand}
+use Rattle.oc_macho.specs.MachHeader.{address_size, cpu_type}
+use Rattle.oc_macho.specs.declared.constants.TheConstants.{MH_OBJECT}
+use Rattle.oc_macho.specs.declared.mach_header.MachHeader.{MachHeader}
+use Rattle.oc_macho.specs.declared.section_header.SectionHeader.{SectionHeader}
+use Rattle.oc_macho.specs.declared.symtab_command.SymtabCommand.{SymtabCommand}
 use Rattle.oc_macho_file.specs.Canonical.{file_header, mach_file, pointer_to, section_header, symtab_command}
 use Rattle.oc_macho_file.specs.Layout.{commands_length, is_raw, is_relocs, is_string_table, is_symbol_table, line_names, part_where, relocs_of, string_table, strings_of}
 use Rattle.oc_macho_file.specs.Lines.{lines_of}
-use Rattle.oc_macho_file.specs.Structures.{magic_of, padded, relocation_bytes}
+use Rattle.oc_macho.specs.Structures.{magic_of, padded, relocation_bytes}
 use Rattle.oc_macho_file.specs.Symbols.{exponent_of}
 use Rattle.oc_macho_file.specs.Addresses.{address_of}
-use Rattle.oc_macho_file.specs.declared.constants.TheConstants.{COMMAND_COUNT, CPU_SUBTYPE_ALL}
+use Rattle.oc_macho.specs.declared.constants.TheConstants.{COMMAND_COUNT, CPU_SUBTYPE_ALL}
 use Rattle.oc_macho_file.proofs.CodedLaws.{IsForMach}
 use Rattle.oc_macho_file.proofs.CountLaws.{few_lines}
 use Rattle.oc_macho_file.proofs.FileSize.{small_file}

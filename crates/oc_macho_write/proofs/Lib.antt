@@ -6,7 +6,6 @@ pub mod HeaderLemmas
 pub mod LaidLemmas
 pub mod LastWhere
 pub mod LineLemmas
-pub mod NameLemmas
 pub mod NumberLemmas
 pub mod PartLemmas
 pub mod PlaceLemmas

@@ -11,9 +11,9 @@ use Rattle.oc_neutral.specs.Objects.{Object}
 use Rattle.oc_neutral.specs.Rows.{TakesPlace, same_taken}
 use Rattle.oc_shelf.specs.Writing.Parts.{Laid}
 use Rattle.oc_express.proofs.Giving.{all_given, more_given}
-use Rattle.oc_macho_read.specs.declared.relocation_info.Reference.{Reference}
-use Rattle.oc_macho_read.specs.declared.relocation_info.Reference.TheVariants as reference
-use Rattle.oc_macho_read.specs.declared.relocation_info.RelocationInfo.{RelocationInfo}
+use Rattle.oc_macho.specs.declared.relocation_info.Reference.{Reference}
+use Rattle.oc_macho.specs.declared.relocation_info.Reference.TheVariants as reference
+use Rattle.oc_macho.specs.declared.relocation_info.RelocationInfo.{RelocationInfo}
 use Rattle.oc_macho_file.specs.Bodies as bodies
 use Rattle.oc_macho_file.specs.Bodies.{entries_at, entries_of, pair_entries, plain_entry, reference_to, standing_at, standing_entries, taken_section}
 use Rattle.oc_macho_file.specs.Lines.{Line, numbered_lines, own_number}

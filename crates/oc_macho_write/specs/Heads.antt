@@ -2,14 +2,14 @@
 use Rattle.std.specs.Prelude.{◌≡◌, length, replicate}
 use Rattle.oc_base.specs.declared.format.Word.{Word}
 use Rattle.oc_neutral.specs.Objects.{Object}
-use Rattle.oc_macho_read.specs.declared.name.TheConstants.{NAME_SIZE}
-use Rattle.oc_macho_read.specs.declared.segment_command.SegmentCommand.{SegmentCommand}
-use Rattle.oc_macho_file.specs.declared.constants.TheConstants.{VM_PROT_ALL}
+use Rattle.oc_macho.specs.declared.names.TheConstants.{NAME_SIZE}
+use Rattle.oc_macho.specs.declared.segment_command.SegmentCommand.{SegmentCommand}
+use Rattle.oc_macho.specs.declared.constants.TheConstants.{VM_PROT_ALL}
 use Rattle.oc_macho_file.specs.Addresses.{memory_end, stored_end}
 use Rattle.oc_macho_file.specs.Canonical.{file_header, section_headers, symtab_command}
 use Rattle.oc_macho_file.specs.Layout.{segment_length, contents_begin}
 use Rattle.oc_macho_file.specs.Lines.{inner_lines, defined_lines, undefined_lines}
-use Rattle.oc_macho_write.specs.declared.structures.Dysymtab.{Dysymtab}
+use Rattle.oc_macho.specs.declared.structures.Dysymtab.{Dysymtab}
 use Rattle.oc_macho_write.specs.declared.heads.Heads.{Heads}
 
 -- the command for the segment

@@ -10,7 +10,6 @@ pub mod Places
 pub mod Plans
 pub mod Relocations
 pub mod Strings
-pub mod Structures
 pub mod Values
 pub mod Words
 pub mod Writing

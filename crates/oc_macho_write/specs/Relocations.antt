@@ -7,7 +7,7 @@ use Rattle.oc_neutral.specs.declared.section.Section.{Section}
 use Rattle.oc_neutral.specs.declared.reloc.Reloc.{Reloc}
 use Rattle.oc_neutral.specs.Objects.{Object}
 use Rattle.oc_plans.specs.Numbered.{Numbering}
-use Rattle.oc_macho_read.specs.declared.relocation_info.RelocationInfo.{RelocationInfo}
+use Rattle.oc_macho.specs.declared.relocation_info.RelocationInfo.{RelocationInfo}
 use Rattle.oc_macho_file.specs.Bodies.{field_number, raw_of, standing_at}
 use Rattle.oc_macho_file.specs.Layout.{relocs_of}
 use Rattle.oc_macho_write.specs.declared.forms.Scene.{Scene}

@@ -3,13 +3,12 @@ ghost use Rattle.std.specs.Prelude.{◌≡◌, ◌+◌, ◌^◌, ◌<◌, ◌++�
 ghost use Rattle.oc_neutral.specs.Fitted.{IsFitted};
 ghost use Rattle.oc_outside.specs.Windows.{IsFilled};
 ghost use Rattle.oc_shelf.specs.Writing.Parts.{HaveSize};
-ghost use Rattle.oc_macho_read.specs.MachHeader.{mach_format};
-ghost use Rattle.oc_macho_read.specs.SectionHeader as section_headers;
-ghost use Rattle.oc_macho_file.specs.Structures.{section_bytes};
+ghost use Rattle.oc_macho.specs.MachHeader.{mach_format};
+ghost use Rattle.oc_macho.specs.SectionHeader as section_headers;
 ghost use Rattle.oc_macho_write.specs.Addresses.{AreAllAddresses};
 ghost use Rattle.oc_macho_write.specs.Bodies.{AreBodies, body_by, HasBody, IsHeaded, IsSmall, size_by};
 ghost use Rattle.oc_macho_write.specs.Lines.{AreLines};
-ghost use Rattle.oc_macho_write.specs.Structures.{dysymtab_front, segment_back, segment_front};
+ghost use Rattle.oc_macho.specs.Structures.{dysymtab_front, section_bytes, segment_back, segment_front};
 
 use crate::addresses::Addresses;
 use crate::forms::Scene;
@@ -19,16 +18,14 @@ use crate::numbers::Numbers;
 use crate::parts::Part;
 use crate::relocations::all_entries;
 use crate::strings::{strings_of, strings_size};
-use crate::structures::{
-    pack_dysymtab_front, pack_mach_header, pack_segment_back, pack_segment_front, pack_symtab,
-};
 use crate::symbols::nlists_of;
 use crate::tables::{headers_window, nlists_window, relocations_window, strings_window};
 use crate::windows::{filled_window, pair_window};
 use oc_base::{NoMemory, Word};
-use oc_macho_read::{
+use oc_macho::{
     DYSYMTAB_COMMAND_SIZE, Nlist, RELOCATION_INFO_SIZE, RelocationInfo, SYMTAB_COMMAND_SIZE,
-    mach_header_size, nlist_size, section_header_size, segment_command_size,
+    mach_header_size, nlist_size, pack_dysymtab_front, pack_mach_header, pack_segment_back,
+    pack_segment_front, pack_symtab, section_header_size, segment_command_size,
 };
 use oc_neutral::{Neutral, Section};
 use oc_shelf::copy_window;

@@ -9,7 +9,6 @@ ghost use Rattle.oc_neutral.specs.Normal.{Place as Held};
 ghost use Rattle.oc_neutral.specs.Objects.{Object};
 ghost use Rattle.oc_neutral.specs.Rows.{TakesPlace, same_taken, taken_of};
 ghost use Rattle.oc_neutral.specs.Shifts.{said_shift};
-ghost use Rattle.oc_macho_read.specs.MachHeader.{mach_format};
 ghost use Rattle.oc_macho_file.specs.Addresses.{address_of};
 ghost use Rattle.oc_macho_file.specs.Bodies as bodies;
 ghost use Rattle.oc_macho_write.specs.Relocations.{number_at};
@@ -18,8 +17,9 @@ ghost use Rattle.oc_macho_write.specs.Forms.{AreWritten, IsFor, IsReady, IsScene
 
 use crate::values::global_place;
 use oc_algebra::to_field;
-use oc_base::{Format, Word};
+use oc_base::Word;
 use oc_express::{Spelling, lookup};
+use oc_macho::format_of;
 use oc_neutral::{Less, Reloc, Symbol, Target, Width};
 
 /// How many bytes a self-relative field of x86-64 has, from whose end the value is taken.
@@ -47,16 +47,6 @@ pub(crate) struct Standing {
     pub(crate) reloc: Reloc,
     /// The type number or numbers.
     pub(crate) spelling: Spelling,
-}
-
-// the format of a word
-fn format_of(word: Word) -> Format
-    ensures { result ≡ mach_format word }
-{
-    match word {
-        Word::W32 => Format::Mac32,
-        Word::W64 => Format::Mac64,
-    }
 }
 
 /// A relocation at an offset of a section, where the format has its form. Constant time.

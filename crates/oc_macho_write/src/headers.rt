@@ -4,10 +4,8 @@ ghost use Rattle.std.specs.Prelude.{◌≡◌, ◌<◌, ◌^◌, ℕ, length, sl
 ghost use Rattle.oc_neutral.specs.Fitted.{IsFitted};
 ghost use Rattle.oc_neutral.specs.Objects.{Object};
 ghost use Rattle.oc_neutral.specs.declared.section.Section.{Section as Held};
-ghost use Rattle.oc_macho_read.specs.MachHeader as header;
-ghost use Rattle.oc_macho_read.specs.MachHeader.{mach_format};
+ghost use Rattle.oc_macho.specs.MachHeader.{mach_format};
 ghost use Rattle.oc_macho_file.specs.Canonical as canonical;
-ghost use Rattle.oc_macho_file.specs.Structures as structures;
 ghost use Rattle.oc_macho_write.specs.Addresses.{AreAllAddresses};
 ghost use Rattle.oc_macho_write.specs.Bodies.{AreBodies};
 ghost use Rattle.oc_macho_write.specs.Heads as heads;
@@ -16,38 +14,17 @@ ghost use Rattle.oc_macho_write.specs.Places.{ArePlaces};
 use crate::addresses::Addresses;
 use crate::bodies::Bodies;
 use crate::layout::{commands_length, contents_begin};
-use crate::names::{padded, section_of, segment_of};
+use crate::names::{section_of, segment_of};
 use crate::places::Places;
 use crate::strings::strings_size;
 use crate::values::exponent_of;
 use oc_base::{NoMemory, Word};
-use oc_macho_file::{COMMAND_COUNT, CPU_SUBTYPE_ALL, VM_PROT_ALL};
-use oc_macho_read::{
-    CPU_TYPE_X86, CPU_TYPE_X86_64, MH_MAGIC, MH_MAGIC_64, MH_OBJECT, MachHeader, NAME_SIZE,
-    SectionHeader, SegmentCommand, SymtabCommand,
+use oc_macho::{
+    COMMAND_COUNT, CPU_SUBTYPE_ALL, MH_OBJECT, MachHeader, NAME_SIZE, SectionHeader,
+    SegmentCommand, SymtabCommand, VM_PROT_ALL, cpu_type, magic_of, padded,
 };
 use oc_neutral::Neutral;
 use std::alloc::Global;
-
-// the first bytes of a file
-fn magic_of(word: Word) -> u32
-    ensures { result ≡ structures.magic_of word }
-{
-    match word {
-        Word::W32 => MH_MAGIC,
-        Word::W64 => MH_MAGIC_64,
-    }
-}
-
-// the processor
-fn cpu_type(word: Word) -> u32
-    ensures { result ≡ header.cpu_type word }
-{
-    match word {
-        Word::W32 => CPU_TYPE_X86,
-        Word::W64 => CPU_TYPE_X86_64,
-    }
-}
 
 /// The header of a file with so many sections, without flags. Constant time.
 pub(crate) fn file_header(word: Word, sections: usize) -> MachHeader

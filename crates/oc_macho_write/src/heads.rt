@@ -1,7 +1,7 @@
 //! The headers and commands of a file together.
 ghost use Rattle.std.specs.Prelude.{◌≡◌, ◌+◌, ◌-◌, ◌^◌, ◌<◌, ◌≤◌, length, IfOk};
 ghost use Rattle.oc_neutral.specs.Fitted.{IsFitted};
-ghost use Rattle.oc_macho_read.specs.MachHeader.{mach_format};
+ghost use Rattle.oc_macho.specs.MachHeader.{mach_format};
 ghost use Rattle.oc_macho_file.specs.Lines as mach_lines;
 ghost use Rattle.oc_macho_write.specs.Addresses.{AreAllAddresses};
 ghost use Rattle.oc_macho_write.specs.Bodies.{AreBodies};
@@ -15,9 +15,8 @@ use crate::headers::{file_header, section_headers, segment_of_file, symtab_comma
 use crate::layout::segment_length;
 use crate::lines::Lines;
 use crate::places::Places;
-use crate::structures::Dysymtab;
 use oc_base::{NoMemory, Word};
-use oc_macho_read::{MachHeader, SectionHeader, SegmentCommand, SymtabCommand};
+use oc_macho::{Dysymtab, MachHeader, SectionHeader, SegmentCommand, SymtabCommand};
 use oc_neutral::Neutral;
 use std::alloc::Global;
 

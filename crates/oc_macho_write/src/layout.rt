@@ -3,7 +3,7 @@ ghost use Rattle.std.specs.Prelude.{◌≡◌, ◌+◌, ◌*◌, ◌<◌, ◌≤
 ghost use Rattle.oc_base.specs.declared.format.Word.{Word as Width};
 ghost use Rattle.oc_neutral.specs.Fitted.{IsFitted};
 ghost use Rattle.oc_neutral.specs.Objects.{Object};
-ghost use Rattle.oc_macho_read.specs.MachHeader.{mach_format};
+ghost use Rattle.oc_macho.specs.MachHeader.{mach_format};
 ghost use Rattle.oc_macho_file.specs.Layout as layout;
 ghost use Rattle.oc_macho_write.specs.Bodies.{AreBodies};
 ghost use Rattle.oc_macho_write.specs.LaidParts.{AreLaid};
@@ -11,11 +11,10 @@ ghost use Rattle.oc_macho_write.specs.Parts.{AreParts, part_in};
 
 use crate::bodies::{Bodies, part_size};
 use crate::parts::Part;
-use crate::structures::word_bytes;
 use oc_base::{NoMemory, Word};
-use oc_macho_read::{
+use oc_macho::{
     DYSYMTAB_COMMAND_SIZE, SYMTAB_COMMAND_SIZE, mach_header_size, section_header_size,
-    segment_command_size,
+    segment_command_size, word_bytes,
 };
 use oc_neutral::Neutral;
 use oc_shelf::aligned_place;

@@ -4,7 +4,7 @@ ghost use Rattle.std.specs.Prelude.{◌≡◌, ◌<◌, ◌+◌, ◌++◌, ◌&&
 ghost use Rattle.oc_linking.specs.Parts as parts;
 ghost use Rattle.oc_neutral.specs.Mach.SectionSymbols as section_symbols;
 ghost use Rattle.oc_neutral.specs.WrittenSymbols.{is_written};
-ghost use Rattle.oc_macho_read.specs.MachHeader.{mach_format};
+ghost use Rattle.oc_macho.specs.MachHeader.{mach_format};
 ghost use Rattle.oc_macho_file.specs.Lines as mach_lines;
 ghost use Rattle.oc_macho_write.specs.Lines.{AreLines, is_outer, lines_in};
 

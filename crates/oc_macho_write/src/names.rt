@@ -1,14 +1,12 @@
 //! The names of sections in their headers, and of the symbols that stand for them.
-ghost use Rattle.std.specs.Prelude.{◌≡◌, ◌++◌, ◌+◌, ◌≤◌, ℕ, List, IfOk, length};
+ghost use Rattle.std.specs.Prelude.{◌≡◌, ℕ, List, IfOk};
 ghost use Rattle.oc_neutral.specs.Mach.Kinds as kinds;
 ghost use Rattle.oc_neutral.specs.Mach.SectionSymbols.{section_symbol_name};
 ghost use Rattle.oc_macho_file.specs.Layout as layout;
-ghost use Rattle.oc_macho_file.specs.Structures as structures;
 ghost use Rattle.oc_express.specs.Commas.{comma_place};
 ghost use Rattle.oc_macho_write.specs.Strings.{table_with};
 
 use oc_base::{Bytes, NoMemory};
-use oc_macho_read::NAME_SIZE;
 use oc_strings::Table;
 use std::alloc::Global;
 
@@ -45,16 +43,6 @@ pub(crate) fn section_of(name: &[u8]) -> &[u8]
         Some(at) => &name[at + 1..],
         None => &[],
     }
-}
-
-/// A name of up to 16 bytes, with NULs behind it. Constant time.
-pub(crate) fn padded(name: &[u8]) -> [u8; NAME_SIZE]
-    requires { length name.now ≤ 16 }
-    ensures { result ≡ structures.padded name.now }
-{
-    let mut padded = [0; NAME_SIZE];
-    padded[..name.len()].copy_from_slice(name);
-    padded
 }
 
 /// The offset of a name in a string table; 0, where the empty name stands, if it was not given. It is

@@ -4,7 +4,7 @@ ghost use Rattle.oc_base.specs.declared.format.Word.{Word};
 ghost use Rattle.oc_neutral.specs.Fitted.{IsFitted};
 ghost use Rattle.oc_neutral.specs.declared.reloc.Target.TheVariants as to;
 ghost use Rattle.oc_neutral.specs.Objects.{Object};
-ghost use Rattle.oc_macho_read.specs.MachHeader.{mach_format};
+ghost use Rattle.oc_macho.specs.MachHeader.{mach_format};
 ghost use Rattle.oc_macho_file.specs.Bodies.{reference_to};
 ghost use Rattle.oc_macho_file.specs.Lines as mach_lines;
 ghost use Rattle.oc_macho_write.specs.Lines.{AreLines, line_in};
@@ -12,7 +12,7 @@ ghost use Rattle.oc_macho_write.specs.Numbers.{AreSized, CanGive, HasNumber, IsB
 
 use crate::lines::Line;
 use oc_base::{NoMemory, Word};
-use oc_macho_read::Reference;
+use oc_macho::Reference;
 use oc_neutral::{Neutral, Target};
 use std::alloc::Global;
 

@@ -1,6 +1,6 @@
 //! Planning the canonical Mach-O file of an object that is ready to be written.
 ghost use Rattle.std.specs.Prelude.{◌≡◌, IfOk, map};
-ghost use Rattle.oc_macho_read.specs.MachHeader.{mach_format};
+ghost use Rattle.oc_macho.specs.MachHeader.{mach_format};
 ghost use Rattle.oc_macho_write.specs.Plans.{mach_pieces};
 ghost use Rattle.oc_macho_write.specs.Relocations.{all_raws};
 ghost use Rattle.oc_macho_write.specs.Values.{AreAddresses};

@@ -5,7 +5,7 @@ ghost use Rattle.oc_base.specs.declared.format.Word.{Word};
 ghost use Rattle.oc_neutral.specs.Fitted.{IsFitted};
 ghost use Rattle.oc_neutral.specs.Mach.Relocs as relocs;
 ghost use Rattle.oc_neutral.specs.Objects.{Object};
-ghost use Rattle.oc_macho_read.specs.MachHeader.{mach_format};
+ghost use Rattle.oc_macho.specs.MachHeader.{mach_format};
 ghost use Rattle.oc_macho_file.specs.Bodies as bodies;
 ghost use Rattle.oc_macho_file.specs.Lines.{numbered_lines};
 ghost use Rattle.oc_macho_write.specs.Forms.{IsFor, IsReady, IsScene, IsWritten};
@@ -18,7 +18,7 @@ use crate::numbers::Numbers;
 use oc_base::{NoMemory, Word};
 use oc_chains::Field;
 use oc_express::Spelling;
-use oc_macho_read::{Reference, RelocationInfo};
+use oc_macho::{Reference, RelocationInfo};
 use oc_neutral::{Neutral, Reloc};
 use std::alloc::Global;
 

@@ -1,9 +1,9 @@
 //! The string table (Mach-O reference, "nlist"; our profile).
 ghost use Rattle.std.specs.Prelude.{◌≡◌, ◌+◌, ◌^◌, ◌<◌, ◌≤◌, ◌-◌, Some, IsSome, IfOk, length};
 ghost use Rattle.oc_neutral.specs.Fitted.{IsFitted};
-ghost use Rattle.oc_macho_read.specs.MachHeader.{mach_format};
+ghost use Rattle.oc_macho.specs.MachHeader.{mach_format};
 ghost use Rattle.oc_shelf.specs.Writing.Parts.{aligned};
-ghost use Rattle.oc_macho_read.specs.MachHeader.{address_size};
+ghost use Rattle.oc_macho.specs.MachHeader.{address_size};
 ghost use Rattle.oc_macho_file.specs.Layout as layout;
 ghost use Rattle.oc_macho_file.specs.Layout.{filled, strings_of};
 ghost use Rattle.oc_macho_file.specs.Lines as mach_lines;
@@ -12,8 +12,8 @@ ghost use Rattle.oc_macho_write.specs.Strings.{table_with};
 
 use crate::lines::Line;
 use crate::names::section_symbol_name;
-use crate::structures::word_bytes;
 use oc_base::{Bytes, NoMemory, Word};
+use oc_macho::word_bytes;
 use oc_neutral::Neutral;
 use oc_shelf::aligned_place;
 use oc_strings::Table;

@@ -3,7 +3,7 @@ ghost use Rattle.std.specs.Prelude.{◌≡◌, ◌<◌, ℕ, length, map, Some, 
 ghost use Rattle.oc_base.specs.declared.format.Word.{Word};
 ghost use Rattle.oc_neutral.specs.Fitted.{IsFitted};
 ghost use Rattle.oc_neutral.specs.Invariants.{IsBinding};
-ghost use Rattle.oc_macho_read.specs.MachHeader.{mach_format};
+ghost use Rattle.oc_macho.specs.MachHeader.{mach_format};
 ghost use Rattle.oc_macho_file.specs.Layout as layout;
 ghost use Rattle.oc_macho_file.specs.Lines as mach_lines;
 ghost use Rattle.oc_macho_file.specs.Symbols as symbols;
@@ -15,7 +15,7 @@ use crate::lines::Line;
 use crate::names::{offset_in, section_symbol_name};
 use crate::values;
 use oc_base::{NoMemory, Word};
-use oc_macho_read::Nlist;
+use oc_macho::Nlist;
 use oc_neutral::{Neutral, Symbol};
 use oc_strings::Table;
 use std::alloc::Global;

@@ -2,17 +2,17 @@
 ghost use Rattle.std.specs.Prelude.{◌≡◌, ◌+◌, ◌-◌, ◌*◌, ◌^◌, ◌<◌, ◌≤◌, ◌++◌, List, ℕ, length, map};
 ghost use Rattle.oc_outside.specs.Windows.{IsFilled};
 ghost use Rattle.oc_shelf.specs.Writing.Parts.{table_of, HaveSize};
-ghost use Rattle.oc_macho_read.specs.SectionHeader.{section_header_size};
-ghost use Rattle.oc_macho_read.specs.MachHeader.{address_size};
+ghost use Rattle.oc_macho.specs.SectionHeader.{section_header_size};
+ghost use Rattle.oc_macho.specs.MachHeader.{address_size};
 ghost use Rattle.oc_macho_file.specs.Layout.{filled, strings_of};
-ghost use Rattle.oc_macho_file.specs.Structures.{nlist_bytes, relocation_bytes, section_bytes};
+ghost use Rattle.oc_macho.specs.Structures.{nlist_bytes, relocation_bytes, section_bytes};
 
 use crate::strings::{STRINGS_HEAD, padding};
-use crate::structures::{pack_nlist, pack_relocation, pack_section_names, pack_section_numbers};
 use crate::windows::pair_window;
 use oc_base::Word;
-use oc_macho_read::{
-    Nlist, RELOCATION_INFO_SIZE, RelocationInfo, SectionHeader, nlist_size, section_header_size,
+use oc_macho::{
+    Nlist, RELOCATION_INFO_SIZE, RelocationInfo, SectionHeader, nlist_size, pack_nlist,
+    pack_relocation, pack_section_names, pack_section_numbers, section_header_size,
 };
 use oc_shelf::{WritesRows, rows_window, zero_window};
 use oc_strings::Table;
@@ -26,7 +26,7 @@ struct NlistRows<'a> {
 
 impl WritesRows for NlistRows<'_> {
     ghost use Rattle.std.specs.Prelude.{map};
-    ghost use Rattle.oc_macho_file.specs.Structures.{nlist_bytes};
+    ghost use Rattle.oc_macho.specs.Structures.{nlist_bytes};
 
     ghost rows = { λ t. map (nlist_bytes t.word) t.nlists.now };
 
@@ -60,7 +60,7 @@ struct RelocationRows<'a> {
 
 impl WritesRows for RelocationRows<'_> {
     ghost use Rattle.std.specs.Prelude.{map};
-    ghost use Rattle.oc_macho_file.specs.Structures.{relocation_bytes};
+    ghost use Rattle.oc_macho.specs.Structures.{relocation_bytes};
 
     ghost rows = { λ t. map relocation_bytes t.entries.now };
 

@@ -8,9 +8,7 @@ ghost use Rattle.oc_neutral.specs.Normal.{Place as Held};
 ghost use Rattle.oc_macho_file.specs.Symbols as symbols;
 ghost use Rattle.oc_macho_write.specs.Values.{AreAddresses, AreStood};
 
-use oc_macho_read::{
-    MOST_ALIGN_EXPONENT, N_ABS, N_EXT, N_PEXT, N_SECT, N_UNDF, N_WEAK_DEF, N_WEAK_REF,
-};
+use oc_macho::{MOST_ALIGN_EXPONENT, N_ABS, N_EXT, N_PEXT, N_SECT, N_UNDF, N_WEAK_DEF, N_WEAK_REF};
 use oc_neutral::{Binding, Fallback, Neutral, Value, Visibility};
 
 /// A value, and the section that it counts from.

@@ -1,6 +1,6 @@
 //! The writers of Mach-O.
 ghost use Rattle.oc_base.specs.declared.format.Word.TheVariants.{W32, W64};
-ghost use Rattle.oc_macho_read.specs.Rules.{mach_dialect};
+ghost use Rattle.oc_macho.specs.Rules.{mach_dialect};
 ghost use Rattle.oc_macho_file.specs.Canonical.{mach_file};
 ghost use Rattle.oc_macho_write.specs.Writing.{writes_mach};
 

@@ -25,10 +25,10 @@ use Rattle.oc_convert.specs.Refusals.{first_refusal, object_refusal, edited_refu
 use Rattle.oc_convert.specs.Dispatched.{dispatch_refusal, refusal_from, header_refusal}
 use Rattle.oc_dispatch.specs.Built.{built, reader_of}
 use Rattle.oc_canonical.proofs.Known.{elf_known}
-use Rattle.oc_elf_read.specs.declared.class.ElfClass.{ElfClass}
-use Rattle.oc_elf_read.specs.declared.class.ElfClass.TheVariants.{Class32, Class64}
-use Rattle.oc_elf_read.specs.Classes.{format_of}
-use Rattle.oc_elf_read.specs.Elf.{elf_dialect}
+use Rattle.oc_elf.specs.declared.class.ElfClass.{ElfClass}
+use Rattle.oc_elf.specs.declared.class.ElfClass.TheVariants.{Class32, Class64}
+use Rattle.oc_elf.specs.Classes.{format_of}
+use Rattle.oc_elf.specs.Elf.{elf_dialect}
 use Rattle.oc_elf_file.specs.Canonical.{elf_file}
 use Rattle.oc_made.specs.Files.{class_for, made_bytes}
 use Rattle.oc_made.specs.Functions.{calls_of, elf_format, made_object, symbols_of, text_section}

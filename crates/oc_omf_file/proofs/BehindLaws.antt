@@ -12,9 +12,9 @@ use Rattle.oc_neutral.specs.declared.section.Section.{Section}
 use Rattle.oc_neutral.specs.declared.symbol.Symbol.{Symbol}
 use Rattle.oc_neutral.specs.Objects.{Object}
 use Rattle.oc_shelf.proofs.WritingLaws.MemberLemmas.{each_append, each_filter_map, each_enumerated}
-use Rattle.oc_omf_read.specs.declared.structures.Segment as read
-use Rattle.oc_omf_read.specs.Structures.{Group, Public, External}
-use Rattle.oc_omf_read.specs.Tables.{Tables}
+use Rattle.oc_omf.specs.declared.structures.Segment as read
+use Rattle.oc_omf.specs.Structures.{Group, Public, External}
+use Rattle.oc_omf.specs.Tables.{Tables}
 use Rattle.oc_omf_file.specs.Names.{names_of, names_size}
 use Rattle.oc_omf_file.specs.Pieces.{offsets_of, pieces_of, fields_between}
 use Rattle.oc_omf_file.specs.Outputs.{Output, external_by, communal_by, public_by, external_output, communal_output, public_output, indexed_outputs, symbol_outputs, piece_outputs, data_outputs, segment_output, outputs_of}

@@ -8,7 +8,7 @@ use Rattle.oc_base.proofs.NumberLaws.{length-bytes_of_number}
 use Rattle.oc_omf_records.specs.NextEntry.{length_field, end_of_entry, is_whole, is_summed, entry_of}
 use Rattle.oc_shelf.specs.Writing.Parts.{Stands}
 use Rattle.oc_shelf.proofs.WritingLaws.StandingLemmas.{stands_front, stands_back, stands_inside, stands_take, stands_number}
-use Rattle.oc_omf_file.specs.Structures.{checksum, entry_bytes}
+use Rattle.oc_omf.specs.Bytes.{checksum, entry_bytes}
 use Rattle.oc_omf_file.proofs.CursorLaws.{stands_byte}
 
 -- an entry before its checksum

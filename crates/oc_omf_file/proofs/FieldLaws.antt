@@ -39,10 +39,10 @@ use Rattle.oc_neutral.specs.Rows.{Row, shift_of}
 use Rattle.oc_neutral.specs.Seen.{section_place, seen_reloc, seen_target}
 use Rattle.oc_neutral.proofs.MeetsRelocs.{no_error}
 use Rattle.oc_neutral.proofs.ShiftLemmas.{four_bytes_hold}
-use Rattle.oc_omf_read.specs.Sections.{size_at, contents_of}
-use Rattle.oc_omf_read.specs.Fixups.{Fixed, fixed_from, has_field, placed_upto, is_of_segment, field_offsets}
-use Rattle.oc_omf_read.specs.Targets.{target_of}
-use Rattle.oc_omf_read.specs.Fields.{row_of, aim_of, field_of, field_by, relocates}
+use Rattle.oc_omf.specs.Sections.{size_at, contents_of}
+use Rattle.oc_omf.specs.Fixups.{Fixed, fixed_from, has_field, placed_upto, is_of_segment, field_offsets}
+use Rattle.oc_omf.specs.Targets.{target_of}
+use Rattle.oc_omf.specs.Fields.{row_of, aim_of, field_of, field_by, relocates}
 use Rattle.oc_omf_file.specs.Fixups.{written_reloc, row_by, number_or, number_by, field_number, field_patch, field_patches, raw_of, target_method}
 use Rattle.oc_omf_file.proofs.ListLemmas.{find_fails, find_there}
 use Rattle.oc_omf_file.proofs.BehindLaws.{told}

@@ -14,12 +14,12 @@ use Rattle.oc_neutral.specs.Objects.{Object, reloc_at}
 use Rattle.oc_neutral.specs.Omf.Relocs.{ByTarget}
 use Rattle.oc_omf_records.specs.Blocks.{found, in_each}
 use Rattle.oc_shelf.proofs.WritingLaws.MemberLemmas.{each_flat_map, member_enumerated, member_flat_map, member_map, of_map}
-use Rattle.oc_omf_read.specs.declared.structures.Subrecord.{Subrecord}
-use Rattle.oc_omf_read.specs.declared.structures.Subrecord.TheVariants as subrecord
-use Rattle.oc_omf_read.specs.Cursor.{Read}
-use Rattle.oc_omf_read.specs.Entries.{Entry}
-use Rattle.oc_omf_read.specs.Tables.{Tables, tables_of}
-use Rattle.oc_omf_read.specs.Fixups.{Placed, placed_by, placed_upto, last_of, Fixed, fixed_from, copies_for, field_offsets, is_of_segment}
+use Rattle.oc_omf.specs.declared.structures.Subrecord.{Subrecord}
+use Rattle.oc_omf.specs.declared.structures.Subrecord.TheVariants as subrecord
+use Rattle.oc_omf.specs.Cursor.{Read}
+use Rattle.oc_omf.specs.Entries.{Entry}
+use Rattle.oc_omf.specs.Tables.{Tables, tables_of}
+use Rattle.oc_omf.specs.Fixups.{Placed, placed_by, placed_upto, last_of, Fixed, fixed_from, copies_for, field_offsets, is_of_segment}
 use Rattle.oc_omf_file.specs.Pieces.{offsets_of, pieces_of, fields_between}
 use Rattle.oc_omf_file.specs.Outputs.{Output, symbol_outputs, piece_outputs, data_outputs, segment_output, outputs_of}
 use Rattle.oc_omf_file.specs.Outputs as output

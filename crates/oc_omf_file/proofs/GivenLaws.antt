@@ -7,12 +7,12 @@ use Rattle.oc_neutral.specs.KeySymbols.{global_place}
 use Rattle.oc_neutral.specs.Normal.{Place}
 use Rattle.oc_neutral.specs.Objects.{Object}
 use Rattle.oc_omf_records.specs.Blocks.{none, content}
-use Rattle.oc_omf_read.specs.declared.structures.Segment as read
-use Rattle.oc_omf_read.specs.Structures.{Group, Public, External, Piece}
-use Rattle.oc_omf_read.specs.Entries.{Entry, says_nothing, in_file, all_read}
-use Rattle.oc_omf_read.specs.Tables.{Tables, tables_of}
-use Rattle.oc_omf_read.specs.Symbols.{Mention, entry_mentions}
-use Rattle.oc_omf_file.specs.Structures.{name_bytes}
+use Rattle.oc_omf.specs.declared.structures.Segment as read
+use Rattle.oc_omf.specs.Structures.{Group, Public, External, Piece}
+use Rattle.oc_omf.specs.Entries.{Entry, says_nothing, in_file, all_read}
+use Rattle.oc_omf.specs.Tables.{Tables, tables_of}
+use Rattle.oc_omf.specs.Symbols.{Mention, entry_mentions}
+use Rattle.oc_omf.specs.Bytes.{name_bytes}
 use Rattle.oc_omf_file.specs.Outputs.{Output}
 use Rattle.oc_omf_file.specs.Outputs as output
 use Rattle.oc_omf_file.specs.Fixups.{raw_of}

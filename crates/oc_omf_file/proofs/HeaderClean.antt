@@ -9,8 +9,8 @@ use Rattle.oc_neutral.proofs.Positions.{there_at}
 use Rattle.oc_omf_records.specs.declared.records.Entry.{Entry as Record}
 use Rattle.oc_shelf.proofs.ReadingLaws.StageLemmas.{Unbroken, IsUnbroken}
 use Rattle.oc_shelf.proofs.WritingLaws.MemberLemmas.{member_enumerated, of_map}
-use Rattle.oc_omf_read.specs.Entries.{places_in}
-use Rattle.oc_omf_read.specs.HeaderFaults.{is_begun, record_conditions, entry_conditions, header_stage}
+use Rattle.oc_omf.specs.Entries.{places_in}
+use Rattle.oc_omf.specs.HeaderFaults.{is_begun, record_conditions, entry_conditions, header_stage}
 use Rattle.oc_omf_file.specs.Outputs.{Output, outputs_of}
 use Rattle.oc_omf_file.specs.Outputs as output
 use Rattle.oc_omf_file.specs.Canonical.{output_type, output_contents, omf_file}

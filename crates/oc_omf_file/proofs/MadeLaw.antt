@@ -20,11 +20,11 @@ use Rattle.oc_neutral.specs.Omf.Relocs.{Framed, ByTarget, BySelf}
 use Rattle.oc_omf_records.specs.Blocks.{none, content}
 use Rattle.oc_shelf.proofs.WritingLaws.MemberLemmas.{each_append, each_flat_map, each_map, each_filter_map, of_map}
 use Rattle.oc_shelf.proofs.WritingLaws.StandingLemmas.{stands_whole}
-use Rattle.oc_omf_read.specs.declared.constants.TheConstants.{PUBDEF, FIXUPP, MODEND}
-use Rattle.oc_omf_read.specs.declared.structures.Subrecord.{Subrecord}
-use Rattle.oc_omf_read.specs.Structures.{subrecord_read}
-use Rattle.oc_omf_read.specs.Entries.{Entry, is_kind, says_nothing, in_file, said_by, said_at, places_in, entries_in}
-use Rattle.oc_omf_file.specs.Structures.{wide, index_bytes, name_bytes}
+use Rattle.oc_omf.specs.declared.constants.TheConstants.{PUBDEF, FIXUPP, MODEND}
+use Rattle.oc_omf.specs.declared.structures.Subrecord.{Subrecord}
+use Rattle.oc_omf.specs.Structures.{subrecord_read}
+use Rattle.oc_omf.specs.Entries.{Entry, is_kind, says_nothing, in_file, said_by, said_at, places_in, entries_in}
+use Rattle.oc_omf.specs.Bytes.{wide, index_bytes, name_bytes}
 use Rattle.oc_omf_file.specs.Names.{names_of, filled_from, class_of, name_index}
 use Rattle.oc_omf_file.specs.Pieces.{pieces_of, fields_between}
 use Rattle.oc_omf_file.specs.Outputs.{Output, external_by, communal_by, public_by, external_output, communal_output, public_output, indexed_outputs, symbol_outputs, piece_outputs, data_outputs, segment_output, outputs_of}

@@ -6,9 +6,9 @@ use Rattle.std.proofs.lemmas.Option.{none-some, same_Some}
 use Rattle.oc_omf_records.specs.NextEntry.{end_of_entry, entry_of}
 use Rattle.oc_shelf.specs.Writing.Parts.{Stands}
 use Rattle.oc_shelf.proofs.WritingLaws.StandingLemmas.{stands_front, stands_back}
-use Rattle.oc_omf_read.specs.declared.constants.TheConstants.{MODEND}
-use Rattle.oc_omf_read.specs.Entries.{Entry, is_kind, said_by, said_at, is_last, places_upto}
-use Rattle.oc_omf_file.specs.Structures.{entry_bytes}
+use Rattle.oc_omf.specs.declared.constants.TheConstants.{MODEND}
+use Rattle.oc_omf.specs.Entries.{Entry, is_kind, said_by, said_at, is_last, places_upto}
+use Rattle.oc_omf.specs.Bytes.{entry_bytes}
 use Rattle.oc_omf_file.proofs.EntryLaws.{IsEntry, entry_stands, length-entry}
 
 -- a type and contents

@@ -13,9 +13,9 @@ use Rattle.oc_neutral.specs.declared.section.Section.{Section}
 use Rattle.oc_neutral.specs.Objects.{Object}
 use Rattle.oc_neutral.specs.Omf.Kinds.{omf_class}
 use Rattle.oc_shelf.proofs.WritingLaws.MemberLemmas.{member_flat_map, each_append, each_flat_map}
-use Rattle.oc_omf_read.specs.Tables.{Tables, indexed, name_at}
-use Rattle.oc_omf_file.specs.declared.constants.TheConstants.{MOST_ENTRY_BYTES}
-use Rattle.oc_omf_file.specs.Structures.{name_bytes}
+use Rattle.oc_omf.specs.Tables.{Tables, indexed, name_at}
+use Rattle.oc_omf.specs.declared.constants.TheConstants.{MOST_ENTRY_BYTES}
+use Rattle.oc_omf.specs.Bytes.{name_bytes}
 use Rattle.oc_omf_file.specs.Names.{class_of, with_name, names_of, name_index, names_size, filled_from}
 use Rattle.oc_omf_file.specs.Outputs as output
 use Rattle.oc_omf_file.proofs.GivenLaws.{names_by}

@@ -12,15 +12,15 @@ use Rattle.oc_neutral.specs.Normal.{Place}
 use Rattle.oc_neutral.specs.Objects.{Object}
 use Rattle.oc_neutral.specs.Omf.Relocs.{ByTarget, BySelf}
 use Rattle.oc_shelf.proofs.WritingLaws.MemberLemmas.{member_first, member_second}
-use Rattle.oc_omf_read.specs.declared.cut.Cut.{Cut}
-use Rattle.oc_omf_read.specs.declared.structures.Method.{Method}
-use Rattle.oc_omf_read.specs.declared.structures.Datum.TheVariants as datum
-use Rattle.oc_omf_read.specs.declared.structures.Fixup.{Fixup}
-use Rattle.oc_omf_read.specs.declared.structures.Subrecord.{Subrecord}
-use Rattle.oc_omf_read.specs.declared.structures.Subrecord.TheVariants as subrecord
-use Rattle.oc_omf_read.specs.Cursor.{Read}
-use Rattle.oc_omf_read.specs.Entries.{says_nothing, in_file}
-use Rattle.oc_omf_read.specs.Fixups.{Placed, method_of, last_of, Fixed, fixed_of, with_fixed, fixed_from}
+use Rattle.oc_omf.specs.declared.cut.Cut.{Cut}
+use Rattle.oc_omf.specs.declared.structures.Method.{Method}
+use Rattle.oc_omf.specs.declared.structures.Datum.TheVariants as datum
+use Rattle.oc_omf.specs.declared.structures.Fixup.{Fixup}
+use Rattle.oc_omf.specs.declared.structures.Subrecord.{Subrecord}
+use Rattle.oc_omf.specs.declared.structures.Subrecord.TheVariants as subrecord
+use Rattle.oc_omf.specs.Cursor.{Read}
+use Rattle.oc_omf.specs.Entries.{says_nothing, in_file}
+use Rattle.oc_omf.specs.Fixups.{Placed, method_of, last_of, Fixed, fixed_of, with_fixed, fixed_from}
 use Rattle.oc_omf_file.specs.Pieces.{fields_between}
 use Rattle.oc_omf_file.specs.Names.{names_of, filled_from}
 use Rattle.oc_omf_file.specs.Outputs.{Output, symbol_outputs, piece_outputs, data_outputs, segment_output, outputs_of}

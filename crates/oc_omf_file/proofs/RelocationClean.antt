@@ -18,15 +18,15 @@ use Rattle.oc_neutral.specs.Omf.Relocs.{ByTarget}
 use Rattle.oc_neutral.proofs.Positions.{there_at}
 use Rattle.oc_shelf.proofs.ReadingLaws.StageLemmas.{Unbroken, IsUnbroken}
 use Rattle.oc_shelf.proofs.WritingLaws.MemberLemmas.{each_append, none_passes, of_map}
-use Rattle.oc_omf_read.specs.declared.cut.Cut.{Cut}
-use Rattle.oc_omf_read.specs.declared.structures.Subrecord.{Subrecord}
-use Rattle.oc_omf_read.specs.Structures.{Piece}
-use Rattle.oc_omf_read.specs.Entries.{Entry}
-use Rattle.oc_omf_read.specs.Tables.{Tables, is_there}
-use Rattle.oc_omf_read.specs.Fixups.{Placed, placed_by, placed_upto, Fixed, fixed_from, fixed_in, is_inside, is_of_segment, field_offsets, are_near, meet}
-use Rattle.oc_omf_read.specs.Targets.{Meaning, meaning_of}
-use Rattle.oc_omf_read.specs.Fields.{aim_of}
-use Rattle.oc_omf_read.specs.RelocationFaults.{is_judged, has_row, fixup_conditions, part_conditions, relocation_conditions, relocation_stage, relocation_stages}
+use Rattle.oc_omf.specs.declared.cut.Cut.{Cut}
+use Rattle.oc_omf.specs.declared.structures.Subrecord.{Subrecord}
+use Rattle.oc_omf.specs.Structures.{Piece}
+use Rattle.oc_omf.specs.Entries.{Entry}
+use Rattle.oc_omf.specs.Tables.{Tables, is_there}
+use Rattle.oc_omf.specs.Fixups.{Placed, placed_by, placed_upto, Fixed, fixed_from, fixed_in, is_inside, is_of_segment, field_offsets, are_near, meet}
+use Rattle.oc_omf.specs.Targets.{Meaning, meaning_of}
+use Rattle.oc_omf.specs.Fields.{aim_of}
+use Rattle.oc_omf.specs.RelocationFaults.{is_judged, has_row, fixup_conditions, part_conditions, relocation_conditions, relocation_stage, relocation_stages}
 use Rattle.oc_omf_file.specs.Pieces.{fields_between}
 use Rattle.oc_omf_file.specs.Outputs.{Output, outputs_of}
 use Rattle.oc_omf_file.specs.Outputs as output

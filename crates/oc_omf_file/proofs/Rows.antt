@@ -27,7 +27,7 @@ use Rattle.oc_neutral.specs.declared.reloc.Target.{Target}
 use Rattle.oc_neutral.specs.declared.reloc.Target.TheVariants as target
 use Rattle.oc_neutral.specs.Objects.{Object}
 use Rattle.oc_neutral.specs.Spelling.{written_row}
-use Rattle.oc_omf_file.specs.Structures.{entry_bytes, index_bytes, length_bytes}
+use Rattle.oc_omf.specs.Bytes.{entry_bytes, index_bytes, length_bytes}
 use Rattle.oc_omf_file.specs.Names.{names_of, names_size, filled_from}
 use Rattle.oc_omf_file.specs.Pieces.{pieces_of}
 use Rattle.oc_omf_file.specs.Outputs.{symbol_outputs, outputs_of}

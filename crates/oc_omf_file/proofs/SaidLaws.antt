@@ -8,12 +8,12 @@ use Rattle.oc_base.specs.Numbers.{number_at, bytes_of_number}
 use Rattle.oc_omf_records.specs.Blocks.{none, content}
 use Rattle.oc_shelf.specs.Writing.Parts.{Stands}
 use Rattle.oc_shelf.proofs.WritingLaws.StandingLemmas.{stands_front, stands_back, stands_whole, stands_inside, stands_first}
-use Rattle.oc_omf_read.specs.declared.constants.TheConstants.{THEADR, LNAMES, SEGDEF, GRPDEF, EXTDEF, COMDEF, PUBDEF, LEDATA, MODEND, NEAR}
-use Rattle.oc_omf_read.specs.declared.structures.Segment.{Segment}
-use Rattle.oc_omf_read.specs.Cursor.{Reading, next, number_read, index_read, name_read, each_read}
-use Rattle.oc_omf_read.specs.Structures.{External, segment_read, member_read, group_read, base_read, public_read, external_read, communal_width, communal_length, communal_read, piece_read}
-use Rattle.oc_omf_read.specs.Entries.{says_nothing, in_file, whole, publics_of, said_by}
-use Rattle.oc_omf_file.specs.Structures.{wide, index_bytes, name_bytes, length_bytes}
+use Rattle.oc_omf.specs.declared.constants.TheConstants.{THEADR, LNAMES, SEGDEF, GRPDEF, EXTDEF, COMDEF, PUBDEF, LEDATA, MODEND, NEAR}
+use Rattle.oc_omf.specs.declared.structures.Segment.{Segment}
+use Rattle.oc_omf.specs.Cursor.{Reading, next, number_read, index_read, name_read, each_read}
+use Rattle.oc_omf.specs.Structures.{External, segment_read, member_read, group_read, base_read, public_read, external_read, communal_width, communal_length, communal_read, piece_read}
+use Rattle.oc_omf.specs.Entries.{says_nothing, in_file, whole, publics_of, said_by}
+use Rattle.oc_omf.specs.Bytes.{wide, index_bytes, name_bytes, length_bytes}
 use Rattle.oc_omf_file.proofs.CursorLaws.{Reads, stands_byte, reads_number, reads_name, reads_index, reads_next, placed, structures_read}
 
 -- a number of one byte

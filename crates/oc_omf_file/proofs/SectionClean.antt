@@ -19,13 +19,13 @@ use Rattle.oc_neutral.specs.Objects.{Object}
 use Rattle.oc_shelf.proofs.ReadingLaws.StageLemmas.{Unbroken, IsUnbroken, unbroken_append}
 use Rattle.oc_shelf.proofs.WritingLaws.MemberLemmas.{each_flat_map, member_enumerated, member_first, none_passes}
 use Rattle.oc_neutral.proofs.Positions.{there_at}
-use Rattle.oc_omf_read.specs.Structures.{Piece}
-use Rattle.oc_omf_read.specs.Entries.{Entry, says_nothing, in_file}
-use Rattle.oc_omf_read.specs.Tables.{Tables, tables_of, is_indexed}
-use Rattle.oc_omf_read.specs.Sections.{segment_size, size_at, piece_size, segment_kind}
-use Rattle.oc_omf_read.specs.Sections as read
-use Rattle.oc_omf_read.specs.SectionFaults.{name_conditions, is_combination, is_named, form_conditions, size_conditions, segment_conditions, group_conditions, pieces_meet, piece_conditions, bytes_size, all_bytes, end_conditions, conditions_on, section_conditions, section_stage}
-use Rattle.oc_omf_file.specs.Structures.{name_bytes}
+use Rattle.oc_omf.specs.Structures.{Piece}
+use Rattle.oc_omf.specs.Entries.{Entry, says_nothing, in_file}
+use Rattle.oc_omf.specs.Tables.{Tables, tables_of, is_indexed}
+use Rattle.oc_omf.specs.Sections.{segment_size, size_at, piece_size, segment_kind}
+use Rattle.oc_omf.specs.Sections as read
+use Rattle.oc_omf.specs.SectionFaults.{name_conditions, is_combination, is_named, form_conditions, size_conditions, segment_conditions, group_conditions, pieces_meet, piece_conditions, bytes_size, all_bytes, end_conditions, conditions_on, section_conditions, section_stage}
+use Rattle.oc_omf.specs.Bytes.{name_bytes}
 use Rattle.oc_omf_file.specs.Names.{names_of, class_of, name_index}
 use Rattle.oc_omf_file.specs.Outputs.{Output, outputs_of}
 use Rattle.oc_omf_file.specs.Outputs as output

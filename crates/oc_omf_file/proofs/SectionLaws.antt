@@ -19,11 +19,11 @@ use Rattle.oc_neutral.specs.Omf.Family.{omf_aligns}
 use Rattle.oc_neutral.specs.Omf.Kinds.{omf_kind, omf_tag}
 use Rattle.oc_neutral.specs.OmfMeets.{OmfSection}
 use Rattle.oc_neutral.proofs.Positions.{each_at}
-use Rattle.oc_omf_read.specs.Structures.{Piece}
-use Rattle.oc_omf_read.specs.Entries.{entries_in}
-use Rattle.oc_omf_read.specs.Tables.{Tables, tables_of, indexed, name_at}
-use Rattle.oc_omf_read.specs.Sections as read
-use Rattle.oc_omf_read.specs.Sections.{align_code, align_of, combination, is_big, is_use32, segment_size, size_at, piece_size, laid_over, contents_of, is_covered, segment_kind, section_of, sections_in}
+use Rattle.oc_omf.specs.Structures.{Piece}
+use Rattle.oc_omf.specs.Entries.{entries_in}
+use Rattle.oc_omf.specs.Tables.{Tables, tables_of, indexed, name_at}
+use Rattle.oc_omf.specs.Sections as read
+use Rattle.oc_omf.specs.Sections.{align_code, align_of, combination, is_big, is_use32, segment_size, size_at, piece_size, laid_over, contents_of, is_covered, segment_kind, section_of, sections_in}
 use Rattle.oc_omf_file.specs.Names.{class_of}
 use Rattle.oc_omf_file.specs.Pieces.{offsets_of, pieces_of, pieces_upto, fields_between}
 use Rattle.oc_shelf.proofs.WritingLaws.MemberLemmas.{member_map}

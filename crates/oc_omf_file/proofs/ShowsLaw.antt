@@ -44,14 +44,14 @@ use Rattle.oc_neutral.proofs.RowFieldLaws.{rows_are_fields, symbol_is_target}
 use Rattle.oc_neutral.proofs.SeenAlike.{relocs_same, numbers_differ}
 use Rattle.oc_neutral.proofs.SeenLaws.{seen_is_object_law}
 use Rattle.oc_shelf.proofs.WritingLaws.MemberLemmas.{of_map, member_map, member_enumerated}
-use Rattle.oc_omf_read.specs.Entries.{entries_in}
-use Rattle.oc_omf_read.specs.Tables.{tables_of}
-use Rattle.oc_omf_read.specs.Sections.{sections_in}
-use Rattle.oc_omf_read.specs.Symbols.{symbols_in}
-use Rattle.oc_omf_read.specs.Fixups.{fixed_in}
-use Rattle.oc_omf_read.specs.Targets.{meaning_of, section_target, target_of}
-use Rattle.oc_omf_read.specs.Fields.{relocates, field_by, fixups_in, fields_in}
-use Rattle.oc_omf_read.specs.Rules.{omf_dialect}
+use Rattle.oc_omf.specs.Entries.{entries_in}
+use Rattle.oc_omf.specs.Tables.{tables_of}
+use Rattle.oc_omf.specs.Sections.{sections_in}
+use Rattle.oc_omf.specs.Symbols.{symbols_in}
+use Rattle.oc_omf.specs.Fixups.{fixed_in}
+use Rattle.oc_omf.specs.Targets.{meaning_of, section_target, target_of}
+use Rattle.oc_omf.specs.Fields.{relocates, field_by, fixups_in, fields_in}
+use Rattle.oc_omf.specs.Rules.{omf_dialect}
 use Rattle.oc_omf_file.specs.Outputs.{symbol_number}
 use Rattle.oc_omf_file.specs.Fixups.{written_reloc, target_method, field_patch, field_patches, raw_of}
 use Rattle.oc_omf_file.specs.Canonical.{omf_file}

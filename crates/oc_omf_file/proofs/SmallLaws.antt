@@ -23,7 +23,7 @@ use Rattle.oc_neutral.specs.KeySymbols.{global_place}
 use Rattle.oc_neutral.specs.Objects.{Object, reloc_at}
 use Rattle.oc_neutral.specs.Omf.Relocs.{ByTarget, fixup_row}
 use Rattle.oc_linking.proofs.Overlay.{length-overlay}
-use Rattle.oc_omf_file.specs.Structures.{frame_bytes, index_bytes, name_bytes, length_bytes}
+use Rattle.oc_omf.specs.Bytes.{frame_bytes, index_bytes, name_bytes, length_bytes}
 use Rattle.oc_omf_file.specs.Names.{class_of, name_index}
 use Rattle.oc_omf_file.specs.Pieces.{fields_between}
 use Rattle.oc_omf_file.specs.Outputs.{Output, outputs_of}

@@ -18,13 +18,13 @@ use Rattle.oc_neutral.specs.Normal.{Place}
 use Rattle.oc_neutral.specs.Objects.{Object}
 use Rattle.oc_shelf.proofs.ReadingLaws.StageLemmas.{Unbroken, IsUnbroken}
 use Rattle.oc_shelf.proofs.WritingLaws.MemberLemmas.{each_flat_map, member_first, none_passes, of_map}
-use Rattle.oc_omf_read.specs.declared.structures.Communal.{Communal}
-use Rattle.oc_omf_read.specs.Structures.{Public, External, communal_width}
-use Rattle.oc_omf_read.specs.Entries.{Entry, says_nothing}
-use Rattle.oc_omf_read.specs.Tables.{tables_of}
-use Rattle.oc_omf_read.specs.Symbols.{Mention, same_symbol, public_mention, external_mention}
-use Rattle.oc_omf_read.specs.Sections.{size_at}
-use Rattle.oc_omf_read.specs.SymbolFaults.{Told, is_empty, base_conditions, same_public, public_conditions, is_no_form, is_other_length, communal_conditions, external_conditions, symbol_table, symbol_stage, told_in, symbol_stages}
+use Rattle.oc_omf.specs.declared.structures.Communal.{Communal}
+use Rattle.oc_omf.specs.Structures.{Public, External, communal_width}
+use Rattle.oc_omf.specs.Entries.{Entry, says_nothing}
+use Rattle.oc_omf.specs.Tables.{tables_of}
+use Rattle.oc_omf.specs.Symbols.{Mention, same_symbol, public_mention, external_mention}
+use Rattle.oc_omf.specs.Sections.{size_at}
+use Rattle.oc_omf.specs.SymbolFaults.{Told, is_empty, base_conditions, same_public, public_conditions, is_no_form, is_other_length, communal_conditions, external_conditions, symbol_table, symbol_stage, told_in, symbol_stages}
 use Rattle.oc_omf_file.specs.Outputs.{Output, symbol_outputs, outputs_of}
 use Rattle.oc_omf_file.specs.Outputs as output
 use Rattle.oc_omf_file.specs.Canonical.{segment_of, size_by}

@@ -18,10 +18,10 @@ use Rattle.oc_neutral.specs.Objects.{Object}
 use Rattle.oc_neutral.specs.Powers.{natural_align}
 use Rattle.oc_neutral.specs.Seen.{seen_symbol, seen_symbols, seen_binding}
 use Rattle.oc_shelf.proofs.WritingLaws.MemberLemmas.{each_flat_map, member_flat_map, member_map, of_map, none_passes, position_first}
-use Rattle.oc_omf_read.specs.Structures.{Public, External}
-use Rattle.oc_omf_read.specs.Entries.{entries_in}
-use Rattle.oc_omf_read.specs.Tables.{Tables, tables_of}
-use Rattle.oc_omf_read.specs.Symbols.{Mention, same_symbol, public_mention, external_mention, entry_mentions, with_new, mentions_in, number_of, public_of, public_binding, communal_of, binding_of, symbol_of, symbols_in}
+use Rattle.oc_omf.specs.Structures.{Public, External}
+use Rattle.oc_omf.specs.Entries.{entries_in}
+use Rattle.oc_omf.specs.Tables.{Tables, tables_of}
+use Rattle.oc_omf.specs.Symbols.{Mention, same_symbol, public_mention, external_mention, entry_mentions, with_new, mentions_in, number_of, public_of, public_binding, communal_of, binding_of, symbol_of, symbols_in}
 use Rattle.oc_omf_file.specs.Outputs.{Output, symbol_outputs, outputs_of}
 use Rattle.oc_omf_file.specs.Outputs as output
 use Rattle.oc_omf_file.specs.Canonical.{size_by, omf_file}

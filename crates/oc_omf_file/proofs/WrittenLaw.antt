@@ -4,10 +4,10 @@ use Rattle.std.specs.List.{AllByRecursion}
 use Rattle.oc_linking.specs.Keeping.{all}
 use Rattle.oc_neutral.specs.Objects.{Object}
 use Rattle.oc_shelf.proofs.ReadingLaws.StageLemmas.{IsUnbroken, no_first_fault}
-use Rattle.oc_omf_read.specs.Entries.{entries_in}
-use Rattle.oc_omf_read.specs.SymbolFaults.{symbol_stages}
-use Rattle.oc_omf_read.specs.RelocationFaults.{relocation_stages}
-use Rattle.oc_omf_read.specs.Rules.{OmfIsDialect, stages_of, fault_of}
+use Rattle.oc_omf.specs.Entries.{entries_in}
+use Rattle.oc_omf.specs.SymbolFaults.{symbol_stages}
+use Rattle.oc_omf.specs.RelocationFaults.{relocation_stages}
+use Rattle.oc_omf.specs.Rules.{OmfIsDialect, stages_of, fault_of}
 use Rattle.oc_omf_file.specs.Canonical.{omf_file}
 use Rattle.oc_omf_file.specs.Writing.{OmfIsWritten}
 use Rattle.oc_omf_file.proofs.ListLemmas.{all_both}

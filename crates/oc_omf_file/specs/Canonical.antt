@@ -8,10 +8,9 @@ use Rattle.oc_neutral.specs.declared.section.Section.{Section}
 use Rattle.oc_neutral.specs.KeySymbols.{global_place}
 use Rattle.oc_neutral.specs.Normal.{Place}
 use Rattle.oc_neutral.specs.Objects.{Object}
-use Rattle.oc_omf_read.specs.declared.constants.TheConstants.{THEADR, LNAMES, SEGDEF, GRPDEF, EXTDEF, COMDEF, PUBDEF, LEDATA, FIXUPP, MODEND}
-use Rattle.oc_omf_read.specs.declared.structures.Segment as read
-use Rattle.oc_omf_file.specs.declared.constants.TheConstants.{COMBINE_PUBLIC}
-use Rattle.oc_omf_file.specs.Structures.{wide, entry_bytes, name_bytes, index_bytes, segment_bytes, external_bytes, communal_bytes, public_bytes, data_bytes}
+use Rattle.oc_omf.specs.declared.constants.TheConstants.{THEADR, LNAMES, SEGDEF, GRPDEF, EXTDEF, COMDEF, PUBDEF, LEDATA, FIXUPP, MODEND, COMBINE_PUBLIC}
+use Rattle.oc_omf.specs.declared.structures.Segment as read
+use Rattle.oc_omf.specs.Bytes.{wide, entry_bytes, name_bytes, index_bytes, segment_bytes, external_bytes, communal_bytes, public_bytes, data_bytes}
 use Rattle.oc_omf_file.specs.Names.{class_of, name_index}
 use Rattle.oc_omf_file.specs.Pieces.{fields_between}
 use Rattle.oc_omf_file.specs.Outputs.{Output, Header, Names, Segment, Group, External, Communal, Public, Data, Fixups, End, outputs_of}

@@ -19,9 +19,9 @@ use Rattle.oc_neutral.specs.Omf.Relocs.{Framed, ByTarget, BySelf, fixup_row}
 use Rattle.oc_neutral.specs.Rows.{Row, shift_of}
 use Rattle.oc_neutral.specs.Seen.{section_place}
 use Rattle.oc_neutral.specs.Spelling.{written_row}
-use Rattle.oc_omf_read.specs.declared.structures.Method.{Method}
-use Rattle.oc_omf_file.specs.declared.constants.TheConstants.{METHOD_SEGMENT, METHOD_GROUP, METHOD_EXTERNAL, FRAME_OF_TARGET}
-use Rattle.oc_omf_file.specs.Structures.{fixup_bytes}
+use Rattle.oc_omf.specs.declared.structures.Method.{Method}
+use Rattle.oc_omf.specs.declared.constants.TheConstants.{METHOD_SEGMENT, METHOD_GROUP, METHOD_EXTERNAL, FRAME_OF_TARGET}
+use Rattle.oc_omf.specs.Bytes.{fixup_bytes}
 use Rattle.oc_omf_file.specs.Outputs.{symbol_number}
 
 -- a relocation as it is written: against a symbol that is defined here, as one against its section, with its offset added

@@ -1,7 +1,6 @@
-pub mod Structures
-pub mod Names
-pub mod Pieces
-pub mod Outputs
-pub mod Fixups
 pub mod Canonical
+pub mod Fixups
+pub mod Names
+pub mod Outputs
+pub mod Pieces
 pub mod Writing

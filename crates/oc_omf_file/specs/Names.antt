@@ -5,7 +5,7 @@ use Rattle.std.specs.Option.{unwrap_or}
 use Rattle.oc_neutral.specs.declared.section.Section.{Section}
 use Rattle.oc_neutral.specs.Objects.{Object}
 use Rattle.oc_neutral.specs.Omf.Kinds.{omf_class}
-use Rattle.oc_omf_file.specs.declared.constants.TheConstants.{MOST_ENTRY_BYTES}
+use Rattle.oc_omf.specs.declared.constants.TheConstants.{MOST_ENTRY_BYTES}
 
 -- the class of a section
 abbrev pub class_of : Section → List ℕ

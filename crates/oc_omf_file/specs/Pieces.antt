@@ -6,7 +6,7 @@ use Rattle.oc_chains.specs.Lists.{list_of}
 use Rattle.oc_neutral.specs.declared.section.Section.{Section}
 use Rattle.oc_neutral.specs.declared.reloc.Reloc.{Reloc}
 use Rattle.oc_neutral.specs.Objects.{Object}
-use Rattle.oc_omf_file.specs.declared.constants.TheConstants.{MOST_ENTRY_BYTES}
+use Rattle.oc_omf.specs.declared.constants.TheConstants.{MOST_ENTRY_BYTES}
 
 -- the offsets of the fields of the section at a position
 abbrev pub offsets_of : Object → ℕ → List ℕ

@@ -1,6 +1,6 @@
 -- OMF is written.
 use Rattle.oc_neutral.specs.Targets.{WritesCanonical}
-use Rattle.oc_omf_read.specs.Rules.{omf_dialect}
+use Rattle.oc_omf.specs.Rules.{omf_dialect}
 use Rattle.oc_omf_file.specs.Canonical.{omf_file}
 
 -- every object that is ready for OMF has its canonical file: well formed, and it shows the object that is seen

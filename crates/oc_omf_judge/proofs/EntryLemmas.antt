@@ -5,19 +5,19 @@ use Rattle.std.specs.Option.{option_map}
 use Rattle.std.proofs.lemmas.List.{length-append}
 use Rattle.std.proofs.lemmas.Option.{none-some, same_Some}
 use Rattle.oc_shelf.proofs.WritingLaws.MemberLemmas.{member_flat_map}
-use Rattle.oc_omf_read.specs.declared.cut.Cut.{Cut}
-use Rattle.oc_omf_read.specs.declared.topics.Topic.TheVariants as topic
-use Rattle.oc_omf_read.specs.Cursor.{Read, Reading}
-use Rattle.oc_omf_read.specs.Structures.{External, Piece, piece_read}
-use Rattle.oc_omf_read.specs.Entries.{Entry, all_read, in_file, says_nothing, whole}
-use Rattle.oc_omf_read.specs.Tables.{Tables, tables_of}
-use Rattle.oc_omf_read.specs.Fixups.{fixed_in, last_of}
-use Rattle.oc_omf_read.specs.Known.{AreInForce}
-use Rattle.oc_omf_read.specs.Topics.{said_on}
-use Rattle.oc_omf_read.specs.Defined.{and_entry, part_of}
-use Rattle.oc_omf_read.proofs.EachLemmas.{Goes}
-use Rattle.oc_omf_read.proofs.GoesLemmas.{communal_goes, external_goes}
-use Rattle.oc_omf_read.proofs.StageLaws.{read_in_file, whole_read}
+use Rattle.oc_omf.specs.declared.cut.Cut.{Cut}
+use Rattle.oc_omf.specs.declared.topics.Topic.TheVariants as topic
+use Rattle.oc_omf.specs.Cursor.{Read, Reading}
+use Rattle.oc_omf.specs.Structures.{External, Piece, piece_read}
+use Rattle.oc_omf.specs.Entries.{Entry, all_read, in_file, says_nothing, whole}
+use Rattle.oc_omf.specs.Tables.{Tables, tables_of}
+use Rattle.oc_omf.specs.Fixups.{fixed_in, last_of}
+use Rattle.oc_omf.specs.Known.{AreInForce}
+use Rattle.oc_omf.specs.Topics.{said_on}
+use Rattle.oc_omf_judge.specs.Defined.{and_entry, part_of}
+use Rattle.oc_omf.proofs.EachLemmas.{Goes}
+use Rattle.oc_omf_judge.proofs.GoesLemmas.{communal_goes, external_goes}
+use Rattle.oc_omf_judge.proofs.StageLaws.{read_in_file, whole_read}
 use Rattle.oc_omf_judge.specs.declared.counts.Counts.{Counts}
 use Rattle.oc_omf_judge.specs.declared.last_data.LastData.{LastData}
 use Rattle.oc_omf_judge.specs.declared.reached.Reached.{Reached}

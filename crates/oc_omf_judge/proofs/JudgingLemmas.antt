@@ -7,10 +7,10 @@ use Rattle.oc_shelf.specs.declared.reading.stop.Stop.{Stop}
 use Rattle.oc_shelf.specs.declared.reading.stop.Stop.TheVariants as stop
 use Rattle.oc_shelf.specs.Reading.Stops.{IsStop}
 use Rattle.oc_shelf.proofs.ReadingLaws.StageLemmas.{first_fault-append}
-use Rattle.oc_omf_read.specs.Entries.{entries_in}
-use Rattle.oc_omf_read.specs.RelocationFaults.{relocation_stages}
-use Rattle.oc_omf_read.specs.Rules.{fault_of, stages_of}
-use Rattle.oc_omf_read.specs.Judged.{front_stages}
+use Rattle.oc_omf.specs.Entries.{entries_in}
+use Rattle.oc_omf.specs.RelocationFaults.{relocation_stages}
+use Rattle.oc_omf.specs.Rules.{fault_of, stages_of}
+use Rattle.oc_omf_judge.specs.Judged.{front_stages}
 
 -- of the stages before relocations, and then of these
 pub fault_is : (file : List ℕ) (keep : Keep) → fault_of file keep ≡ or_else (first_fault (front_stages file)) (first_fault (relocation_stages (entries_in file) keep))

@@ -10,10 +10,10 @@ use Rattle.std.proofs.lemmas.List.Folds.{list_any-append}
 use Rattle.oc_linking.specs.Values.{numbered}
 use Rattle.oc_shelf.proofs.ReadingLaws.StageLemmas.{both_hold}
 use Rattle.oc_shelf.proofs.WritingLaws.MemberLemmas.{each_flat_map, member_flat_map, member_map, member_second}
-use Rattle.oc_omf_read.specs.Structures.{External}
-use Rattle.oc_omf_read.specs.Entries.{Entry, all_read}
-use Rattle.oc_omf_read.specs.Tables.{Tables, tables_of}
-use Rattle.oc_omf_read.specs.Symbols.{Mention, agree, entry_mentions, external_mention, mentions_in, number_of, public_mention, same_symbol, symbol_of, with_new}
+use Rattle.oc_omf.specs.Structures.{External}
+use Rattle.oc_omf.specs.Entries.{Entry, all_read}
+use Rattle.oc_omf.specs.Tables.{Tables, tables_of}
+use Rattle.oc_omf.specs.Symbols.{Mention, agree, entry_mentions, external_mention, mentions_in, number_of, public_mention, same_symbol, symbol_of, with_new}
 
 -- ... one symbol
 

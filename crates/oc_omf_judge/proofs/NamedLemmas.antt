@@ -11,17 +11,17 @@ use Rattle.oc_linking.specs.Rules.{Named as Shown}
 use Rattle.oc_linking.specs.Values.{numbered}
 use Rattle.oc_linking.specs.Targets.{Target, named_by, symbol_target}
 use Rattle.oc_neutral.specs.Powers.{natural_align}
-use Rattle.oc_omf_read.specs.declared.seen.External.{External as Mentioned}
-use Rattle.oc_omf_read.specs.declared.structures.Method.{Method}
-use Rattle.oc_omf_read.specs.Held.{Held, value_at}
-use Rattle.oc_omf_read.specs.Structures.{External, Public}
-use Rattle.oc_omf_read.specs.Tables.{Tables, indexed}
-use Rattle.oc_omf_read.specs.Symbols.{Mention, binding_of, communal_of, external_mention, mentions_in, number_of, public_binding, public_mention, public_of, same_symbol, symbol_of, symbols_in}
-use Rattle.oc_omf_read.specs.Targets.{external_at, meaning_of, section_target, target_of}
-use Rattle.oc_omf_read.specs.Seen.{mention_of}
+use Rattle.oc_omf_judge.specs.declared.seen.External.{External as Mentioned}
+use Rattle.oc_omf.specs.declared.structures.Method.{Method}
+use Rattle.oc_omf_judge.specs.Held.{Held, value_at}
+use Rattle.oc_omf.specs.Structures.{External, Public}
+use Rattle.oc_omf.specs.Tables.{Tables, indexed}
+use Rattle.oc_omf.specs.Symbols.{Mention, binding_of, communal_of, external_mention, mentions_in, number_of, public_binding, public_mention, public_of, same_symbol, symbol_of, symbols_in}
+use Rattle.oc_omf.specs.Targets.{external_at, meaning_of, section_target, target_of}
+use Rattle.oc_omf_judge.specs.Seen.{mention_of}
 use Rattle.oc_omf_judge.specs.declared.named.Named.TheVariants as named
 use Rattle.oc_omf_judge.specs.declared.whole.Whole.{Whole}
-use Rattle.oc_omf_read.specs.Locals.{AreLocals}
+use Rattle.oc_omf_judge.specs.Locals.{AreLocals}
 use Rattle.oc_omf_judge.specs.Named.{named_external, named_of, named_symbol, section_at, shown}
 use Rattle.oc_omf_judge.specs.Whole.{IsWhole, entries, meaning, tables}
 use Rattle.oc_omf_judge.proofs.MentionLemmas.{IsAmong, external_mentioned, numbered_among, same_is}

@@ -14,16 +14,16 @@ use Rattle.oc_shelf.specs.declared.reading.stop.Stop.{Stop}
 use Rattle.oc_shelf.specs.declared.reading.stop.Stop.TheVariants as stop
 use Rattle.oc_shelf.specs.Reading.Stops.{IsStop}
 use Rattle.oc_shelf.proofs.ReadingLaws.StageLemmas.{first_upto-head, first_upto-same}
-use Rattle.oc_omf_read.specs.declared.constants.TheConstants.{ENTRY_HEAD}
-use Rattle.oc_omf_read.specs.declared.cut.Cut.{Cut}
-use Rattle.oc_omf_read.specs.declared.structures.Subrecord.{Subrecord}
-use Rattle.oc_omf_read.specs.Structures.{subrecord_read}
-use Rattle.oc_omf_read.specs.Entries.{Entry, in_file}
-use Rattle.oc_omf_read.specs.Tables.{Tables, tables_of}
-use Rattle.oc_omf_read.specs.Fixups.{Placed, placed_by, placed_upto}
-use Rattle.oc_omf_read.specs.RelocationFaults.{relocation_conditions, relocation_stage, relocation_stages}
-use Rattle.oc_omf_read.proofs.EachLemmas.{each_cut, each_end, each_from, each_more}
-use Rattle.oc_omf_read.proofs.SymbolStages.{staged, verdict_at}
+use Rattle.oc_omf.specs.declared.constants.TheConstants.{ENTRY_HEAD}
+use Rattle.oc_omf.specs.declared.cut.Cut.{Cut}
+use Rattle.oc_omf.specs.declared.structures.Subrecord.{Subrecord}
+use Rattle.oc_omf.specs.Structures.{subrecord_read}
+use Rattle.oc_omf.specs.Entries.{Entry, in_file}
+use Rattle.oc_omf.specs.Tables.{Tables, tables_of}
+use Rattle.oc_omf.specs.Fixups.{Placed, placed_by, placed_upto}
+use Rattle.oc_omf.specs.RelocationFaults.{relocation_conditions, relocation_stage, relocation_stages}
+use Rattle.oc_omf.proofs.EachLemmas.{each_cut, each_end, each_from, each_more}
+use Rattle.oc_omf_judge.proofs.SymbolStages.{staged, verdict_at}
 use Rattle.oc_omf_judge.specs.declared.reached.Reached.{Reached}
 use Rattle.oc_omf_judge.specs.declared.whole.Whole.{Whole}
 use Rattle.oc_omf_judge.specs.Reached.{IsReached, judged_behind, placed_at, placed_in, relocation_fault}

@@ -14,25 +14,25 @@ use Rattle.oc_shelf.specs.Reading.Stops.{IsStop}
 use Rattle.oc_shelf.proofs.WritingLaws.MemberLemmas.{of_map}
 use Rattle.oc_omf_records.specs.Blocks.{copies_of, moved, size_of}
 use Rattle.oc_omf_records.proofs.CopyLemmas.{IsWithin, copies_of-within}
-use Rattle.oc_omf_read.specs.declared.constants.TheConstants.{OFFSET_32}
-use Rattle.oc_omf_read.specs.declared.structures.Datum.{Datum}
-use Rattle.oc_omf_read.specs.declared.structures.Datum.TheVariants as datum
-use Rattle.oc_omf_read.specs.declared.structures.Fixup.{Fixup}
-use Rattle.oc_omf_read.specs.declared.structures.Method.{Method}
-use Rattle.oc_omf_read.specs.declared.structures.Subrecord.TheVariants as subrecord
-use Rattle.oc_omf_read.specs.declared.structures.Thread.{Thread}
-use Rattle.oc_omf_read.specs.declared.threads.Threads.{Threads}
-use Rattle.oc_omf_read.specs.Structures.{Piece}
-use Rattle.oc_omf_read.specs.Tables.{Tables, is_there}
-use Rattle.oc_omf_read.specs.Sections.{blocks_in}
-use Rattle.oc_omf_read.specs.Symbols.{agree}
-use Rattle.oc_omf_read.specs.Fixups.{Fixed, Placed, copies_for, fixed_in, fixed_of, is_inside, last_of, meet, method_of, thread_by}
-use Rattle.oc_omf_read.specs.Fields.{aim_of}
-use Rattle.oc_omf_read.specs.Known.{AreInForce, told}
-use Rattle.oc_omf_read.specs.Targets.{meaning_of}
-use Rattle.oc_omf_read.specs.RelocationFaults.{fixup_conditions, is_datum_there, relocation_conditions}
-use Rattle.oc_omf_read.specs.RelocationFaults as faults
-use Rattle.oc_omf_read.proofs.StateLaws.{thread_more}
+use Rattle.oc_omf.specs.declared.constants.TheConstants.{OFFSET_32}
+use Rattle.oc_omf.specs.declared.structures.Datum.{Datum}
+use Rattle.oc_omf.specs.declared.structures.Datum.TheVariants as datum
+use Rattle.oc_omf.specs.declared.structures.Fixup.{Fixup}
+use Rattle.oc_omf.specs.declared.structures.Method.{Method}
+use Rattle.oc_omf.specs.declared.structures.Subrecord.TheVariants as subrecord
+use Rattle.oc_omf.specs.declared.structures.Thread.{Thread}
+use Rattle.oc_omf.specs.declared.threads.Threads.{Threads}
+use Rattle.oc_omf.specs.Structures.{Piece}
+use Rattle.oc_omf.specs.Tables.{Tables, is_there}
+use Rattle.oc_omf.specs.Sections.{blocks_in}
+use Rattle.oc_omf.specs.Symbols.{agree}
+use Rattle.oc_omf.specs.Fixups.{Fixed, Placed, copies_for, fixed_in, fixed_of, is_inside, last_of, meet, method_of, thread_by}
+use Rattle.oc_omf.specs.Fields.{aim_of}
+use Rattle.oc_omf.specs.Known.{AreInForce, told}
+use Rattle.oc_omf.specs.Targets.{meaning_of}
+use Rattle.oc_omf.specs.RelocationFaults.{fixup_conditions, is_datum_there, relocation_conditions}
+use Rattle.oc_omf.specs.RelocationFaults as faults
+use Rattle.oc_omf_judge.proofs.StateLaws.{thread_more}
 use Rattle.oc_omf_judge.specs.declared.reached.Reached.{Reached}
 use Rattle.oc_omf_judge.specs.declared.starts.Starts.{Starts}
 use Rattle.oc_omf_judge.specs.declared.whole.Whole.{Whole}

@@ -13,10 +13,10 @@ use Rattle.oc_neutral.proofs.MeetsParts.{any_passes}
 use Rattle.oc_shelf.proofs.ReadingLaws.StageLemmas.{both_hold}
 use Rattle.oc_shelf.proofs.WritingLaws.MemberLemmas.{each_append, member_map, member_passes, of_map}
 use Rattle.oc_omf_records.specs.Blocks.{moved}
-use Rattle.oc_omf_read.specs.Structures.{Piece}
-use Rattle.oc_omf_read.specs.Defined.{place_in}
-use Rattle.oc_omf_read.specs.Fixups.{Fixed, are_near, copies_for, field_offsets, is_of_segment, meet}
-use Rattle.oc_omf_read.specs.RelocationFaults.{is_kept}
+use Rattle.oc_omf.specs.Structures.{Piece}
+use Rattle.oc_omf_judge.specs.Defined.{place_in}
+use Rattle.oc_omf.specs.Fixups.{Fixed, are_near, copies_for, field_offsets, is_of_segment, meet}
+use Rattle.oc_omf.specs.RelocationFaults.{is_kept}
 use Rattle.oc_omf_judge.specs.declared.starts.Starts.{Starts}
 use Rattle.oc_omf_judge.specs.declared.whole.Whole.{Whole}
 use Rattle.oc_omf_judge.specs.Lying.{base, lying_of}

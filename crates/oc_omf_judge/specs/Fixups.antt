@@ -6,12 +6,12 @@ use Rattle.oc_linking.specs.FirstFault.{first_broken}
 use Rattle.oc_shelf.specs.declared.reading.stop.Stop.{Stop}
 use Rattle.oc_shelf.specs.declared.reading.stop.Stop.TheVariants as stop
 use Rattle.oc_shelf.specs.Reading.Stops.{IsStop}
-use Rattle.oc_omf_read.specs.declared.structures.Fixup.{Fixup}
-use Rattle.oc_omf_read.specs.declared.structures.Method.{Method}
-use Rattle.oc_omf_read.specs.declared.structures.Subrecord.TheVariants as subrecord
-use Rattle.oc_omf_read.specs.Tables.{Tables}
-use Rattle.oc_omf_read.specs.Fixups.{Placed, fixed_in, fixed_of}
-use Rattle.oc_omf_read.specs.RelocationFaults.{fixup_conditions, is_datum_there}
+use Rattle.oc_omf.specs.declared.structures.Fixup.{Fixup}
+use Rattle.oc_omf.specs.declared.structures.Method.{Method}
+use Rattle.oc_omf.specs.declared.structures.Subrecord.TheVariants as subrecord
+use Rattle.oc_omf.specs.Tables.{Tables}
+use Rattle.oc_omf.specs.Fixups.{Placed, fixed_in, fixed_of}
+use Rattle.oc_omf.specs.RelocationFaults.{fixup_conditions, is_datum_there}
 use Rattle.oc_omf_judge.specs.declared.reached.Reached.{Reached}
 use Rattle.oc_omf_judge.specs.declared.whole.Whole.{Whole}
 use Rattle.oc_omf_judge.specs.Reached.{IsReached, base_in, last_in, placed_at, relocation_fault}

@@ -1,8 +1,8 @@
 -- What is shown of the data that a reader keeps (our profile).
 use Rattle.std.specs.Prelude.{◌≡◌, ℕ, Bool, List, Option, Some}
 use Rattle.std.specs.Option.{option_map}
-use Rattle.oc_omf_read.specs.Structures.{Piece, piece_read}
-use Rattle.oc_omf_read.specs.Defined.{IsSmall, part_of}
+use Rattle.oc_omf.specs.Structures.{Piece, piece_read}
+use Rattle.oc_omf_judge.specs.Defined.{IsSmall, part_of}
 use Rattle.oc_omf_judge.specs.declared.last_data.LastData.{LastData}
 use Rattle.oc_omf_judge.specs.Lying.{Lying, blocks_kept, lying_at, lying_of}
 

@@ -4,12 +4,12 @@ use Rattle.std.specs.Option.{option_and_then}
 use Rattle.std.specs.BTreeMap.{BTreeMap, get}
 use Rattle.std.specs.Ordering.{nat_cmp}
 use Rattle.oc_omf_records.specs.Blocks.{Blocks, none, copies_of, size_of}
-use Rattle.oc_omf_read.specs.declared.data.Data.{Data}
-use Rattle.oc_omf_read.specs.declared.pieces.Head.{Head}
-use Rattle.oc_omf_read.specs.Known.{row_of}
-use Rattle.oc_omf_read.specs.Structures.{Piece}
-use Rattle.oc_omf_read.specs.Sections.{blocks_in}
-use Rattle.oc_omf_read.specs.Defined.{place_in}
+use Rattle.oc_omf.specs.declared.data.Data.{Data}
+use Rattle.oc_omf.specs.declared.structures.Head.{Head}
+use Rattle.oc_omf.specs.Known.{row_of}
+use Rattle.oc_omf.specs.Structures.{Piece}
+use Rattle.oc_omf.specs.Sections.{blocks_in}
+use Rattle.oc_omf_judge.specs.Defined.{place_in}
 
 -- where data lie, and their blocks
 pub record Lying : Type 0 where

@@ -4,11 +4,11 @@ use Rattle.std.specs.Option.{option_map, option_map_or}
 use denote.Ref.{Bor}
 use Rattle.oc_linking.specs.Rules.{Symbolic, Sectional}
 use Rattle.oc_linking.specs.Rules.{Named as Shown}
-use Rattle.oc_omf_read.specs.declared.seen.External.{External}
-use Rattle.oc_omf_read.specs.declared.structures.Method.{Method}
-use Rattle.oc_omf_read.specs.Held.{Held, value_at}
-use Rattle.oc_omf_read.specs.Symbols.{Mention, agree, number_of}
-use Rattle.oc_omf_read.specs.Tables.{indexed}
+use Rattle.oc_omf_judge.specs.declared.seen.External.{External}
+use Rattle.oc_omf.specs.declared.structures.Method.{Method}
+use Rattle.oc_omf_judge.specs.Held.{Held, value_at}
+use Rattle.oc_omf.specs.Symbols.{Mention, agree, number_of}
+use Rattle.oc_omf.specs.Tables.{indexed}
 use Rattle.oc_omf_judge.specs.declared.named.Named.{Named}
 use Rattle.oc_omf_judge.specs.declared.named.Named.TheVariants as named
 use Rattle.oc_omf_judge.specs.declared.whole.Whole.{Whole}

@@ -8,16 +8,16 @@ use Rattle.oc_linking.specs.Numbers.{or_else}
 use Rattle.oc_linking.specs.FirstFault.{first_broken}
 use Rattle.oc_shelf.specs.declared.reading.stop.Stop.{Stop}
 use Rattle.oc_shelf.specs.Reading.Stops.{IsStop}
-use Rattle.oc_omf_read.specs.declared.cut.Cut.{Cut}
-use Rattle.oc_omf_read.specs.declared.structures.Subrecord.{Subrecord}
-use Rattle.oc_omf_read.specs.Cursor.{Read}
-use Rattle.oc_omf_read.specs.Structures.{External, Piece}
-use Rattle.oc_omf_read.specs.Entries.{Entry, all_read, in_file, says_nothing}
-use Rattle.oc_omf_read.specs.Tables.{Tables}
-use Rattle.oc_omf_read.specs.Fixups.{Placed, fixed_in, last_of}
-use Rattle.oc_omf_read.specs.RelocationFaults.{relocation_conditions}
-use Rattle.oc_omf_read.specs.Known.{AreInForce}
-use Rattle.oc_omf_read.specs.Defined.{IsSmall, and_entry}
+use Rattle.oc_omf.specs.declared.cut.Cut.{Cut}
+use Rattle.oc_omf.specs.declared.structures.Subrecord.{Subrecord}
+use Rattle.oc_omf.specs.Cursor.{Read}
+use Rattle.oc_omf.specs.Structures.{External, Piece}
+use Rattle.oc_omf.specs.Entries.{Entry, all_read, in_file, says_nothing}
+use Rattle.oc_omf.specs.Tables.{Tables}
+use Rattle.oc_omf.specs.Fixups.{Placed, fixed_in, last_of}
+use Rattle.oc_omf.specs.RelocationFaults.{relocation_conditions}
+use Rattle.oc_omf.specs.Known.{AreInForce}
+use Rattle.oc_omf_judge.specs.Defined.{IsSmall, and_entry}
 use Rattle.oc_omf_judge.specs.declared.reached.Reached.{Reached}
 use Rattle.oc_omf_judge.specs.declared.whole.Whole.{Whole}
 use Rattle.oc_omf_judge.specs.Counts.{AreCounts}

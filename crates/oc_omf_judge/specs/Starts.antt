@@ -4,9 +4,9 @@ use Rattle.std.specs.List.{list_any}
 use Rattle.std.specs.Option.{option_map_or}
 use Rattle.std.specs.BTreeMap.{get}
 use Rattle.std.specs.Ordering.{nat_cmp}
-use Rattle.oc_omf_read.specs.Defined.{place_in}
-use Rattle.oc_omf_read.specs.Fixups.{Fixed, are_near, field_offsets}
-use Rattle.oc_omf_read.specs.Structures.{Piece}
+use Rattle.oc_omf_judge.specs.Defined.{place_in}
+use Rattle.oc_omf.specs.Fixups.{Fixed, are_near, field_offsets}
+use Rattle.oc_omf.specs.Structures.{Piece}
 use Rattle.oc_omf_judge.specs.declared.starts.Starts.{Starts}
 use Rattle.oc_omf_judge.specs.declared.whole.Whole.{Whole}
 use Rattle.oc_omf_judge.specs.Whole.{is_judged}

@@ -1,13 +1,13 @@
 //! How many segments, groups and externals the entries so far define.
 ghost use Rattle.std.specs.Prelude.{◌≡◌, ◌+◌, ◌&&◌, ℕ, Bool, min, nat_le, length};
-ghost use Rattle.oc_omf_read.specs.Cursor.{each_read};
-ghost use Rattle.oc_omf_read.specs.Entries.{all_read};
-ghost use Rattle.oc_omf_read.specs.RelocationFaults.{is_datum_there};
-ghost use Rattle.oc_omf_read.specs.Tables.{Tables, is_there};
+ghost use Rattle.oc_omf.specs.Cursor.{each_read};
+ghost use Rattle.oc_omf.specs.Entries.{all_read};
+ghost use Rattle.oc_omf.specs.RelocationFaults.{is_datum_there};
+ghost use Rattle.oc_omf.specs.Tables.{Tables, is_there};
 ghost use Rattle.oc_omf_judge.specs.Counts as specs;
 
 use oc_base::View;
-use oc_omf_read::{Datum, Method, read_communal, read_external};
+use oc_omf::{Datum, Method, read_communal, read_external};
 
 /// More than an index can be.
 const MOST: u32 = 65_536;

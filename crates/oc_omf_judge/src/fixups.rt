@@ -1,7 +1,7 @@
 //! Fixups.
 ghost use Rattle.std.specs.Prelude.{◌≡◌, Ok, OnOk, IfErr};
-ghost use Rattle.oc_omf_read.specs.Tables.{Tables};
-ghost use Rattle.oc_omf_read.specs.declared.structures.Subrecord.TheVariants as subrecord;
+ghost use Rattle.oc_omf.specs.Tables.{Tables};
+ghost use Rattle.oc_omf.specs.declared.structures.Subrecord.TheVariants as subrecord;
 ghost use Rattle.oc_omf_judge.specs.Counts.{AreCounts};
 ghost use Rattle.oc_omf_judge.specs.Fixups as fixups;
 ghost use Rattle.oc_omf_judge.specs.Reached as specs;
@@ -10,10 +10,11 @@ ghost use Rattle.oc_omf_judge.specs.Whole.{IsWhole};
 use crate::counts::{Counts, is_datum_there};
 use crate::reached::Reached;
 use crate::rows::has_row;
+use crate::section_stage::Spot;
 use crate::threads::{method_of, relocation_fault};
 use crate::whole::{Whole, is_judged};
 use oc_base::{Code, Fault};
-use oc_omf_read::{Fixup, Method, OFFSET_32, Spot};
+use oc_omf::{Fixup, Method, OFFSET_32};
 use oc_omf_records::CopyFault;
 use oc_shelf::Stop;
 use std::alloc::Global;

@@ -3,21 +3,37 @@ ghost use Rattle.std.specs.Prelude.{◌≡◌, ◌≤◌, length, None, Some, If
 ghost use Rattle.oc_base.specs.declared.limits.TheConstants.{MOST_INPUT};
 ghost use Rattle.oc_neutral.specs.Readable.{IsReadFault};
 ghost use Rattle.oc_shelf.specs.Reading.Stops.{IsStop};
-ghost use Rattle.oc_omf_read.specs.Rules.{fault_of};
+ghost use Rattle.oc_omf.specs.Entries.{entries_in};
+ghost use Rattle.oc_omf.specs.Rules.{fault_of};
+ghost use Rattle.oc_omf.specs.Tables.{tables_of};
+ghost use Rattle.oc_omf_judge.specs.Defined.{IsDefined};
 
-use crate::relocation_loop::check_relocations;
+use crate::defined::Defined;
+use crate::front::judge_front;
+use crate::locals::local_segments;
+use crate::relocs::check_relocations;
 use crate::whole::Whole;
 use oc_base::Fault;
 use oc_neutral::{Keep, ReadFault};
-use oc_omf_read::{Module, judge_front, local_segments};
+use oc_omf::Module;
 use oc_shelf::Stop;
 use std::alloc::Global;
 
+/// What is found in a module without faults.
+#[derive(Drop)]
+pub struct Found<'a> {
+    /// Its entries.
+    pub omf: Module<'a>,
+    /// Its names, segments and groups, and which segments data cover.
+    pub defined: Defined<'a>,
+}
+
 // the module in a file, where it has no fault
-fn check_file<'a>(alloc: Global, file: &'a [u8], keep: &Keep) -> Result<Module<'a>, Stop>
+fn check_file<'a>(alloc: Global, file: &'a [u8], keep: &Keep) -> Result<Found<'a>, Stop>
     requires { length file.now ≤ MOST_INPUT }
     ensures clean { OnOk result (fault_of file.now keep.now ≡ None) }
-    ensures module { IfOk result (λ m. m ≡ file.now) }
+    ensures module { IfOk result (λ j. j.omf ≡ file.now) }
+    ensures defined { IfOk result (λ j. IsDefined (tables_of (entries_in j.omf)) j.defined) }
     ensures stop { IfErr result (IsStop (fault_of file.now keep.now)) }
 {
     let front = match judge_front(alloc, file) {
@@ -31,12 +47,15 @@ fn check_file<'a>(alloc: Global, file: &'a [u8], keep: &Keep) -> Result<Module<'
         keep: *keep,
     };
     match check_relocations(alloc, &whole) {
-        Ok(()) => Ok(whole.front.omf),
+        Ok(()) => Ok(Found {
+            omf: whole.front.omf,
+            defined: whole.front.defined,
+        }),
         Err(stop) => Err(stop),
     }
 }
 
-/// The module in a file of at most 67,108,864 bytes, where it is a well formed object module of 32-bit
+/// The module in a file of at most 67,108,864 bytes, with what its entries define, where it is a well formed object module of 32-bit
 /// segments when it is read under `keep` (TIS OMF 1.1; our profile): an error exactly where it is not,
 /// with its first fault, `Malformed`, `Outside` or `Limit` by the class of that; `NoMemory` where
 /// memory ran out.
@@ -48,14 +67,15 @@ fn check_file<'a>(alloc: Global, file: &'a [u8], keep: &Keep) -> Result<Module<'
 /// each of at most 1,024 places in the data of an entry, the blocks of iterated data are walked once
 /// more. What the worst files known take is told in docs/SAFETY.md: seconds, and tens of seconds where
 /// millions of symbols have names of their own.
-pub fn judged<'a>(alloc: Global, bytes: &'a [u8], keep: &Keep) -> Result<Module<'a>, ReadFault>
+pub fn judged<'a>(alloc: Global, bytes: &'a [u8], keep: &Keep) -> Result<Found<'a>, ReadFault>
     requires { length bytes.now ≤ MOST_INPUT }
     ensures well_formed { OnOk result (fault_of bytes.now keep.now ≡ None) }
-    ensures module { IfOk result (λ m. m ≡ bytes.now) }
+    ensures module { IfOk result (λ j. j.omf ≡ bytes.now) }
+    ensures defined { IfOk result (λ j. IsDefined (tables_of (entries_in j.omf)) j.defined) }
     ensures fault { IfErr result (IsReadFault (fault_of bytes.now keep.now)) }
 {
     match check_file(alloc, bytes, keep) {
-        Ok(module) => Ok(module),
+        Ok(judged) => Ok(judged),
         Err(Stop::NoMemory) => Err(ReadFault::NoMemory),
         Err(Stop::Fault(fault)) => Err(ReadFault::of(fault)),
     }

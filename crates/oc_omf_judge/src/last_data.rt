@@ -4,7 +4,7 @@ ghost use Rattle.oc_omf_records.specs.Blocks.{none};
 ghost use Rattle.oc_omf_judge.specs.Lying.{AreFruitless, IsLow, base, blocks_kept, lying_at};
 
 use oc_base::{NoMemory, View};
-use oc_omf_read::{Data, Head, read_data, read_head};
+use oc_omf::{Data, Head, read_data, read_head};
 use oc_omf_records::{BlockFault, CopyFault};
 use std::alloc::Global;
 use std::collections::BTreeMap;

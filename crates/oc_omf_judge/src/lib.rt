@@ -1,17 +1,35 @@
-//! Judging OMF object modules whole: what threads and fixups must meet behind entries, sections and
-//! symbols, as TIS OMF 1.1 and our profile say it.
+//! Judging an OMF object module: the first of its faults, or what was found in it on the way.
 #![tactic(auto)]
 
 mod counts;
+mod defined;
+mod externals;
 mod fixups;
+mod front;
+mod groups;
+mod held;
 mod judging;
 mod last_data;
+mod locals;
 mod named;
+mod names;
+mod pieces;
+mod publics;
 mod reached;
-mod relocation_loop;
+mod relocs;
 mod rows;
+mod section_stage;
+mod sections;
+mod seen;
+mod segments;
 mod starts;
+mod symbol_loop;
+mod symbol_stage;
 mod threads;
 mod whole;
 
-pub use judging::judged;
+pub use defined::{Defined, name_at};
+pub use front::{Front, judge_front};
+pub use judging::{Found, judged};
+pub use section_stage::segment_size;
+pub use seen::{External, Seen};

@@ -2,8 +2,9 @@
 ghost use Rattle.std.specs.Prelude.{◌≡◌};
 ghost use Rattle.oc_omf_judge.specs.Named as specs;
 
+use crate::held::value_of;
 use crate::whole::Whole;
-use oc_omf_read::{Method, value_of};
+use oc_omf::Method;
 use std::collections::BTreeMap;
 
 /// What a frame or a target names.

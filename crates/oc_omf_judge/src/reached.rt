@@ -2,7 +2,7 @@
 ghost use Rattle.std.specs.Prelude.{◌≡◌, ◌≤◌, [], Some, IfOk, IfErr};
 ghost use Rattle.std.specs.Option.{option_map};
 ghost use Rattle.oc_omf_records.specs.Refusals.{RefusesCopies};
-ghost use Rattle.oc_omf_read.specs.Tables.{tables_of};
+ghost use Rattle.oc_omf.specs.Tables.{tables_of};
 ghost use Rattle.oc_omf_judge.specs.Lying as lying;
 ghost use Rattle.oc_omf_judge.specs.Reached as specs;
 ghost use Rattle.oc_omf_judge.specs.declared.whole.Whole.{Whole};
@@ -10,7 +10,7 @@ ghost use Rattle.oc_omf_judge.specs.declared.whole.Whole.{Whole};
 use crate::counts::Counts;
 use crate::last_data::LastData;
 use crate::starts::Starts;
-use oc_omf_read::Threads;
+use oc_omf::Threads;
 use oc_omf_records::CopyFault;
 use std::alloc::Global;
 

@@ -4,7 +4,7 @@ ghost use Rattle.oc_omf_judge.specs.Rows as specs;
 
 use crate::named::{Named, named_of, same, section_at};
 use crate::whole::{Whole, is_flat};
-use oc_omf_read::Method;
+use oc_omf::Method;
 
 // what a frame names, of a fixup in data of a segment: that segment, or what its method names
 fn named_frame<'a>(whole: &Whole<'a>, segment: Option<u16>, frame: Method) -> Option<Named<'a>>

@@ -1,14 +1,15 @@
 //! Threads, and what frames and targets have by them.
 ghost use Rattle.std.specs.Prelude.{◌≡◌, ◌<◌, Ok, OnOk, IfErr};
-ghost use Rattle.oc_omf_read.specs.declared.structures.Subrecord.TheVariants as subrecord;
+ghost use Rattle.oc_omf.specs.declared.structures.Subrecord.TheVariants as subrecord;
 ghost use Rattle.oc_omf_judge.specs.Threads.{method_by};
 ghost use Rattle.oc_omf_judge.specs.Reached as specs;
 ghost use Rattle.oc_omf_judge.specs.declared.whole.Whole.{Whole};
 
 use crate::counts::is_there;
 use crate::reached::Reached;
+use crate::section_stage::Spot;
 use oc_base::{Code, Fault, Phase};
-use oc_omf_read::{Datum, Method, Spot, Thread, Threads};
+use oc_omf::{Datum, Method, Thread, Threads};
 use oc_shelf::Stop;
 
 /// A fault of what stands at a place in an entry. Constant time.

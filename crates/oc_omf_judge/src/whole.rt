@@ -2,8 +2,11 @@
 ghost use Rattle.std.specs.Prelude.{◌≡◌};
 ghost use Rattle.oc_omf_judge.specs.Whole as specs;
 
+use crate::defined::name_at;
+use crate::front::Front;
+use crate::sections::kind_at;
 use oc_neutral::Keep;
-use oc_omf_read::{Front, Method, kind_at, name_at};
+use oc_omf::Method;
 use std::collections::BTreeMap;
 
 /// A module whose entries, sections and symbols have no fault, and what of it is kept.

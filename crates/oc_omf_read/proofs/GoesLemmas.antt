@@ -1,66 +1,193 @@
--- Structures with names go forward, and end in the contents.
-use Rattle.std.specs.Prelude.{if◌then◌else◌, nat_eq}
-use Rattle.std.proofs.Common.{◌≡◌, ℕ, ◌≤◌, Bool, true, false, List, length, Some, None, Ok, Err, ap, arith}
-use Rattle.oc_omf_read.specs.Cursor.{Reading, index_read, name_read, next, number_read}
-use Rattle.oc_omf_read.specs.Structures.{communal_length, communal_read, communal_width, external_read, long_size, public_read}
-use Rattle.oc_omf_read.proofs.EachLemmas.{Goes, index_goes, name_goes, next_goes, number_goes}
+-- Each structure that is read has a byte, and ends in the contents.
+use Rattle.std.proofs.Common.{◌≡◌, ℕ, ◌+◌, ◌*◌, ◌<◌, ◌≤◌, Bool, true, false, List, length, Some, None, Ok, Err, refl, sym, ◌∙◌, ap, arith}
+use Rattle.std.specs.Prelude.{nat_eq, nat_le, cond}
+use Rattle.std.proofs.lemmas.Bool.{true≢false}
+use Rattle.std.proofs.lemmas.Bool.Decides.{nat_tests}
+use Rattle.oc_omf.specs.Cursor.{Reading, index_read, name_read, next, number_read}
+use Rattle.oc_neutral.specs.KindRules.{has}
+use Rattle.oc_omf.specs.declared.structures.Datum.{Datum}
+use Rattle.oc_omf.specs.declared.structures.Datum.TheVariants as datum
+use Rattle.oc_omf.specs.declared.structures.Method.{Method}
+use Rattle.oc_omf.specs.declared.structures.Subrecord.{Subrecord}
+use Rattle.oc_omf.specs.declared.structures.Subrecord.TheVariants as subrecord
+use Rattle.oc_omf.specs.declared.structures.Thread.{Thread}
+use Rattle.oc_omf.specs.Structures.{bits, communal_length, communal_read, communal_width, displacement_read, external_read, fixup_read, frame_read, long_size, method_read, public_read, subrecord_read, target_read, thread_read}
+use Rattle.oc_omf.proofs.EachLemmas.{Goes, byte_goes, index_goes, name_goes, next_goes}
 
--- the place after what is read
-abbrev pub after_of : {X : Type 0} → Reading X → ℕ
-after_of r = elim r as (λ _. ℕ) [ Ok s ↦ s.1 | Err _ ↦ 0 ]
+-- what is read at a place has a byte
+abbrev Strict : {X : Type 0} → List ℕ → ℕ → Reading X → Type 0
+Strict {X} b at r = (x : X) (q : ℕ) → r ≡ Ok (x, q) → (at < q) × (q ≤ length b)
+
+-- what is read next may have none
+abbrev Weak : {X : Type 0} → List ℕ → ℕ → Reading X → Type 0
+Weak {X} b at r = (x : X) (q : ℕ) → r ≡ Ok (x, q) → at ≤ length b → (at ≤ q) × (q ≤ length b)
+
+no_ok : {X Y : Type 0} (c : Y) (x : X) → Err c ≡ Ok x → ⊥
+no_ok c x e = cc
+
+strict_next : {X Y : Type 0} (b : List ℕ) (at : ℕ) (r : Reading X) (read : X → ℕ → Reading Y) → Strict b at r → ((x : X) (p : ℕ) → Weak b p (read x p)) → Strict b at (next r read)
+strict_next b at (Ok r) read first rest y q e = let a = first r.0 r.1 refl in let c = rest r.0 r.1 y q e a.1 in (omega (arith, a.0, c.0), c.1)
+strict_next b at (Err c) read first rest y q e = absurd (no_ok c (y, q) e)
+
+weak_next : {X Y : Type 0} (b : List ℕ) (at : ℕ) (r : Reading X) (read : X → ℕ → Reading Y) → Weak b at r → ((x : X) (p : ℕ) → Weak b p (read x p)) → Weak b at (next r read)
+weak_next b at (Ok r) read first rest y q e low = let a = first r.0 r.1 refl low in let c = rest r.0 r.1 y q e a.1 in (omega (arith, a.0, c.0), c.1)
+weak_next b at (Err c) read first rest y q e low = absurd (no_ok c (y, q) e)
+
+ends_at : {X : Type 0} (x y : X) (p q : ℕ) → (let a : Reading X = Ok (x, p) in let b : Reading X = Ok (y, q) in a ≡ b) → p ≡ q
+ends_at {X} x y p q e = ap (λ (r : Reading X). elim r as (λ _. ℕ) [ Ok s ↦ s.1 | Err _ ↦ 0 ]) e
+
+weak_last : {X : Type 0} (b : List ℕ) (x : X) (p : ℕ) → Weak {X = X} b p (Ok (x, p))
+weak_last b x p y q e low = let same = ends_at x y p q e in (omega (arith, same), omega (arith, same, low))
+
+weak_by : {X : Type 0} (b : List ℕ) (at : ℕ) (r : Reading X) → Strict b at r → Weak b at r
+weak_by b at r first y q e low = let a = first y q e in (omega (arith, a.0), a.1)
+
+weak_number : (k : ℕ) (b : List ℕ) (at : ℕ) → Weak b at (number_read k b at)
+unfolding number_read
+weak_number k b at x q e low = grind (arith, nat_tests)
+
+-- ... symbols
 
 pub public_goes : (wide local : Bool) (segment : ℕ) (b : List ℕ) → Goes (public_read wide local segment) b
 unfolding public_read
-public_goes wide local segment b at x q e =
-    let first = next_goes (name_read b at) (λ name at. next (number_read (long_size wide) b at) (λ offset at. next (index_read b at) (λ _ at.
-    Ok (record { local = local; name = name; segment = segment; offset = offset }, at)))) x q e in
-    let second = next_goes (number_read (long_size wide) b first.1) (λ offset at. next (index_read b at) (λ _ at. Ok (record { local = local; name = first.0; segment = segment; offset = offset }, at))) x q first.3 in
-    let third = next_goes (index_read b second.1) (λ _ at. Ok (record { local = local; name = first.0; segment = segment; offset = second.0 }, at)) x q second.3 in
-    let last : third.1 ≡ q = ap after_of third.3 in
-    let a = name_goes b at first.0 first.1 first.2 in
-    let c = number_goes (long_size wide) b first.1 second.0 second.1 second.2 in
-    let d = index_goes b second.1 third.0 third.1 third.2 in
-    (omega (arith, a.0, c.0, d.0, last), omega (arith, d.1, last))
+public_goes wide local segment b at = strict_next b at (name_read b at)
+    (λ name at. next (number_read (long_size wide) b at) (λ offset at. next (index_read b at) (λ _ at. Ok (record { local = local; name = name; segment = segment; offset = offset }, at))))
+    (name_goes b at) (λ name p. weak_next b p (number_read (long_size wide) b p) (λ offset at. next (index_read b at) (λ _ at. Ok (record { local = local; name = name; segment = segment; offset = offset }, at)))
+    (weak_number (long_size wide) b p) (λ offset p. weak_next b p (index_read b p) (λ _ at. Ok (record { local = local; name = name; segment = segment; offset = offset }, at))
+    (weak_by b p (index_read b p) (index_goes b p)) (λ _ p. weak_last b (record { local = local; name = name; segment = segment; offset = offset }) p)))
 
 pub external_goes : (local : Bool) (b : List ℕ) → Goes (external_read local) b
 unfolding external_read
-external_goes local b at x q e =
-    let first = next_goes (name_read b at) (λ name at. next (index_read b at) (λ _ at. Ok (record { local = local; name = name; communal = None }, at))) x q e in
-    let second = next_goes (index_read b first.1) (λ _ at. Ok (record { local = local; name = first.0; communal = None }, at)) x q first.3 in
-    let last : second.1 ≡ q = ap after_of second.3 in
-    let a = name_goes b at first.0 first.1 first.2 in
-    let d = index_goes b first.1 second.0 second.1 second.2 in
-    (omega (arith, a.0, d.0, last), omega (arith, d.1, last))
+external_goes local b at = strict_next b at (name_read b at) (λ name at. next (index_read b at) (λ _ at. Ok (record { local = local; name = name; communal = None }, at)))
+    (name_goes b at) (λ name p. weak_next b p (index_read b p) (λ _ at. Ok (record { local = local; name = name; communal = None }, at))
+    (weak_by b p (index_read b p) (index_goes b p)) (λ _ p. weak_last b (record { local = local; name = name; communal = None }) p))
 
--- the length of a communal
-length_goes : (b : List ℕ) (at : ℕ) (x : ℕ × ℕ) (q : ℕ) → communal_length b at ≡ Ok (x, q) → (at ≤ q) × (q ≤ length b)
+length_by : (b : List ℕ) (form p : ℕ) (a : Bool) → Weak {X = ℕ × ℕ} b p (cond a (Ok ((form, form), p)) (next (number_read (communal_width form) b p) (λ size at. Ok ((form, size), at))))
+length_by b form p true = weak_last b (form, form) p
+length_by b form p false = weak_next b p (number_read (communal_width form) b p) (λ size at. Ok ((form, size), at)) (weak_number (communal_width form) b p) (λ size p. weak_last b (form, size) p)
+
+weak_length : (b : List ℕ) (at : ℕ) → Weak b at (communal_length b at)
 unfolding communal_length
-length_goes b at x q e =
-    let first = next_goes (number_read 1 b at) (λ form at. if nat_eq (communal_width form) 0 then Ok ((form, form), at) else next (number_read (communal_width form) b at) (λ size at. Ok ((form, size), at))) x q e in
-    let a = number_goes 1 b at first.0 first.1 first.2 in
-    by first.0 first.1 a (nat_eq (communal_width first.0) 0) first.3
-  where
-    by : (form p : ℕ) → (at ≤ p) × (p ≤ length b) → (t : Bool) → (if t then Ok ((form, form), p) else next (number_read (communal_width form) b p) (λ size at. Ok ((form, size), at))) ≡ Ok (x, q) → (at ≤ q) × (q ≤ length b)
-    by form p a true f = let last : p ≡ q = ap (after_of {X = ℕ × ℕ}) f in (omega (arith, a.0, last), omega (arith, a.1, last))
-    by form p a false f =
-        let second = next_goes (number_read (communal_width form) b p) (λ size at. Ok ((form, size), at)) x q f in
-        let c = number_goes (communal_width form) b p second.0 second.1 second.2 in
-        let last : second.1 ≡ q = ap (after_of {X = ℕ × ℕ}) second.3 in
-        (omega (arith, a.0, c.0, last), omega (arith, c.1, last))
+weak_length b at = weak_next b at (number_read 1 b at) (λ form at. cond (nat_eq (communal_width form) 0) (Ok ((form, form), at)) (next (number_read (communal_width form) b at) (λ size at. Ok ((form, size), at))))
+    (weak_number 1 b at) (λ form p. length_by b form p (nat_eq (communal_width form) 0))
 
 pub communal_goes : (b : List ℕ) → Goes communal_read b
 unfolding communal_read
-communal_goes b at x q e =
-    let first = next_goes (name_read b at) (λ name at. next (index_read b at) (λ _ at. next (number_read 1 b at) (λ kind at. next (communal_length b at) (λ size at.
-    Ok (record { local = false; name = name; communal = Some (record { kind = kind; form = size.0; length = size.1 }) }, at))))) x q e in
-    let second = next_goes (index_read b first.1) (λ _ at. next (number_read 1 b at) (λ kind at. next (communal_length b at) (λ size at.
-    Ok (record { local = false; name = first.0; communal = Some (record { kind = kind; form = size.0; length = size.1 }) }, at)))) x q first.3 in
-    let third = next_goes (number_read 1 b second.1) (λ kind at. next (communal_length b at) (λ size at.
-    Ok (record { local = false; name = first.0; communal = Some (record { kind = kind; form = size.0; length = size.1 }) }, at))) x q second.3 in
-    let fourth = next_goes (communal_length b third.1) (λ size at. Ok (record { local = false; name = first.0; communal = Some (record { kind = third.0; form = size.0; length = size.1 }) }, at)) x q third.3 in
-    let last : fourth.1 ≡ q = ap after_of fourth.3 in
-    let a = name_goes b at first.0 first.1 first.2 in
-    let d = index_goes b first.1 second.0 second.1 second.2 in
-    let f = number_goes 1 b second.1 third.0 third.1 third.2 in
-    let g = length_goes b third.1 fourth.0 fourth.1 fourth.2 in
-    (omega (arith, a.0, d.0, f.0, g.0, last), omega (arith, g.1, last))
+communal_goes b at = strict_next b at (name_read b at)
+    (λ name at. next (index_read b at) (λ _ at. next (number_read 1 b at) (λ kind at. next (communal_length b at) (λ size at. Ok (record { local = false; name = name; communal = Some (record { kind = kind; form = size.0; length = size.1 }) }, at)))))
+    (name_goes b at) (λ name p. weak_next b p (index_read b p)
+    (λ _ at. next (number_read 1 b at) (λ kind at. next (communal_length b at) (λ size at. Ok (record { local = false; name = name; communal = Some (record { kind = kind; form = size.0; length = size.1 }) }, at))))
+    (weak_by b p (index_read b p) (index_goes b p)) (λ _ p. weak_next b p (number_read 1 b p)
+    (λ kind at. next (communal_length b at) (λ size at. Ok (record { local = false; name = name; communal = Some (record { kind = kind; form = size.0; length = size.1 }) }, at)))
+    (weak_number 1 b p) (λ kind p. weak_next b p (communal_length b p) (λ size at. Ok (record { local = false; name = name; communal = Some (record { kind = kind; form = size.0; length = size.1 }) }, at))
+    (weak_length b p) (λ size p. weak_last b (record { local = false; name = name; communal = Some (record { kind = kind; form = size.0; length = size.1 }) }) p))))
+
+-- ... threads and fixups
+
+weak_method : (number : ℕ) (b : List ℕ) (at : ℕ) → Weak b at (method_read number b at)
+unfolding method_read
+weak_method number b at = by (nat_le number 2)
+  where
+    by : (c : Bool) → Weak {X = Method} b at (cond c (next (index_read b at) (λ index at. Ok (record { number = number; index = index }, at))) (Ok (record { number = number; index = 0 }, at)))
+    by true = weak_next b at (index_read b at) (λ index at. Ok (record { number = number; index = index }, at)) (weak_by b at (index_read b at) (index_goes b at)) (λ index p. weak_last b (record { number = number; index = index }) p)
+    by false = weak_last b (record { number = number; index = 0 }) at
+
+weak_thread : (first : ℕ) (b : List ℕ) (at : ℕ) → Weak b at (thread_read first b at)
+unfolding thread_read
+weak_thread first b at =
+    let number : ℕ = cond (has first 0x40) (bits 2 3 first) (bits 2 2 first) in
+    weak_next b at (method_read number b at) (λ method at. Ok (subrecord.Thread (record { frame = has first 0x40; number = bits 0 2 first; method = method }), at)) (weak_method number b at)
+    (λ method p. weak_last b (subrecord.Thread (record { frame = has first 0x40; number = bits 0 2 first; method = method })) p)
+
+weak_frame : (fix : ℕ) (b : List ℕ) (at : ℕ) → Weak b at (frame_read fix b at)
+unfolding frame_read
+weak_frame fix b at = by (has fix 0x80)
+  where
+    by : (c : Bool) → Weak {X = Datum} b at (cond c (Ok (datum.Thread (bits 4 3 fix), at)) (next (method_read (bits 4 3 fix) b at) (λ method at. Ok (datum.Explicit method, at))))
+    by true = weak_last b (datum.Thread (bits 4 3 fix)) at
+    by false = weak_next b at (method_read (bits 4 3 fix) b at) (λ method at. Ok (datum.Explicit method, at)) (weak_method (bits 4 3 fix) b at) (λ method p. weak_last b (datum.Explicit method) p)
+
+weak_target : (fix : ℕ) (b : List ℕ) (at : ℕ) → Weak b at (target_read fix b at)
+unfolding target_read
+weak_target fix b at = by (has fix 8)
+  where
+    by : (c : Bool) → Weak {X = Datum} b at (cond c (Ok (datum.Thread (bits 0 2 fix), at)) (next (index_read b at) (λ index at. Ok (datum.Explicit (record { number = bits 0 2 fix; index = index }), at))))
+    by true = weak_last b (datum.Thread (bits 0 2 fix)) at
+    by false = weak_next b at (index_read b at) (λ index at. Ok (datum.Explicit (record { number = bits 0 2 fix; index = index }), at)) (weak_by b at (index_read b at) (index_goes b at))
+        (λ index p. weak_last b (datum.Explicit (record { number = bits 0 2 fix; index = index })) p)
+
+weak_displacement : (wide : Bool) (fix : ℕ) (b : List ℕ) (at : ℕ) → Weak b at (displacement_read wide fix b at)
+unfolding displacement_read
+weak_displacement wide fix b at = by (has fix 4)
+  where
+    by : (c : Bool) → Weak {X = ℕ} b at (cond c (Ok (0, at)) (number_read (long_size wide) b at))
+    by true = weak_last b 0 at
+    by false = weak_number (long_size wide) b at
+
+weak_fixup : (wide : Bool) (first : ℕ) (b : List ℕ) (at : ℕ) → Weak b at (fixup_read wide first b at)
+unfolding fixup_read
+weak_fixup wide first b at =
+    weak_next b at (number_read 1 b at) _ (weak_number 1 b at) (λ low p.
+    weak_next b p (number_read 1 b p) _ (weak_number 1 b p) (λ fix p.
+    weak_next b p (frame_read fix b p) _ (weak_frame fix b p) (λ frame p.
+    weak_next b p (target_read fix b p) _ (weak_target fix b p) (λ target p.
+    weak_next b p (displacement_read wide fix b p) _ (weak_displacement wide fix b p) (λ displacement p.
+    weak_last b
+    (subrecord.Fixup (record { segment_relative = has first 0x40; location = bits 2 4 first; offset = bits 0 2 first * 256 + low; frame = frame; target = target; displacement = displacement })) p)))))
+
+pub subrecord_goes : (wide : Bool) (b : List ℕ) → Goes (subrecord_read wide) b
+unfolding subrecord_read
+subrecord_goes wide b at =
+    strict_next b at (number_read 1 b at) (λ first at. cond (has first 0x80) (fixup_read wide first b at) (thread_read first b at)) (byte_goes b at) (λ first p. by first p (has first 0x80))
+  where
+    by : (first p : ℕ) (c : Bool) → Weak b p (cond c (fixup_read wide first b p) (thread_read first b p))
+    by first p true = weak_fixup wide first b p
+    by first p false = weak_thread first b p
+
+-- a thread has one of four numbers
+few_bits : (byte : ℕ) → bits 0 2 byte < 4
+few_bits byte = omega arith
+
+thread_few : (first : ℕ) (b : List ℕ) (at : ℕ) (x : Subrecord) (q : ℕ) → thread_read first b at ≡ Ok (x, q) → (t : Thread) → x ≡ subrecord.Thread t → t.number < 4
+unfolding thread_read
+thread_few first b at x q e t is =
+    let number : ℕ = cond (has first 0x40) (bits 2 3 first) (bits 2 2 first) in
+    by (method_read number b at) e
+  where
+    number_of : Subrecord → ℕ
+    number_of (subrecord.Thread t) = t.number
+    number_of (subrecord.Fixup f) = 0
+
+    by : (r : Reading Method) → next r (λ method at. Ok (subrecord.Thread (record { frame = has first 0x40; number = bits 0 2 first; method = method }), at)) ≡ Ok (x, q) → t.number < 4
+    by (Ok r) e =
+        let same : bits 0 2 first ≡ t.number = ap (λ (r : Reading Subrecord). elim r as (λ _. ℕ) [ Ok s ↦ number_of s.0 | Err _ ↦ 0 ]) e ∙ ap number_of is in
+        let few = few_bits first in omega (arith, same, few)
+    by (Err c) e = absurd (no_ok c (x, q) e)
+
+fixup_no_thread : (wide : Bool) (first : ℕ) (b : List ℕ) (at : ℕ) (t : Thread) (q : ℕ) → fixup_read wide first b at ≡ Ok (subrecord.Thread t, q) → ⊥
+unfolding fixup_read
+fixup_no_thread wide first b at t q e =
+    let a = next_goes (number_read 1 b at) _ (subrecord.Thread t) q e in
+    let c = next_goes (number_read 1 b a.1) _ (subrecord.Thread t) q a.3 in
+    let d = next_goes (frame_read c.0 b c.1) _ (subrecord.Thread t) q c.3 in
+    let f = next_goes (target_read c.0 b d.1) _ (subrecord.Thread t) q d.3 in
+    let g = next_goes (displacement_read wide c.0 b f.1) _ (subrecord.Thread t) q f.3 in
+    true≢false (sym (ap is_thread g.3))
+  where
+    is_thread : Reading Subrecord → Bool
+    is_thread (Ok r) = of r.0
+      where
+        of : Subrecord → Bool
+        of (subrecord.Thread t) = true
+        of (subrecord.Fixup f) = false
+    is_thread (Err c) = false
+
+pub thread_low : (wide : Bool) (b : List ℕ) (at : ℕ) (t : Thread) (q : ℕ) → subrecord_read wide b at ≡ Ok (subrecord.Thread t, q) → t.number < 4
+unfolding subrecord_read
+thread_low wide b at t q e =
+    let a = next_goes (number_read 1 b at) (λ first at. cond (has first 0x80) (fixup_read wide first b at) (thread_read first b at)) (subrecord.Thread t) q e in
+    by a.0 a.1 (has a.0 0x80) a.3
+  where
+    by : (first p : ℕ) (c : Bool) → cond c (fixup_read wide first b p) (thread_read first b p) ≡ Ok (subrecord.Thread t, q) → t.number < 4
+    by first p true e = absurd (fixup_no_thread wide first b p t q e)
+    by first p false e = thread_few first b p (subrecord.Thread t) q e t refl

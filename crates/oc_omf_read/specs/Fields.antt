@@ -1,51 +1,98 @@
--- Relocated fields (TIS OMF 1.1, "FIXUPP"; our profile). The number that is added stands in the field, and in the displacement, which has no sign.
-use Rattle.std.specs.Prelude.{ℕ, ◌+◌, Bool, ◌&&◌, nat_eq, if◌then◌else◌, ℤ, pos, ◌+ℤ◌, List, length, find, Option, Some, None}
-use Rattle.std.specs.Option.{option_map, option_and_then}
-use Rattle.oc_base.specs.declared.format.Word.TheVariants.{W32}
-use Rattle.oc_linking.specs.Rules.{Field}
-use Rattle.oc_linking.specs.Targets.{Target}
-use Rattle.oc_neutral.specs.Rows.{Row}
-use Rattle.oc_neutral.specs.RowFields.{row_field, number_in}
-use Rattle.oc_neutral.specs.Omf.Relocs.{ByFlat, ByTarget, BySelf, fixup_row}
-use Rattle.oc_omf_read.specs.declared.constants.TheConstants.{OFFSET_32}
-use Rattle.oc_omf_read.specs.declared.structures.Method.{Method}
-use Rattle.oc_omf_read.specs.Entries.{Entry}
-use Rattle.oc_omf_read.specs.Sections.{size_at, contents_of}
-use Rattle.oc_omf_read.specs.Fixups.{Fixed, placed_upto, fixed_in, has_field}
-use Rattle.oc_omf_read.specs.Targets.{Meaning, meaning_of, target_of, is_flat, is_home}
+-- The fields of fixups, one for each copy (TIS OMF 1.1, "FIXUPP" and "LIDATA"; our profile).
+use Rattle.std.specs.Prelude.{◌≡◌, ℕ, ◌+◌, ◌-◌, ◌≤◌, Bool, true, false, ◌&&◌, nat_eq, if◌then◌else◌, List, [], map, flat_map, take, Option, Some, None}
+use Rattle.std.specs.List.{list_any}
+use Rattle.std.specs.Option.{option_and_then, option_map, option_map_or, unwrap_or}
+use Rattle.oc_linking.specs.declared.terms.Keep.{Keep}
+use Rattle.oc_linking.specs.Numbers.{or_else}
+use Rattle.oc_neutral.specs.Built.{Given}
+use Rattle.oc_omf_records.specs.Blocks.{Blocks, copies_of, size_of}
+use Rattle.oc_omf.specs.declared.structures.Fixup.{Fixup}
+use Rattle.oc_omf.specs.declared.structures.Method.{Method}
+use Rattle.oc_omf.specs.Entries.{Entry, entries_in}
+use Rattle.oc_omf.specs.Fixups.{Fixed, fixed_in, last_of, placed_upto}
+use Rattle.oc_omf.specs.Known.{AreInForce}
+use Rattle.oc_omf.specs.Sections.{blocks_in}
+use Rattle.oc_omf.specs.Structures as structures
+use Rattle.oc_omf.specs.Tables.{tables_of}
+use Rattle.oc_omf.specs.Targets.{Meaning}
+use Rattle.oc_omf_read.specs.declared.fields.Behind.{Behind}
+use Rattle.oc_omf_read.specs.declared.fields.Field.{Field}
+use Rattle.oc_omf_read.specs.declared.fix.Fix.{Fix}
+use Rattle.oc_omf_read.specs.declared.fixes.Sight.{Sight}
+use Rattle.oc_omf_read.specs.declared.pieces.Piece.{Piece}
+use Rattle.oc_omf_read.specs.declared.searched.Searched.{Searched}
+use Rattle.oc_omf_read.specs.Aims.{fix_for, meaning_seen, method_told}
+use Rattle.oc_omf_read.specs.Given.{given_at}
+use Rattle.oc_omf_read.specs.Pieces.{ArePieces, IsPiece, row_in}
 
--- the row of a segment-relative fixup by its frame and its target
-abbrev pub framed_row : Meaning → Fixed → Target → Method → Option Row
-framed_row m x t frame = if is_flat m frame then Some (fixup_row ByFlat) else if is_home m x.piece frame t then Some (fixup_row ByTarget) else None
+-- the fields that a fixup makes of the copies in data at an offset of a section
+abbrev pub fields_at : ℕ → ℕ → Fix → List ℕ → List Field
+fields_at section offset fix copies = map (λ (copy : ℕ). record { section = section; at = offset + copy; fix = fix }) copies
 
--- the row of a fixup by its target; of a self-relative one the frame does not count
-abbrev pub row_of : Meaning → Fixed → Target → Option Row
-row_of m x t = if x.fixup.segment_relative then option_and_then (framed_row m x t) x.frame else Some (fixup_row BySelf)
+-- where copies stand in some data, none where no content holds the bytes
+abbrev pub copies_in : Blocks → ℕ → List ℕ
+copies_in row at = unwrap_or (copies_of row at) []
 
--- the target of a fixup
-abbrev pub aim_of : Meaning → Fixed → Option Target
-aim_of m x = option_and_then (target_of m) x.target
+-- the fields of a fixup of data of a segment at an offset, with that frame and that target
+abbrev pub fields_by : Meaning → Keep → ℕ → ℕ → Blocks → Fixup → Option Method → Option Method → List Field
+fields_by m keep segment offset row f frame target = option_map_or (λ (fix : Fix). fields_at (segment - 1) offset fix (copies_in row f.offset)) (fix_for m keep segment f frame target) []
 
--- the number that is added, at an offset of the section at position s: the field's, sign-extended, and the displacement
-abbrev pub added_at : Meaning → ℕ → ℕ → Fixed → Row → ℤ
-added_at m s at x row = number_in row (contents_of m.tables (s + 1) (size_at m.tables (s + 1))) at +ℤ pos x.fixup.displacement
+-- the fields of a fixup, where it is behind data
+abbrev pub fields_for : Meaning → Keep → Fixed → List Field
+fields_for m keep x = option_map_or (λ (d : structures.Piece). fields_by m keep d.segment d.offset (blocks_in d.blocks) x.fixup x.frame x.target) x.piece []
 
--- the field of a fixup at an offset of the section at position s
-abbrev pub field_of : Meaning → ℕ → ℕ → Fixed → Target → Row → Field
-field_of m s at x t row = row_field W32 row s (added_at m s at x row) s at t
+-- those of some fixups
+unfoldable pub fields_of : Meaning → Keep → List Fixed → List Field
+fields_of m keep xs = flat_map (fields_for m keep) xs
 
--- where it has a target, and a row for it
-unfoldable pub field_by : Meaning → ℕ → ℕ → Fixed → Option Field
-field_by m s at x = option_and_then (λ t. option_map (field_of m s at x t) (row_of m x t)) (aim_of m x)
+-- ... as the program has them
 
--- a fixup has a field at an offset of the section at position s
-abbrev pub relocates : ℕ → ℕ → Fixed → Bool
-relocates s at x = has_field x (s + 1) at && nat_eq x.fixup.location OFFSET_32
+-- the data that are held
+abbrev pub held : Behind → Option Piece
+held b = option_map (λ (s : Searched). s.piece) b.piece
 
--- the fixups of a file
-abbrev pub fixups_in : List Entry → List Fixed
-fixups_in entries = fixed_in (placed_upto entries (length entries))
+-- what a fixup behind what is held does
+abbrev pub fix_behind : Meaning → Keep → Behind → Fixup → Option Fix
+fix_behind m keep b f = option_and_then (λ (p : Piece). fix_for m keep p.segment f (method_told b.threads true f.frame) (method_told b.threads false f.target)) (held b)
 
--- the fields of a file, by the position of a section and the offset in it
-unfoldable pub fields_in : List Entry → ℕ → ℕ → Option Field
-fields_in entries s at = option_and_then (field_by (meaning_of entries) s at) (find (relocates s at) (fixups_in entries))
+-- the fields of a fixup behind what is held
+abbrev pub fields_behind : Meaning → Keep → Behind → Fixup → List Field
+fields_behind m keep b f =
+    option_map_or (λ (p : Piece). fields_by m keep p.segment p.offset (row_in p.data) f (method_told b.threads true f.frame) (method_told b.threads false f.target)) (held b) []
+
+-- data lie in a section that is small enough
+abbrev pub IsLow : Piece → Type 0
+IsLow p = p.offset + size_of (row_in p.data) ≤ 2147483647
+
+abbrev pub AreLow : Option Piece → Type 0
+AreLow None = Unit {0}
+AreLow (Some p) = IsLow p
+
+-- data that are held are the last
+abbrev pub IsLast : Option Piece → Option structures.Piece → Type 0
+IsLast None o = o ≡ None
+IsLast (Some p) o = (d : structures.Piece) × (o ≡ Some d) × IsPiece p d
+
+-- the data of an entry are held, where it has some, or else those that were
+pub record HasData (ds : List structures.Piece) (old new : Behind) : Type 0 where
+  pub found : Option Piece
+  pub are : ArePieces found ds
+  pub threads : new.threads ≡ old.threads
+  pub piece : held new ≡ or_else found (held old)
+
+-- the fields of the fixups in the first i entries, and what entry i stands behind
+pub record HasFields (s : Sight) (i : ℕ) (fields : List Field) (b : Behind) : Type 0 where
+  pub made : fields ≡ fields_of (meaning_seen s) s.keep (fixed_in (placed_upto (entries_in s.omf.now) i))
+  pub threads : AreInForce (placed_upto (entries_in s.omf.now) i) b.threads
+  pub last : IsLast (held b) (last_of (tables_of (take i (entries_in s.omf.now))).pieces)
+  pub low : AreLow (held b)
+
+-- ... what is given
+
+-- one of the fields is at an offset of the section at position s
+abbrev pub is_among : List Field → ℕ → ℕ → Bool
+is_among fields s at = list_any (λ (f : Field). nat_eq f.section s && nat_eq f.at at) fields
+
+-- what is given for some fields
+abbrev pub given_with : List Entry → Keep → List Field → Given
+given_with es keep fields s at = if is_among fields s at then given_at es keep s at else None

@@ -1,133 +1,101 @@
-//! The data that entries have for segments.
-ghost use Rattle.std.specs.Prelude.{◌≡◌, ◌≤◌, ◌-◌, ◌^◌, min, true, Ok, Err, IfOk, OnOk, IfErr, length, drop, slice_set};
-ghost use Rattle.oc_omf_records.specs.Blocks.{Blocks, size_of};
-ghost use Rattle.oc_omf_records.specs.Refusals.{Refuses};
-ghost use Rattle.oc_omf_records.specs.declared.faults.BlockFault.TheVariants as block;
-ghost use Rattle.oc_shelf.specs.declared.reading.stop.Stop.TheVariants as stop;
-ghost use Rattle.oc_omf_read.specs.Defined as specs;
-ghost use Rattle.oc_omf_read.specs.Known.{row_of};
-ghost use Rattle.oc_omf_read.specs.Structures.{blocks_by};
-ghost use Rattle.oc_omf_read.specs.Topics.{said_on};
-ghost use Rattle.oc_omf_read.specs.declared.topics.Topic.TheVariants as topic;
+//! The data of entries.
+ghost use Rattle.std.specs.Prelude.{◌≡◌, ◌≤◌, ◌^◌, min, drop, length, IfOk};
+ghost use Rattle.oc_omf_records.specs.Blocks.{size_of};
+ghost use Rattle.oc_omf.specs.Entries.{all_read, is_wide};
+ghost use Rattle.oc_omf.specs.Sections.{blocks_in};
+ghost use Rattle.oc_omf.specs.Structures.{blocks_by, piece_read};
+ghost use Rattle.oc_omf_read.specs.Defined.{read_in, said};
+ghost use Rattle.oc_omf_read.specs.Pieces as pieces;
 
-use crate::cursor::{Reading, read_index, read_long};
-use crate::data::Data;
-use crate::defined::{Defined, segment_at};
-use crate::section_stage::{Spot, own_fault, segment_size};
-use oc_base::{Code, Fault, View};
-use oc_omf_records::BlockFault;
-use oc_shelf::Stop;
+use crate::class::{Class, class_of};
+use oc_base::{NoMemory, View};
+use oc_omf::{Data, is_wide, read_index, read_long};
+use oc_omf_records::{BlockFault, Entry};
 use std::alloc::Global;
 
-/// Where data lie.
-#[derive(Clone, Copy, Debug, PartialEq, Eq, Drop)]
-pub struct Head {
+/// The data of an entry, and where they lie.
+#[derive(Drop)]
+pub struct Piece<'a> {
     /// The index of their segment.
-    pub segment: u16,
-    /// Their offset in it, in bytes.
-    pub offset: u32,
+    pub(crate) segment: u16,
+    /// The offset of the first byte that they stand for, in bytes.
+    pub(crate) offset: u32,
+    /// What they are; `None` where their blocks cannot be read.
+    pub(crate) data: Option<Data<'a>>,
 }
 
-/// Where the data in the contents of an entry lie, of the odd type where `wide`. Constant time.
-#[tactic(auto, unfolding(crate::specs::Defined::head_read))]
-pub fn read_head(contents: &View<'_>, wide: bool) -> Reading<Head>
-    ensures { result ≡ specs.head_read wide contents.now 0 }
-{
-    let (segment, at) = read_index(contents, 0)?;
-    let (offset, at) = read_long(contents, wide, at)?;
-    Ok((Head { segment, offset }, at))
+impl<'a> Piece<'a> {
+    /// How many bytes they stand for, or 2^32 where there are more. Linear in the encoded data; no
+    /// memory.
+    pub(crate) fn size(&self) -> u64
+        ensures { result ≡ min (size_of (pieces.row_in self.now.data)) (2 ^ 32) }
+    {
+        match &self.data {
+            Some(data) => data.size(),
+            None => 0,
+        }
+    }
 }
 
-/// The data from `at` on, with the faults and the cost of `Data::read`.
-pub fn read_data<'a>(
+// the data in the contents of an entry from a place on
+fn data_behind<'a>(
     alloc: Global,
     contents: &View<'a>,
-    wide: bool,
-    iterated: bool,
     at: u64,
-) -> Result<Data<'a>, BlockFault>
-    requires { at ≤ length contents.now }
-    ensures well { IfOk result (λ d. blocks_by wide iterated (drop at contents.now) ≡ Ok (row_of d)) }
-    ensures refused { IfErr result (λ fault. Refuses fault (blocks_by wide iterated (drop at contents.now))) }
-{
-    let bytes = contents.bytes();
-    Data::read(alloc, View::new(&bytes[at as usize..]), wide, iterated)
-}
-
-// the place of an offset of a segment, such that those of two segments are far apart
-fn place_in(segment: u16, offset: u32) -> u64
-    ensures { result ≡ specs.place_in segment offset }
-{
-    u64::from(segment) * 4_294_967_296 + u64::from(offset)
-}
-
-// takes up that some byte of a segment is covered
-fn cover(covered: &mut [bool], segment: u16)
-    requires some { 1 ≤ segment }
-    requires there { segment ≤ length covered.old }
-    ensures { covered.new ≡ slice_set covered.old (segment - 1) true }
-{
-    covered[usize::from(segment) - 1] = true;
-}
-
-// judges data of so many bytes, or of 2^32 where they have more, and takes them up
-fn take_piece(defined: &mut Defined<'_>, spot: Spot, head: Head, size: u64) -> Result<(), Stop>
-    requires long { length defined.old.covered.items ≡ length defined.old.segments.items }
-    requires small { size ≤ 2 ^ 32 }
-    ensures taken { OnOk result ((row : Blocks) → size ≡ min (size_of row) (2 ^ 32) → specs.IsPieceTaken defined.old (spot.index, spot.place) (specs.piece_with head (Ok row)) defined.new) }
-    ensures stop { IfErr result (λ s. (row : Blocks) → size ≡ min (size_of row) (2 ^ 32) → specs.IsPieceStopped defined.old (spot.index, spot.place) (specs.piece_with head (Ok row)) s) }
-{
-    let Some(segment) = segment_at(defined.segments.as_slice(), head.segment) else {
-        return Err(Stop::Fault(own_fault(spot, Code::BadIndex)));
-    };
-    if u64::from(head.offset) + size > segment_size(&segment) {
-        return Err(Stop::Fault(own_fault(spot, Code::DataPastEnd)));
-    }
-    if size == 0 {
-        return Ok(());
-    }
-    let begin = place_in(head.segment, head.offset);
-    if defined.spans.is_met(begin, begin + size) {
-        return Err(Stop::Fault(own_fault(spot, Code::DataOverlap)));
-    }
-    defined.spans.take(begin, begin + size)?;
-    cover(defined.covered.as_mut_slice(), head.segment);
-    Ok(())
-}
-
-// the fault of data that are nested too deep
-fn deep_fault(defined: &Defined<'_>, spot: Spot, head: Head) -> Fault
-    ensures { specs.IsPieceStopped defined.now (spot.index, spot.place) (specs.piece_with head (Err block.TooDeep)) (stop.Fault result) }
-{
-    match segment_at(defined.segments.as_slice(), head.segment) {
-        Some(_segment) => own_fault(spot, Code::TooDeep),
-        None => own_fault(spot, Code::BadIndex),
-    }
-}
-
-/// Judges the data in the contents of an entry, of the odd type where `wide`, and takes them up.
-///
-/// Stops exactly where they have a fault, with the first; or where memory ran out. Linear in the
-/// contents, and the logarithm of the number of data before.
-pub(crate) fn take_data(
-    alloc: Global,
-    defined: &mut Defined<'_>,
-    spot: Spot,
     wide: bool,
     iterated: bool,
-    contents: &View<'_>,
-) -> Result<(), Stop>
-    requires { length defined.old.covered.items ≡ length defined.old.segments.items }
-    ensures taken { OnOk result (specs.IsTakenUp defined.old (spot.index, spot.place) (said_on (topic.Data iterated) spot.place wide contents.now) defined.new) }
-    ensures stop { IfErr result (specs.IsStoppedAt defined.old (spot.index, spot.place) (said_on (topic.Data iterated) spot.place wide contents.now)) }
+) -> Result<Option<Data<'a>>, NoMemory>
+    requires { at ≤ length contents.now }
+    ensures { IfOk result (λ d. pieces.row_in d ≡ blocks_in (blocks_by wide iterated (drop at contents.now))) }
 {
-    let Ok((head, at)) = read_head(contents, wide) else {
-        return Err(Stop::Fault(own_fault(spot, Code::BadTable)));
+    let behind = contents.sub(at, contents.len() - at).unwrap();
+    match Data::read(alloc, behind, wide, iterated) {
+        Ok(data) => Ok(Some(data)),
+        Err(BlockFault::BadBlock | BlockFault::TooDeep) => Ok(None),
+        Err(BlockFault::NoMemory) => Err(NoMemory),
+    }
+}
+
+// the data of an entry of that sort, if they are not cut
+fn read_piece<'a>(
+    alloc: Global,
+    entry: &Entry<'a>,
+    iterated: bool,
+) -> Result<Option<Piece<'a>>, NoMemory>
+    ensures { IfOk result (λ piece. pieces.ArePieces piece (read_in (piece_read (is_wide entry.now.kind) iterated entry.now.contents 0))) }
+{
+    let wide = is_wide(entry.kind);
+    let Ok((segment, at)) = read_index(&entry.contents, 0) else {
+        return Ok(None);
     };
-    match read_data(alloc, contents, wide, iterated, at) {
-        Ok(data) => take_piece(defined, spot, head, data.size()),
-        Err(BlockFault::BadBlock) => Err(Stop::Fault(own_fault(spot, Code::BadTable))),
-        Err(BlockFault::TooDeep) => Err(Stop::Fault(deep_fault(defined, spot, head))),
-        Err(BlockFault::NoMemory) => Err(Stop::NoMemory),
+    let Ok((offset, at)) = read_long(&entry.contents, wide, at) else {
+        return Ok(None);
+    };
+    let data = data_behind(alloc, &entry.contents, at, wide, iterated)?;
+    Ok(Some(Piece {
+        segment,
+        offset,
+        data,
+    }))
+}
+
+/// The data of an entry, if it has some that are not cut. `NoMemory` where memory ran out. Linear in
+/// the entry.
+pub(crate) fn piece_of<'a>(alloc: Global, entry: &Entry<'a>) -> Result<Option<Piece<'a>>, NoMemory>
+    ensures { IfOk result (λ piece. pieces.ArePieces piece (all_read (said entry.now).pieces)) }
+{
+    match class_of(entry.kind) {
+        Class::Plain => read_piece(alloc, entry, false),
+        Class::Iterated => read_piece(alloc, entry, true),
+        Class::Names
+        | Class::Segment
+        | Class::Group
+        | Class::Publics
+        | Class::LocalPublics
+        | Class::Externals
+        | Class::LocalExternals
+        | Class::Communals
+        | Class::Fixups
+        | Class::Nothing => Ok(None),
     }
 }

@@ -20,14 +20,14 @@ use Rattle.oc_neutral.proofs.Positions.{each_at}
 use Rattle.oc_neutral.specs.Normal.{Place}
 use Rattle.oc_neutral.specs.Objects.{Object}
 use Rattle.oc_shelf.proofs.WritingLaws.MemberLemmas.{member_map}
-use Rattle.oc_omf_read.specs.declared.structures.Method.{Method}
+use Rattle.oc_omf.specs.declared.structures.Method.{Method}
 use Rattle.oc_omf_file.specs.Canonical.{segment_of, size_by, output_contents}
 use Rattle.oc_omf_file.specs.Fixups.{raw_of, written_reloc}
 use Rattle.oc_omf_file.specs.Names.{class_of}
 use Rattle.oc_omf_file.specs.Outputs.{Output, outputs_of}
 use Rattle.oc_omf_file.specs.Outputs as output
 use Rattle.oc_omf_file.specs.Pieces.{fields_between}
-use Rattle.oc_omf_file.specs.Structures.{segment_bytes, external_bytes, communal_bytes, data_bytes}
+use Rattle.oc_omf.specs.Bytes.{segment_bytes, external_bytes, communal_bytes, data_bytes}
 use Rattle.oc_omf_file.proofs.BehindLaws.{IsDataAt, Behind}
 use Rattle.oc_omf_file.proofs.CodedLaws.{IsForOmf, field_is, inside, width_is}
 use Rattle.oc_omf_file.proofs.MadeLaw.{Fits}

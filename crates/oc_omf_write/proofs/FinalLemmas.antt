@@ -14,7 +14,7 @@ use Rattle.oc_omf_file.specs.Outputs.{Output, outputs_of, piece_outputs, data_ou
 use Rattle.oc_omf_file.specs.Pieces.{fields_between, pieces_of}
 use Rattle.oc_omf_file.proofs.BehindLaws.{OfSymbol, symbols_are}
 use Rattle.oc_omf_file.specs.Outputs as output
-use Rattle.oc_omf_file.specs.Structures.{entry_bytes}
+use Rattle.oc_omf.specs.Bytes.{entry_bytes}
 use Rattle.oc_omf_file.proofs.CodedLaws.{IsForOmf, short_names}
 use Rattle.oc_omf_file.proofs.ListLemmas.{all_both}
 use Rattle.oc_omf_file.proofs.NameLaws.{filled_small}

@@ -5,9 +5,9 @@ use Rattle.std.specs.List.{AllByRecursion}
 use Rattle.std.proofs.lemmas.Option.{none-some, same_Some}
 use Rattle.std.proofs.lemmas.List.Sums.{sum_by-cons}
 use Rattle.oc_neutral.specs.declared.section.Section.{Section}
-use Rattle.oc_omf_read.specs.declared.structures.Method.{Method}
+use Rattle.oc_omf.specs.declared.structures.Method.{Method}
 use Rattle.oc_omf_file.specs.Names.{names_size}
-use Rattle.oc_omf_file.specs.Structures.{index_bytes, frame_bytes, name_bytes}
+use Rattle.oc_omf.specs.Bytes.{index_bytes, frame_bytes, name_bytes}
 use Rattle.oc_omf_write.specs.declared.fixups.Fixup.{Fixup}
 use Rattle.oc_omf_write.specs.declared.names.Name.{Name}
 use Rattle.oc_omf_write.specs.Names.{text_by, AreShort}

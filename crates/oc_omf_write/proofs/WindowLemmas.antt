@@ -3,7 +3,7 @@ use Rattle.std.proofs.Common.{◌≡◌, ℕ, ◌+◌, List, [], ◌∷◌, ◌+
 use Rattle.std.proofs.lemmas.List.Sums.{sum_by-append}
 use Rattle.oc_base.specs.Numbers.{bytes_of_number}
 use Rattle.oc_base.proofs.NumberLaws.{length-bytes_of_number}
-use Rattle.oc_omf_file.specs.Structures.{checksum, entry_bytes}
+use Rattle.oc_omf.specs.Bytes.{checksum, entry_bytes}
 use Rattle.oc_omf_file.proofs.EntryLaws.{entry_is}
 
 pub sum-append : (xs ys : List ℕ) → sum (xs ++ ys) ≡ sum xs + sum ys

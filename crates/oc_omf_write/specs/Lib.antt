@@ -1,10 +1,10 @@
 pub mod Entries
+pub mod Made
 pub mod Names
 pub mod Numbers
 pub mod Pieces
+pub mod Plans
 pub mod Raws
 pub mod Tables
-pub mod Made
-pub mod Plans
 pub mod Writing
 pub mod Written

@@ -7,7 +7,7 @@ use denote.Ref.{Bor}
 use Rattle.std.specs.List.{AllByRecursion, list_any, position_or_len}
 use Rattle.std.specs.Option.{option_map_or}
 use Rattle.oc_neutral.specs.declared.section.Section.{Section}
-use Rattle.oc_omf_read.specs.declared.structures.Segment as read
+use Rattle.oc_omf.specs.declared.structures.Segment as read
 use Rattle.oc_omf_file.specs.Canonical.{attributes_of}
 use Rattle.oc_omf_file.specs.Names.{class_of, with_name, filled_from}
 use Rattle.oc_omf_write.specs.declared.entries.Entry.{Entry}

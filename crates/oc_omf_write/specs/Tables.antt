@@ -6,10 +6,10 @@ use Rattle.oc_neutral.specs.declared.section.Section.{Section}
 use Rattle.oc_neutral.specs.declared.symbol.Symbol.{Symbol}
 use Rattle.oc_neutral.specs.KeySymbols.{global_place}
 use Rattle.oc_neutral.specs.Normal.{Place}
-use Rattle.oc_omf_read.specs.declared.structures.Segment as read
+use Rattle.oc_omf.specs.declared.structures.Segment as read
 use Rattle.oc_omf_file.specs.Canonical.{size_by, public_at}
 use Rattle.oc_omf_file.specs.Names.{names_size}
-use Rattle.oc_omf_file.specs.Structures.{entry_bytes, name_bytes, index_bytes, segment_bytes, external_bytes, communal_bytes, data_bytes}
+use Rattle.oc_omf.specs.Bytes.{entry_bytes, name_bytes, index_bytes, segment_bytes, external_bytes, communal_bytes, data_bytes}
 use Rattle.oc_omf_write.specs.declared.entries.Entry.{Entry}
 use Rattle.oc_omf_write.specs.declared.entries.Entry.TheVariants as entry
 use Rattle.oc_omf_write.specs.declared.fixups.Fixup.{Fixup}

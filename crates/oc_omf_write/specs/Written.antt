@@ -13,9 +13,9 @@ use Rattle.oc_neutral.specs.declared.reloc.Target.TheVariants as target
 use Rattle.oc_neutral.specs.Objects.{Object}
 use Rattle.oc_neutral.specs.Omf.Relocs.{ByFlat, ByTarget, BySelf, fixup_row}
 use Rattle.oc_neutral.specs.Rows.{Row, shift_of}
-use Rattle.oc_omf_read.specs.declared.structures.Method.{Method}
-use Rattle.oc_omf_file.specs.declared.constants.TheConstants.{METHOD_SEGMENT, METHOD_GROUP, METHOD_EXTERNAL, FRAME_OF_TARGET}
-use Rattle.oc_omf_file.specs.Structures.{fixup_bytes}
+use Rattle.oc_omf.specs.declared.structures.Method.{Method}
+use Rattle.oc_omf.specs.declared.constants.TheConstants.{METHOD_SEGMENT, METHOD_GROUP, METHOD_EXTERNAL, FRAME_OF_TARGET}
+use Rattle.oc_omf.specs.Bytes.{fixup_bytes}
 use Rattle.oc_omf_file.specs.Fixups.{written_reloc, number_or, row_by}
 use Rattle.oc_omf_write.specs.declared.fixups.Fixup.{Fixup}
 

@@ -2,7 +2,7 @@
 ghost use Rattle.std.specs.Prelude.{◌≡◌};
 ghost use Rattle.oc_omf_write.specs.Entries.{type_of};
 
-use oc_omf_read::{COMDEF, EXTDEF, FIXUPP, GRPDEF, LEDATA, LNAMES, MODEND, PUBDEF, SEGDEF, THEADR};
+use oc_omf::{COMDEF, EXTDEF, FIXUPP, GRPDEF, LEDATA, LNAMES, MODEND, PUBDEF, SEGDEF, THEADR};
 
 /// An entry, by positions in the object: of a section or a symbol, and of the first and past the last of
 /// its names or bytes.

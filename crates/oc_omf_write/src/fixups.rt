@@ -15,8 +15,7 @@ use oc_algebra::{Less, reduce};
 use oc_base::{NoMemory, Word};
 use oc_chains::Field;
 use oc_neutral::{Binding, Neutral, Reloc, Symbol, Target, Value, moved_addend};
-use oc_omf_file::{FRAME_OF_TARGET, METHOD_EXTERNAL, METHOD_GROUP, METHOD_SEGMENT};
-use oc_omf_read::Method;
+use oc_omf::{FRAME_OF_TARGET, METHOD_EXTERNAL, METHOD_GROUP, METHOD_SEGMENT, Method};
 use std::alloc::Global;
 
 /// A fixup of a 32-bit offset, without a displacement.

@@ -1,7 +1,7 @@
 //! Where the entries of a file begin.
 ghost use Rattle.std.specs.Prelude.{◌≡◌, ◌+◌, ◌^◌, ◌<◌, ◌≤◌, ◌++◌, [], ◌∷◌, ℕ, List, IfOk, OnOk, length};
 ghost use Rattle.std.specs.List.{AllByRecursion};
-ghost use Rattle.oc_omf_write.specs.declared.contents.TheConstants.{ROOM};
+ghost use Rattle.oc_omf.specs.declared.contents.TheConstants.{ROOM};
 ghost use Rattle.oc_plans.specs.Joined.{AreJoined};
 ghost use Rattle.oc_omf_write.specs.Plans.{parts_by};
 ghost use Rattle.oc_omf_write.specs.Tables.{AreSound, CanPut};

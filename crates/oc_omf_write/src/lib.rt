@@ -2,7 +2,6 @@
 //! window of the file.
 #![tactic(auto)]
 
-mod contents;
 mod entries;
 mod fixups;
 mod forms;
@@ -14,7 +13,6 @@ mod plan;
 mod planning;
 mod raw;
 mod segments;
-mod structures;
 mod symbols;
 mod tables;
 mod windows;

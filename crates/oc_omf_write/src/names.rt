@@ -11,7 +11,7 @@ ghost use Rattle.oc_omf_write.specs.Names as texts;
 use crate::entries::Entry;
 use oc_base::NoMemory;
 use oc_neutral::{Kind, Section};
-use oc_omf_file::MOST_ENTRY_BYTES;
+use oc_omf::MOST_ENTRY_BYTES;
 use std::alloc::Global;
 use std::collections::BTreeMap;
 

@@ -8,7 +8,7 @@ use crate::entries::Entry;
 use crate::fixups::Fixup;
 use oc_base::NoMemory;
 use oc_neutral::Section;
-use oc_omf_file::MOST_ENTRY_BYTES;
+use oc_omf::MOST_ENTRY_BYTES;
 
 /// How many bytes a field has.
 const FIELD: u32 = 4;

@@ -8,8 +8,7 @@ ghost use Rattle.oc_omf_write.specs.Names.{AreNames, IsIndexed, names_for, segme
 use crate::names::{Names, class_of};
 use oc_base::NoMemory;
 use oc_neutral::Section;
-use oc_omf_file::COMBINE_PUBLIC;
-use oc_omf_read::Segment;
+use oc_omf::{COMBINE_PUBLIC, Segment};
 use std::alloc::Global;
 
 // the code of an alignment

@@ -4,21 +4,22 @@ ghost use Rattle.std.specs.List.{AllByRecursion};
 ghost use Rattle.oc_neutral.specs.declared.section.Section.{Section as Held};
 ghost use Rattle.oc_omf_file.specs.Canonical.{size_by};
 ghost use Rattle.oc_omf_file.specs.Names.{names_size};
-ghost use Rattle.oc_omf_file.specs.Structures.{communal_bytes, data_bytes, name_bytes};
-ghost use Rattle.oc_omf_write.specs.declared.contents.TheConstants.{ROOM};
+ghost use Rattle.oc_omf.specs.Bytes.{communal_bytes, data_bytes, name_bytes};
+ghost use Rattle.oc_omf.specs.declared.contents.TheConstants.{ROOM};
 ghost use Rattle.oc_omf_write.specs.declared.entries.Entry.TheVariants as entry;
 ghost use Rattle.oc_omf_write.specs.Names as texts;
 ghost use Rattle.oc_omf_write.specs.Tables as tables;
 ghost use Rattle.oc_omf_write.specs.Written.{fixup_bytes_of, IsSmallFixup};
 
-use crate::contents::Contents;
 use crate::entries::Entry;
 use crate::fixups::{Fixup, global_place};
 use crate::names::{Name, text_of};
 use crate::pieces::fixups_between;
-use crate::structures::{put_communal, put_data, put_external, put_fixup, put_public, put_segment};
 use oc_neutral::{Binding, Section, Symbol};
-use oc_omf_read::{Base, Segment};
+use oc_omf::{
+    Base, Contents, Segment, put_communal, put_data, put_external, put_fixup, put_public,
+    put_segment,
+};
 
 /// The name of the module: that of this program.
 const MODULE: &[u8] = b"objconv";
@@ -68,6 +69,16 @@ fn put_names(out: &mut Contents, sections: &[Section], names: &[Name])
     }
 }
 
+// puts the fixup of a field of data that begin at `from`
+fn put_field(out: &mut Contents, from: u32, fixup: &Fixup)
+    requires small { IsSmallFixup from fixup.now }
+    requires room { length out.old + 7 ≤ ROOM }
+    ensures { out.new ≡ out.old ++ fixup_bytes_of from fixup.now }
+{
+    let at = fixup.at - from;
+    put_fixup(out, fixup.self_relative, at, fixup.frame, fixup.target);
+}
+
 // puts the fixups of data that begin at `from`
 fn put_fixups(out: &mut Contents, from: u32, fixups: &[Fixup])
     requires small { AllByRecursion (IsSmallFixup from) fixups.now }
@@ -75,7 +86,7 @@ fn put_fixups(out: &mut Contents, from: u32, fixups: &[Fixup])
     ensures { out.new ≡ out.old ++ flat_map (fixup_bytes_of from) fixups.now }
 {
     for fixup in fixups {
-        put_fixup(out, from, fixup);
+        put_field(out, from, fixup);
     }
 }
 

@@ -3,10 +3,10 @@
 ghost use Rattle.std.specs.Prelude.{◌≡◌, ℕ, ◌+◌, ◌-◌, ◌%◌, ◌^◌, ◌<◌, ◌≤◌, List, [], ◌∷◌, ◌++◌, length, sum};
 ghost use Rattle.oc_base.specs.Numbers.{bytes_of_number};
 ghost use Rattle.oc_outside.specs.Windows.{IsFilled};
-ghost use Rattle.oc_omf_file.specs.Structures.{checksum, entry_bytes};
-ghost use Rattle.oc_omf_write.specs.declared.contents.TheConstants.{ROOM};
+ghost use Rattle.oc_omf.specs.Bytes.{checksum, entry_bytes};
+ghost use Rattle.oc_omf.specs.declared.contents.TheConstants.{ROOM};
 
-use crate::contents::Contents;
+use oc_omf::Contents;
 use oc_shelf::copy_window;
 
 /// How many bytes of an entry stand before its contents.

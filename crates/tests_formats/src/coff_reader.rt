@@ -13,7 +13,7 @@ use objects::{ALL, CALL, COMPILED, COUNT, FLAGS, R_SYMBOL, R_TYPE, SELECTION, ST
 use oc_base::Code::{self, Group, RelocKind};
 use oc_base::Phase::{self, Header, Relocation, Section, Symbol};
 use oc_base::{Fault, Word};
-use oc_coff_reader::{CoffReader32, CoffReader64};
+use oc_coff_read::{CoffReader32, CoffReader64};
 use oc_neutral::{Keep, Reads};
 use std::alloc::Global;
 use std::test::Fail;

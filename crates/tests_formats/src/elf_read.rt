@@ -18,7 +18,8 @@ use objects::{
 };
 use oc_base::Fault;
 use oc_base::Phase::{Header, Relocation, Section, Symbol};
-use oc_elf_read::{ElfClass, judge};
+use oc_elf::ElfClass;
+use oc_elf_judge::judge;
 use std::alloc::Global;
 use std::test::Fail;
 

@@ -12,8 +12,8 @@ mod elf_read;
 #[cfg(test)]
 mod macho_read;
 #[cfg(test)]
+mod omf;
+#[cfg(test)]
 mod omf_judge;
 #[cfg(test)]
 mod omf_read;
-#[cfg(test)]
-mod omf_reader;

@@ -15,7 +15,8 @@ use objects::{
 };
 use oc_base::Phase::{Header, Relocation, Section, Symbol};
 use oc_base::{Code, Fault, Word};
-use oc_macho_read::{Holders, Reference, RelocationInfo, judged, relocation_info_of};
+use oc_macho::{Reference, RelocationInfo, relocation_info_of};
+use oc_macho_judge::judged;
 use oc_neutral::Keep;
 use std::alloc::Global;
 use std::test::Fail;
@@ -230,10 +231,7 @@ fn holder(alloc: Global, file: &[u8], v: u32) -> Option<u32>
     requires { length file.now ≤ MOST_INPUT }
 {
     match judged(alloc, Word::W32, file, &KEEP) {
-        Ok(frame) => match Holders::of(alloc, &frame) {
-            Ok(holders) => holders.holder(v),
-            Err(_) => None,
-        },
+        Ok(found) => found.holders.holder(v),
         Err(_) => None,
     }
 }

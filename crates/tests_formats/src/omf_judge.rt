@@ -1,5 +1,6 @@
 //! Modules put together by hand from TIS OMF 1.1, with the first fault of their threads and fixups.
 mod fields;
+mod front;
 mod names;
 
 use crate::cases::KEEP;

@@ -3,7 +3,7 @@ use super::fault_of;
 use crate::cases::expected;
 use oc_base::Code::{LimitBytes, LimitSum};
 use oc_base::{MOST_INPUT, NoMemory, Phase};
-use oc_elf_read::ElfClass;
+use oc_elf::ElfClass;
 use std::alloc::Global;
 use std::test::Fail;
 

@@ -1,6 +1,6 @@
 -- One entry is added.
 use Rattle.std.proofs.Common.{refl}
-use Rattle.oc_coff_read.specs.Lines.{DefaultLine}
+use Rattle.oc_coff_file.specs.Lines.{DefaultLine}
 use Rattle.oc_coff_write.proofs.EntryLemmas.{one_row}
 use Rattle.oc_coff_write.proofs.entries.add_default.Goals as goal
 

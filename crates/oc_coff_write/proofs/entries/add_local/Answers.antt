@@ -1,6 +1,6 @@
 -- One entry is added.
 use Rattle.std.proofs.Common.{refl, ◌∙◌}
-use Rattle.oc_coff_read.specs.Lines.{LocalLine}
+use Rattle.oc_coff_file.specs.Lines.{LocalLine}
 use Rattle.oc_coff_write.proofs.EntryLemmas.{local_entry, one_row}
 use Rattle.oc_coff_write.proofs.entries.add_local.Goals as goal
 

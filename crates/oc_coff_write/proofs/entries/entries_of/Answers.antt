@@ -1,14 +1,14 @@
 -- Each turn adds the entries of its line.
 use Rattle.std.proofs.Common.{◌≤◌, length, map, ◌∙◌, ap, sym, arith}
-use Rattle.oc_coff_read.specs.Forms.{shape_of}
+use Rattle.oc_coff.specs.Forms.{shape_of}
 use Rattle.std.specs.Option.{is_some}
 use Rattle.std.proofs.lemmas.List.{length-map}
 use Rattle.std.proofs.lemmas.Option.{slice_get-get_or}
 use Rattle.oc_coff_write.specs.FormFor.{form_for}
 use Rattle.oc_express.proofs.Giving.{more_given, flat_step}
-use Rattle.oc_coff_read.specs.Lines.{lines_of}
-use Rattle.oc_coff_read.specs.Canonical.{line_rows}
-use Rattle.oc_coff_read.proofs.PartLaws.{length-entry_rows}
+use Rattle.oc_coff_file.specs.Lines.{lines_of}
+use Rattle.oc_coff_file.specs.Canonical.{line_rows}
+use Rattle.oc_coff_file.proofs.PartLaws.{length-entry_rows}
 use Rattle.oc_coff_write.specs.Entries.{entry_bytes}
 use Rattle.oc_coff_write.specs.declared.lines.Line.TheVariants as line
 use Rattle.oc_coff_write.proofs.EntryLemmas.{all_rows}

@@ -1,8 +1,8 @@
 -- Field by field.
 use Rattle.std.proofs.Common.{ℕ, List, length, sym, ◌∙◌, ap}
 use Rattle.std.specs.Prelude.{min}
-use Rattle.oc_coff_read.specs.Canonical.{section_field}
-use Rattle.oc_coff_read.specs.Layout.{pointer_to}
+use Rattle.oc_coff_file.specs.Canonical.{section_field}
+use Rattle.oc_coff.specs.Flags.{pointer_to}
 use Rattle.oc_coff_write.proofs.HeaderLemmas.{section_header_is}
 use Rattle.oc_coff_write.proofs.headers.section_header.Goals as goal
 

@@ -1,8 +1,7 @@
 use Rattle.std.proofs.Common.{◌≡◌, ◌+◌, ◌<◌, ◌≤◌, cond, false, Some, None, length, ◌∙◌, ap, sym, subst, arith}
-use Rattle.std.specs.Option.{option_or}
+use Rattle.std.specs.Option.{option_or, option_map_or}
 use Rattle.std.proofs.lemmas.List.{take_all}
 use Rattle.std.specs.Prelude.{nat_eq, take}
-use Rattle.std.specs.Option.{option_map_or}
 use Rattle.oc_coff_write.specs.Keys.{first_made, keyed_at}
 use Rattle.oc_coff_write.proofs.KeyLemmas.{first_more, place_test}
 use Rattle.oc_coff_write.proofs.keys.keys_of.Goals as goal

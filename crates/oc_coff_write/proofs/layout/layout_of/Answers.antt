@@ -1,10 +1,10 @@
 -- Each part has the size that the canonical file gives it, and ends within 32 bits.
 use Rattle.std.proofs.Common.{◌+◌, ◌*◌, List, [], ◌∷◌, ◌++◌, length, sym, ◌∙◌, ap, subst, arith, ◌≡◌}
-use Rattle.oc_coff_read.specs.Forms.{header_size, shape_of, symbol_size}
-use Rattle.oc_coff_read.specs.Lines.{entry_count}
+use Rattle.oc_coff.specs.Forms.{header_size, shape_of, symbol_size}
+use Rattle.oc_coff_file.specs.Lines.{entry_count}
 use Rattle.oc_neutral.specs.Objects.{Object}
-use Rattle.oc_coff_read.specs.Layout.{Part, FileHead, SectionHeads, SymbolTable, StringTable}
-use Rattle.oc_coff_read.proofs.CodedLaws.{for_coff}
+use Rattle.oc_coff_file.specs.Layout.{Part, FileHead, SectionHeads, SymbolTable, StringTable}
+use Rattle.oc_coff_file.proofs.CodedLaws.{for_coff}
 use Rattle.oc_coff_write.specs.LaidParts.{AreLaid}
 use Rattle.oc_coff_write.proofs.LaidLemmas.{front, none_laid, heads_room, table_room, strings_room, text_is, whole}
 use Rattle.oc_coff_write.proofs.layout.layout_of.Goals as goal

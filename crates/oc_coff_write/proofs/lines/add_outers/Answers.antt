@@ -1,7 +1,7 @@
 -- Each turn adds the line of its symbol, where it passes.
 use Rattle.std.proofs.Common.{◌≤◌, length, ap, arith}
 use Rattle.std.specs.Option.{option_map}
-use Rattle.oc_coff_read.specs.Lines.{OuterLine, is_free}
+use Rattle.oc_coff_file.specs.Lines.{OuterLine, is_free}
 use Rattle.oc_coff_write.proofs.LineLemmas.{line_turn, lines_whole}
 use Rattle.oc_coff_write.proofs.lines.add_outers.Goals as goal
 

@@ -1,5 +1,5 @@
 use Rattle.std.proofs.Common.{◌≡◌, ◌++◌, map, Some}
-use Rattle.oc_coff_read.specs.Lines.{OuterLine, lines_where, is_free}
+use Rattle.oc_coff_file.specs.Lines.{OuterLine, lines_where, is_free}
 use Rattle.oc_coff_write.specs.Lines.{lines_in}
 use Rattle.oc_coff_write.proofs.LineLemmas.{lines_left}
 use Rattle.oc_coff_write.proofs.lines.add_outers.Given as goal

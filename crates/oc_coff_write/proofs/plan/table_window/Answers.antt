@@ -2,7 +2,7 @@
 use Rattle.std.proofs.Common.{◌<◌, ◌^◌, List, [], length, sym, ◌∙◌, ap, subst, Vec, Global}
 use Rattle.oc_outside.specs.Windows.{IsFilled}
 use Rattle.oc_shelf.specs.Writing.Parts.{table_of}
-use Rattle.oc_coff_read.specs.declared.relocation.Relocation.{Relocation}
+use Rattle.oc_coff.specs.declared.relocation.Relocation.{Relocation}
 use Rattle.oc_coff_write.specs.Plans.{relocation_rows}
 use Rattle.oc_coff_write.proofs.TableRows.{at_map}
 use Rattle.oc_coff_write.proofs.plan.table_window.Goals as goal

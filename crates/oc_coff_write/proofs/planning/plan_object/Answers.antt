@@ -3,14 +3,14 @@ use Rattle.std.proofs.Common.{◌≡◌, map, sym, ◌∙◌, ap, subst, Vec, Gl
 use Rattle.oc_neutral.specs.declared.section.Section.{Section}
 use Rattle.oc_neutral.specs.Fitted.{IsFitted}
 use Rattle.oc_neutral.specs.Objects.{Object}
-use Rattle.oc_coff_read.specs.declared.relocation.Relocation.{Relocation}
-use Rattle.oc_coff_read.specs.Forms.{format_of, shape_of}
-use Rattle.oc_coff_read.proofs.CodedLaws.{for_coff}
+use Rattle.oc_coff.specs.declared.relocation.Relocation.{Relocation}
+use Rattle.oc_coff.specs.Forms.{format_of, shape_of}
+use Rattle.oc_coff_file.proofs.CodedLaws.{for_coff}
 use Rattle.oc_coff_write.specs.Bodies.{raws_in}
 use Rattle.oc_coff_write.specs.Entries.{entry_bytes}
 use Rattle.oc_coff_write.specs.Plans.{coff_parts, parts_by, IsPlan}
-use Rattle.oc_coff_read.specs.SectionHeader.{section_header_bytes}
-use Rattle.oc_coff_read.specs.declared.form.Shape.{Shape}
+use Rattle.oc_coff.specs.SectionHeader.{section_header_bytes}
+use Rattle.oc_coff.specs.declared.form.Shape.{Shape}
 use Rattle.oc_plans.specs.Joined.{file_by}
 use Rattle.oc_coff_write.proofs.PlannedLemmas.{file_is, parts_same, plan_is}
 use Rattle.oc_coff_write.proofs.planning.plan_object.Goals as goal

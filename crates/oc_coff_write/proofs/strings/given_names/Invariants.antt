@@ -1,7 +1,7 @@
 use Rattle.std.proofs.Common.{◌≡◌, ◌++◌}
 use Rattle.std.specs.Prelude.{drop, flat_map}
 use Rattle.oc_coff_write.specs.FormFor.{form_for}
-use Rattle.oc_coff_read.specs.Lines.{lines_of}
+use Rattle.oc_coff_file.specs.Lines.{lines_of}
 use Rattle.oc_coff_write.specs.Strings.{line_strings, table_names}
 use Rattle.oc_coff_write.proofs.strings.given_names.Given as goal
 

@@ -6,14 +6,14 @@ use Rattle.oc_neutral.specs.Building.{Draft}
 use Rattle.oc_neutral.specs.Built.{HasAdded}
 use Rattle.oc_neutral.specs.declared.elf.TheConstants.{SHT_NOBITS}
 use Rattle.oc_neutral.proofs.BuiltSteps.{added_is}
-use Rattle.oc_elf_read.specs.declared.rel.Rel.{Rel}
-use Rattle.oc_elf_read.specs.declared.shdr.Shdr.{Shdr}
+use Rattle.oc_elf.specs.declared.rel.Rel.{Rel}
+use Rattle.oc_elf.specs.declared.shdr.Shdr.{Shdr}
 use Rattle.oc_elf_read.specs.Built.{symboled}
-use Rattle.oc_elf_read.specs.Fields.{width_of}
-use Rattle.oc_elf_read.specs.Frames.{header_at}
+use Rattle.oc_elf.specs.Fields.{width_of}
+use Rattle.oc_elf.specs.Frames.{header_at}
 use Rattle.oc_elf_read.specs.Given.{given_with, reloc_by}
-use Rattle.oc_elf_read.specs.Sections.{contents_of, is_type}
-use Rattle.oc_elf_read.specs.Tables.{symbol_count}
+use Rattle.oc_elf.specs.Sections.{contents_of, is_type}
+use Rattle.oc_elf.specs.Tables.{symbol_count}
 use Rattle.oc_elf_read.proofs.AddedTables.{next_of, ready}
 use Rattle.oc_elf_read.proofs.FoundFields.{entries_clean, stages_clean}
 use Rattle.oc_elf_read.proofs.PlacedEntries.{placed_at}

@@ -5,7 +5,7 @@ use Rattle.oc_neutral.specs.Built.{HasAdded, given_by}
 use Rattle.oc_neutral.proofs.BuiltSteps.{added_none, added_same}
 use Rattle.oc_elf_read.specs.Built.{symboled}
 use Rattle.oc_elf_read.specs.Given.{given_at, given_before}
-use Rattle.oc_elf_read.specs.Tables.{symbol_count}
+use Rattle.oc_elf.specs.Tables.{symbol_count}
 use Rattle.oc_elf_read.proofs.AddedTables.{given_all, given_none}
 use Rattle.oc_elf_read.proofs.added_relocs.add_relocations.Goals as goal
 

@@ -2,7 +2,7 @@
 use Rattle.oc_neutral.specs.Built.{HasAdded}
 use Rattle.oc_elf_read.specs.Built.{symboled}
 use Rattle.oc_elf_read.specs.Given.{given_before}
-use Rattle.oc_elf_read.specs.Tables.{symbol_count}
+use Rattle.oc_elf.specs.Tables.{symbol_count}
 use Rattle.oc_elf_read.proofs.added_relocs.add_relocations.Given as goal
 
 abbrev pub invariant-loop-i : goal.invariant-loop-i

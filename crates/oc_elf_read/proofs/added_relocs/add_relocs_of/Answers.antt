@@ -3,13 +3,13 @@ use Rattle.std.proofs.Common.{◌+◌, ◌∙◌, sym, ap, subst}
 use Rattle.std.specs.Option.{IsSome}
 use Rattle.oc_neutral.proofs.BuiltSteps.{added_same}
 use Rattle.oc_elf_read.specs.Built.{symboled}
-use Rattle.oc_elf_read.specs.Frames.{header_at}
+use Rattle.oc_elf.specs.Frames.{header_at}
 use Rattle.oc_elf_read.specs.Given.{given_before}
-use Rattle.oc_elf_read.specs.Known.{IsTable}
-use Rattle.oc_elf_read.specs.Tables.{symbol_count}
+use Rattle.oc_elf_judge.specs.Known.{IsTable}
+use Rattle.oc_elf.specs.Tables.{symbol_count}
 use Rattle.oc_elf_read.proofs.AddedTables.{given_left, kept_position}
 use Rattle.oc_elf_read.proofs.FoundFields.{stages_clean}
-use Rattle.oc_elf_read.proofs.TableLemmas.{table_is}
+use Rattle.oc_elf_judge.proofs.TableLemmas.{table_is}
 use Rattle.oc_elf_read.proofs.added_relocs.add_relocs_of.Goals as goal
 
 pub returns-then-not-is_kept : goal.returns-then-not-is_kept

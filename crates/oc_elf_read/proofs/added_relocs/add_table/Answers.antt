@@ -3,7 +3,7 @@ use Rattle.std.proofs.Common.{◌≡◌, ℕ, ◌+◌, ◌∙◌, length, take, 
 use Rattle.oc_neutral.proofs.BuiltSteps.{added_same}
 use Rattle.oc_elf_read.specs.Built.{symboled}
 use Rattle.oc_elf_read.specs.Given.{given_before, given_with}
-use Rattle.oc_elf_read.specs.Tables.{symbol_count}
+use Rattle.oc_elf.specs.Tables.{symbol_count}
 use Rattle.oc_elf_read.proofs.AddedTables.{table_done}
 use Rattle.oc_elf_read.proofs.FoundFields.{stages_clean}
 use Rattle.oc_elf_read.proofs.added_relocs.add_table.Goals as goal

@@ -3,7 +3,7 @@ use Rattle.std.proofs.Common.{take}
 use Rattle.oc_neutral.specs.Built.{HasAdded}
 use Rattle.oc_elf_read.specs.Built.{symboled}
 use Rattle.oc_elf_read.specs.Given.{given_with}
-use Rattle.oc_elf_read.specs.Tables.{symbol_count}
+use Rattle.oc_elf.specs.Tables.{symbol_count}
 use Rattle.oc_elf_read.proofs.added_relocs.add_table.Given as goal
 
 abbrev pub invariant-loop-j : goal.invariant-loop-j

@@ -8,12 +8,12 @@ use Rattle.oc_neutral.specs.Invariants.{HasItsBytes, IsMember}
 use Rattle.oc_elf_read.proofs.StoredLemmas.{member_stored}
 use Rattle.oc_neutral.specs.Started.{stored_section}
 use Rattle.oc_neutral.proofs.BuiltSteps.{added_is}
-use Rattle.oc_elf_read.specs.declared.shdr.Shdr.{Shdr}
+use Rattle.oc_elf.specs.declared.shdr.Shdr.{Shdr}
 use Rattle.oc_elf_read.specs.Built.{IsPlaced, keys_of, sectioned}
-use Rattle.oc_elf_read.specs.CarriedSections.{section_with}
-use Rattle.oc_elf_read.specs.Sections.{is_carried}
+use Rattle.oc_elf.specs.CarriedSections.{section_with}
+use Rattle.oc_elf.specs.Sections.{is_carried}
 use Rattle.oc_elf_read.proofs.BuildLemmas.{bytes_long, carried_added, passed_over, placed_at, room}
-use Rattle.oc_elf_read.proofs.SectionLemmas.{here}
+use Rattle.oc_elf_judge.proofs.SectionLemmas.{here}
 use Rattle.oc_elf_read.proofs.built_sections.add_section.Goals as goal
 
 pub returns-then-not-is_carried_type : goal.returns-then-not-is_carried_type

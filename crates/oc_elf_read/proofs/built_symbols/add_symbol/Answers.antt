@@ -8,10 +8,10 @@ use Rattle.oc_neutral.proofs.BuiltSteps.{added_is}
 use Rattle.oc_shelf.specs.Reading.Collected.{collected}
 use Rattle.oc_shelf.proofs.ReadingLaws.CollectedLemmas.{length-collected}
 use Rattle.oc_elf_read.specs.Built.{symboled}
-use Rattle.oc_elf_read.specs.CarriedSymbols.{symbol_of, symbols_of}
-use Rattle.oc_elf_read.specs.Known.{IsValued}
+use Rattle.oc_elf.specs.CarriedSymbols.{symbol_of, symbols_of}
+use Rattle.oc_elf_judge.specs.Known.{IsValued}
 use Rattle.oc_elf_read.proofs.AddedSymbols.{can_symbol}
-use Rattle.oc_elf_read.proofs.PositionLemmas.{few_symbols}
+use Rattle.oc_elf_judge.proofs.PositionLemmas.{few_symbols}
 use Rattle.oc_elf_read.proofs.ValuedLemmas.{is_valued}
 use Rattle.oc_elf_read.proofs.built_symbols.add_symbol.Goals as goal
 

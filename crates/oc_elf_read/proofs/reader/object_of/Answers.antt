@@ -3,14 +3,14 @@ use Rattle.std.proofs.Common.{sym, ◌∙◌, ap, subst}
 use Rattle.oc_neutral.specs.Invariants.{AreBytes, IsDraft}
 use Rattle.oc_neutral.specs.Readable.{IsReadable}
 use Rattle.oc_neutral.specs.Shows.{Shows}
-use Rattle.oc_elf_read.specs.Elf.{elf_dialect}
-use Rattle.oc_elf_read.specs.Frames.{header_at}
-use Rattle.oc_elf_read.specs.Known.{IsSymtab}
+use Rattle.oc_elf.specs.Elf.{elf_dialect}
+use Rattle.oc_elf.specs.Frames.{header_at}
+use Rattle.oc_elf_judge.specs.Known.{IsSymtab}
 use Rattle.oc_elf_read.proofs.FoundFields.{stages_clean}
-use Rattle.oc_elf_read.proofs.PositionLemmas.{few_symbols}
+use Rattle.oc_elf_judge.proofs.PositionLemmas.{few_symbols}
 use Rattle.oc_elf_read.proofs.ReaderLemmas.{read_complete, read_readable, read_shows, symtab_found}
 use Rattle.oc_elf_read.proofs.ShowableLemmas.{is_started}
-use Rattle.oc_elf_read.proofs.TableLemmas.{are_signed}
+use Rattle.oc_elf_judge.proofs.TableLemmas.{are_signed}
 use Rattle.oc_elf_read.proofs.reader.object_of.Goals as goal
 
 pub start-requires-clause-table : goal.start-requires-clause-table

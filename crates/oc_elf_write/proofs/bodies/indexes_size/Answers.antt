@@ -1,6 +1,6 @@
 -- Four bytes a symbol.
 use Rattle.std.proofs.Common.{sym, arith}
-use Rattle.oc_elf_file.specs.Structures.{index_bytes}
+use Rattle.oc_elf.specs.Structures.{index_bytes}
 use Rattle.oc_elf_file.proofs.StructureLaws.{length-index_bytes}
 use Rattle.oc_elf_write.proofs.BodyLemmas.{rows_long}
 use Rattle.oc_elf_write.proofs.bodies.indexes_size.Goals as goal

@@ -2,7 +2,7 @@
 use Rattle.std.proofs.Common.{◌≡◌, ℕ, ◌+◌, ◌-◌, ◌^◌, ◌<◌, cond, length, get_or, rules, sym, ◌∙◌, ap, subst, arith}
 use Rattle.oc_neutral.specs.Fitted.{IsFitted}
 use Rattle.oc_neutral.specs.Objects.{Object}
-use Rattle.oc_elf_read.specs.Classes.{format_of, is_big}
+use Rattle.oc_elf.specs.Classes.{format_of, is_big}
 use Rattle.oc_shelf.specs.Writing.Parts.{file_of, place_where}
 use Rattle.oc_elf_file.specs.Heads.{heads_of, head_where, is_shstrtab_head}
 use Rattle.oc_neutral.specs.Families.{is_many}

@@ -4,7 +4,7 @@ use Rattle.std.specs.List.{enumerate_from}
 use Rattle.std.proofs.lemmas.List.{drop_all}
 use Rattle.oc_neutral.proofs.Positions.{there_at}
 use Rattle.oc_express.proofs.Giving.{more_given, all_given}
-use Rattle.oc_macho_read.specs.declared.section_header.SectionHeader.{SectionHeader}
+use Rattle.oc_macho.specs.declared.section_header.SectionHeader.{SectionHeader}
 use Rattle.oc_macho_file.specs.Canonical.{section_header}
 use Rattle.oc_plans.proofs.Turns.{map_step}
 use Rattle.oc_macho_write.proofs.headers.section_headers.Goals as goal

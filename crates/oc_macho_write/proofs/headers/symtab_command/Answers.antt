@@ -3,7 +3,7 @@ use Rattle.std.proofs.Common.{◌≡◌, ℕ, ◌^◌, ◌<◌, List, length, ru
 use Rattle.std.proofs.lemmas.List.{length-map}
 use Rattle.oc_strings.specs.Tables.{StringTable}
 use Rattle.oc_shelf.specs.Writing.Parts.{aligned}
-use Rattle.oc_macho_read.specs.MachHeader.{address_size}
+use Rattle.oc_macho.specs.MachHeader.{address_size}
 use Rattle.oc_macho_file.specs.Layout.{strings_of}
 use Rattle.oc_macho_file.specs.Lines.{lines_of}
 use Rattle.oc_macho_file.specs.Symbols.{line_entry}

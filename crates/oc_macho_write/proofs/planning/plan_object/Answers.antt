@@ -4,7 +4,7 @@ use Rattle.std.proofs.lemmas.List.{length-map}
 use Rattle.oc_neutral.specs.Fitted.{IsFitted}
 use Rattle.oc_neutral.specs.Objects.{Object}
 use Rattle.oc_shelf.specs.Writing.Parts.{Laid}
-use Rattle.oc_macho_read.specs.MachHeader.{mach_format}
+use Rattle.oc_macho.specs.MachHeader.{mach_format}
 use Rattle.oc_macho_file.specs.Layout as layout
 use Rattle.oc_macho_file.specs.Layout.{laid_parts, parts_of}
 use Rattle.oc_macho_file.proofs.CodedLaws.{for_mach}

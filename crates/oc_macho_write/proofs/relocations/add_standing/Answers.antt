@@ -1,7 +1,7 @@
 -- One entry, or the two of a pair.
 use Rattle.std.proofs.Common.{◌≡◌, ℕ, Bool, true, false, cond, refl, List, [], ◌∷◌, ◌++◌, sym, ◌∙◌, ap, arith, append_assoc}
 use mir.Val.{bool_byte}
-use Rattle.oc_macho_read.specs.declared.relocation_info.RelocationInfo.{RelocationInfo}
+use Rattle.oc_macho.specs.declared.relocation_info.RelocationInfo.{RelocationInfo}
 use Rattle.oc_macho_file.specs.Lines.{numbered_lines}
 use Rattle.oc_macho_write.proofs.FormLemmas.{alone_relative, its_row, pair_takes, spelled_one, spelled_pair}
 use Rattle.oc_macho_write.proofs.RelocationLemmas.{alone_entries, pair_standing}

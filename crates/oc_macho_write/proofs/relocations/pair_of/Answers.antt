@@ -1,6 +1,6 @@
 -- Each entry is that of the definition.
 use Rattle.std.proofs.Common.{ap, ◌∙◌}
-use Rattle.oc_macho_read.specs.declared.relocation_info.Reference.TheVariants as reference
+use Rattle.oc_macho.specs.declared.relocation_info.Reference.TheVariants as reference
 use Rattle.oc_macho_file.specs.Lines.{numbered_lines, own_number}
 use Rattle.oc_macho_write.proofs.RelocationLemmas.{pair_by}
 use Rattle.oc_macho_write.proofs.relocations.pair_of.Goals as goal

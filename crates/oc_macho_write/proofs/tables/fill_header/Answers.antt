@@ -1,6 +1,6 @@
 -- The header fills what is left of the buffer.
 use Rattle.std.proofs.Common.{◌≡◌, ℕ, ◌+◌, ◌-◌, List, length, arith}
-use Rattle.oc_macho_file.specs.Structures.{section_bytes}
+use Rattle.oc_macho.specs.Structures.{section_bytes}
 use Rattle.oc_shelf.proofs.WritingLaws.WindowLemmas.{filled_rest}
 use Rattle.oc_macho_write.proofs.tables.fill_header.Goals as goal
 

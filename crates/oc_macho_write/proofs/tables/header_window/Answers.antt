@@ -2,7 +2,7 @@
 use Rattle.std.proofs.Common.{ℕ, List, ◌++◌, ◌∙◌, ap, subst, append_assoc}
 use Rattle.oc_outside.specs.Windows.{IsFilled}
 use Rattle.oc_shelf.specs.Writing.Packed.{packed}
-use Rattle.oc_macho_file.specs.Structures.{section_bytes, section_numbers}
+use Rattle.oc_macho.specs.Structures.{section_bytes, section_numbers}
 use Rattle.oc_macho_write.proofs.tables.header_window.Goals as goal
 
 pub returns : goal.returns

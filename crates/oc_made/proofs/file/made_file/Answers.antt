@@ -5,7 +5,7 @@ use Rattle.oc_base.specs.declared.format.Word.{Word}
 use Rattle.oc_base.specs.declared.format.Word.TheVariants.{W32, W64}
 use Rattle.oc_neutral.specs.Fitted.{IsFitted}
 use Rattle.oc_neutral.specs.Objects.{Object}
-use Rattle.oc_elf_read.specs.declared.class.ElfClass.TheVariants.{Class32, Class64}
+use Rattle.oc_elf.specs.declared.class.ElfClass.TheVariants.{Class32, Class64}
 use Rattle.oc_elf_file.specs.Canonical.{elf_file}
 use Rattle.oc_made.specs.Files.{made_bytes}
 use Rattle.oc_made.specs.Functions.{elf_format, made_object}

@@ -1,8 +1,8 @@
 -- One external after another.
 use Rattle.std.proofs.Common.{◌≡◌, ℕ, suc, ◌+◌, ◌<◌, ◌≤◌, false, length, sym, ◌∙◌, ap, arith}
 use Rattle.std.specs.Prelude.{min}
-use Rattle.oc_omf_read.specs.Entries.{all_read}
-use Rattle.oc_omf_read.proofs.EachLemmas.{each_begin, each_cut, each_end, each_from, each_more}
+use Rattle.oc_omf.specs.Entries.{all_read}
+use Rattle.oc_omf.proofs.EachLemmas.{each_begin, each_cut, each_end, each_from, each_more}
 use Rattle.oc_omf_judge.specs.Counts.{external_by}
 use Rattle.oc_omf_judge.proofs.EntryLemmas.{end_lost, end_there, external_by_goes}
 use Rattle.oc_omf_judge.proofs.counts.with_externals.Goals as goal

@@ -1,8 +1,8 @@
 -- The externals so far are counted.
 use Rattle.std.proofs.Common.{◌≡◌, ℕ, ◌+◌, ◌-◌, Bool, length}
 use Rattle.std.specs.Prelude.{min}
-use Rattle.oc_omf_read.specs.Entries.{all_read}
-use Rattle.oc_omf_read.proofs.EachLemmas.{each_from}
+use Rattle.oc_omf.specs.Entries.{all_read}
+use Rattle.oc_omf.proofs.EachLemmas.{each_from}
 use Rattle.oc_omf_judge.specs.Counts.{external_by}
 use Rattle.oc_omf_judge.proofs.counts.with_externals.Given as goal
 

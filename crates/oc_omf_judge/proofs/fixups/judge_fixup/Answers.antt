@@ -6,9 +6,9 @@ use Rattle.std.proofs.lemmas.Bool.Decides.{nat_tests}
 use Rattle.oc_base.specs.declared.code.Code.TheVariants.{Overlap}
 use Rattle.oc_linking.specs.Numbers.{or_else}
 use Rattle.oc_shelf.specs.Reading.Stops.{IsStop}
-use Rattle.oc_omf_read.specs.declared.constants.TheConstants.{OFFSET_32}
-use Rattle.oc_omf_read.specs.declared.structures.Method.{Method}
-use Rattle.oc_omf_read.specs.Fixups.{fixed_in, fixed_of, meet}
+use Rattle.oc_omf.specs.declared.constants.TheConstants.{OFFSET_32}
+use Rattle.oc_omf.specs.declared.structures.Method.{Method}
+use Rattle.oc_omf.specs.Fixups.{fixed_in, fixed_of, meet}
 use Rattle.oc_omf_judge.specs.Fixups.{AreFieldsStopped, AreFieldsTaken, names_fault}
 use Rattle.oc_omf_judge.specs.Lying.{Lying, copies_in}
 use Rattle.oc_omf_judge.specs.Reached.{last_in, relocation_fault}

@@ -1,7 +1,7 @@
 -- A fixup is judged, or its section is not kept.
 use Rattle.std.proofs.Common.{◌≡◌, ℕ, true, false, sym, ◌∙◌, ap, subst}
 use Rattle.oc_shelf.specs.Reading.Stops.{IsStop}
-use Rattle.oc_omf_read.specs.Fixups.{fixed_of}
+use Rattle.oc_omf.specs.Fixups.{fixed_of}
 use Rattle.oc_omf_judge.specs.Whole.{is_judged, is_judged_in}
 use Rattle.oc_omf_judge.proofs.ReachedLemmas.{fixup_passed, judged_is, part_judged, part_passed}
 use Rattle.oc_omf_judge.proofs.fixups.take_fixup.Goals as goal

@@ -2,9 +2,11 @@
 use Rattle.std.proofs.Common.{ℕ, List, sym, ◌∙◌, ap, subst}
 use Rattle.oc_linking.specs.FirstFault.{first_fault}
 use Rattle.oc_shelf.specs.Reading.Stops.{IsStop}
-use Rattle.oc_omf_read.specs.Entries.{entries_in}
-use Rattle.oc_omf_read.specs.Judged.{IsFront}
-use Rattle.oc_omf_read.specs.RelocationFaults.{relocation_stages}
+use Rattle.oc_omf.specs.Entries.{entries_in}
+use Rattle.oc_omf.specs.Tables.{tables_of}
+use Rattle.oc_omf_judge.specs.Defined.{IsDefined}
+use Rattle.oc_omf_judge.specs.Judged.{IsFront}
+use Rattle.oc_omf.specs.RelocationFaults.{relocation_stages}
 use Rattle.oc_omf_judge.proofs.JudgingLemmas.{fault_behind, front_stops}
 use Rattle.oc_omf_judge.proofs.judging.check_file.Goals as goal
 
@@ -21,6 +23,10 @@ pub returns-in-Ok-check_relocations-clause-clean : goal.returns-in-Ok-check_relo
 returns-in-Ok-check_relocations-clause-clean c =
     fault_behind c.args.file.now c.args.keep.now c.in-Ok.ensures.clean
     ∙ ap (λ (b : List ℕ). first_fault (relocation_stages (entries_in b) c.args.keep.now)) (sym c.in-Ok.ensures.front.omf_is) ∙ c.in-Ok-check_relocations.ensures.clean
+
+pub returns-in-Ok-check_relocations-clause-defined : goal.returns-in-Ok-check_relocations-clause-defined
+returns-in-Ok-check_relocations-clause-defined c =
+    subst (λ (b : List ℕ). IsDefined (tables_of (entries_in b)) c.in-Ok.front.defined) (sym c.in-Ok.ensures.front.omf_is) c.in-Ok.ensures.front.defined_is
 
 pub returns-clause-stop : goal.returns-clause-stop
 returns-clause-stop c =

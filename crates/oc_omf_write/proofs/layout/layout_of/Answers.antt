@@ -3,7 +3,7 @@ use Rattle.std.proofs.Common.{List, length, take, get_or, ◌∙◌, ap, subst, 
 use Rattle.std.proofs.lemmas.List.{take_all}
 use Rattle.std.proofs.lemmas.Option.{slice_get-get_or}
 use Rattle.oc_neutral.proofs.Positions.{each_at}
-use Rattle.oc_omf_file.specs.Structures.{entry_bytes}
+use Rattle.oc_omf.specs.Bytes.{entry_bytes}
 use Rattle.oc_omf_write.specs.declared.entries.Entry.{Entry}
 use Rattle.oc_omf_write.specs.declared.entries.Entry.TheVariants as entry
 use Rattle.oc_omf_write.specs.Entries.{type_of}

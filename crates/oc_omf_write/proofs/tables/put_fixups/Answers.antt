@@ -5,8 +5,8 @@ use Rattle.oc_omf_write.specs.Written.{fixup_bytes_of}
 use Rattle.oc_omf_write.proofs.TableLemmas.{fixups_long}
 use Rattle.oc_omf_write.proofs.tables.put_fixups.Goals as goal
 
-pub put_fixup-requires-clause-room : goal.put_fixup-requires-clause-room
-put_fixup-requires-clause-room c =
+pub put_field-requires-clause-room : goal.put_field-requires-clause-room
+put_field-requires-clause-room c =
     let i = c.loop-fixup.fixup-index in
     let so_far = ap length c.loop-fixup.invariant in
     let both = length-append c.args.out.now (flat_map (fixup_bytes_of c.args.from) (take i c.args.fixups.now)) in

@@ -4,7 +4,7 @@ use Rattle.std.specs.Prelude.{flat_map}
 use Rattle.std.proofs.lemmas.Option.{slice_get-get_or}
 use Rattle.oc_neutral.proofs.Positions.{each_at}
 use Rattle.oc_shelf.proofs.WritingLaws.MemberLemmas.{member_map}
-use Rattle.oc_omf_file.specs.Structures.{name_bytes}
+use Rattle.oc_omf.specs.Bytes.{name_bytes}
 use Rattle.oc_omf_write.specs.declared.names.Name.TheVariants as name
 use Rattle.oc_omf_write.specs.Names.{text_by}
 use Rattle.oc_omf_write.proofs.TableLemmas.{map_take, names_long}

@@ -1,6 +1,6 @@
 use Rattle.std.proofs.Common.{◌≡◌, ◌++◌, take, map}
 use Rattle.std.specs.Prelude.{flat_map}
-use Rattle.oc_omf_file.specs.Structures.{name_bytes}
+use Rattle.oc_omf.specs.Bytes.{name_bytes}
 use Rattle.oc_omf_write.specs.Names.{text_by}
 use Rattle.oc_omf_write.proofs.tables.put_names.Given as goal
 

@@ -2,7 +2,7 @@
 use Rattle.std.proofs.Common.{◌≡◌, ℕ, ◌+◌, List, ◌++◌, length, subst, arith, length-append}
 use Rattle.oc_outside.specs.Windows.{IsFilled}
 use Rattle.oc_shelf.proofs.WritingLaws.WindowLemmas.{filled_long}
-use Rattle.oc_omf_file.specs.Structures.{entry_bytes}
+use Rattle.oc_omf.specs.Bytes.{entry_bytes}
 use Rattle.oc_omf_write.proofs.WindowLemmas.{head_long, parts_are}
 use Rattle.oc_omf_write.proofs.windows.entry_window.Goals as goal
 

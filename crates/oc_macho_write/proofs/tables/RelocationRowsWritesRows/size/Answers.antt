@@ -1,5 +1,5 @@
 -- Each row has the size of its structure.
-use Rattle.oc_macho_file.specs.Structures.{relocation_bytes}
+use Rattle.oc_macho.specs.Structures.{relocation_bytes}
 use Rattle.oc_macho_file.proofs.StructureLaws.{length-relocation_bytes}
 use Rattle.oc_macho_write.proofs.TableRows.{rows_sized}
 use Rattle.oc_macho_write.proofs.tables.RelocationRowsWritesRows.size.Goals as goal

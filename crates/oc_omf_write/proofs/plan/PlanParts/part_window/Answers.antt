@@ -6,7 +6,7 @@ use Rattle.std.proofs.lemmas.Option.{get_or_from_slice_get}
 use Rattle.oc_neutral.proofs.Positions.{each_at}
 use Rattle.oc_outside.specs.Windows.{IsFilled}
 use Rattle.oc_shelf.proofs.WritingLaws.MemberLemmas.{member_map}
-use Rattle.oc_omf_file.specs.Structures.{entry_bytes}
+use Rattle.oc_omf.specs.Bytes.{entry_bytes}
 use Rattle.oc_omf_write.specs.declared.entries.Entry.{Entry}
 use Rattle.oc_omf_write.specs.Entries.{type_of}
 use Rattle.oc_omf_write.specs.Tables.{CanPut, bytes_by}

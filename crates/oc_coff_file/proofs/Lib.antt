@@ -1,0 +1,26 @@
+mod BigRows
+pub mod CanonicalRows
+pub mod CodableLaws
+pub mod CodedLaws
+pub mod EntryLaws
+pub mod FieldLaws
+pub mod FlagLaws
+pub mod GroupLaws
+pub mod HeaderClean
+pub mod KeyLaws
+pub mod LineLaws
+pub mod NameLaws
+pub mod PaddedLemmas
+pub mod PartLaws
+pub mod RelocationClean
+pub mod SectionClean
+pub mod SectionLaws
+pub mod SeenLaws
+pub mod ShowsLaw
+pub mod SizeLaws
+pub mod StructureLaws
+pub mod SymbolClean
+pub mod SymbolLaws
+pub mod TableLaws
+pub mod TargetLaws
+pub mod WrittenLaw

@@ -1,0 +1,158 @@
+-- The sizes of a canonical file are numbers of 32 bits.
+use Rattle.oc_coff_file.proofs.StructureLaws.{header_most, symbols_most}
+use Rattle.std.proofs.Common.{◌≡◌, ℕ, suc, ◌+◌, ◌*◌, ◌^◌, ◌<◌, ◌≤◌, Bool, true, false, cond, ◌&&◌, List, [], ◌∷◌, ◌++◌, length, map, get_or, refl, sym, ◌∙◌, ap, arith, length-append}
+use Rattle.std.specs.Prelude.{flat_map, not}
+use Rattle.std.specs.List.{sum_by, fold, enumerate_from, AllByRecursion}
+use Rattle.std.proofs.lemmas.List.Sums.{sum_by-cons, sum_by-append}
+use Rattle.std.proofs.lemmas.List.{length-map}
+use Rattle.oc_coff.specs.declared.form.CoffForm.{CoffForm}
+use Rattle.oc_base.specs.Strings.{is_maximal, is_given, with_top, tops_of, table_text}
+use Rattle.oc_chains.specs.Lists.{list_of}
+use Rattle.oc_neutral.specs.declared.reloc.Reloc.{Reloc}
+use Rattle.oc_neutral.specs.declared.section.Section.{Section}
+use Rattle.oc_neutral.specs.Objects.{Object}
+use Rattle.oc_neutral.specs.Building.{stored_size, stored_sum}
+use Rattle.oc_neutral.specs.Invariants.{HasItsBytes}
+use Rattle.oc_neutral.specs.CoffMeets.{strings_of}
+use Rattle.oc_neutral.specs.SymbolLines.{coff_lines}
+use Rattle.oc_neutral.proofs.SeenFamilies.{coff_table}
+use Rattle.oc_shelf.specs.Writing.Parts.{laid_end, behind}
+use Rattle.oc_coff.specs.declared.relocation.Relocation.{Relocation}
+use Rattle.oc_coff.specs.Forms.{format_of, shape_of}
+use Rattle.oc_coff_file.specs.Lines.{Line, SectionLine, LocalLine, DefaultLine, OuterLine, lines_of, line_size, numbered_lines, entry_count}
+use Rattle.oc_coff.specs.Flags.{is_crowded, count_entry}
+use Rattle.oc_coff_file.specs.Bodies.{relocs_of}
+use Rattle.oc_coff_file.specs.Layout.{Part, FileHead, SectionHeads, Raw, Relocs, section_parts, text_of, reloc_entries, part_size}
+use Rattle.oc_coff_file.specs.Canonical.{coff_file}
+use Rattle.oc_coff_file.proofs.CodedLaws.{IsForCoff, fewest}
+use Rattle.oc_coff_file.proofs.LineLaws.{counted_line, lines_counted}
+use Rattle.oc_coff_file.proofs.PartLaws.{length-coff_file, table_place, front_parts}
+use Rattle.oc_base.specs.Strings as strings
+use Rattle.oc_chains.specs.declared.field.Field as chains
+use Rattle.oc_neutral.specs.SymbolLines as table
+use Rattle.oc_neutral.proofs.SeenTables as counts
+
+-- ... sums
+
+-- things behind one another end where their sizes say
+pub end_is : {X : Type 0} (size : X → ℕ) (at : ℕ) (xs : List X) → laid_end behind size at xs ≡ at + sum_by size xs
+end_is size at [] = omega arith
+end_is size at (x ∷ xs) = let a = sum_by-cons size x xs in let b = end_is size (at + size x) xs in omega (arith, a, b)
+
+-- the texts of a string table are not longer than the names, each with its NUL
+abbrev pub ended_size : List ℕ → ℕ
+ended_size name = length name + 1
+
+text_size : (tops : List (List ℕ)) → length (strings.text_of tops) ≡ sum_by ended_size tops
+unfolding strings.text_of
+text_size [] = refl
+text_size (top ∷ tops) =
+    let all : length ((top ++ 0 ∷ []) ++ flat_map (λ (t : List ℕ). t ++ 0 ∷ []) tops) ≡ length (top ++ 0 ∷ []) + length (flat_map (λ (t : List ℕ). t ++ 0 ∷ []) tops) = length-append (top ++ 0 ∷ []) (flat_map (λ (t : List ℕ). t ++ 0 ∷ []) tops) in
+    let own : length (top ++ 0 ∷ []) ≡ length top + 1 = length-append top (0 ∷ []) in
+    let more = text_size tops in
+    let sum = sum_by-cons ended_size top tops in
+    omega (arith, all, own, more, sum)
+
+tops_size : (names acc rest : List (List ℕ)) → sum_by ended_size (fold (with_top names) acc rest) ≤ sum_by ended_size acc + sum_by ended_size rest
+tops_size names acc [] = omega arith
+tops_size names acc (name ∷ rest) =
+    let later = tops_size names (with_top names acc name) rest in
+    let sum = sum_by-cons ended_size name rest in
+    let step = by (is_maximal names name && not (is_given acc name)) in
+    omega (arith, later, sum, step)
+  where
+    by : (b : Bool) → sum_by ended_size (cond b (acc ++ name ∷ []) acc) ≤ sum_by ended_size acc + (length name + 1)
+    by true = let a = sum_by-append ended_size acc (name ∷ []) in let b = sum_by-cons ended_size name [] in omega (arith, a, b)
+    by false = omega arith
+
+pub table_size : (names : List (List ℕ)) → length (table_text names) ≤ sum_by ended_size names
+unfolding table_text tops_of
+table_size names = let a = text_size (fold (with_top names) [] names) in let b = tops_size names [] names in omega (arith, a, b)
+
+module _ (w : CoffForm) (n : Object) (is : IsForCoff w n) where
+  -- ... the symbol table
+
+  line_sum : (xs : List Line) → sum_by (λ (l : table.Line). l.entries) (map counted_line xs) ≡ sum_by line_size xs
+  line_sum [] = refl
+  line_sum (x ∷ xs) =
+      let a = sum_by-cons (λ (l : table.Line). l.entries) (counted_line x) (map counted_line xs) in
+      let b = sum_by-cons line_size x xs in
+      let c = line_sum xs in
+      omega (arith, a, b, c, one x)
+    where
+      one : (x : Line) → (counted_line x).entries ≡ line_size x
+      one (SectionLine k s) = refl
+      one (LocalLine k s) = refl
+      one (DefaultLine k s) = refl
+      one (OuterLine k s) = refl
+
+  pub few_entries : entry_count w n ≤ 2 * length n.sections + 3 * length n.symbols
+  few_entries =
+      let all : entry_count w n ≡ 0 + sum_by line_size (lines_of w n) = end_is line_size 0 (lines_of w n) in
+      let same : counts.entry_count (coff_lines n) ≡ sum_by line_size (lines_of w n)
+      = ap (sum_by (λ (l : table.Line). l.entries)) (sym (lines_counted w n is.format)) ∙ line_sum (lines_of w n) in
+      let most = (coff_table n).sum in
+      omega (arith, all, same, most)
+
+  -- ... the sections
+
+  few_relocs : (k : ℕ) → reloc_entries w n k ≤ length (list_of n.relocs k) + 1
+  unfolding relocs_of
+  few_relocs k =
+      let same : length (relocs_of w (numbered_lines w n) n k) ≡ length (list_of n.relocs k) = length-map (list_of n.relocs k) _ in
+      by (relocs_of w (numbered_lines w n) n k) (is_crowded (relocs_of w (numbered_lines w n) n k)) same
+    where
+      by : (rs : List Relocation) (b : Bool) → length rs ≡ length (list_of n.relocs k) → length (cond b (count_entry rs ∷ rs) rs) ≤ length (list_of n.relocs k) + 1
+      by rs true e = omega (arith, e)
+      by rs false e = omega (arith, e)
+
+  abbrev section_size : ℕ × Section → ℕ
+  section_size x = length x.1.bytes + 10 * reloc_entries w n x.0
+
+  parts_sum : (ys : List (ℕ × Section)) → sum_by (part_size w n) (flat_map section_parts ys) ≡ sum_by section_size ys
+  parts_sum [] = refl
+  parts_sum (y ∷ ys) =
+      let raw : Part = Raw y.0 y.1 in
+      let relocs : Part = Relocs y.0 y.1 in
+      let a = sum_by-cons (part_size w n) raw (relocs ∷ flat_map section_parts ys) in
+      let b = sum_by-cons (part_size w n) relocs (flat_map section_parts ys) in
+      let c = sum_by-cons section_size y ys in
+      let d = parts_sum ys in
+      omega (arith, a, b, c, d)
+
+  sections_sum : (i : ℕ) (xs : List Section) (ls : List (List (chains.Field Reloc))) → length ls ≡ length xs → ((j : ℕ) → list_of n.relocs (i + j) ≡ get_or ls j []) → AllByRecursion HasItsBytes xs
+      → sum_by section_size (enumerate_from i xs) ≤ stored_sum xs + 10 * (sum_by length ls + length xs)
+  sections_sum i [] ls e same bytes = omega arith
+  sections_sum i (x ∷ xs) [] e same bytes = absurd (omega (arith, e))
+  sections_sum i (x ∷ xs) (l ∷ ls) e same bytes =
+      let at : i ≡ i + 0 = omega arith in
+      let own : list_of n.relocs i ≡ l = ap (list_of n.relocs) at ∙ same 0 in
+      let few = few_relocs i in
+      let long : length (list_of n.relocs i) ≡ length l = ap length own in
+      let first = bytes.0 in
+      let later = sections_sum (i + 1) xs ls (omega (arith, e)) (λ j. let next : i + 1 + j ≡ i + suc j = omega arith in ap (list_of n.relocs) next ∙ same (suc j)) bytes.1 in
+      let a = sum_by-cons section_size (i, x) (enumerate_from (i + 1) xs) in
+      let b = sum_by-cons stored_size x xs in
+      let c = sum_by-cons length l ls in
+      omega (arith, few, long, first, later, a, b, c)
+
+  pub small_file : length (coff_file w n) < 2 ^ 32
+  unfolding text_of
+  small_file =
+      let long = length-coff_file w n in
+      let front : table_place w n ≡ 0 + sum_by (part_size w n) (front_parts n) = end_is (part_size w n) 0 (front_parts n) in
+      let rest : List Part = flat_map section_parts (enumerate_from 0 n.sections) in
+      let a = sum_by-cons (part_size w n) FileHead (SectionHeads ∷ rest) in
+      let b = sum_by-cons (part_size w n) SectionHeads rest in
+      let c = parts_sum (enumerate_from 0 n.sections) in
+      let d = sections_sum 0 n.sections n.relocs is.object.built.fields.counted (λ j. let e : 0 + j ≡ j = omega arith in ap (list_of n.relocs) e) is.object.built.bytes in
+      let entries = few_entries in
+      let texts = table_size (strings_of (format_of w) n) in
+      let names = is.meets.strings in
+      let few = fewest w n is in
+      let symbols = is.meets.bounds.symbols in
+      let stored = is.meets.bounds.stored in
+      let fields = is.meets.bounds.fields in
+      let head = header_most (shape_of w) in
+      let table = symbols_most (shape_of w) (entry_count w n) in
+      omega (arith, long, front, a, b, c, d, entries, texts, names, few, symbols, stored, fields, head, table)

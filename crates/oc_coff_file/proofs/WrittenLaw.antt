@@ -1,0 +1,60 @@
+-- The canonical file of an object that is ready for COFF is well formed and shows the object that is seen.
+use Rattle.oc_coff.specs.Forms.{shape_of, word_of}
+use Rattle.std.proofs.Common.{◌≡◌, ℕ, None, refl, sym, ◌∙◌, ap, subst, List, [], ◌∷◌}
+use Rattle.oc_coff.specs.declared.form.CoffForm.{CoffForm}
+use Rattle.oc_coff.specs.declared.form.CoffForm.TheVariants.{Usual32, Usual64, Big32, Big64}
+use Rattle.oc_linking.specs.Keeping.{all}
+use Rattle.oc_linking.specs.FirstFault.{first_fault}
+use Rattle.oc_neutral.specs.Objects.{Object}
+use Rattle.oc_neutral.specs.Targets.{IsDialect}
+use Rattle.oc_shelf.proofs.ReadingLaws.StageLemmas.{Unbroken, no_first_fault}
+use Rattle.oc_coff.specs.HeaderFaults.{header_conditions, header_stage}
+use Rattle.oc_coff.specs.SectionFaults.{section_stage}
+use Rattle.oc_coff.specs.SymbolFaults.{symbol_stage}
+use Rattle.oc_coff.specs.RelocationFaults.{relocation_stage}
+use Rattle.oc_coff.specs.Rules.{stages_of, fault_of, coff_dialect, fault_by}
+use Rattle.oc_coff_file.specs.Canonical.{coff_file}
+use Rattle.oc_coff_file.specs.Writing.{CoffIsWritten}
+use Rattle.oc_coff_file.proofs.TableLaws.{header_read, made_tables}
+use Rattle.oc_coff_file.proofs.CodedLaws.{IsForCoff, for_coff}
+use Rattle.oc_coff_file.proofs.CodableLaws.{HasNumbers, has_numbers}
+use Rattle.oc_coff_file.proofs.ShowsLaw.{read, entries_are, carried_are, sections_are, coff_shows}
+use Rattle.oc_coff_file.proofs.HeaderClean.{header_clean}
+use Rattle.oc_coff_file.proofs.SectionClean.{sections_clean}
+use Rattle.oc_coff_file.proofs.SymbolClean.{symbols_clean}
+use Rattle.oc_coff_file.proofs.RelocationClean.{relocations_clean}
+
+-- COFF has the words and the alignments of its format
+pub coff_is_dialect : (w : CoffForm) → IsDialect (coff_dialect w)
+coff_is_dialect Usual32 = record { word = refl; output_align = λ align. refl; common_align = λ size align. refl }
+coff_is_dialect Usual64 = record { word = refl; output_align = λ align. refl; common_align = λ size align. refl }
+coff_is_dialect Big32 = record { word = refl; output_align = λ align. refl; common_align = λ size align. refl }
+coff_is_dialect Big64 = record { word = refl; output_align = λ align. refl; common_align = λ size align. refl }
+
+module _ (w : CoffForm) (n : Object) (is : IsForCoff w n) (numbers : HasNumbers w n) where
+  abbrev file : List ℕ
+  file = coff_file w n
+
+  pub well_formed : fault_of w file all ≡ None
+  unfolding fault_by stages_of
+  well_formed =
+      ap (λ t. first_fault (header_stage (shape_of w) file ∷ section_stage file t ∷ symbol_stage t ∷ relocation_stage (word_of w) t all ∷ [])) (read w n is numbers)
+      ∙ no_first_fault (header_stage (shape_of w) file ∷ section_stage file (made_tables w n) ∷ symbol_stage (made_tables w n) ∷ relocation_stage (word_of w) (made_tables w n) all ∷ []) (
+        (λ i l. subst (λ h. Unbroken (header_conditions (shape_of w) file h)) (sym (header_read w n numbers.codable)) (header_clean w n numbers.codable)),
+        (
+          sections_clean w n is numbers (entries_are w n is numbers),
+          (
+            symbols_clean w n is numbers (sections_are w n is numbers) (entries_are w n is numbers),
+            (relocations_clean w n is numbers (sections_are w n is numbers) (entries_are w n is numbers) (carried_are w n is numbers), tt),
+          ),
+        ),
+      )
+
+pub coff_is_written : CoffIsWritten
+coff_is_written w = record {
+  dialect = coff_is_dialect w;
+  written = λ n fits.
+      let is = for_coff w n fits in
+      let numbers = has_numbers w n is in
+      record { well_formed = well_formed w n is numbers; shows = coff_shows w n is numbers fits };
+}

@@ -1,0 +1,5 @@
+pub mod Bodies
+pub mod Canonical
+pub mod Layout
+pub mod Lines
+pub mod Writing

@@ -1,0 +1,10 @@
+-- The names so far.
+use Rattle.oc_coff.specs.Files.{tables_in}
+use Rattle.std.proofs.Common.{◌≡◌, map, take}
+use Rattle.oc_neutral.specs.Repeats.{names_of}
+use Rattle.oc_coff_judge.specs.Classed.{public_name}
+use Rattle.oc_coff_judge.specs.Numbered.{entry_by}
+use Rattle.oc_coff_judge.proofs.symbol_stage.public_names.Given as goal
+
+abbrev pub invariant-loop-i : goal.invariant-loop-i
+invariant-loop-i l = names_of l.names.items ≡ map (λ j. public_name (tables_in l.coff).strings (entry_by l.coff j)) (take l.i l.numbers)

@@ -1,0 +1,219 @@
+-- The relocations of a file without faults, added one after the other.
+use Rattle.oc_coff.specs.Files.{CoffFile, tables_in}
+use Rattle.std.proofs.Common.{◌≡◌, ℕ, ◌+◌, ◌≤◌, Bool, true, false, cond, List, length, Option, None, Some, Ok, refl, sym, ◌∙◌, ap, subst, arith}
+use Rattle.std.specs.Prelude.{◌&&◌, ◌||◌, not, nat_eq, slice_get}
+use Rattle.std.specs.Option.{option_map, option_and_then}
+use Rattle.std.proofs.lemmas.Bool.{eqb-true, true≢false}
+use Rattle.std.proofs.lemmas.Option.{none-some, same_Some, slice_get-map, slice_get_within}
+use Rattle.oc_base.specs.declared.format.Word.{Word}
+use Rattle.oc_linking.specs.declared.terms.Binding.{Binding}
+use Rattle.oc_linking.specs.declared.terms.Binding.TheVariants.{Local, Global, Undefined, Common, Weak}
+use Rattle.oc_linking.specs.declared.terms.Keep.{Keep}
+use Rattle.oc_linking.specs.declared.terms.Kind.{Kind}
+use Rattle.oc_linking.specs.declared.terms.Kind.TheVariants.{Code, ReadOnly, Data, Zero, Init, Fini, Debug, Exception, Note}
+use Rattle.oc_linking.specs.declared.terms.Less.{Less}
+use Rattle.oc_linking.specs.declared.terms.Less.TheVariants as less
+use Rattle.oc_linking.specs.declared.terms.Value.TheVariants as value
+use Rattle.oc_linking.specs.FirstFault.{stage_fault}
+use Rattle.oc_linking.specs.Fits.{bytes_of}
+use Rattle.oc_linking.specs.Parts as parts
+use Rattle.oc_linking.specs.Rules.{Field}
+use Rattle.oc_neutral.specs.declared.reloc.Reloc.{Reloc}
+use Rattle.oc_neutral.specs.declared.reloc.Target.{Target}
+use Rattle.oc_neutral.specs.declared.reloc.Target.TheVariants as target
+use Rattle.oc_neutral.specs.declared.symbol.Symbol.{Symbol}
+use Rattle.oc_neutral.specs.Building.{Draft, is_zero, reloc_added}
+use Rattle.oc_neutral.specs.Built.{AreOfFile, Given, HasAdded, IsField, IsStarted, and_one}
+use Rattle.oc_neutral.specs.Computed.{computed_symbol, placed_binding, position_of as symbol_place}
+use Rattle.oc_neutral.specs.Dialects.{kept_fields}
+use Rattle.oc_neutral.specs.Invariants.{AreBytes, CanAdd, IsBinding, IsLessThere, IsTargetThere}
+use Rattle.oc_neutral.specs.KindRules.{same_kind}
+use Rattle.oc_neutral.specs.Normal.{Place, local_place, place_among}
+use Rattle.oc_neutral.specs.Started.{stored_section}
+use Rattle.oc_neutral.proofs.BuiltSteps.{added_more, added_same, can_still}
+use Rattle.oc_neutral.proofs.CleanLaws.{clean_is_added}
+use Rattle.oc_shelf.proofs.ReadingLaws.CollectedLemmas.{IsFrom, collected-from}
+use Rattle.oc_coff.specs.Tables.{SectionTable, Tables}
+use Rattle.oc_coff.specs.Entries.{entries_in}
+use Rattle.oc_coff.specs.RelocationFaults.{relocation_stage}
+use Rattle.oc_coff.specs.Rules.{dialect_by}
+use Rattle.oc_coff.specs.Sections.{Carried, carried_in, carried_of, is_stored, kind_in, section_of, sections_in}
+use Rattle.oc_coff.specs.SymbolFaults.{symbol_stage}
+use Rattle.oc_coff.specs.Symbols.{symbol_of, symbols_in}
+use Rattle.oc_coff.specs.Head.{IsHeaded}
+use Rattle.oc_coff_judge.specs.Led.{carried_at}
+use Rattle.oc_coff_read.specs.Built.{keys_of, symboled}
+use Rattle.oc_coff_read.specs.Given.{given_at}
+use Rattle.oc_coff_judge.proofs.CollectLemmas.{carried_are}
+use Rattle.oc_coff_judge.proofs.NumberedSymbols.{IsCarried, carried_symbol, symbol_stands}
+use Rattle.oc_coff_read.proofs.RowLemmas.{is_row, takes_none}
+use Rattle.oc_coff_read.proofs.StandingFields.{IsStanding, are_apart, are_of_file, differences_fit, form_of, given_standing}
+use Rattle.oc_coff_read.proofs.WholeSymbols.{binding_there, symbols_same, value_there}
+
+-- ... sections
+
+-- a carried section that has bytes in the file is not Zero
+stored_kind : (t : Tables) (i : ℕ) (c : Carried) → carried_at t i ≡ Some c → c.stored ≡ true → is_zero c.section.kind ≡ false
+unfolding carried_at carried_of
+stored_kind t i c is = by (slice_get t.sections i) is
+  where
+    zero_by : (k : Kind) → (b : Bool) → (b && not (same_kind Zero k)) ≡ true → is_zero k ≡ false
+    zero_by Zero true e = absurd (true≢false (sym e))
+    zero_by Zero false e = absurd (true≢false (sym e))
+    zero_by Code b e = refl
+    zero_by ReadOnly b e = refl
+    zero_by Data b e = refl
+    zero_by Init b e = refl
+    zero_by Fini b e = refl
+    zero_by Debug b e = refl
+    zero_by Exception b e = refl
+    zero_by Note b e = refl
+
+    by : (o : Option SectionTable) → option_and_then (λ (x : SectionTable). carried_of t (i + 1, x)) o ≡ Some c → c.stored ≡ true → is_zero c.section.kind ≡ false
+    by None h = absurd (none-some c h)
+    by (Some x) h = kind (kind_in t.strings x.header) h
+      where
+        kind : (k : Option Kind)
+            → option_map (λ kind. record { section = section_of t (i + 1) x kind; stored = is_stored (Some kind) x.header; relocs_at = x.relocs_at; relocs = x.relocs }) k ≡ Some c → c.stored ≡ true → is_zero c.section.kind ≡ false
+        kind None h = absurd (none-some c h)
+        kind (Some k) h =
+            subst (λ (c : Carried). c.stored ≡ true → is_zero c.section.kind ≡ false)
+            (same_Some (record { section = section_of t (i + 1) x k; stored = is_stored (Some k) x.header; relocs_at = x.relocs_at; relocs = x.relocs }) c h)
+            (zero_by k (not (nat_eq x.header.PointerToRawData 0)))
+
+pub stored_at : (t : Tables) (s : ℕ) (c : Carried) → slice_get (carried_in t) s ≡ Some c → c.stored ≡ true → is_zero c.section.kind ≡ false
+stored_at t s c there = by (collected-from (carried_at t) (length t.sections) s c (sym (ap (λ (xs : List Carried). slice_get xs s) (carried_are t)) ∙ there))
+  where
+    by : IsFrom (carried_at t) (length t.sections) s c → c.stored ≡ true → is_zero c.section.kind ≡ false
+    by m = stored_kind t m.k c m.is
+
+-- a Local's place, in a binding as it is stored
+stored_place : (all : List parts.Symbol) (b : Binding) (place : Place) → local_place (placed_binding all b) ≡ Some place → placed_binding all b ≡ Local (value.Place place.0 place.1)
+stored_place all (Local (value.Place k offset)) place e = ap (λ (q : Place). Local (value.Place q.0 q.1)) (same_Some (k, offset) place e)
+stored_place all (Local (value.Absolute n)) place e = absurd (none-some place e)
+stored_place all (Global v) place e = absurd (none-some place e)
+stored_place all Undefined place e = absurd (none-some place e)
+stored_place all (Common size align) place e = absurd (none-some place e)
+stored_place all (Weak g) place e = absurd (none-some place e)
+
+module _ (w : Word) (file : CoffFile) (head : IsHeaded file) (bytes : AreBytes file.bytes) (keep : Keep) (symbols : stage_fault (symbol_stage (tables_in file)) ≡ None) (clean : stage_fault (relocation_stage w (tables_in file) keep) ≡ None) where
+  abbrev t : Tables
+  t = tables_in file
+
+  abbrev pub base : Draft
+  base = symboled w t (length (entries_in t))
+
+  module _ (started : IsStarted (dialect_by w file.shape) file.bytes keep base) where
+    abbrev pub Standing : ℕ → ℕ → Reloc → Type 0
+    Standing s at r = IsStanding w file head keep base.object started.symbols clean s at r
+
+    -- its target is there
+    target_there : (s at : ℕ) (r : Reloc) (m : Standing s at r) (u : Target) → m.made.against.at ≡ u → IsTargetThere base.object u
+    unfolding place_among
+    target_there s at r m (target.Section k) same =
+        let placed = m.made.against.place k same in
+        let there = value_there w file head bytes symbols m.made.place m.made.symbol m.made.there (value.Place k placed.0) placed.1 in
+        record { itself = slice_get_within base.object.sections k there.0 there.1; section = λ place e. absurd (none-some place e) }
+    target_there s at r m (target.Symbol p) same = of (carried_symbol t m.made.symbol x.0 x.1)
+      where
+        x : (x : parts.Symbol) × (symbol_of t.strings (sections_in t) (entries_in t) m.made.symbol ≡ Some x) × (symbol_place (symbols_in t) x.number ≡ p)
+        x = m.made.against.symbol p same
+
+        stands : slice_get base.object.symbols p ≡ Some (computed_symbol (symbols_in t) x.0)
+        stands =
+            ap (λ (ss : List Symbol). slice_get ss p) (sym (symbols_same w file head bytes symbols))
+            ∙ slice_get-map (computed_symbol (symbols_in t)) (symbols_in t) p
+            ∙ ap (option_map (computed_symbol (symbols_in t))) (ap (slice_get (symbols_in t)) (sym x.2) ∙ symbol_stands file head m.made.place m.made.symbol x.0 m.made.there x.1)
+
+        of : IsCarried t m.made.symbol x.0 → IsTargetThere base.object (target.Symbol p)
+        of n = record {
+          itself = slice_get_within base.object.symbols p (computed_symbol (symbols_in t) x.0) stands;
+          section = λ place e.
+              let local : placed_binding (symbols_in t) x.0.binding ≡ Local (value.Place place.0 place.1) = stored_place (symbols_in t) x.0.binding place (sym (ap (option_and_then (λ (z : Symbol). local_place z.binding)) stands) ∙ e) in
+              let whole : IsBinding base.object (Local (value.Place place.0 place.1))
+              = subst (IsBinding base.object) (ap (λ (y : parts.Symbol). placed_binding (symbols_in t) y.binding) n.is ∙ local) (binding_there w file head bytes symbols m.made.place m.made.symbol m.made.there n.binding n.bound) in
+              slice_get_within base.object.sections place.0 whole.0 whole.1;
+        }
+
+    less_there : (l : Less) → ((k : ℕ) → l ≡ less.Section k → ⊥) → IsLessThere base.object l
+    less_there less.Zero none = tt
+    less_there less.Place none = tt
+    less_there less.GotBase none = tt
+    less_there less.ImageBase none = tt
+    less_there less.Home none = tt
+    less_there (less.Section k) none = absurd (none k refl)
+
+    -- a relocation can be added before any other
+    can_base : (s at : ℕ) (r : Reloc) (m : Standing s at r) → CanAdd base.object s at r
+    can_base s at r m = record {
+      section = stored_section (keys_of t) m.c.section;
+      there = slice_get-map (stored_section (keys_of t)) (sections_in t) s
+          ∙ ap (option_map (stored_section (keys_of t))) (slice_get-map (λ (c : Carried). c.section) (carried_in t) s ∙ ap (option_map (λ (c : Carried). c.section)) m.there);
+      inside =
+          subst (λ (b : Bool). at + bytes_of r.form.width ≤ cond b 0 m.c.section.size) (sym (stored_at t s m.c m.there m.good.stored))
+          (let inside = m.good.inside in let offset = m.offset in let width = ap bytes_of (form_of w file head keep base.object started.symbols clean s at r m).0 in omega (arith, inside, offset, width));
+      target = subst (λ (q : Reloc). IsTargetThere base.object q.target) m.made.against.is (target_there s at r m m.made.against.at refl);
+      less = less_there r.form.less (λ k same. takes_none m.good.row s k (is_row w m.entry.Type m.good.row m.good.listed) (sym (form_of w file head keep base.object started.symbols clean s at r m).1 ∙ same));
+    }
+
+    -- ... a step
+
+    -- what is given for some places alone
+    abbrev given_where : (ℕ → ℕ → Bool) → Given
+    given_where done s at = cond (done s at) (given_at w t keep s at) None
+
+    part_of_file : (done : ℕ → ℕ → Bool) → AreOfFile (dialect_by w file.shape) file.bytes keep base.object (given_where done)
+    part_of_file done s at r e = by (done s at) e
+      where
+        by : (b : Bool) → cond b (given_at w t keep s at) None ≡ Some r → (x : Field) × (kept_fields (dialect_by w file.shape) file.bytes keep s at ≡ Some x) × IsField (dialect_by w file.shape) file.bytes keep base.object s at r x
+        by true e = are_of_file w file head keep base.object started.symbols clean s at r e
+        by false e = absurd (none-some r e)
+
+    one_more : (done more : ℕ → ℕ → Bool) (s at : ℕ) (r : Reloc) → given_at w t keep s at ≡ Some r → ((u x : ℕ) → more u x ≡ (done u x || nat_eq u s && nat_eq at x))
+        → (u x : ℕ) → and_one (given_where done) s at r u x ≡ given_where more u x
+    one_more done more s at r there grown u x = by (nat_eq u s) (nat_eq at x) refl refl ∙ ap (λ b. cond b (given_at w t keep u x) None) (sym (grown u x))
+      where
+        by : (a b : Bool) → nat_eq u s ≡ a → nat_eq at x ≡ b → cond (a && b) (Some r) (cond (done u x) (given_at w t keep u x) None) ≡ cond (done u x || a && b) (given_at w t keep u x) None
+        by true true e g =
+            let given : given_at w t keep u x ≡ Some r = ap (λ (i : ℕ). given_at w t keep i x) (eqb-true u s e) ∙ ap (λ (i : ℕ). given_at w t keep s i) (sym (eqb-true at x g)) ∙ there in
+            of (done u x) given
+          where
+            of : (d : Bool) → given_at w t keep u x ≡ Some r → Some r ≡ cond (d || true) (given_at w t keep u x) None
+            of true given = sym given
+            of false given = sym given
+        by true false e g = of (done u x)
+          where
+            of : (d : Bool) → cond d (given_at w t keep u x) None ≡ cond (d || false) (given_at w t keep u x) None
+            of true = refl
+            of false = refl
+        by false b e g = of (done u x)
+          where
+            of : (d : Bool) → cond d (given_at w t keep u x) None ≡ cond (d || false) (given_at w t keep u x) None
+            of true = refl
+            of false = refl
+
+    -- a relocation at a place where none is yet is added
+    pub record IsTaken (d : Draft) (s at : ℕ) (r : Reloc) (more : ℕ → ℕ → Bool) : Type 0 where
+      pub can : CanAdd d.object s at r
+      pub next : Draft
+      pub ok : reloc_added d s at r ≡ Ok next
+      pub added : HasAdded base next (given_where more)
+
+    pub taken : (done more : ℕ → ℕ → Bool) (d : Draft) (s at : ℕ) (r : Reloc) → given_at w t keep s at ≡ Some r → HasAdded base d (given_where done) → done s at ≡ false
+        → ((u x : ℕ) → more u x ≡ (done u x || nat_eq u s && nat_eq at x)) → IsTaken d s at r more
+    taken done more d s at r given has new grown = record {
+      can = can;
+      next = step.0;
+      ok = step.1;
+      added = added_same base step.0 (and_one (given_where done) s at r) (given_where more) (added_more base d step.0 (given_where done) s at r has can step.1) (one_more done more s at r given grown);
+    }
+      where
+        can : CanAdd d.object s at r
+        can = can_still base d (given_where done) started.draft started.relocs started.folded has s at r (can_base s at r (given_standing w file head keep base.object started.symbols clean s at r given))
+
+        field : (x : Field) × (kept_fields (dialect_by w file.shape) file.bytes keep s at ≡ Some x) × IsField (dialect_by w file.shape) file.bytes keep base.object s at r x
+        field = are_of_file w file head keep base.object started.symbols clean s at r given
+
+        step : (e : Draft) × (reloc_added d s at r ≡ Ok e)
+        step = clean_is_added (dialect_by w file.shape) file.bytes keep base d (given_where done) started (are_apart w file head keep base.object started.symbols clean) (differences_fit w file head keep base.object started.symbols clean) has
+            (part_of_file done) s at r field.0 field.1 field.2 (ap (λ b. cond b (given_at w t keep s at) None) new)

@@ -1,0 +1,363 @@
+-- What is given, table by table and entry by entry.
+use Rattle.oc_coff.specs.Files.{CoffFile, tables_in}
+use Rattle.std.proofs.Common.{◌≡◌, ℕ, ◌+◌, ◌<◌, ◌≤◌, inl, inr, Bool, true, false, cond, List, length, take, drop, replicate, Option, None, Some, Ok, refl, sym, ◌∙◌, ap, subst, arith, get_or, length-take, length-drop}
+use Rattle.std.specs.Prelude.{◌&&◌, ◌||◌, nat_eq, nat_lt, slice_get}
+use Rattle.std.specs.List.Sorted.{IsPermutation}
+use Rattle.std.specs.Option.{option_and_then, option_map, option_map_or}
+use Rattle.std.proofs.Math.Seq.{take-length}
+use Rattle.std.proofs.lemmas.Bool.{cases_eq, cases_lt, eq-eqb, ne_eqb, true≢false}
+use Rattle.std.proofs.lemmas.Bool.Decides.{nat_tests}
+use Rattle.std.proofs.lemmas.List.Folds.{list_any_more}
+use Rattle.std.proofs.lemmas.Option.{same_Some, slice_get_past, slice_get_within}
+use Rattle.oc_base.specs.declared.format.Word.{Word}
+use Rattle.oc_linking.specs.declared.terms.Keep.{Keep}
+use Rattle.oc_linking.specs.declared.terms.Kind.{Kind}
+use Rattle.oc_linking.specs.FirstFault.{stage_fault}
+use Rattle.oc_linking.specs.Fits.{bytes_of}
+use Rattle.oc_linking.specs.Keeping.{keeps}
+use Rattle.oc_neutral.specs.declared.reloc.Reloc.{Reloc}
+use Rattle.oc_neutral.specs.Building.{Draft, reloc_added}
+use Rattle.oc_neutral.specs.Built.{HasAdded}
+use Rattle.oc_neutral.specs.Invariants.{AreBytes, CanAdd}
+use Rattle.oc_neutral.specs.Rows.{Row}
+use Rattle.oc_shelf.specs.declared.reading.order.Placed.{Placed}
+use Rattle.oc_shelf.specs.Reading.Collected.{collected}
+use Rattle.oc_shelf.proofs.ReadingLaws.CollectedLemmas.{collected-at, collected-none, collected-same}
+use Rattle.oc_shelf.proofs.ReadingLaws.RowLemmas.{length-rows, row_at}
+use Rattle.oc_coff.specs.declared.relocation.Relocation.{Relocation}
+use Rattle.oc_coff.specs.Relocation.{relocation_at}
+use Rattle.oc_coff.specs.declared.section_header.SectionHeader.{SectionHeader}
+use Rattle.oc_coff.specs.SectionFaults.{section_stage}
+use Rattle.oc_coff.specs.Tables.{SectionTable, Tables, section_table}
+use Rattle.oc_coff.specs.Fields.{says_nothing}
+use Rattle.oc_coff.specs.Sections.{Carried, carried_in, carried_of, is_stored, kind_in, section_of}
+use Rattle.oc_coff_judge.specs.declared.relocs.Table.{Table}
+use Rattle.oc_coff_read.specs.Adding.{HasBefore, IsPlace, IsReady, started}
+use Rattle.oc_coff_judge.specs.Led.{carried_at}
+use Rattle.oc_coff_read.specs.Given.{IsAimed, entry_in, given_at, given_before, given_with, is_among, placed, placed_as, placed_at, reloc_by, reloc_in}
+use Rattle.oc_coff.specs.Head.{IsHeaded}
+use Rattle.oc_coff_judge.specs.Relocs.{IsTable, reloc_of, width_of}
+use Rattle.oc_coff_read.proofs.AddedRelocs.{IsTaken, taken}
+use Rattle.oc_coff_read.proofs.BuildLemmas.{header_kind, header_lies, raw_is}
+use Rattle.oc_coff_judge.proofs.CollectLemmas.{carried_are}
+use Rattle.oc_coff_read.proofs.FoundEntries.{IsGood, differ_at, good_entry}
+use Rattle.oc_coff_read.proofs.PlacedEntries.{Differ, IsPlacedEntry, among_all, entry_at, entry_is, not_among, placed_at as entry_placed}
+use Rattle.oc_coff_read.proofs.StandingFields.{IsStanding, entry_given, given_standing}
+
+-- ... sections
+
+module _ (w : Word) (t : Tables) (keep : Keep) where
+  -- past the last section nothing is given
+  past_none : (s at : ℕ) → length (carried_in t) ≤ s → given_at w t keep s at ≡ None
+  unfolding given_at
+  past_none s at past = ap (option_and_then (λ (c : Carried). cond (keeps keep c.section.kind) (reloc_in w t s at c) None)) (slice_get_past (carried_in t) s past)
+
+  -- for all sections all is given
+  pub given_all : (p : ℕ) → length (carried_in t) ≤ p → (s at : ℕ) → given_before w t keep p s at ≡ given_at w t keep s at
+  given_all p all s at = by (nat_lt s p) refl
+    where
+      past : (s p : ℕ) → nat_lt s p ≡ false → p ≤ s
+      past s p e = grind (arith, nat_tests)
+
+      by : (b : Bool) → nat_lt s p ≡ b → cond b (given_at w t keep s at) None ≡ given_at w t keep s at
+      by true e = refl
+      by false e = let later = past s p e in sym (past_none s at (omega (arith, later, all)))
+
+  same_lt : (s p : ℕ) → (s ≡ p → ⊥) → nat_lt s (p + 1) ≡ nat_lt s p
+  same_lt s p other = by (nat_lt s p) refl
+    where
+      by : (b : Bool) → nat_lt s p ≡ b → nat_lt s (p + 1) ≡ b
+      by true e = grind (arith, nat_tests)
+      by false e = elim (cases_eq s p) [ inl same ↦ absurd (other same) | inr ne ↦ grind (arith, nat_tests) ]
+
+  -- a section that is left out is given nothing
+  pub given_left : (p : ℕ) (c : Carried) → slice_get (carried_in t) p ≡ Some c → keeps keep c.section.kind ≡ false → (s at : ℕ) → given_before w t keep p s at ≡ given_before w t keep (p + 1) s at
+  unfolding given_at
+  given_left p c there left s at = elim (cases_eq s p) [
+    | inl same ↦ both (nat_lt s p) (nat_lt s (p + 1)) (none same)
+    | inr other ↦ ap (λ b. cond b (given_at w t keep s at) None) (sym (same_lt s p other))
+  ]
+    where
+      none : s ≡ p → given_at w t keep s at ≡ None
+      none same =
+          ap (option_and_then (λ (c : Carried). cond (keeps keep c.section.kind) (reloc_in w t s at c) None)) (ap (slice_get (carried_in t)) same ∙ there)
+          ∙ ap (λ b. cond b (reloc_in w t s at c) None) left
+
+      both : (a b : Bool) → given_at w t keep s at ≡ None → cond a (given_at w t keep s at) None ≡ cond b (given_at w t keep s at) None
+      both true true e = refl
+      both true false e = e
+      both false true e = sym e
+      both false false e = refl
+
+-- ... entries of a table
+
+module _ (file : CoffFile) (i : ℕ) (table : Table) (is : IsTable file i table) where
+  pub table_long : length is.of.relocs ≡ table.count
+  table_long = ap length is.entries ∙ length-rows relocation_at 10 file.bytes table.place table.count
+
+  -- an entry where it stands in the file
+  pub entry_read : (k : ℕ) → k < table.count → slice_get is.of.relocs k ≡ Some (reloc_of file table k)
+  unfolding reloc_of
+  entry_read k low = ap (λ (rs : List Relocation). slice_get rs k) is.entries ∙ row_at relocation_at 10 file.bytes table.place table.count k low
+
+  read_is : (k : ℕ) → k < table.count → entry_in is.of.relocs k ≡ reloc_of file table k
+  read_is k low = entry_is is.of.relocs k (reloc_of file table k) (entry_read k low)
+
+  pub placed_same : collected (placed_at file table) table.count ≡ collected (placed is.of.relocs) (length is.of.relocs)
+  placed_same =
+      collected-same (placed_at file table) (placed is.of.relocs) table.count (λ k low. ap (λ (r : Relocation). placed_as r k) (sym (read_is k low)))
+      ∙ ap (collected (placed is.of.relocs)) (sym table_long)
+
+-- ... sections by their headers
+
+module _ (file : CoffFile) (i : ℕ) (h : SectionHeader) (here : slice_get (tables_in file).sections i ≡ Some (section_table file.bytes h)) (kind : Kind) (is : kind_in (tables_in file).strings h ≡ Some kind) where
+  abbrev made : Carried
+  made = record {
+    section = section_of (tables_in file) (i + 1) (section_table file.bytes h) kind;
+    stored = is_stored (Some kind) (section_table file.bytes h).header;
+    relocs_at = (section_table file.bytes h).relocs_at;
+    relocs = (section_table file.bytes h).relocs;
+  }
+
+  carried_is : carried_at (tables_in file) i ≡ Some made
+  unfolding carried_at carried_of
+  carried_is =
+      ap (option_and_then (λ (x : SectionTable). carried_of (tables_in file) (i + 1, x))) here
+      ∙ ap (option_map (λ kind. record { section = section_of (tables_in file) (i + 1) (section_table file.bytes h) kind; stored = is_stored (Some kind) (section_table file.bytes h).header; relocs_at = (section_table file.bytes h).relocs_at; relocs = (section_table file.bytes h).relocs }))
+      (header_kind file h (tables_in file).strings (Some kind) is)
+
+  module _ (table : Table) (m : IsTable file i table) where
+    same : m.of ≡ made
+    same = same_Some m.of made (sym m.here ∙ carried_is)
+
+    pub stored_is : table.stored ≡ true → is_stored (Some kind) h ≡ true
+    unfolding section_table
+    stored_is stored = sym (ap (λ (c : Carried). c.stored) same) ∙ sym m.stored ∙ stored
+
+    pub place_is : (clean : stage_fault (section_stage file.bytes (tables_in file)) ≡ None) (p : ℕ) (contents : List ℕ) → p ≡ length (collected (carried_at (tables_in file)) i)
+        → (table.stored ≡ true → contents ≡ take h.SizeOfRawData (drop h.PointerToRawData file.bytes)) → IsPlace file i p kind table contents
+    unfolding section_table
+    place_is clean p contents position bytes = record {
+      table_is = m;
+      kind_is = sym (ap (λ (c : Carried). c.section.kind) same);
+      there = ap (λ (xs : List Carried). slice_get xs p) (carried_are (tables_in file)) ∙ ap (slice_get (collected (carried_at (tables_in file)) (length (tables_in file).sections))) position
+          ∙ collected-at (carried_at (tables_in file)) i (length (tables_in file).sections) m.of m.here (slice_get_within (tables_in file).sections i (section_table file.bytes h) here);
+      bytes_are = λ stored.
+          let has = stored_is (m.stored ∙ stored) in
+          bytes (m.stored ∙ stored) ∙ sym (raw_is file h kind has)
+          ∙ sym (ap (λ b. cond b (section_table file.bytes h).raw (replicate h.SizeOfRawData 0)) has)
+          ∙ sym (ap (λ (c : Carried). c.section.contents) same);
+      long = λ stored.
+          let lies = header_lies file h (tables_in file) clean i here kind is (stored_is (m.stored ∙ stored)) in
+          let size : m.of.section.size ≡ h.SizeOfRawData = ap (λ (c : Carried). c.section.size) same in
+          let taken : length contents ≡ length (take h.SizeOfRawData (drop h.PointerToRawData file.bytes)) = ap length (bytes (m.stored ∙ stored)) in
+          omega (arith, lies, size, taken, length-take h.SizeOfRawData (drop h.PointerToRawData file.bytes), length-drop h.PointerToRawData file.bytes);
+    }
+
+-- a section that is not carried leaves all as it was
+pub before_same : (w : Word) (file : CoffFile) (keep : Keep) (i p : ℕ) (d : Draft) (h : SectionHeader) → slice_get (tables_in file).sections i ≡ Some (section_table file.bytes h) → kind_in (tables_in file).strings h ≡ None
+    → HasBefore w file keep i p d → HasBefore w file keep (i + 1) p d
+unfolding carried_at carried_of
+before_same w file keep i p d h here none before =
+    let left : carried_at (tables_in file) i ≡ None
+    = ap (option_and_then (λ (x : SectionTable). carried_of (tables_in file) (i + 1, x))) here
+    ∙ ap (option_map (λ kind. record { section = section_of (tables_in file) (i + 1) (section_table file.bytes h) kind; stored = is_stored (Some kind) (section_table file.bytes h).header; relocs_at = (section_table file.bytes h).relocs_at; relocs = (section_table file.bytes h).relocs }))
+    (header_kind file h (tables_in file).strings None none) in
+    record { position = before.position ∙ sym (ap length (collected-none (carried_at (tables_in file)) i left)); added = before.added }
+
+-- ... entries, added
+
+module _ (w : Word) (file : CoffFile) (head : IsHeaded file) (bytes : AreBytes file.bytes) (keep : Keep) (sections symbols : List (Option ℕ)) (ready : IsReady w file keep sections symbols)
+    (i p : ℕ) (kind : Kind) (table : Table) (contents : List ℕ) (place : IsPlace file i p kind table contents) (kept : keeps keep kind ≡ true) where
+  abbrev t : Tables
+  t = tables_in file
+
+  abbrev c : Carried
+  c = place.table_is.of
+
+  kept_it : keeps keep c.section.kind ≡ true
+  kept_it = ap (keeps keep) (sym place.kind_is) ∙ kept
+
+  good_at : (k : ℕ) (r : Relocation) → slice_get c.relocs k ≡ Some r → says_nothing r ≡ false → IsGood w t c k r
+  good_at = good_entry w t keep ready.relocs_clean p c place.there kept_it
+
+  differ : Differ c.relocs
+  differ a b less low first second same =
+      let here = entry_at c.relocs a (omega (arith, less, low)) in
+      differ_at w t keep ready.relocs_clean p c place.there kept_it a b (entry_in c.relocs a) (entry_in c.relocs b) (good_at a (entry_in c.relocs a) here first) (good_at b (entry_in c.relocs b) (entry_at c.relocs b low) second) less here same
+
+  module _ (entries : List Placed) (are : IsPermutation (collected (placed_at file table) table.count) entries) where
+    listed : IsPermutation (collected (placed c.relocs) (length c.relocs)) entries
+    listed = subst (λ (xs : List Placed). IsPermutation xs entries) (placed_same file i table place.table_is) are
+
+    abbrev done : ℕ → ℕ → ℕ → Bool
+    done j s at = nat_lt s p || nat_eq s p && is_among (take j entries) at
+
+    -- entry j, as it is read
+    pub record IsEntry (j : ℕ) (e : Placed) : Type 0 where
+      pub low : (get_or entries j e).index < table.count
+      pub busy : says_nothing (reloc_of file table (get_or entries j e).index) ≡ false
+      pub offset : (reloc_of file table (get_or entries j e).index).VirtualAddress ≡ (get_or entries j e).place
+      pub there : slice_get c.relocs (get_or entries j e).index ≡ Some (reloc_of file table (get_or entries j e).index)
+
+    pub entry_of : (j : ℕ) (e : Placed) → j < length entries → IsEntry j e
+    entry_of j e below = by (entry_placed c.relocs differ entries listed j e below)
+      where
+        by : IsPlacedEntry c.relocs (get_or entries j e) → IsEntry j e
+        by m =
+            let long = table_long file i table place.table_is in
+            let inside = m.low in
+            let low : (get_or entries j e).index < table.count = omega (arith, long, inside) in
+            let there = entry_read file i table place.table_is (get_or entries j e).index low in
+            let same = entry_is c.relocs (get_or entries j e).index (reloc_of file table (get_or entries j e).index) there in
+            record {
+              low = low;
+              busy = ap says_nothing (sym same) ∙ m.busy;
+              offset = ap (λ (r : Relocation). r.VirtualAddress) (sym same) ∙ m.place;
+              there = there;
+            }
+
+    -- what is asked before its relocation is made
+    pub entry_aimed : (j : ℕ) (e : Placed) → j < length entries → IsAimed w t (reloc_of file table (get_or entries j e).index).SymbolTableIndex
+    entry_aimed j e below =
+        let m = entry_of j e below in
+        let good = good_at (get_or entries j e).index (reloc_of file table (get_or entries j e).index) m.there m.busy in
+        record { aim = good.aim; is = good.aimed }
+
+    pub entry_inside : (j : ℕ) (e : Placed) → j < length entries
+        → (reloc_of file table (get_or entries j e).index).VirtualAddress + width_of w (reloc_of file table (get_or entries j e).index) ≤ length contents
+    entry_inside j e below =
+        let m = entry_of j e below in
+        let good = good_at (get_or entries j e).index (reloc_of file table (get_or entries j e).index) m.there m.busy in
+        let inside = good.inside in
+        let width : width_of w (reloc_of file table (get_or entries j e).index) ≡ bytes_of good.row.width = ap (λ (o : Option Row). option_map_or (λ (row : Row). bytes_of row.width) o 0) good.listed in
+        let long = place.long good.stored in
+        omega (arith, inside, width, long)
+
+    -- it is given, and made of the contents
+    pub record IsNext (j : ℕ) (e : Placed) : Type 0 where
+      pub reloc : Reloc
+      pub given : given_at w t keep p (reloc_of file table (get_or entries j e).index).VirtualAddress ≡ Some reloc
+      pub made : reloc_by w t p contents (reloc_of file table (get_or entries j e).index) ≡ Some reloc
+
+    pub next_of : (j : ℕ) (e : Placed) → j < length entries → IsNext j e
+    next_of j e below = by (entry_given w file head keep (started w file).object ready.start.symbols ready.relocs_clean p c place.there kept_it (get_or entries j e).index r m.there m.busy)
+      where
+        r : Relocation
+        r = reloc_of file table (get_or entries j e).index
+
+        m : IsEntry j e
+        m = entry_of j e below
+
+        good : IsGood w t c (get_or entries j e).index r
+        good = good_at (get_or entries j e).index r m.there m.busy
+
+        by : (o : Reloc) × (given_at w t keep p r.VirtualAddress ≡ Some o) → IsNext j e
+        by g = of (given_standing w file head keep (started w file).object ready.start.symbols ready.relocs_clean p r.VirtualAddress g.0 g.1)
+          where
+            of : IsStanding w file head keep (started w file).object ready.start.symbols ready.relocs_clean p r.VirtualAddress g.0 → IsNext j e
+            of n =
+                let one : n.c ≡ c = same_Some n.c c (sym n.there ∙ place.there) in
+                let here : slice_get c.relocs n.k ≡ Some n.entry = subst (λ (x : Carried). slice_get x.relocs n.k ≡ Some n.entry) one n.here in
+                let same : n.entry ≡ r = entry_same n.k n.entry here n.busy n.offset in
+                record {
+                  reloc = g.0;
+                  given = g.1;
+                  made = ap (λ (xs : List ℕ). reloc_by w t p xs r) (place.bytes_are good.stored)
+                      ∙ sym (ap (λ (x : Carried). reloc_by w t p x.section.contents r) one)
+                      ∙ sym (ap (reloc_by w t p n.c.section.contents) same) ∙ n.by;
+                }
+              where
+                entry_same : (k : ℕ) (x : Relocation) → slice_get c.relocs k ≡ Some x → says_nothing x ≡ false → x.VirtualAddress ≡ r.VirtualAddress → x ≡ r
+                entry_same k x here busy offset = elim (cases_eq k (get_or entries j e).index) [
+                  | inl same ↦ same_Some x r (sym here ∙ ap (slice_get c.relocs) same ∙ m.there)
+                  | inr other ↦ elim (cases_lt k (get_or entries j e).index) [
+                    | inl before ↦ absurd (differ_at w t keep ready.relocs_clean p c place.there kept_it k (get_or entries j e).index x r (good_at k x here busy) good before here offset)
+                    | inr later ↦ absurd (differ_at w t keep ready.relocs_clean p c place.there kept_it (get_or entries j e).index k r x good (good_at k x here busy) (omega (arith, later, other)) m.there (sym offset))
+                  ]
+                ]
+
+    -- nothing is given at the place of an entry before it is added
+    new_place : (j : ℕ) (e : Placed) → j < length entries → done j p (get_or entries j e).place ≡ false
+    new_place j e below = by (nat_lt p p) (nat_eq p p) (is_among (take j entries) (get_or entries j e).place) (self p) (not_among c.relocs differ entries listed j e below)
+      where
+        self : (n : ℕ) → nat_lt n n ≡ false
+        self n = grind (arith, nat_tests)
+
+        by : (a b d : Bool) → a ≡ false → d ≡ false → (a || b && d) ≡ false
+        by false true false e g = refl
+        by false false false e g = refl
+        by true b d e g = absurd (true≢false e)
+        by a b true e g = absurd (true≢false g)
+
+    -- with it one more place is given
+    one_place : (j : ℕ) (e : Placed) → j < length entries → (s at : ℕ) → done (j + 1) s at ≡ (done j s at || nat_eq s p && nat_eq (get_or entries j e).place at)
+    one_place j e below s at =
+        ap (λ b. nat_lt s p || nat_eq s p && b) (list_any_more (λ (x : Placed). nat_eq x.place at) entries j e below)
+        ∙ by (nat_lt s p) (nat_eq s p) (is_among (take j entries) at) (nat_eq (get_or entries j e).place at)
+      where
+        by : (a b d f : Bool) → (a || b && (d || f)) ≡ (a || b && d || b && f)
+        by true b d f = refl
+        by false true true f = refl
+        by false true false f = refl
+        by false false d f = refl
+
+    -- its relocation, as it was read, can be added
+    pub record IsTakenNext (d : Draft) (j : ℕ) (r : Relocation) (o : Reloc) : Type 0 where
+      pub can : CanAdd d.object p r.VirtualAddress o
+      pub next : Draft
+      pub ok : reloc_added d p r.VirtualAddress o ≡ Ok next
+      pub added : HasAdded (started w file) next (given_with w t keep p (take (j + 1) entries))
+
+    pub ready_next : (j : ℕ) (e : Placed) → j < length entries → (d : Draft) → HasAdded (started w file) d (given_with w t keep p (take j entries)) → (r : Relocation) → r ≡ reloc_of file table (get_or entries j e).index
+        → (o : Reloc) → reloc_by w t p contents r ≡ Some o → IsTakenNext d j r o
+    ready_next j e below d has r read o made =
+        let m = entry_of j e below in
+        let n = next_of j e below in
+        let same : n.reloc ≡ o = same_Some n.reloc o (sym n.made ∙ ap (reloc_by w t p contents) (sym read) ∙ made) in
+        let given : given_at w t keep p r.VirtualAddress ≡ Some o = ap (λ (x : Relocation). given_at w t keep p x.VirtualAddress) read ∙ n.given ∙ ap Some same in
+        let offset : r.VirtualAddress ≡ (get_or entries j e).place = ap (λ (x : Relocation). x.VirtualAddress) read ∙ m.offset in
+        let k : IsTaken w file head bytes keep ready.symbols_clean ready.relocs_clean ready.start d p r.VirtualAddress o (done (j + 1))
+        = taken w file head bytes keep ready.symbols_clean ready.relocs_clean ready.start (done j) (done (j + 1)) d p r.VirtualAddress o given has (ap (done j p) offset ∙ new_place j e below)
+        (λ s at. one_place j e below s at ∙ ap (λ (q : ℕ). done j s at || nat_eq s p && nat_eq q at) (sym offset)) in
+        record { can = k.can; next = k.next; ok = k.ok; added = k.added }
+
+    -- with all entries the section is done
+    pub table_done : (s at : ℕ) → given_with w t keep p (take (length entries) entries) s at ≡ given_before w t keep (p + 1) s at
+    table_done s at = elim (cases_eq s p) [
+      | inl same ↦ of (is_among (take (length entries) entries) at) refl (nat_lt s p) (nat_lt s (p + 1)) (more s p same) (nat_eq s p) (eq-eqb s p same) same
+      | inr other ↦ apart (nat_lt s p) (nat_lt s (p + 1)) (nat_eq s p) (ne_eqb s p other) (same_lt w t keep s p other)
+    ]
+      where
+        more : (n p : ℕ) → n ≡ p → nat_lt n (p + 1) ≡ true
+        more n p same = grind (arith, nat_tests)
+
+        apart : (a b q : Bool) → q ≡ false → b ≡ a → cond (a || q && is_among (take (length entries) entries) at) (given_at w t keep s at) None ≡ cond b (given_at w t keep s at) None
+        apart true true false h k = refl
+        apart false false false h k = refl
+        apart true false q h k = absurd (true≢false (sym k))
+        apart false true q h k = absurd (true≢false k)
+        apart a b true h k = absurd (true≢false h)
+
+        -- what is given in the section is among them
+        given_among : s ≡ p → is_among (take (length entries) entries) at ≡ false → given_at w t keep s at ≡ None
+        given_among same none = by (given_at w t keep s at) refl
+          where
+            by : (o : Option Reloc) → given_at w t keep s at ≡ o → o ≡ None
+            by None e = refl
+            by (Some r) e = found (given_standing w file head keep (started w file).object ready.start.symbols ready.relocs_clean s at r e)
+              where
+                found : IsStanding w file head keep (started w file).object ready.start.symbols ready.relocs_clean s at r → Some r ≡ None
+                found n =
+                    let one : n.c ≡ c = same_Some n.c c (sym n.there ∙ ap (slice_get (carried_in t)) same ∙ place.there) in
+                    let here : slice_get c.relocs n.k ≡ Some n.entry = subst (λ (x : Carried). slice_get x.relocs n.k ≡ Some n.entry) one n.here in
+                    let among = among_all c.relocs differ entries listed n.k n.entry here n.busy in
+                    absurd (true≢false (sym among ∙ ap (is_among entries) n.offset ∙ ap (λ (es : List Placed). is_among es at) (sym (take-length entries)) ∙ none))
+
+        of : (d : Bool) → is_among (take (length entries) entries) at ≡ d → (a b : Bool) → b ≡ true → (q : Bool) → q ≡ true → s ≡ p → cond (a || q && d) (given_at w t keep s at) None ≡ cond b (given_at w t keep s at) None
+        of true g true true h true k same = refl
+        of true g false true h true k same = refl
+        of false g true true h true k same = refl
+        of false g false true h true k same = sym (given_among same g)
+        of d g a false h q k same = absurd (true≢false (sym h))
+        of d g a b h false k same = absurd (true≢false (sym k))

@@ -1,0 +1,145 @@
+-- Numbers and names that are read from bytes.
+use Rattle.oc_coff.specs.declared.form.Shape.{Shape}
+use Rattle.oc_coff.specs.declared.form.Shape.TheVariants.{Usual, Big}
+use Rattle.oc_coff.specs.SymbolEntry.{signed_number, symbol_at}
+use Rattle.oc_coff.specs.Files.{CoffFile, tables_in}
+use Rattle.oc_coff.specs.Forms.{header_size}
+use Rattle.std.proofs.Common.{◌≡◌, ℕ, zero, suc, ◌+◌, ◌*◌, ◌<◌, ◌^◌, Bool, true, false, cond, eqb, get_or, List, [], ◌∷◌, drop, take, Option, None, Some, refl, sym, ◌∙◌, subst, arith}
+use Rattle.std.specs.Prelude.{nat_eq, nat_le, nat_lt, slice_get}
+use Rattle.std.specs.List.{AllByRecursion, before_first, position_or_len}
+use Rattle.std.specs.Option.{option_map, unwrap_or}
+use Rattle.std.proofs.lemmas.Option.{none-some, same_Some, slice_get_within}
+use Rattle.oc_base.specs.Numbers.{number_at}
+use Rattle.oc_neutral.specs.Invariants.{AreBytes}
+use Rattle.oc_shelf.specs.Reading.Texts.{text_at, text_within}
+use Rattle.oc_coff.specs.declared.symbol.SymbolEntry.{SymbolEntry}
+use Rattle.oc_coff.specs.FileHeader.{file_header_of}
+use Rattle.oc_coff.specs.Names.{string_at, symbol_name}
+use Rattle.oc_coff.specs.SectionHeader.{section_header_at}
+use Rattle.oc_coff.specs.Tables.{SectionTable, has_strings, section_table, slot_at, strings_of, strings_place, strings_size, tables_of}
+use Rattle.oc_coff.specs.Entries.{name_of}
+use Rattle.oc_coff_judge.specs.Numbered.{entry_by, entry_place}
+use Rattle.oc_coff.proofs.HeadLemmas.{section_there}
+
+-- ... numbers
+
+-- what k bytes can count
+abbrev room : ℕ → ℕ
+room zero = 1
+room (suc k) = 256 * room k
+
+byte_at : (xs : List ℕ) → AreBytes xs → (i : ℕ) → get_or xs i 0 < 256
+byte_at [] all i = omega arith
+byte_at (x ∷ xs) all zero = let low = all.0 in omega (arith, low)
+byte_at (x ∷ xs) all (suc i) = byte_at xs all.1 i
+
+number_more : (file : List ℕ) (at k : ℕ) → number_at file at (suc k) ≡ get_or file at 0 + 256 * number_at file (suc at) k
+unfolding number_at
+number_more file at k = refl
+
+number_none : (file : List ℕ) (at : ℕ) → number_at file at 0 ≡ 0
+unfolding number_at
+number_none file at = refl
+
+number_small : (file : List ℕ) → AreBytes file → (at k : ℕ) → number_at file at k < room k
+number_small file bytes at zero = let none = number_none file at in omega (arith, none)
+number_small file bytes at (suc k) =
+    let low : get_or file at 0 < 256 = byte_at file bytes at in
+    let rest = number_small file bytes (suc at) k in
+    let more = number_more file at k in
+    omega (arith, low, rest, more)
+
+-- the numbers of a symbol are small
+pub record IsSmall (s : SymbolEntry) : Type 0 where
+  pub value : s.Value < 4294967296
+  pub section : s.SectionNumber < 4294967296
+
+-- a section number of 16 bits with its sign has 32 bits
+signed_small : (n : ℕ) → n < 65536 → signed_number n < 4294967296
+signed_small n low = by (nat_lt n 65280)
+  where
+    by : (b : Bool) → cond b n (n + 0xFFFF0000) < 4294967296
+    by true = omega (arith, low)
+    by false = omega (arith, low)
+
+symbol_small : (z : Shape) (file : List ℕ) → AreBytes file → (at : ℕ) → IsSmall (symbol_at z file at)
+unfolding symbol_at
+symbol_small Usual file bytes at = record { value = number_small file bytes (at + 8) 4; section = signed_small (number_at file (at + 12) 2) (number_small file bytes (at + 12) 2) }
+symbol_small Big file bytes at = record { value = number_small file bytes (at + 8) 4; section = number_small file bytes (at + 12) 4 }
+
+pub entry_small : (file : CoffFile) → AreBytes file.bytes → (j : ℕ) → IsSmall (entry_by file j).symbol
+unfolding entry_by slot_at
+entry_small file bytes j = symbol_small file.shape file.bytes bytes (entry_place file j)
+
+-- ... names
+
+all_drop : (P : ℕ → Type 0) (n : ℕ) (xs : List ℕ) → AllByRecursion P xs → AllByRecursion P (drop n xs)
+all_drop P zero xs all = all
+all_drop P (suc n) [] all = tt
+all_drop P (suc n) (x ∷ xs) all = all_drop P n xs all.1
+
+all_take : (P : ℕ → Type 0) (n : ℕ) (xs : List ℕ) → AllByRecursion P xs → AllByRecursion P (take n xs)
+all_take P zero xs all = tt
+all_take P (suc n) [] all = tt
+all_take P (suc n) (x ∷ xs) all = (all.0, all_take P n xs all.1)
+
+all_text : (P : ℕ → Type 0) (xs text : List ℕ) → AllByRecursion P xs → text_within xs ≡ Some text → AllByRecursion P text
+all_text P [] text all e = absurd (none-some text e)
+all_text P (x ∷ xs) text all e = by (eqb x 0) (text_within xs) (λ rest. all_text P xs rest all.1) e
+  where
+    by : (b : Bool) (o : Option (List ℕ)) → ((rest : List ℕ) → o ≡ Some rest → AllByRecursion P rest) → cond b (Some []) (option_map (λ text. x ∷ text) o) ≡ Some text → AllByRecursion P text
+    by true o rest g = subst (AllByRecursion P) (same_Some [] text g) tt
+    by false None rest g = absurd (none-some text g)
+    by false (Some r) rest g = subst (AllByRecursion P) (same_Some (x ∷ r) text g) (all.0, rest r refl)
+
+all_before : (P : ℕ → Type 0) (xs : List ℕ) → AllByRecursion P xs → AllByRecursion P (before_first (λ c. nat_eq c 0) xs)
+all_before P xs all = all_take P (position_or_len (λ c. nat_eq c 0) xs) xs all
+
+string_bytes : (strings : List ℕ) (offset : ℕ) → AreBytes strings → AreBytes (unwrap_or (string_at strings offset) [])
+unfolding string_at
+string_bytes strings offset bytes = by (nat_le 4 offset) (text_at strings offset) refl
+  where
+    by : (b : Bool) (o : Option (List ℕ)) → text_at strings offset ≡ o → AreBytes (unwrap_or (cond b o None) [])
+    by false o e = tt
+    by true None e = tt
+    by true (Some text) e = all_text (λ x. x < 2 ^ 8) (drop offset strings) text (all_drop (λ x. x < 2 ^ 8) offset strings bytes) e
+
+name_bytes : (strings field : List ℕ) → AreBytes strings → AreBytes field → AreBytes (unwrap_or (symbol_name strings field) [])
+unfolding symbol_name
+name_bytes strings field table bytes = by (nat_eq (number_at field 0 4) 0) (nat_eq (number_at field 4 4) 0)
+  where
+    by : (a b : Bool) → AreBytes (unwrap_or (cond a (cond b (Some []) (string_at strings (number_at field 4 4))) (Some (before_first (λ c. nat_eq c 0) field))) [])
+    by true true = tt
+    by true false = string_bytes strings (number_at field 4 4) table
+    by false b = all_before (λ x. x < 2 ^ 8) field bytes
+
+strings_bytes : (file : CoffFile) → AreBytes file.bytes → AreBytes (tables_in file).strings
+unfolding tables_of strings_of
+strings_bytes file bytes = by (has_strings file.shape file.bytes (file_header_of file.shape file.bytes))
+  where
+    by : (b : Bool) → AreBytes (cond b (take (strings_size file.shape file.bytes (file_header_of file.shape file.bytes)) (drop (strings_place file.shape (file_header_of file.shape file.bytes)) file.bytes)) [])
+    by true = all_take (λ x. x < 2 ^ 8) (strings_size file.shape file.bytes (file_header_of file.shape file.bytes)) (drop (strings_place file.shape (file_header_of file.shape file.bytes)) file.bytes) (all_drop (λ x. x < 2 ^ 8) (strings_place file.shape (file_header_of file.shape file.bytes)) file.bytes bytes)
+    by false = tt
+
+field_bytes : (file : CoffFile) → AreBytes file.bytes → (j : ℕ) → AreBytes (entry_by file j).symbol.Name
+unfolding entry_by slot_at symbol_at
+field_bytes file bytes j = by file.shape
+  where
+    by : (z : Shape) → AreBytes (symbol_at z file.bytes (entry_place file j)).Name
+    by Usual = all_take (λ x. x < 2 ^ 8) 8 (drop (entry_place file j) file.bytes) (all_drop (λ x. x < 2 ^ 8) (entry_place file j) file.bytes bytes)
+    by Big = all_take (λ x. x < 2 ^ 8) 8 (drop (entry_place file j) file.bytes) (all_drop (λ x. x < 2 ^ 8) (entry_place file j) file.bytes bytes)
+
+pub entry_name_bytes : (file : CoffFile) → AreBytes file.bytes → (j : ℕ) → AreBytes (name_of (tables_in file).strings (entry_by file j))
+entry_name_bytes file bytes j = name_bytes (tables_in file).strings (entry_by file j).symbol.Name (strings_bytes file bytes) (field_bytes file bytes j)
+
+-- ... flags
+
+flags_small : (file : CoffFile) → AreBytes file.bytes → (at : ℕ) → (section_header_at file.bytes at).Characteristics < 4294967296
+unfolding section_header_at
+flags_small file bytes at = number_small file.bytes bytes (at + 36) 4
+
+pub header_small : (file : CoffFile) → AreBytes file.bytes → (i : ℕ) (x : SectionTable) → slice_get (tables_in file).sections i ≡ Some x → x.header.Characteristics < 4294967296
+unfolding section_table
+header_small file bytes i x here =
+    let low = slice_get_within (tables_in file).sections i x here in
+    subst (λ (y : SectionTable). y.header.Characteristics < 4294967296) (same_Some (section_table file.bytes (section_header_at file.bytes (header_size file.shape + 40 * i))) x (sym (section_there file i low) ∙ here)) (flags_small file bytes (header_size file.shape + 40 * i))

@@ -1,0 +1,113 @@
+-- The rows of COFF: none takes a section, and none has a hint.
+use Rattle.std.proofs.Common.{◌≡◌, ℕ, Bool, true, false, cond, ◌≤◌, List, [], ◌∷◌, Option, None, Some, refl, sym, ◌∙◌, ap, subst, arith}
+use Rattle.std.specs.Prelude.{not, ◌&&◌, nat_eq, find}
+use Rattle.std.specs.Option.{option_map}
+use Rattle.std.proofs.lemmas.Bool.{true≢false}
+use Rattle.std.proofs.lemmas.Option.{none-some, same_Some}
+use Rattle.oc_base.specs.declared.format.Word.{Word}
+use Rattle.oc_base.specs.declared.format.Word.TheVariants.{W32, W64}
+use Rattle.oc_linking.specs.declared.terms.Hint.{Hint}
+use Rattle.oc_linking.specs.declared.terms.Hint.TheVariants.{Plain, Call}
+use Rattle.oc_linking.specs.declared.terms.Less.TheVariants as less
+use Rattle.oc_linking.specs.declared.terms.Width.{Width}
+use Rattle.oc_linking.specs.declared.terms.Width.TheVariants.{One, Two, Four, Eight}
+use Rattle.oc_linking.specs.Fits.{bytes_of}
+use Rattle.oc_neutral.specs.Rows.{Row, Taken, TakesZero, TakesPlace, TakesGotBase, TakesImageBase, TakesHome, TakesSection, less_of, same_hint, same_taken}
+use Rattle.oc_neutral.specs.RelocTables.{row_of, rows_of}
+use Rattle.oc_coff.specs.Forms.{coff_format}
+use Rattle.oc_coff.specs.declared.meaning.Meaning.{Meaning}
+use Rattle.oc_coff.specs.Meanings.{meaning_of, meant_by}
+
+-- ... what holds of each row
+
+abbrev is_plain : Row → Bool
+is_plain row = not (same_taken row.taken TakesSection) && same_hint row.hint Plain
+
+abbrev all_pass : {X : Type 0} → (X → Bool) → List X → Bool
+all_pass test [] = true
+all_pass test (x ∷ xs) = test x && all_pass test xs
+
+all_plain : (w : Word) → all_pass is_plain (rows_of (coff_format w)) ≡ true
+all_plain W32 = refl
+all_plain W64 = refl
+
+found_passes : {X : Type 0} (test key : X → Bool) (xs : List X) (x : X) → all_pass test xs ≡ true → find key xs ≡ Some x → test x ≡ true
+found_passes test key [] x all e = absurd (none-some x e)
+found_passes {X} test key (y ∷ xs) x all e = by (test y) (key y) refl all e (found_passes test key xs x)
+  where
+    by : (a b : Bool) → test y ≡ a → (a && all_pass test xs) ≡ true → cond b (Some y) (find key xs) ≡ Some x → (all_pass test xs ≡ true → find key xs ≡ Some x → test x ≡ true) → test x ≡ true
+    by true true h all e rest = subst (λ (z : X). test z ≡ true) (same_Some y x e) h
+    by true false h all e rest = rest all e
+    by false b h all e rest = absurd (true≢false (sym all))
+
+-- a row of COFF
+pub record IsRow (row : Row) : Type 0 where
+  pub alone : same_taken row.taken TakesSection ≡ false
+  pub plain : same_hint row.hint Plain ≡ true
+
+pub is_row : (w : Word) (type : ℕ) (row : Row) → row_of (coff_format w) type ≡ Some row → IsRow row
+is_row w type row e = by (same_taken row.taken TakesSection) (same_hint row.hint Plain) refl refl (found_passes is_plain (λ (x : Row). nat_eq x.number type) (rows_of (coff_format w)) row (all_plain w) e)
+  where
+    by : (a b : Bool) → same_taken row.taken TakesSection ≡ a → same_hint row.hint Plain ≡ b → (not a && b) ≡ true → IsRow row
+    by false true g h p = record { alone = g; plain = h }
+    by false false g h p = absurd (true≢false (sym p))
+    by true b g h p = absurd (true≢false (sym p))
+
+-- it takes no section
+pub takes_none : (row : Row) (s k : ℕ) → IsRow row → (less_of row.taken s ≡ less.Section k → ⊥)
+takes_none row s k is e = by row.taken is.alone e
+  where
+    by : (t : Taken) → same_taken t TakesSection ≡ false → less_of t s ≡ less.Section k → ⊥
+    by TakesZero n e = absurd (cc)
+    by TakesPlace n e = absurd (cc)
+    by TakesGotBase n e = absurd (cc)
+    by TakesImageBase n e = absurd (cc)
+    by TakesHome n e = absurd (cc)
+    by TakesSection n e = true≢false n
+
+-- so what it takes does not hang on one
+pub takes_same : (row : Row) (s : ℕ) → IsRow row → less_of row.taken 0 ≡ less_of row.taken s
+takes_same row s is = by row.taken is.alone
+  where
+    by : (t : Taken) → same_taken t TakesSection ≡ false → less_of t 0 ≡ less_of t s
+    by TakesZero n = refl
+    by TakesPlace n = refl
+    by TakesGotBase n = refl
+    by TakesImageBase n = refl
+    by TakesHome n = refl
+    by TakesSection n = absurd (true≢false n)
+
+-- it has no hint
+pub no_call : (row : Row) → IsRow row → (row.hint ≡ Call → ⊥)
+no_call row is e = true≢false (sym is.plain ∙ ap (λ (h : Hint). same_hint h Plain) e)
+
+-- a field has bytes
+pub wide : (w : Width) → 1 ≤ bytes_of w
+wide One = omega arith
+wide Two = omega arith
+wide Four = omega arith
+wide Eight = omega arith
+
+-- ... addends
+
+-- ... meanings
+
+-- the row of a meaning
+pub record IsMeant (w : Word) (type : ℕ) (m : Meaning) : Type 0 where
+  pub row : Row
+  pub listed : row_of (coff_format w) type ≡ Some row
+  pub is : meant_by row ≡ m
+
+pub meant_some : (w : Word) (type : ℕ) (m : Meaning) → meaning_of w type ≡ Some m → IsMeant w type m
+meant_some w type m e = by (row_of (coff_format w) type) refl e
+  where
+    by : (o : Option Row) → row_of (coff_format w) type ≡ o → option_map meant_by o ≡ Some m → IsMeant w type m
+    by None h e = absurd (none-some m e)
+    by (Some row) h e = record { row = row; listed = h; is = same_Some (meant_by row) m e }
+
+pub meant_none : (w : Word) (type : ℕ) → meaning_of w type ≡ None → row_of (coff_format w) type ≡ None
+meant_none w type e = by (row_of (coff_format w) type) e
+  where
+    by : (o : Option Row) → option_map meant_by o ≡ None → o ≡ None
+    by None e = refl
+    by (Some row) e = absurd (none-some (meant_by row) (sym e))

@@ -1,0 +1,50 @@
+-- What is known while the relocations of a file without faults are added (our profile).
+use Rattle.oc_coff.specs.Files.{CoffFile, tables_in}
+use Rattle.std.specs.Prelude.{◌≡◌, ℕ, ◌+◌, true, List, length, slice_get, Option, Some, None}
+use Rattle.oc_base.specs.declared.format.Word.{Word}
+use Rattle.oc_linking.specs.declared.terms.Keep.{Keep}
+use Rattle.oc_linking.specs.declared.terms.Kind.{Kind}
+use Rattle.oc_linking.specs.FirstFault.{stage_fault}
+use Rattle.oc_neutral.specs.Building.{Draft}
+use Rattle.oc_neutral.specs.Built.{HasAdded, IsStarted}
+use Rattle.oc_shelf.specs.Reading.Collected.{collected}
+use Rattle.oc_shelf.specs.Reading.Slots.{AreSlots}
+use Rattle.oc_coff.specs.Entries.{entries_in}
+use Rattle.oc_coff.specs.RelocationFaults.{relocation_stage}
+use Rattle.oc_coff.specs.Rules.{dialect_by}
+use Rattle.oc_coff.specs.SectionFaults.{section_stage}
+use Rattle.oc_coff.specs.Sections.{carried_in, position_of, sections_in}
+use Rattle.oc_coff.specs.SymbolFaults.{symbol_stage}
+use Rattle.oc_coff_judge.specs.declared.relocs.Table.{Table}
+use Rattle.oc_coff_judge.specs.Led.{carried_at}
+use Rattle.oc_coff_read.specs.Built.{symboled}
+use Rattle.oc_coff_read.specs.Given.{given_before}
+use Rattle.oc_coff_judge.specs.Relocs.{IsTable}
+use Rattle.oc_coff_judge.specs.Tagged.{symbol_position}
+
+-- what is built before the relocations
+abbrev pub started : Word → CoffFile → Draft
+started w file = symboled w (tables_in file) (length (entries_in (tables_in file)))
+
+-- the stages have no fault, the positions are those of the file, and what is built before the relocations is what the file starts with
+pub record IsReady (w : Word) (file : CoffFile) (keep : Keep) (sections symbols : List (Option ℕ)) : Type 0 where
+  pub sections_clean : stage_fault (section_stage file.bytes (tables_in file)) ≡ None
+  pub symbols_clean : stage_fault (symbol_stage (tables_in file)) ≡ None
+  pub relocs_clean : stage_fault (relocation_stage w (tables_in file) keep) ≡ None
+  pub sections_are : AreSlots (position_of (sections_in (tables_in file))) (length (tables_in file).sections + 1) sections
+  pub symbols_are : AreSlots (symbol_position (tables_in file)) (length (tables_in file).entries) symbols
+  pub start : IsStarted (dialect_by w file.shape) file.bytes keep (started w file)
+
+-- section i, counted from 0, is carried, and stands at position p; this is its kind, this its table, and these its bytes, where they are in the
+-- file
+pub record IsPlace (file : CoffFile) (i p : ℕ) (kind : Kind) (table : Table) (contents : List ℕ) : Type 0 where
+  pub table_is : IsTable file i table
+  pub kind_is : kind ≡ table_is.of.section.kind
+  pub there : slice_get (carried_in (tables_in file)) p ≡ Some table_is.of
+  pub bytes_are : table_is.of.stored ≡ true → contents ≡ table_is.of.section.contents
+  pub long : table_is.of.stored ≡ true → length contents ≡ table_is.of.section.size
+
+-- the relocations of the first i sections are added, of which p are carried
+pub record HasBefore (w : Word) (file : CoffFile) (keep : Keep) (i p : ℕ) (d : Draft) : Type 0 where
+  pub position : p ≡ length (collected (carried_at (tables_in file)) i)
+  pub added : HasAdded (started w file) d (given_before w (tables_in file) keep p)

@@ -1,6 +1,0 @@
--- The positions so far, and the next.
-use Rattle.oc_coff_reader.proofs.SymbolPositions.{AreStanding}
-use Rattle.oc_coff_reader.proofs.positions.symbol_positions.Given as goal
-
-abbrev pub invariant-loop-i : goal.invariant-loop-i
-invariant-loop-i l = AreStanding l.coff l.i l.position l.slots

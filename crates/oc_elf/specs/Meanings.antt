@@ -1,0 +1,16 @@
+-- What the types of relocations mean, by the tables of all formats (i386 and x86-64 psABI, "Relocation Types").
+use Rattle.std.specs.Prelude.{ℕ, Option}
+use Rattle.std.specs.Option.{option_map}
+use Rattle.oc_neutral.specs.Rows.{Row, less_of}
+use Rattle.oc_neutral.specs.RelocTables.{row_of}
+use Rattle.oc_elf.specs.declared.class.ElfClass.{ElfClass}
+use Rattle.oc_elf.specs.declared.meaning.Meaning.{Meaning}
+use Rattle.oc_elf.specs.Classes.{format_of}
+
+-- the meaning of a row; no row of ELF takes a section
+abbrev pub meant_by : Row → Meaning
+meant_by row = record { form = record { base = row.base; less = less_of row.taken 0; width = row.width; check = row.check }; hint = row.hint }
+
+-- the meaning of a type in a class
+abbrev pub meaning_of : ElfClass → ℕ → Option Meaning
+meaning_of class type = option_map meant_by (row_of (format_of class) type)

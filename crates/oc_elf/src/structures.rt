@@ -1,0 +1,303 @@
+//! ELF structures as bytes (gABI, "ELF Header", "Section Header", "Symbol Table" and "Relocation").
+ghost use Rattle.std.specs.Prelude.{◌≡◌, ◌+◌, ◌*◌, ◌≤◌, ◌++◌, [], ◌∷◌, nat_lt, length};
+ghost use Rattle.oc_base.specs.Numbers.{bytes_of_number};
+ghost use Rattle.oc_shelf.specs.Writing.Packed.{packed};
+ghost use Rattle.oc_shelf.specs.declared.writing.rows.TheConstants.{ROW};
+ghost use Rattle.oc_elf.specs.Structures as structures;
+
+use crate::class::ElfClass;
+use crate::constants::{ELFCLASS32, ELFCLASS64, FIRST_TOLD, SHN_LORESERVE, SHN_XINDEX};
+use crate::ehdr::Ehdr;
+use crate::rel::Rel;
+use crate::shdr::Shdr;
+use crate::sym::Sym;
+use oc_shelf::Packed;
+
+/// The first bytes of every file (gABI, "ELF Identification").
+const ELFMAG: [u8; 4] = *b"\x7fELF";
+
+/// Whether 16 bits have room for a section number. Constant time.
+pub fn has_room(number: u32) -> bool
+    ensures { result ≡ nat_lt number FIRST_TOLD }
+{
+    number < FIRST_TOLD
+}
+
+/// The size of an address and an offset, in bytes: tables stand at multiples of it. Constant time.
+pub fn word_bytes(class: ElfClass) -> u64
+    ensures bytes { result ≡ structures.word_bytes class }
+    ensures low { result ≤ 8 }
+{
+    match class {
+        ElfClass::Class32 | ElfClass::Big32 => 4,
+        ElfClass::Class64 | ElfClass::Big64 => 8,
+    }
+}
+
+// puts the eight bytes of a number
+#[tactic(auto, unfolding(oc_base::specs::Numbers::bytes_of_number))]
+fn put_u64(out: &mut Packed, x: u64)
+    requires { length out.old + 8 ≤ ROW }
+    ensures bytes { out.new ≡ out.old ++ bytes_of_number 8 x }
+    ensures long { length out.new ≡ length out.old + 8 }
+{
+    out.put(&x.to_le_bytes());
+}
+
+// puts the four low bytes of a number
+#[tactic(auto, unfolding(oc_base::specs::Numbers::bytes_of_number))]
+fn put_low(out: &mut Packed, x: u64)
+    requires { length out.old + 4 ≤ ROW }
+    ensures bytes { out.new ≡ out.old ++ bytes_of_number 4 x }
+    ensures long { length out.new ≡ length out.old + 4 }
+{
+    out.put(&x.to_le_bytes()[..4]);
+}
+
+// puts an address, an offset or another number as wide
+fn put_word(out: &mut Packed, class: ElfClass, x: u64)
+    requires { length out.old + structures.word_bytes class ≤ ROW }
+    ensures bytes { out.new ≡ out.old ++ bytes_of_number (structures.word_bytes class) x }
+    ensures long { length out.new ≡ length out.old + structures.word_bytes class }
+{
+    match class {
+        ElfClass::Class32 | ElfClass::Big32 => put_low(out, x),
+        ElfClass::Class64 | ElfClass::Big64 => put_u64(out, x),
+    }
+}
+
+// the number of the class
+fn ei_class(class: ElfClass) -> u8
+    ensures { result ≡ structures.ei_class_of class }
+{
+    match class {
+        ElfClass::Class32 | ElfClass::Big32 => ELFCLASS32,
+        ElfClass::Class64 | ElfClass::Big64 => ELFCLASS64,
+    }
+}
+
+// puts the nine unused bytes of the identification
+#[tactic(auto, unfolding(oc_base::specs::Numbers::bytes_of_number))]
+fn put_nine(out: &mut Packed)
+    requires { length out.old + 9 ≤ ROW }
+    ensures bytes { out.new ≡ out.old ++ bytes_of_number 9 0 }
+    ensures long { length out.new ≡ length out.old + 9 }
+{
+    out.put(&[0; 9]);
+}
+
+// puts the four bytes with which every file begins
+#[tactic(auto, unfolding(oc_base::specs::Numbers::bytes_of_number))]
+fn put_magic(out: &mut Packed)
+    requires { length out.old + 4 ≤ ROW }
+    ensures bytes { out.new ≡ out.old ++ packed ((1, 0x7F) ∷ (1, 0x45) ∷ (1, 0x4C) ∷ (1, 0x46) ∷ []) }
+    ensures long { length out.new ≡ length out.old + 4 }
+{
+    out.put(&ELFMAG);
+}
+
+// puts the identification of a file
+fn put_ident(out: &mut Packed, class: ElfClass, ehdr: &Ehdr)
+    requires { length out.old + 16 ≤ ROW }
+    ensures bytes { out.new ≡ out.old ++ packed ((1, 0x7F) ∷ (1, 0x45) ∷ (1, 0x4C) ∷ (1, 0x46) ∷ (1, structures.ei_class_of class) ∷ (1, ehdr.now.ei_data) ∷ (1, ehdr.now.ei_version) ∷ (9, 0) ∷ []) }
+    ensures long { length out.new ≡ length out.old + 16 }
+{
+    put_magic(out);
+    out.put_u8(ei_class(class));
+    out.put_u8(ehdr.ei_data);
+    out.put_u8(ehdr.ei_version);
+    put_nine(out);
+}
+
+// puts what a file is, and where its section headers begin; it has no entry point and no program headers
+fn put_kind(out: &mut Packed, class: ElfClass, ehdr: &Ehdr)
+    requires { length out.old + 8 + 3 * structures.word_bytes class ≤ ROW }
+    ensures bytes { out.new ≡ out.old ++ packed ((2, ehdr.now.e_type) ∷ (2, ehdr.now.e_machine) ∷ (4, ehdr.now.e_version) ∷ (structures.word_bytes class, 0) ∷ (structures.word_bytes class, 0) ∷ (structures.word_bytes class, ehdr.now.e_shoff) ∷ []) }
+    ensures long { length out.new ≡ length out.old + 8 + 3 * structures.word_bytes class }
+{
+    out.put_u16(ehdr.e_type);
+    out.put_u16(ehdr.e_machine);
+    out.put_u32(ehdr.e_version);
+    put_word(out, class, 0);
+    put_word(out, class, 0);
+    put_word(out, class, ehdr.e_shoff);
+}
+
+// puts the sizes and counts of headers; there are no flags and no program headers
+fn put_counts(out: &mut Packed, ehdr: &Ehdr)
+    requires { length out.old + 16 ≤ ROW }
+    ensures { out.new ≡ out.old ++ packed ((4, 0) ∷ (2, ehdr.now.e_ehsize) ∷ (2, 0) ∷ (2, 0) ∷ (2, ehdr.now.e_shentsize) ∷ (2, ehdr.now.e_shnum) ∷ (2, ehdr.now.e_shstrndx) ∷ []) }
+{
+    out.put_u32(0);
+    out.put_u16(ehdr.e_ehsize);
+    out.put_u16(0);
+    out.put_u16(0);
+    out.put_u16(ehdr.e_shentsize);
+    out.put_u16(ehdr.e_shnum);
+    out.put_u16(ehdr.e_shstrndx);
+}
+
+/// A file header. Constant time.
+#[tactic(auto, unfolding(crate::specs::Structures::ehdr_bytes))]
+pub fn pack_ehdr(class: ElfClass, ehdr: &Ehdr) -> Packed
+    ensures { result ≡ structures.ehdr_bytes class ehdr.now }
+{
+    let mut out = Packed::new();
+    put_ident(&mut out, class, ehdr);
+    put_kind(&mut out, class, ehdr);
+    put_counts(&mut out, ehdr);
+    out
+}
+
+// puts the name, the type, the flags, the address, which is 0, and the offset of a section
+fn put_section(out: &mut Packed, class: ElfClass, shdr: &Shdr)
+    requires { length out.old + 8 + 3 * structures.word_bytes class ≤ ROW }
+    ensures bytes { out.new ≡ out.old ++ packed ((4, shdr.now.sh_name) ∷ (4, shdr.now.sh_type) ∷ (structures.word_bytes class, shdr.now.sh_flags) ∷ (structures.word_bytes class, 0) ∷ (structures.word_bytes class, shdr.now.sh_offset) ∷ []) }
+    ensures long { length out.new ≡ length out.old + 8 + 3 * structures.word_bytes class }
+{
+    out.put_u32(shdr.sh_name);
+    out.put_u32(shdr.sh_type);
+    put_word(out, class, shdr.sh_flags);
+    put_word(out, class, 0);
+    put_word(out, class, shdr.sh_offset);
+}
+
+// puts the size of a section and what else is said of it
+fn put_rest(out: &mut Packed, class: ElfClass, shdr: &Shdr)
+    requires { length out.old + 8 + 3 * structures.word_bytes class ≤ ROW }
+    ensures { out.new ≡ out.old ++ packed ((structures.word_bytes class, shdr.now.sh_size) ∷ (4, shdr.now.sh_link) ∷ (4, shdr.now.sh_info) ∷ (structures.word_bytes class, shdr.now.sh_addralign) ∷ (structures.word_bytes class, shdr.now.sh_entsize) ∷ []) }
+{
+    put_word(out, class, shdr.sh_size);
+    out.put_u32(shdr.sh_link);
+    out.put_u32(shdr.sh_info);
+    put_word(out, class, shdr.sh_addralign);
+    put_word(out, class, shdr.sh_entsize);
+}
+
+/// A section header. Constant time.
+#[tactic(auto, unfolding(crate::specs::Structures::shdr_bytes))]
+pub fn pack_shdr(class: ElfClass, shdr: &Shdr) -> Packed
+    ensures { result ≡ structures.shdr_bytes class shdr.now }
+{
+    let mut out = Packed::new();
+    put_section(&mut out, class, shdr);
+    put_rest(&mut out, class, shdr);
+    out
+}
+
+// the section number stands elsewhere than in the entry
+fn is_told(number: u32) -> bool
+    ensures { result ≡ structures.is_told number }
+{
+    !has_room(number) && number < SHN_LORESERVE
+}
+
+// the section number in an entry: the number, or that it stands elsewhere
+fn stored_index(class: ElfClass, number: u32) -> u16
+    ensures { result ≡ structures.stored_index class number }
+{
+    if class.is_big() && is_told(number) {
+        SHN_XINDEX
+    } else {
+        (number % 0x1_0000) as u16
+    }
+}
+
+// and in the table of section numbers
+fn told_index(number: u32) -> u32
+    ensures { result ≡ structures.told_index number }
+{
+    if is_told(number) { number } else { 0 }
+}
+
+/// An entry of the table of section numbers. Constant time.
+#[tactic(auto, unfolding(crate::specs::Structures::index_bytes))]
+pub fn pack_index(sym: &Sym) -> Packed
+    ensures { result ≡ structures.index_bytes sym.now }
+{
+    pack_word(told_index(sym.st_shndx))
+}
+
+// a symbol table entry of ELF32, with its section number
+fn pack_sym32(sym: &Sym, index: u16) -> Packed
+    ensures { result ≡ packed ((4, sym.now.st_name) ∷ (4, sym.now.st_value) ∷ (4, sym.now.st_size) ∷ (1, sym.now.st_info) ∷ (1, sym.now.st_other) ∷ (2, index) ∷ []) }
+{
+    let mut out = Packed::new();
+    out.put_u32(sym.st_name);
+    put_low(&mut out, sym.st_value);
+    put_low(&mut out, sym.st_size);
+    out.put_u8(sym.st_info);
+    out.put_u8(sym.st_other);
+    out.put_u16(index);
+    out
+}
+
+// a symbol table entry of ELF64, with its section number
+fn pack_sym64(sym: &Sym, index: u16) -> Packed
+    ensures { result ≡ packed ((4, sym.now.st_name) ∷ (1, sym.now.st_info) ∷ (1, sym.now.st_other) ∷ (2, index) ∷ (8, sym.now.st_value) ∷ (8, sym.now.st_size) ∷ []) }
+{
+    let mut out = Packed::new();
+    out.put_u32(sym.st_name);
+    out.put_u8(sym.st_info);
+    out.put_u8(sym.st_other);
+    out.put_u16(index);
+    put_u64(&mut out, sym.st_value);
+    put_u64(&mut out, sym.st_size);
+    out
+}
+
+/// A symbol table entry. Constant time.
+#[tactic(auto, unfolding(crate::specs::Structures::sym_bytes))]
+pub fn pack_sym(class: ElfClass, sym: &Sym) -> Packed
+    ensures { result ≡ structures.sym_bytes class sym.now }
+{
+    let index = stored_index(class, sym.st_shndx);
+    match class {
+        ElfClass::Class32 | ElfClass::Big32 => pack_sym32(sym, index),
+        ElfClass::Class64 | ElfClass::Big64 => pack_sym64(sym, index),
+    }
+}
+
+// a relocation entry of ELF32: the symbol stands above eight bits of the type
+#[tactic(auto, unfolding(crate::specs::Structures::rel_bytes))]
+fn pack_rel32(rel: Rel) -> Packed
+    ensures { result ≡ structures.rel_bytes ElfClass.Class32 rel }
+{
+    let mut out = Packed::new();
+    put_low(&mut out, rel.r_offset);
+    put_low(&mut out, 256 * u64::from(rel.r_sym) + u64::from(rel.r_type));
+    out
+}
+
+// a relocation entry of ELF64
+#[tactic(auto, unfolding(crate::specs::Structures::rel_bytes))]
+fn pack_rel64(rel: Rel) -> Packed
+    ensures { result ≡ structures.rel_bytes ElfClass.Class64 rel }
+{
+    let mut out = Packed::new();
+    put_u64(&mut out, rel.r_offset);
+    out.put_u32(rel.r_type);
+    out.put_u32(rel.r_sym);
+    put_u64(&mut out, rel.r_addend);
+    out
+}
+
+/// A relocation entry. Constant time.
+#[tactic(auto, unfolding(crate::specs::Structures::rel_bytes))]
+pub fn pack_rel(class: ElfClass, rel: Rel) -> Packed
+    ensures { result ≡ structures.rel_bytes class rel }
+{
+    match class {
+        ElfClass::Class32 | ElfClass::Big32 => pack_rel32(rel),
+        ElfClass::Class64 | ElfClass::Big64 => pack_rel64(rel),
+    }
+}
+
+/// A word of a group. Constant time.
+pub fn pack_word(word: u32) -> Packed
+    ensures { result ≡ bytes_of_number 4 word }
+{
+    let mut out = Packed::new();
+    out.put_u32(word);
+    out
+}

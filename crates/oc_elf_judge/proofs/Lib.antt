@@ -1,0 +1,11 @@
+pub mod GroupLemmas
+pub mod JudgingLemmas
+pub mod KeyedLemmas
+pub mod MarkLemmas
+pub mod PlaceLemmas
+pub mod PositionLemmas
+pub mod RelocLemmas
+pub mod SectionLemmas
+pub mod StoodLemmas
+pub mod SymbolLemmas
+pub mod TableLemmas

@@ -1,0 +1,63 @@
+-- Positions of what is carried, one entry after the other.
+use Rattle.std.proofs.Common.{◌≡◌, ℕ, ◌+◌, ◌/◌, ◌≤◌, Bool, true, false, cond, List, [], ◌∷◌, ◌++◌, length, Option, None, Some, refl, sym, ◌∙◌, ap, subst, arith, is_some, length-append}
+use Rattle.oc_shelf.specs.Reading.Collected.{collected, position_in, with_option}
+use Rattle.oc_shelf.specs.Reading.Slots.{AreSlots}
+use Rattle.oc_shelf.proofs.ReadingLaws.CollectedLemmas.{collected-more}
+use Rattle.oc_shelf.proofs.ReadingLaws.SlotLemmas.{slots_pushed}
+use Rattle.oc_elf.specs.Frames.{Framed, header_at}
+use Rattle.oc_elf.specs.Sections.{is_carried}
+use Rattle.oc_elf.specs.CarriedSections.{section_of, section_with}
+use Rattle.oc_elf.specs.declared.class.ElfClass.{ElfClass}
+use Rattle.oc_elf.specs.declared.class.ElfClass.TheVariants.{Class32, Class64, Big32, Big64}
+use Rattle.oc_elf.specs.declared.shdr.Shdr.{Shdr}
+use Rattle.oc_elf_judge.specs.Known.{IsSymtab}
+use Rattle.oc_elf.specs.Sym.{sym_size}
+use Rattle.oc_elf.specs.Tables.{symbol_count, symtab_of}
+
+module _ {X : Type 0} (item : ℕ → Option X) where
+  -- the positions so far, and the next
+  pub record ArePlaced (k position : ℕ) (slots : List (Option ℕ)) : Type 0 where
+    pub slots_are : AreSlots (position_in item) k slots
+    pub next : position ≡ length (collected item k)
+
+  pub placed_none : (slots : List (Option ℕ)) → slots ≡ [] → ArePlaced 0 0 slots
+  placed_none slots is = record { slots_are = subst (AreSlots (position_in item) 0) (sym is) (record { long = refl; each = λ j low. absurd (omega arith) }); next = refl }
+
+  longer : (xs : List X) (o : Option X) → length (with_option xs o) ≡ length xs + cond (is_some o) 1 0
+  longer xs None = omega arith
+  longer xs (Some x) = length-append xs (x ∷ [])
+
+  -- one entry more
+  pub placed_more : (k position step : ℕ) (slots : List (Option ℕ)) (b : Bool) → ArePlaced k position slots → b ≡ is_some (item k) → step ≡ cond b 1 0
+      → ArePlaced (k + 1) (position + step) (slots ++ cond b (Some position) None ∷ [])
+  placed_more k position step slots b are is one = record {
+    slots_are = slots_pushed (position_in item) k (cond b (Some position) None) slots are.slots_are (ap (λ c. cond c (Some position) None) is ∙ ap (λ (n : ℕ). cond (is_some (item k)) (Some n) None) are.next);
+    next =
+        let count : length (collected item (k + 1)) ≡ length (collected item k) + cond (is_some (item k)) 1 0 = ap length (collected-more item k) ∙ longer (collected item k) (item k) in
+        let before = are.next in
+        let amount : step ≡ cond (is_some (item k)) 1 0 = one ∙ ap (λ c. cond c 1 0) is in
+        omega (arith, count, before, amount);
+  }
+
+pub section_carried : (f : Framed) (k : ℕ) → is_carried (header_at f.headers k) ≡ is_some (section_of f k)
+unfolding section_of
+section_carried f k = by (is_carried (header_at f.headers k))
+  where
+    by : (b : Bool) → b ≡ is_some (cond b (Some (section_with f k (header_at f.headers k))) None)
+    by true = refl
+    by false = refl
+
+-- a file has few symbols
+pub few_symbols : (f : Framed) (table : Shdr) → IsSymtab f table → symbol_count f ≤ 67108864
+few_symbols f table is =
+    let lies = is.lies in
+    let small = is.small in
+    let size : (symtab_of f).sh_size ≡ table.sh_size = ap (λ (s : Shdr). s.sh_size) (sym is.is) in
+    let less = by f.class (symtab_of f).sh_size in
+    omega (arith, lies, small, size, less)
+  where
+    by : (class : ElfClass) (n : ℕ) → n / sym_size class ≤ n
+    by Class32 n = omega arith
+    by Class64 n = omega arith
+    by Big32 n = omega arith
+    by Big64 n = omega arith

@@ -1,0 +1,24 @@
+-- The first section whose relocations have a fault stops the reading.
+use Rattle.std.proofs.Common.{◌≡◌, ℕ, ◌<◌, ◌∙◌, length, None, Option, sym, subst, arith}
+use Rattle.oc_base.specs.declared.fault.Fault.{Fault}
+use Rattle.oc_linking.specs.FirstFault.{stage_fault}
+use Rattle.oc_linking.specs.Numbers.{first_upto}
+use Rattle.oc_shelf.specs.Reading.Stops.{IsStop}
+use Rattle.oc_shelf.proofs.ReadingLaws.StageLemmas.{clean_more, first_fault-range, stops_at}
+use Rattle.oc_elf.specs.RelocRules.{reloc_stage}
+use Rattle.oc_elf_judge.proofs.judging.check_relocs.Goals as goal
+
+pub returns-in-Err-clause-stop : goal.returns-in-Err-clause-stop
+returns-in-Err-clause-stop c =
+    let low : c.loop-i.i < length c.args.frame.now.headers = omega (arith, c.loop-i-test.true, c.count-count.ensures.count) in
+    subst (λ (o : Option Fault). IsStop o c.in-Err.stop) (sym (first_fault-range (reloc_stage c.args.frame.now c.args.keep.now) (length c.args.frame.now.headers)))
+    (stops_at (λ i. stage_fault (reloc_stage c.args.frame.now c.args.keep.now i)) c.loop-i.i (length c.args.frame.now.headers) c.in-Err.stop c.loop-i.invariant low c.in-Err.ensures.stop)
+
+pub loop-i-preserved : goal.loop-i-preserved
+loop-i-preserved c = clean_more (λ i. stage_fault (reloc_stage c.args.frame.now c.args.keep.now i)) c.loop-i.i c.loop-i.invariant c.in-Ok.ensures.clean
+
+pub returns-clause-clean : goal.returns-clause-clean
+returns-clause-clean c =
+    first_fault-range (reloc_stage c.args.frame.now c.args.keep.now) (length c.args.frame.now.headers)
+    ∙ (let end : c.loop-i.i ≡ length c.args.frame.now.headers = omega (arith, c.loop-i-test.false, c.count-count.ensures.count, c.loop-i.auto.i-end) in
+    subst (λ (n : ℕ). first_upto (λ i. stage_fault (reloc_stage c.args.frame.now c.args.keep.now i)) n ≡ None) end c.loop-i.invariant)

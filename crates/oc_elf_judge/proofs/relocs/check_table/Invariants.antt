@@ -1,0 +1,6 @@
+-- The entries so far have no fault, and the bytes taken are those of their fields.
+use Rattle.oc_elf_judge.proofs.RelocLemmas.{IsJudging}
+use Rattle.oc_elf_judge.proofs.relocs.check_table.Given as goal
+
+abbrev pub invariant-loop-k : goal.invariant-loop-k
+invariant-loop-k l = IsJudging l.frame l.i l.k l.bytes

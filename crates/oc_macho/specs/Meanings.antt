@@ -1,0 +1,26 @@
+-- What the types of relocation entries mean, by the tables of all formats (Mach-O reference, "Relocation Data Structures").
+use Rattle.std.specs.Prelude.{Bool, if◌then◌else◌, Option, Some, None}
+use Rattle.std.specs.Option.{option_map, option_and_then}
+use Rattle.oc_base.specs.declared.format.Word.{Word}
+use Rattle.oc_neutral.specs.Rows.{less_of}
+use Rattle.oc_neutral.specs.Mach.Relocs.{MachRow, mach_entries, entry_among}
+use Rattle.oc_macho.specs.declared.meaning.Meaning.{Meaning}
+use Rattle.oc_macho.specs.declared.relocation_info.RelocationInfo.{RelocationInfo}
+use Rattle.oc_macho.specs.Entries.{row_for}
+
+-- the meaning of a row; of one that takes a section, the first stands for the one that the entries say
+abbrev pub meant_by : MachRow → Meaning
+meant_by m = record {
+  form = record { base = m.row.base; less = less_of m.row.taken 0; width = m.row.width; check = m.row.check };
+  hint = m.row.hint;
+  behind = m.row.behind;
+  by_move = m.by_move;
+}
+
+-- the meaning of the type, r_pcrel and r_length of an entry, where their row passes a test
+abbrev pub meaning_by : (MachRow → Bool) → Word → RelocationInfo → Option Meaning
+meaning_by test w e = option_map meant_by (option_and_then (λ m. if test m then Some m else None) (entry_among (mach_entries w) e.r_type e.r_pcrel e.r_length))
+
+-- the meaning of an entry
+abbrev pub meaning_of : Word → RelocationInfo → Option Meaning
+meaning_of w e = option_map meant_by (row_for w e)

@@ -1,0 +1,9 @@
+-- The relocations of the sections so far have no fault.
+use Rattle.std.proofs.Common.{◌≡◌, None}
+use Rattle.oc_linking.specs.FirstFault.{stage_fault}
+use Rattle.oc_linking.specs.Numbers.{first_upto}
+use Rattle.oc_macho.specs.RelocationFaults.{relocation_stage}
+use Rattle.oc_macho_judge.proofs.judging.check_relocs.Given as goal
+
+abbrev pub invariant-loop-i : goal.invariant-loop-i
+invariant-loop-i l = first_upto (λ i. stage_fault (relocation_stage l.frame l.keep i)) l.i ≡ None

@@ -1,6 +1,0 @@
--- The sections so far have no fault, and the sums are theirs.
-use Rattle.oc_macho_read.proofs.SectionLemmas.{IsChecking}
-use Rattle.oc_macho_read.proofs.section_stage.check_sections.Given as goal
-
-abbrev pub invariant-loop-i : goal.invariant-loop-i
-invariant-loop-i l = IsChecking l.frame l.i l.sums.sizes l.sums.bytes

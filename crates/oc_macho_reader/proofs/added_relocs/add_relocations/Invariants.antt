@@ -1,8 +1,0 @@
--- The relocations of the sections so far are added.
-use Rattle.oc_neutral.specs.Built.{HasAdded}
-use Rattle.oc_macho_reader.specs.Built.{started}
-use Rattle.oc_macho_reader.specs.Given.{given_before}
-use Rattle.oc_macho_reader.proofs.added_relocs.add_relocations.Given as goal
-
-abbrev pub invariant-loop-i : goal.invariant-loop-i
-invariant-loop-i l = HasAdded (started l.frame l.keep) l.builder (given_before l.frame l.keep l.i)

@@ -1,8 +1,0 @@
--- The symbol of a reference to which a field can refer is in the table.
-use Rattle.std.proofs.Common.{subst}
-use Rattle.oc_macho_reader.specs.Given.{IsAimed}
-use Rattle.oc_macho_reader.proofs.MeantLemmas.{aimed_low}
-use Rattle.oc_macho_reader.proofs.aims.aim_of.Goals as goal
-
-pub symbol_aim-requires-clause-there : goal.symbol_aim-requires-clause-there
-symbol_aim-requires-clause-there c = aimed_low c.args.frame.now c.in-Symbol.j (subst (IsAimed c.args.frame.now) c.in-Symbol.is c.requires.aimed)

@@ -1,6 +1,0 @@
--- A file without faults shows what is built of it.
-use Rattle.oc_macho_reader.proofs.ShownLemmas as proven
-use Rattle.oc_macho_reader.proofs.laws.clean_is_shown.Goals as goal
-
-pub returns : goal.returns
-returns c = proven.clean_is_shown

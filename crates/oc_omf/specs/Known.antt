@@ -1,0 +1,28 @@
+-- What a reader keeps of the entries before one, and of what stands in one (our profile).
+use Rattle.std.specs.Prelude.{◌≡◌, ℕ, Bool, if◌then◌else◌, List, map, slice_get, Option}
+use Rattle.std.specs.Option.{option_flatten}
+use denote.Ref.{Bor}
+use Rattle.oc_omf_records.specs.Blocks.{Blocks, none, content}
+use Rattle.oc_omf_records.specs.Shown.{shown}
+use Rattle.oc_omf.specs.declared.data.Data.{Data}
+use Rattle.oc_omf.specs.declared.data.Data.TheVariants as data_
+use Rattle.oc_omf.specs.declared.structures.Method.{Method}
+use Rattle.oc_omf.specs.declared.threads.Threads.{Threads}
+use Rattle.oc_omf.specs.Fixups.{Placed, thread_after}
+
+-- the names that slices hold
+abbrev pub names_of : List (Bor (List ℕ)) → List (List ℕ)
+names_of names = map (λ (name : Bor (List ℕ)). name.now) names
+
+-- the thread of a number that is held for frames, or for targets
+abbrev pub told : Threads → Bool → ℕ → Option Method
+told threads frame number = option_flatten (slice_get (if frame then threads.frames else threads.targets) number)
+
+-- the threads that are held are those in force behind these
+abbrev pub AreInForce : List Placed → Threads → Type 0
+AreInForce earlier threads = (frame : Bool) (number : ℕ) → told threads frame number ≡ thread_after earlier frame number
+
+-- data as blocks: those that stand there are one content, once
+abbrev pub row_of : Data → Blocks
+row_of (data_.Plain bytes) = content 1 0 bytes none
+row_of (data_.Iterated block) = shown block

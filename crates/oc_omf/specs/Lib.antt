@@ -1,0 +1,17 @@
+pub mod Bytes
+pub mod Cursor
+pub mod Entries
+pub mod Fields
+pub mod Fixups
+pub mod HeaderFaults
+pub mod Known
+pub mod RelocationFaults
+pub mod Rules
+pub mod SectionFaults
+pub mod Sections
+pub mod Structures
+pub mod SymbolFaults
+pub mod Symbols
+pub mod Tables
+pub mod Targets
+pub mod Topics

@@ -1,0 +1,48 @@
+-- OMF, as one record of functions of a file's bytes (TIS OMF 1.1; our profile).
+use Rattle.std.specs.Prelude.{ℕ, List, ◌∷◌, ◌++◌, Option}
+use Rattle.oc_base.specs.declared.format.Word.TheVariants.{W32}
+use Rattle.oc_base.specs.declared.format.Format.TheVariants.{Omf}
+use Rattle.oc_base.specs.declared.fault.Fault.{Fault}
+use Rattle.oc_linking.specs.declared.terms.Keep.{Keep}
+use Rattle.oc_linking.specs.FirstFault.{Stage, first_fault}
+use Rattle.oc_linking.specs.Rules.{Rules}
+use Rattle.oc_neutral.specs.Alignments.{output_align, common_align}
+use Rattle.oc_neutral.specs.Dialects.{Dialect}
+use Rattle.oc_neutral.specs.Targets.{IsDialect}
+use Rattle.oc_omf.specs.Entries.{Entry, entries_in}
+use Rattle.oc_omf.specs.Tables.{tables_of}
+use Rattle.oc_omf.specs.Sections.{sections_in}
+use Rattle.oc_omf.specs.Symbols.{symbols_in}
+use Rattle.oc_omf.specs.Fields.{fields_in}
+use Rattle.oc_omf.specs.HeaderFaults.{header_stage}
+use Rattle.oc_omf.specs.SectionFaults.{section_stage}
+use Rattle.oc_omf.specs.SymbolFaults.{symbol_stages}
+use Rattle.oc_omf.specs.RelocationFaults.{relocation_stages}
+
+-- what is judged of a file, stage by stage
+unfoldable pub stages_of : List ℕ → List Entry → Keep → List Stage
+stages_of file entries keep = header_stage file ∷ section_stage entries ∷ symbol_stages entries ++ relocation_stages entries keep
+
+-- the first fault of a file
+unfoldable pub fault_of : List ℕ → Keep → Option Fault
+fault_of file keep = first_fault (stages_of file (entries_in file) keep)
+
+-- the rules of OMF
+abbrev pub omf_rules : Rules
+omf_rules = record {
+  word = W32;
+  fault = fault_of;
+  sections = λ file. sections_in (tables_of (entries_in file));
+  symbols = λ file keep. symbols_in (entries_in file);
+  fields = λ file keep. fields_in (entries_in file);
+  output_align = output_align Omf;
+  common_align = common_align Omf;
+}
+
+-- OMF, as converting knows it
+abbrev pub omf_dialect : Dialect
+omf_dialect = record { format = Omf; rules = omf_rules }
+
+-- it says of words and alignments what the formats do
+abbrev pub OmfIsDialect : Type 0
+OmfIsDialect = IsDialect omf_dialect

@@ -1,0 +1,44 @@
+-- What is defined and in force grows by one entry, or by one thread or fixup.
+use Rattle.std.proofs.Common.{◌≡◌, ℕ, ◌+◌, Bool, List, [], ◌∷◌, ◌++◌, take, Option, Some, None, refl, ◌∙◌, ap, append-nil}
+use Rattle.std.specs.Prelude.{flat_map, slice_get}
+use Rattle.std.proofs.lemmas.Grind.{flat_map-append, fold-append}
+use Rattle.oc_linking.specs.Numbers.{or_else}
+use Rattle.oc_neutral.proofs.FieldLists.{take_here}
+use Rattle.oc_omf.specs.declared.structures.Method.{Method}
+use Rattle.oc_omf.specs.Entries.{Entry, all_read}
+use Rattle.oc_omf.specs.Tables.{Tables, tables_of}
+use Rattle.oc_omf.specs.Fixups.{Placed, thread_by, thread_after}
+
+-- what a list of structures of each entry gives, with one entry more
+listed_more : {X : Type 0} (of : Entry → List X) (entries : List Entry) (i : ℕ) (e : Entry) → slice_get entries i ≡ Some e
+    → flat_map of (take (i + 1) entries) ≡ flat_map of (take i entries) ++ of e
+listed_more of entries i e here =
+    ap (flat_map of) (take_here entries i e here) ∙ flat_map-append of (take i entries) (e ∷ []) ∙ ap (λ xs. flat_map of (take i entries) ++ xs) (append-nil (of e))
+
+-- what is defined, and what an entry defines behind it
+abbrev pub with_entry : Tables → Entry → Tables
+with_entry t e = record {
+  names = t.names ++ all_read e.names;
+  segments = t.segments ++ all_read e.segments;
+  groups = t.groups ++ all_read e.groups;
+  publics = t.publics ++ all_read e.publics;
+  externals = t.externals ++ all_read e.externals;
+  pieces = t.pieces ++ all_read e.pieces;
+}
+
+-- one entry more
+pub tables_more : (entries : List Entry) (i : ℕ) (e : Entry) → slice_get entries i ≡ Some e → tables_of (take (i + 1) entries) ≡ with_entry (tables_of (take i entries)) e
+unfolding tables_of
+tables_more entries i e here = rw (
+  listed_more (λ (x : Entry). all_read x.names) entries i e here,
+  listed_more (λ (x : Entry). all_read x.segments) entries i e here,
+  listed_more (λ (x : Entry). all_read x.groups) entries i e here,
+  listed_more (λ (x : Entry). all_read x.publics) entries i e here,
+  listed_more (λ (x : Entry). all_read x.externals) entries i e here,
+  listed_more (λ (x : Entry). all_read x.pieces) entries i e here,
+) refl
+
+-- the thread in force, behind one subrecord more
+pub thread_more : (earlier : List Placed) (x : Placed) (frame : Bool) (number : ℕ)
+    → thread_after (earlier ++ x ∷ []) frame number ≡ or_else (thread_by frame number x.part) (thread_after earlier frame number)
+thread_more earlier x frame number = fold-append (λ (told : Option Method) (y : Placed). or_else (thread_by frame number y.part) told) None earlier (x ∷ [])

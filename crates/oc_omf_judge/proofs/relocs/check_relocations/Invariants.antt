@@ -1,0 +1,15 @@
+-- No entry so far has a fault, and what is kept is what they have.
+use Rattle.std.proofs.Common.{◌≡◌, None}
+use Rattle.oc_linking.specs.Numbers.{first_upto}
+use Rattle.oc_omf.specs.Fixups.{placed_upto}
+use Rattle.oc_omf_judge.specs.Defined.{before_in}
+use Rattle.oc_omf_judge.specs.Reached.{IsReached}
+use Rattle.oc_omf_judge.specs.Whole.{entries}
+use Rattle.oc_omf_judge.proofs.PartLemmas.{relocations_at}
+use Rattle.oc_omf_judge.proofs.relocs.check_relocations.Given as goal
+
+abbrev pub invariant-loop-i : goal.invariant-loop-i
+invariant-loop-i l = record {
+  clean : first_upto (relocations_at l.whole) l.i ≡ None;
+  reached : IsReached l.whole (before_in l.whole.front.omf l.i) (placed_upto (entries l.whole) l.i) l.reached;
+}

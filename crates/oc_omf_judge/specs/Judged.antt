@@ -1,0 +1,21 @@
+-- What is judged of a module, as far as its symbols (our profile).
+use Rattle.std.specs.Prelude.{◌≡◌, ℕ, List, ◌∷◌}
+use Rattle.oc_linking.specs.FirstFault.{Stage}
+use Rattle.oc_omf_judge.specs.declared.front.Front.{Front}
+use Rattle.oc_omf.specs.Entries.{entries_in}
+use Rattle.oc_omf.specs.Tables.{tables_of}
+use Rattle.oc_omf.specs.HeaderFaults.{header_stage}
+use Rattle.oc_omf.specs.SectionFaults.{section_stage}
+use Rattle.oc_omf.specs.SymbolFaults.{symbol_stages}
+use Rattle.oc_omf_judge.specs.Defined.{IsDefined}
+use Rattle.oc_omf_judge.specs.Seen.{IsSeen}
+
+-- the stages before relocations
+abbrev pub front_stages : List ℕ → List Stage
+front_stages file = header_stage file ∷ section_stage (entries_in file) ∷ symbol_stages (entries_in file)
+
+-- what is kept is that of the file
+pub record IsFront (file : List ℕ) (f : Front) : Type 0 where
+  pub omf_is : f.omf ≡ file
+  pub defined_is : IsDefined (tables_of (entries_in file)) f.defined
+  pub seen_is : IsSeen (tables_of (entries_in file)) f.seen

@@ -1,0 +1,19 @@
+-- The segments of the symbols that a module alone sees (our profile).
+use Rattle.std.specs.Prelude.{◌≡◌, ℕ, true, List, ◌++◌}
+use Rattle.std.specs.List.{find}
+use Rattle.std.specs.Option.{option_map}
+use Rattle.oc_omf.specs.Structures.{Public}
+use Rattle.oc_omf.specs.Symbols.{Mention, public_mention, same_symbol}
+use Rattle.oc_omf_judge.specs.Held.{Held, value_at}
+
+-- what this module alone sees under a name
+abbrev pub local_mention : List ℕ → Mention
+local_mention name = record { local = true; name = name }
+
+-- with each name stands the segment of the first definition that this module alone sees under it
+abbrev pub AreLocals : List Public → Held → Type 0
+AreLocals publics held = (name : List ℕ) → value_at held name ≡ option_map (λ (p : Public). p.segment) (find (λ p. same_symbol (local_mention name) (public_mention p)) publics)
+
+-- segments are taken up with those of more definitions
+abbrev pub AreLocated : Held → List Public → Held → Type 0
+AreLocated old more new = (publics : List Public) → AreLocals publics old → AreLocals (publics ++ more) new

@@ -1,0 +1,63 @@
+//! The names that entries define.
+ghost use Rattle.std.specs.Prelude.{◌≡◌, ◌++◌, OnOk, IfErr, None};
+ghost use Rattle.oc_linking.specs.FirstFault.{first_broken};
+ghost use Rattle.oc_shelf.specs.Reading.Stops.{IsStop};
+ghost use Rattle.oc_omf.specs.Cursor.{each_read, name_read};
+ghost use Rattle.oc_omf_judge.specs.Defined.{IsStoppedAt, IsTakenUp};
+ghost use Rattle.oc_omf.specs.Entries.{all_read};
+ghost use Rattle.oc_omf.specs.Known.{names_of};
+ghost use Rattle.oc_omf.specs.SectionFaults.{name_conditions};
+ghost use Rattle.oc_omf.specs.Topics.{said_on};
+ghost use Rattle.oc_omf.specs.declared.topics.Topic.TheVariants as topic;
+
+use crate::defined::Defined;
+use crate::section_stage::{Spot, own_fault};
+use oc_base::{Code, View};
+use oc_omf::read_name;
+use oc_shelf::Stop;
+
+/// Takes up the names in the contents of an entry, behind others.
+///
+/// Stops exactly where the end of the contents cuts one, with the fault for that; or where memory ran
+/// out. Linear in the contents.
+pub(crate) fn take_names<'a>(
+    names: &mut Vec<&'a [u8]>,
+    spot: Spot,
+    contents: &View<'a>,
+) -> Result<(), Stop>
+    ensures clean { OnOk result (first_broken (name_conditions (spot.index, spot.place) (each_read name_read contents.now 0)) ≡ None) }
+    ensures taken { OnOk result (names_of names.new.items ≡ names_of names.old.items ++ all_read (each_read name_read contents.now 0)) }
+    ensures stop { IfErr result (IsStop (first_broken (name_conditions (spot.index, spot.place) (each_read name_read contents.now 0)))) }
+{
+    let mut at = 0;
+    while at < contents.len() {
+        match read_name(contents, at) {
+            Ok((name, after)) => {
+                names.push(name)?;
+                at = after;
+            }
+            Err(_) => return Err(Stop::Fault(own_fault(spot, Code::BadName))),
+        }
+    }
+    Ok(())
+}
+
+/// Judges the names in the contents of an entry, of the odd type where `wide`, and takes them up.
+///
+/// Stops exactly where the end of the contents cuts one; or where memory ran out. Linear in the
+/// contents.
+pub(crate) fn take_name_entry<'a>(
+    defined: &mut Defined<'a>,
+    spot: Spot,
+    wide: bool,
+    contents: &View<'a>,
+) -> Result<(), Stop>
+    ensures taken { OnOk result (IsTakenUp defined.old (spot.index, spot.place) (said_on topic.Names spot.place wide contents.now) defined.new) }
+    ensures stop { IfErr result (IsStoppedAt defined.old (spot.index, spot.place) (said_on topic.Names spot.place wide contents.now)) }
+{
+    let _ = wide;
+    match take_names(&mut defined.names, spot, contents) {
+        Ok(()) => Ok(()),
+        Err(stop) => Err(stop),
+    }
+}

@@ -1,0 +1,63 @@
+//! The segments that entries define.
+ghost use Rattle.std.specs.Prelude.{◌≡◌, ◌≤◌, Some, None, IfOk, OnOk, IfErr};
+ghost use Rattle.oc_base.specs.declared.code.Code.TheVariants.{BadTable};
+ghost use Rattle.oc_linking.specs.FirstFault.{first_broken};
+ghost use Rattle.oc_omf_judge.specs.Defined.{IsStoppedAt, IsTakenUp, part_of};
+ghost use Rattle.oc_omf.specs.SectionFaults as rules;
+ghost use Rattle.oc_omf.specs.Structures.{segment_read};
+ghost use Rattle.oc_omf.specs.Topics.{said_on};
+ghost use Rattle.oc_omf.specs.declared.topics.Topic.TheVariants as topic;
+
+use crate::defined::Defined;
+use crate::section_stage::{Spot, own_fault, segment_fault, segment_size};
+use oc_base::{Code, Fault, View};
+use oc_omf::{Segment, read_segment};
+use oc_shelf::Stop;
+
+// the segment in the contents of an entry, of the odd type where `wide`, behind so many names and
+// segments of so many bytes
+fn judge_segment(
+    names: u64,
+    sizes: u64,
+    spot: Spot,
+    wide: bool,
+    contents: &View<'_>,
+) -> Result<Segment, Fault>
+    requires { sizes ≤ 2147483648 }
+    ensures read { IfOk result (λ s. part_of (segment_read wide contents.now 0) ≡ Some s) }
+    ensures clean { OnOk result (first_broken (rules.conditions_by (rules.own_fault (spot.index, spot.place) BadTable) (rules.segment_conditions_by names sizes (spot.index, spot.place)) (segment_read wide contents.now 0)) ≡ None) }
+    ensures fault { IfErr result (λ fault. first_broken (rules.conditions_by (rules.own_fault (spot.index, spot.place) BadTable) (rules.segment_conditions_by names sizes (spot.index, spot.place)) (segment_read wide contents.now 0)) ≡ Some fault) }
+{
+    let Ok((segment, _at)) = read_segment(contents, wide) else {
+        return Err(own_fault(spot, Code::BadTable));
+    };
+    match segment_fault(names, sizes, spot, &segment) {
+        Some(fault) => Err(fault),
+        None => Ok(segment),
+    }
+}
+
+/// Judges the segment in the contents of an entry, of the odd type where `wide`, and takes it up.
+///
+/// Stops exactly where it has a fault, with the first; or where memory ran out. Amortized constant
+/// time.
+pub(crate) fn take_segment(
+    defined: &mut Defined<'_>,
+    spot: Spot,
+    wide: bool,
+    contents: &View<'_>,
+) -> Result<(), Stop>
+    requires { defined.old.sizes ≤ 2147483648 }
+    ensures taken { OnOk result (IsTakenUp defined.old (spot.index, spot.place) (said_on topic.Segment spot.place wide contents.now) defined.new) }
+    ensures stop { IfErr result (IsStoppedAt defined.old (spot.index, spot.place) (said_on topic.Segment spot.place wide contents.now)) }
+{
+    let names = defined.names.len() as u64;
+    let segment = match judge_segment(names, defined.sizes, spot, wide, contents) {
+        Ok(segment) => segment,
+        Err(fault) => return Err(Stop::Fault(fault)),
+    };
+    defined.sizes += segment_size(&segment);
+    defined.segments.push(segment)?;
+    defined.covered.push(false)?;
+    Ok(())
+}

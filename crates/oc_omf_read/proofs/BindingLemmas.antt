@@ -1,0 +1,201 @@
+-- The symbols of a module are what is seen of its mentions.
+use Rattle.std.proofs.Common.{◌≡◌, ℕ, Bool, true, false, cond, List, [], ◌∷◌, ◌++◌, map, Option, None, Some, refl, sym, ◌∙◌, ap}
+use Rattle.std.specs.Prelude.{◌&&◌, find, flat_map, fold}
+use Rattle.std.specs.Option.{is_some, option_and_then, option_map, option_map_or}
+use Rattle.std.proofs.lemmas.Bool.{true≢false}
+use Rattle.std.proofs.lemmas.List.{map-append}
+use Rattle.std.proofs.lemmas.Option.{none-some, same_Some}
+use Rattle.oc_linking.specs.declared.terms.Binding.TheVariants.{Undefined, Common}
+use Rattle.oc_linking.specs.Numbers.{or_else}
+use Rattle.oc_neutral.specs.Powers.{natural_align}
+use Rattle.oc_omf.specs.declared.structures.Communal.{Communal}
+use Rattle.oc_omf.specs.Structures.{External, Public}
+use Rattle.oc_omf.specs.Entries.{Entry, all_read}
+use Rattle.oc_omf.specs.Symbols.{Mention, binding_of, communal_of, entry_mentions, external_mention, mentions_in, public_binding, public_mention, public_of, same_symbol, with_new}
+use Rattle.oc_omf.specs.Tables.{tables_of}
+use Rattle.oc_omf_read.specs.declared.heard.What.TheVariants as what
+use Rattle.oc_omf_read.specs.Bindings.{binding_seen, place_binding}
+use Rattle.oc_omf_read.specs.Heard.{Told, of_communal, of_external, of_public, told_by, told_in}
+use Rattle.oc_omf_read.specs.Mentioned.{length_by, length_in, length_said, mention_of, place_by, place_in, place_said, seen_in, symbols_told}
+use Rattle.oc_omf_judge.proofs.MentionLemmas.{same_is}
+
+-- ... mentions
+
+map_publics : (ps : List Public) → map mention_of (map of_public ps) ≡ map public_mention ps
+map_publics [] = refl
+map_publics (p ∷ ps) = ap (λ (ms : List Mention). public_mention p ∷ ms) (map_publics ps)
+
+map_externals : (ys : List External) → map mention_of (map of_external ys) ≡ map external_mention ys
+map_externals [] = refl
+map_externals (y ∷ ys) = ap (λ (ms : List Mention). external_mention y ∷ ms) (map_externals ys)
+
+entry_told : (e : Entry) → map mention_of (told_by e) ≡ entry_mentions e
+entry_told e =
+    map-append mention_of (map of_public (all_read e.publics)) (map of_external (all_read e.externals))
+    ∙ ap (λ (ms : List Mention). ms ++ map mention_of (map of_external (all_read e.externals))) (map_publics (all_read e.publics))
+    ∙ ap (λ (ms : List Mention). map public_mention (all_read e.publics) ++ ms) (map_externals (all_read e.externals))
+
+all_mentions : (es : List Entry) → map mention_of (flat_map told_by es) ≡ flat_map entry_mentions es
+all_mentions [] = refl
+all_mentions (e ∷ es) =
+    map-append mention_of (told_by e) (flat_map told_by es) ∙ ap (λ (ms : List Mention). ms ++ map mention_of (flat_map told_by es)) (entry_told e) ∙ ap (λ (ms : List Mention). entry_mentions e ++ ms) (all_mentions es)
+
+pub mentions_are : (es : List Entry) → mentions_in es ≡ symbols_told (told_in es)
+unfolding mentions_in told_in
+mentions_are es = ap (λ (ms : List Mention). fold with_new [] ms) (sym (all_mentions es))
+
+-- ... definitions
+
+or_else_over : {X : Type 0} (a b c : Option X) → or_else (or_else a b) c ≡ or_else a (or_else b c)
+or_else_over None b c = refl
+or_else_over (Some x) b c = refl
+
+place_append : (x : Mention) (ts us : List Told) → place_in x (ts ++ us) ≡ or_else (place_in x ts) (place_in x us)
+place_append x [] us = refl
+place_append x (t ∷ ts) us = ap (or_else (place_by x t)) (place_append x ts us) ∙ sym (or_else_over (place_by x t) (place_in x ts) (place_in x us))
+
+length_append : (x : Mention) (ts us : List Told) → length_in x (ts ++ us) ≡ or_else (length_in x ts) (length_in x us)
+length_append x [] us = refl
+length_append x (t ∷ ts) us = ap (or_else (length_by x t)) (length_append x ts us) ∙ sym (or_else_over (length_by x t) (length_in x ts) (length_in x us))
+
+find_append : {X : Type 0} (p : X → Bool) (xs ys : List X) → find p (xs ++ ys) ≡ or_else (find p xs) (find p ys)
+find_append p [] ys = refl
+find_append {X} p (x ∷ xs) ys = by (p x) (find_append p xs ys)
+  where
+    by : (b : Bool) → find p (xs ++ ys) ≡ or_else (find p xs) (find p ys) → cond b (Some x) (find p (xs ++ ys)) ≡ or_else (cond b (Some x) (find p xs)) (find p ys)
+    by true e = refl
+    by false e = e
+
+abbrev place_of : Public → ℕ × ℕ
+place_of p = (p.segment, p.offset)
+
+abbrev is_public : Mention → Public → Bool
+is_public x p = same_symbol x (public_mention p)
+
+map_or_else : {X Y : Type 0} (f : X → Y) (a b : Option X) → option_map f (or_else a b) ≡ or_else (option_map f a) (option_map f b)
+map_or_else f None b = refl
+map_or_else f (Some x) b = refl
+
+place_publics : (x : Mention) (ps : List Public) → place_in x (map of_public ps) ≡ option_map place_of (find (is_public x) ps)
+place_publics x [] = refl
+place_publics x (p ∷ ps) = by (is_public x p) (place_publics x ps)
+  where
+    by : (b : Bool) → place_in x (map of_public ps) ≡ option_map place_of (find (is_public x) ps)
+        → or_else (cond b (Some (place_of p)) None) (place_in x (map of_public ps)) ≡ option_map place_of (cond b (Some p) (find (is_public x) ps))
+    by true e = refl
+    by false e = e
+
+place_externals : (x : Mention) (ys : List External) → place_in x (map of_external ys) ≡ None
+place_externals x [] = refl
+place_externals x (y ∷ ys) = by (same_symbol x (external_mention y)) y.communal ∙ place_externals x ys
+  where
+    by : (b : Bool) (c : Option Communal) → or_else (cond b (place_said (option_map_or of_communal c what.External)) None) (place_in x (map of_external ys)) ≡ place_in x (map of_external ys)
+    by false c = refl
+    by true None = refl
+    by true (Some c) = refl
+
+place_told : (x : Mention) (e : Entry) → place_in x (told_by e) ≡ option_map place_of (find (is_public x) (all_read e.publics))
+place_told x e =
+    place_append x (map of_public (all_read e.publics)) (map of_external (all_read e.externals))
+    ∙ ap (or_else (place_in x (map of_public (all_read e.publics)))) (place_externals x (all_read e.externals)) ∙ last (place_in x (map of_public (all_read e.publics))) ∙ place_publics x (all_read e.publics)
+  where
+    last : {X : Type 0} (a : Option X) → or_else a None ≡ a
+    last None = refl
+    last (Some x) = refl
+
+place_all : (x : Mention) (es : List Entry) → place_in x (flat_map told_by es) ≡ option_map place_of (find (is_public x) (flat_map (λ (e : Entry). all_read e.publics) es))
+place_all x [] = refl
+place_all x (e ∷ es) =
+    place_append x (told_by e) (flat_map told_by es) ∙ ap (λ (o : Option (ℕ × ℕ)). or_else o (place_in x (flat_map told_by es))) (place_told x e)
+    ∙ ap (or_else (option_map place_of (find (is_public x) (all_read e.publics)))) (place_all x es)
+    ∙ sym (map_or_else place_of (find (is_public x) (all_read e.publics)) (find (is_public x) (flat_map (λ (e : Entry). all_read e.publics) es)))
+    ∙ sym (ap (option_map place_of) (find_append (is_public x) (all_read e.publics) (flat_map (λ (e : Entry). all_read e.publics) es)))
+
+pub places_are : (x : Mention) (es : List Entry) → place_in x (told_in es) ≡ option_map place_of (public_of (tables_of es) x)
+unfolding told_in tables_of
+places_are x es = place_all x es
+
+-- ... communals
+
+abbrev is_communal : Mention → External → Bool
+is_communal x y = same_symbol x (external_mention y) && is_some y.communal
+
+abbrev size_of : External → Option ℕ
+size_of y = option_map (λ (c : Communal). c.length) y.communal
+
+length_publics : (x : Mention) (ps : List Public) → length_in x (map of_public ps) ≡ None
+length_publics x [] = refl
+length_publics x (p ∷ ps) = by (is_public x p) ∙ length_publics x ps
+  where
+    by : (b : Bool) → or_else (cond b None None) (length_in x (map of_public ps)) ≡ length_in x (map of_public ps)
+    by true = refl
+    by false = refl
+
+length_externals : (x : Mention) (ys : List External) → length_in x (map of_external ys) ≡ option_and_then size_of (find (is_communal x) ys)
+length_externals x [] = refl
+length_externals x (y ∷ ys) = by (same_symbol x (external_mention y)) y.communal refl (length_externals x ys)
+  where
+    by : (b : Bool) (c : Option Communal) → y.communal ≡ c → length_in x (map of_external ys) ≡ option_and_then size_of (find (is_communal x) ys)
+        → or_else (cond b (length_said (option_map_or of_communal c what.External)) None) (length_in x (map of_external ys)) ≡ option_and_then size_of (cond (b && is_some c) (Some y) (find (is_communal x) ys))
+    by true None is e = e
+    by true (Some c) is e = sym (ap (option_map (λ (c : Communal). c.length)) is)
+    by false None is e = e
+    by false (Some c) is e = e
+
+and_then_or_else : {X Y : Type 0} (f : X → Option Y) (a b : Option X) → ((x : X) → a ≡ Some x → is_some (f x) ≡ true) → option_and_then f (or_else a b) ≡ or_else (option_and_then f a) (option_and_then f b)
+and_then_or_else f None b some = refl
+and_then_or_else {X} {Y} f (Some x) b some = by (f x) (some x refl)
+  where
+    by : (o : Option Y) → is_some o ≡ true → o ≡ or_else o (option_and_then f b)
+    by None e = absurd (true≢false (sym e))
+    by (Some y) e = refl
+
+found_some : (x : Mention) (ys : List External) (y : External) → find (is_communal x) ys ≡ Some y → is_some (size_of y) ≡ true
+found_some x [] y e = absurd (none-some y e)
+found_some x (z ∷ zs) y e = by (same_symbol x (external_mention z)) z.communal refl e (found_some x zs y)
+  where
+    by : (b : Bool) (c : Option Communal) → z.communal ≡ c → cond (b && is_some c) (Some z) (find (is_communal x) zs) ≡ Some y → (find (is_communal x) zs ≡ Some y → is_some (size_of y) ≡ true) → is_some (size_of y) ≡ true
+    by true (Some c) is e rest = ap (λ (w : External). is_some (size_of w)) (sym (same_Some z y e)) ∙ ap (λ (o : Option Communal). is_some (option_map (λ (c : Communal). c.length) o)) is
+    by true None is e rest = rest e
+    by false None is e rest = rest e
+    by false (Some c) is e rest = rest e
+
+length_told : (x : Mention) (e : Entry) → length_in x (told_by e) ≡ option_and_then size_of (find (is_communal x) (all_read e.externals))
+length_told x e =
+    length_append x (map of_public (all_read e.publics)) (map of_external (all_read e.externals))
+    ∙ ap (λ (o : Option ℕ). or_else o (length_in x (map of_external (all_read e.externals)))) (length_publics x (all_read e.publics)) ∙ length_externals x (all_read e.externals)
+
+length_all : (x : Mention) (es : List Entry) → length_in x (flat_map told_by es) ≡ option_and_then size_of (find (is_communal x) (flat_map (λ (e : Entry). all_read e.externals) es))
+length_all x [] = refl
+length_all x (e ∷ es) =
+    length_append x (told_by e) (flat_map told_by es) ∙ ap (λ (o : Option ℕ). or_else o (length_in x (flat_map told_by es))) (length_told x e)
+    ∙ ap (or_else (option_and_then size_of (find (is_communal x) (all_read e.externals)))) (length_all x es)
+    ∙ sym (and_then_or_else size_of (find (is_communal x) (all_read e.externals)) (find (is_communal x) (flat_map (λ (e : Entry). all_read e.externals) es)) (found_some x (all_read e.externals)))
+    ∙ sym (ap (option_and_then size_of) (find_append (is_communal x) (all_read e.externals) (flat_map (λ (e : Entry). all_read e.externals) es)))
+
+pub lengths_are : (x : Mention) (es : List Entry) → length_in x (told_in es) ≡ communal_of (tables_of es) x
+unfolding told_in tables_of
+lengths_are x es = length_all x es
+
+-- ... bindings
+
+found_public : (x : Mention) (ps : List Public) (p : Public) → find (is_public x) ps ≡ Some p → p.local ≡ x.local
+found_public x [] p e = absurd (none-some p e)
+found_public x (q ∷ qs) p e = by (is_public x q) refl e (found_public x qs p)
+  where
+    by : (b : Bool) → is_public x q ≡ b → cond b (Some q) (find (is_public x) qs) ≡ Some p → (find (is_public x) qs ≡ Some p → p.local ≡ x.local) → p.local ≡ x.local
+    by true f e rest = ap (λ (w : Public). w.local) (sym (same_Some q p e)) ∙ sym (ap (λ (m : Mention). m.local) (same_is x (public_mention q) f))
+    by false f e rest = rest e
+
+pub binding_is : (es : List Entry) (x : Mention) → binding_of (tables_of es) x ≡ binding_seen (seen_in (told_in es) x)
+unfolding binding_of
+binding_is es x =
+    by (public_of (tables_of es) x) refl
+    ∙ ap (λ (o : Option (ℕ × ℕ)). option_map_or (place_binding x.local) o (option_map_or (λ size. Common size (natural_align size)) (communal_of (tables_of es) x) Undefined)) (sym (places_are x es))
+    ∙ ap (λ (o : Option ℕ). option_map_or (place_binding x.local) (place_in x (told_in es)) (option_map_or (λ size. Common size (natural_align size)) o Undefined)) (sym (lengths_are x es))
+  where
+    by : (o : Option Public) → public_of (tables_of es) x ≡ o
+        → option_map_or public_binding o (option_map_or (λ size. Common size (natural_align size)) (communal_of (tables_of es) x) Undefined)
+        ≡ option_map_or (place_binding x.local) (option_map place_of o) (option_map_or (λ size. Common size (natural_align size)) (communal_of (tables_of es) x) Undefined)
+    by None e = refl
+    by (Some p) e = ap (λ (b : Bool). place_binding b (place_of p)) (found_public x (tables_of es).publics p e)

@@ -1,0 +1,108 @@
+-- Fields whose relocations are ready to be added.
+use Rattle.std.proofs.Common.{◌≡◌, ℕ, ◌+◌, ◌<◌, ◌≤◌, false, cond, List, [], get_or, length, take, Option, None, Some, Ok, sym, ◌∙◌, ap, subst, arith}
+use Rattle.std.specs.Prelude.{slice_get, Vec}
+use Rattle.std.specs.Global.{Global}
+use Rattle.std.specs.List.Sorted.{IsPermutation}
+use Rattle.std.specs.Option.{option_map_or}
+use Rattle.std.proofs.lemmas.Option.{slice_get_within}
+use Rattle.oc_base.specs.declared.format.Word.TheVariants.{W32}
+use Rattle.oc_base.specs.Numbers.{number_at}
+use Rattle.oc_linking.specs.FirstFault.{first_fault}
+use Rattle.oc_neutral.specs.declared.reloc.Reloc.{Reloc}
+use Rattle.oc_neutral.specs.Building.{Draft, is_zero, reloc_added}
+use Rattle.oc_neutral.specs.Built.{HasAdded}
+use Rattle.oc_neutral.specs.Invariants.{CanAdd}
+use Rattle.oc_neutral.specs.Omf.Relocs.{fixup_row}
+use Rattle.oc_neutral.specs.RowValues.{row_reloc}
+use Rattle.oc_omf.specs.declared.structures.Segment.{Segment}
+use Rattle.oc_omf.specs.Entries.{Entry, entries_in}
+use Rattle.oc_omf.specs.Fields.{fixups_in}
+use Rattle.oc_omf.specs.HeaderFaults.{IsModule}
+use Rattle.oc_omf.specs.Sections.{contents_of, segment_kind, segment_size}
+use Rattle.oc_omf.specs.SymbolFaults.{symbol_stages}
+use Rattle.oc_omf.specs.Symbols.{symbols_in}
+use Rattle.oc_omf.specs.Tables.{tables_of}
+use Rattle.oc_omf.specs.Targets.{meaning_of}
+use Rattle.oc_omf_read.specs.declared.fields.Field.{Field}
+use Rattle.oc_omf_read.specs.declared.fixes.Sight.{Sight}
+use Rattle.oc_omf_read.specs.Adding.{IsReady}
+use Rattle.oc_omf_read.specs.Aims.{meaning_seen}
+use Rattle.oc_omf_read.specs.Built.{started}
+use Rattle.oc_omf_read.specs.Contents.{AreStored, items_at}
+use Rattle.oc_omf_read.specs.Fields.{fields_of, given_with}
+use Rattle.oc_omf_read.specs.Fixing.{added_by, framed_as}
+use Rattle.oc_omf_read.specs.Given.{given_at}
+use Rattle.oc_omf_read.specs.Heard.{told_in}
+use Rattle.oc_omf_read.proofs.ContentLemmas.{indexed_is}
+use Rattle.oc_omf_read.proofs.CountLemmas.{few_told}
+use Rattle.oc_omf_read.proofs.HearLemmas.{few_symbols}
+use Rattle.oc_omf_read.proofs.SymbolLemmas.{as_many as as_many_symbols}
+use Rattle.oc_omf_read.proofs.FixLemmas.{field_number, reloc_as}
+use Rattle.oc_omf_read.proofs.AddedFields.{IsInside, all_done, field_inside, field_taken}
+
+-- ... contents
+
+-- what stands in a field
+pub number_is : (entries : List Entry) (vectors : List (Vec ℕ Global)) → AreStored (tables_of entries) (tables_of entries) vectors → (s at : ℕ) (g : Segment) → slice_get (tables_of entries).segments s ≡ Some g → is_zero (segment_kind (tables_of entries) (s + 1) g) ≡ false
+    → number_at (items_at vectors s) at 4 ≡ field_number (meaning_of entries) s at
+unfolding meaning_of
+number_is entries vectors are s at g there stored =
+    ap (λ (xs : List ℕ). number_at xs at 4) (are.each s g there ∙ ap (λ b. cond b [] (contents_of (tables_of entries) (s + 1) (segment_size g))) stored)
+    ∙ ap (λ (n : ℕ). number_at (contents_of (tables_of entries) (s + 1) n) at 4) (sym (ap (λ (o : Option Segment). option_map_or segment_size o 0) (indexed_is (tables_of entries).segments s ∙ there)))
+
+pub long_enough : (entries : List Entry) (vectors : List (Vec ℕ Global)) → AreStored (tables_of entries) (tables_of entries) vectors → (s : ℕ) (g : Segment) → slice_get (tables_of entries).segments s ≡ Some g → is_zero (segment_kind (tables_of entries) (s + 1) g) ≡ false
+    → length (items_at vectors s) ≡ segment_size g
+long_enough entries vectors are s g there stored = are.sizes s g there ∙ ap (λ b. cond b 0 (segment_size g)) stored
+
+-- ... as it is ready
+
+pub few_symbols_in : (file : List ℕ) → IsModule file → first_fault (symbol_stages (entries_in file)) ≡ None → length (symbols_in (entries_in file)) ≤ 4294967295
+few_symbols_in file head symbols =
+    let many = as_many_symbols (entries_in file) symbols in
+    let told = few_told file in
+    let few = few_symbols (told_in (entries_in file)) in
+    let small = head.small in
+    omega (arith, many, told, few, small)
+
+module _ (s : Sight) (vectors : List (Vec ℕ Global)) (ready : IsReady s vectors) (fields : List Field) (are : IsPermutation (fields_of (meaning_seen s) s.keep (fixups_in (entries_in s.omf.now))) fields)
+    (j : ℕ) (e : Field) (below : j < length fields) where
+  abbrev there : IsInside s.omf.now ready.bytes s.keep ready.sections ready.symbols ready.relocs (few_symbols_in s.omf.now ready.head ready.symbols) (get_or fields j e).section (get_or fields j e).at
+  there = field_inside s.omf.now ready.bytes s.keep ready.sections ready.symbols ready.relocs (few_symbols_in s.omf.now ready.head ready.symbols) ready.start fields are j e below
+
+  pub ready_section : (get_or fields j e).section < length vectors
+  ready_section =
+      let low = slice_get_within (tables_of (entries_in s.omf.now)).segments (get_or fields j e).section there.segment there.there in
+      let long = ready.contents.long in
+      omega (arith, low, long)
+
+  pub ready_inside : (get_or fields j e).at + 4 ≤ length (items_at vectors (get_or fields j e).section)
+  ready_inside =
+      let inside = there.inside in
+      let long = long_enough (entries_in s.omf.now) vectors ready.contents (get_or fields j e).section there.segment there.there there.stored in
+      omega (arith, inside, long)
+
+  -- its relocation can be added
+  pub record IsTakenNext (d : Draft) (r : Reloc) : Type 0 where
+    pub can : CanAdd d.object (get_or fields j e).section (get_or fields j e).at r
+    pub next : Draft
+    pub ok : reloc_added d (get_or fields j e).section (get_or fields j e).at r ≡ Ok next
+    pub added : HasAdded (started s.omf.now) next (given_with (entries_in s.omf.now) s.keep (take (j + 1) fields))
+
+  pub ready_taken : (d : Draft) → HasAdded (started s.omf.now) d (given_with (entries_in s.omf.now) s.keep (take j fields)) → (number : ℕ) (r : Reloc) → number ≡ number_at (items_at vectors (get_or fields j e).section) (get_or fields j e).at 4
+      → ((x : ℕ) → r ≡ row_reloc W32 (fixup_row (framed_as (get_or fields j e).fix.framed)) x (added_by (get_or fields j e).fix number) (get_or fields j e).fix.target) → IsTakenNext d r
+  ready_taken d has number r read made =
+      let k = field_taken s.omf.now ready.bytes s.keep ready.sections ready.symbols ready.relocs (few_symbols_in s.omf.now ready.head ready.symbols) ready.start fields are j e below d has in
+      let f : Field = get_or fields j e in
+      let same : reloc_as (meaning_seen s) f.section f.at f.fix ≡ r =
+      ap (λ (n : ℕ). row_reloc W32 (fixup_row (framed_as f.fix.framed)) f.section (added_by f.fix n) f.fix.target) (sym (read ∙ number_is (entries_in s.omf.now) vectors ready.contents f.section f.at there.segment there.there there.stored))
+      ∙ sym (made f.section) in
+      record {
+        can = subst (CanAdd d.object f.section f.at) same k.can;
+        next = k.next;
+        ok = ap (reloc_added d f.section f.at) (sym same) ∙ k.ok;
+        added = k.added;
+      }
+
+pub ready_done : (s : Sight) (vectors : List (Vec ℕ Global)) (ready : IsReady s vectors) (fields : List Field) → IsPermutation (fields_of (meaning_seen s) s.keep (fixups_in (entries_in s.omf.now))) fields → (n : ℕ) → n ≡ length fields → (x at : ℕ)
+    → given_with (entries_in s.omf.now) s.keep (take n fields) x at ≡ given_at (entries_in s.omf.now) s.keep x at
+ready_done s vectors ready fields are n all x at = all_done s.omf.now ready.bytes s.keep ready.sections ready.symbols ready.relocs (few_symbols_in s.omf.now ready.head ready.symbols) ready.start fields are n all x at

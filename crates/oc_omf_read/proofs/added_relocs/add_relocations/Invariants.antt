@@ -1,0 +1,10 @@
+-- The relocations of the fields so far are added.
+use Rattle.std.proofs.Common.{take}
+use Rattle.oc_neutral.specs.Built.{HasAdded}
+use Rattle.oc_omf.specs.Entries.{entries_in}
+use Rattle.oc_omf_read.specs.Built.{started}
+use Rattle.oc_omf_read.specs.Fields.{given_with}
+use Rattle.oc_omf_read.proofs.added_relocs.add_relocations.Given as goal
+
+abbrev pub invariant-loop-j : goal.invariant-loop-j
+invariant-loop-j l = HasAdded (started l.sight.omf.now) l.builder (given_with (entries_in l.sight.omf.now) l.sight.keep (take l.j l.fields.items))

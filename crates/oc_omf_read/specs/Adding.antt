@@ -1,0 +1,26 @@
+-- What is known while the relocations of a module without faults are added (our profile).
+use Rattle.std.specs.Prelude.{◌≡◌, ℕ, List, None, Vec}
+use Rattle.std.specs.Global.{Global}
+use Rattle.oc_linking.specs.FirstFault.{first_fault, stage_fault}
+use Rattle.oc_neutral.specs.Built.{IsStarted}
+use Rattle.oc_neutral.specs.Invariants.{AreBytes}
+use Rattle.oc_omf.specs.Entries.{entries_in}
+use Rattle.oc_omf.specs.HeaderFaults.{IsModule}
+use Rattle.oc_omf.specs.RelocationFaults.{relocation_stages}
+use Rattle.oc_omf.specs.Rules.{omf_dialect}
+use Rattle.oc_omf.specs.SectionFaults.{section_stage}
+use Rattle.oc_omf.specs.SymbolFaults.{symbol_stages}
+use Rattle.oc_omf.specs.Tables.{tables_of}
+use Rattle.oc_omf_read.specs.declared.fixes.Sight.{Sight}
+use Rattle.oc_omf_read.specs.Built.{started}
+use Rattle.oc_omf_read.specs.Contents.{AreStored}
+
+-- the stages have no fault, the vectors have the bytes of segments, and what is built before the relocations is what the module starts with
+pub record IsReady (s : Sight) (vectors : List (Vec ℕ Global)) : Type 0 where
+  pub bytes : AreBytes s.omf.now
+  pub head : IsModule s.omf.now
+  pub sections : stage_fault (section_stage (entries_in s.omf.now)) ≡ None
+  pub symbols : first_fault (symbol_stages (entries_in s.omf.now)) ≡ None
+  pub relocs : first_fault (relocation_stages (entries_in s.omf.now) s.keep) ≡ None
+  pub contents : AreStored (tables_of (entries_in s.omf.now)) (tables_of (entries_in s.omf.now)) vectors
+  pub start : IsStarted omf_dialect s.omf.now s.keep (started s.omf.now)

@@ -1,0 +1,101 @@
+//! The reader.
+ghost use Rattle.std.specs.Prelude.{◌≡◌, ◌≤◌, length, None, IfErr, IfOk, OnOk};
+ghost use Rattle.oc_base.specs.declared.limits.TheConstants.{MOST_INPUT};
+ghost use Rattle.oc_linking.specs.FirstFault.{first_fault, stage_fault};
+ghost use Rattle.oc_neutral.specs.Readable.{IsReadable, IsReadFault};
+ghost use Rattle.oc_neutral.specs.Shows.{Shows};
+ghost use Rattle.oc_omf.specs.Entries.{entries_in};
+ghost use Rattle.oc_omf.specs.RelocationFaults.{relocation_stages};
+ghost use Rattle.oc_omf.specs.Rules.{fault_of, omf_dialect};
+ghost use Rattle.oc_omf.specs.SectionFaults.{section_stage};
+ghost use Rattle.oc_omf.specs.SymbolFaults.{symbol_stages};
+ghost use Rattle.oc_omf.specs.Tables.{tables_of};
+ghost use Rattle.oc_omf_judge.specs.Defined.{IsDefined};
+
+use crate::added_relocs::add_relocations;
+use crate::contents::contents_in;
+use crate::fields::fields_in;
+use crate::fixes::Sight;
+use crate::heard::heard_in;
+use crate::mentioned::mentions_of;
+use crate::started::start;
+use crate::weight::weigh_segments;
+use oc_base::NoMemory;
+use oc_neutral::{Keep, Neutral, ReadFault, Reads, are_bytes};
+use oc_omf::Module;
+use oc_omf_judge::{Defined, judged};
+use std::alloc::Global;
+
+// the object of a module without faults, by what it defines
+pub(crate) fn object_of<'f>(
+    alloc: Global,
+    file: &[u8],
+    omf: &Module<'f>,
+    known: &Defined<'f>,
+    keep: &Keep,
+) -> Result<Neutral, NoMemory>
+    requires module { omf.now ≡ file.now }
+    requires known { IsDefined (tables_of (entries_in omf.now)) known.now }
+    requires sections { stage_fault (section_stage (entries_in omf.now)) ≡ None }
+    requires symbols { first_fault (symbol_stages (entries_in omf.now)) ≡ None }
+    requires relocs { first_fault (relocation_stages (entries_in omf.now) keep.now) ≡ None }
+    ensures shows { IfOk result (Shows omf_dialect omf.now keep.now) }
+    ensures readable { IfOk result IsReadable }
+{
+    omf.is_module();
+    are_bytes(file);
+    weigh_segments(known)?;
+    let contents = contents_in(alloc, omf, known)?;
+    let heard = heard_in(alloc, omf)?;
+    let mentions = mentions_of(alloc, heard.as_slice())?;
+    let mut builder = start(alloc, omf, known, contents.as_slice(), &mentions)?;
+    builder.is_draft();
+    let sight = Sight {
+        omf,
+        known,
+        mentions: &mentions,
+        keep: *keep,
+    };
+    let mut fields = fields_in(alloc, &sight)?;
+    add_relocations(&sight, &mut builder, contents.as_slice(), &mut fields)?;
+    Ok(builder.finish())
+}
+
+// reads a file
+fn read_bytes(alloc: Global, bytes: &[u8], keep: &Keep) -> Result<Neutral, ReadFault>
+    requires { length bytes.now ≤ MOST_INPUT }
+    ensures well_formed { OnOk result (fault_of bytes.now keep.now ≡ None) }
+    ensures shows { IfOk result (Shows omf_dialect bytes.now keep.now) }
+    ensures readable { IfOk result IsReadable }
+    ensures fault { IfErr result (IsReadFault (fault_of bytes.now keep.now)) }
+{
+    let found = match judged(alloc, bytes, keep) {
+        Err(fault) => return Err(fault),
+        Ok(found) => found,
+    };
+    match object_of(alloc, bytes, &found.omf, &found.defined, keep) {
+        Err(NoMemory) => Err(ReadFault::NoMemory),
+        Ok(object) => Ok(object),
+    }
+}
+
+/// The reader of OMF object modules, for i386.
+///
+/// The time is that of `judged`, and that of n log2(n) steps for n bytes of the file and of its
+/// segments, in any order of names and fields. Names of segments that weigh more than 1 GiB are want of
+/// memory before any is taken (`oc_weight`).
+#[derive(Clone, Copy, Debug)]
+pub struct OmfReader;
+
+impl Reads for OmfReader {
+    ghost use Rattle.oc_omf.specs.Rules.{omf_dialect};
+    ghost use Rattle.oc_omf_read.specs.Shown.{omf_is_dialect};
+
+    ghost dialect = { omf_dialect };
+
+    fn read(&self, alloc: Global, bytes: &[u8], keep: &Keep) -> Result<Neutral, ReadFault> {
+        read_bytes(alloc, bytes, keep)
+    }
+
+    ghost law = { omf_is_dialect };
+}

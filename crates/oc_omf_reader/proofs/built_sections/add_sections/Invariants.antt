@@ -1,9 +1,0 @@
-use Rattle.std.proofs.Common.{◌≡◌}
-use Rattle.oc_omf_read.specs.Entries.{entries_in}
-use Rattle.oc_omf_read.specs.Tables.{tables_of}
-use Rattle.oc_omf_reader.specs.Built.{sectioned}
-use Rattle.oc_omf_reader.proofs.built_sections.add_sections.Given as goal
-
--- the sections before are added
-abbrev pub invariant-loop-k : goal.invariant-loop-k
-invariant-loop-k l = l.builder ≡ sectioned (tables_of (entries_in l.omf)) l.k

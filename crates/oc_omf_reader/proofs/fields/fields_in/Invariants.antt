@@ -1,6 +1,0 @@
-use Rattle.oc_omf_reader.specs.Fields.{HasFields}
-use Rattle.oc_omf_reader.proofs.fields.fields_in.Given as goal
-
--- the fields of the entries before
-abbrev pub invariant-loop-i : goal.invariant-loop-i
-invariant-loop-i l = HasFields l.sight l.i l.fields.items l.behind

@@ -1,8 +1,0 @@
-use Rattle.std.proofs.Common.{take}
-use Rattle.oc_omf_reader.specs.Heard.{all_told}
-use Rattle.oc_omf_reader.specs.Mentioned.{HasHeard}
-use Rattle.oc_omf_reader.proofs.mentioned.mentions_of.Given as goal
-
--- the mentions before are taken up
-abbrev pub invariant-loop-i : goal.invariant-loop-i
-invariant-loop-i l = HasHeard (all_told (take l.i l.heard)) l.mentions
