@@ -3,7 +3,7 @@ use Rattle.oc_coff.specs.Forms.{word_of}
 use Rattle.std.proofs.Common.{◌≡◌, ℕ, ◌+◌, ◌<◌, ◌^◌, Bool, true, false, cond, List, length, Option, Some, None, refl, sym, ◌∙◌, ap, arith}
 use Rattle.std.specs.Prelude.{slice_get}
 use Rattle.std.specs.Option.{option_map, option_and_then}
-use Rattle.std.proofs.lemmas.Bool.{true≢false, le-leb}
+use Rattle.std.proofs.lemmas.Bool.{le-leb}
 use Rattle.std.proofs.lemmas.Option.{slice_get_within}
 use Rattle.oc_coff.specs.declared.form.CoffForm.{CoffForm}
 use Rattle.oc_linking.specs.declared.terms.Value.TheVariants as value
@@ -12,7 +12,7 @@ use Rattle.oc_linking.specs.declared.terms.Binding.{Binding}
 use Rattle.oc_linking.specs.declared.terms.Binding.TheVariants.{Local, Global, Undefined, Common, Weak}
 use Rattle.oc_linking.specs.Parts.{is_local}
 use Rattle.oc_linking.specs.Rules.{Named, Symbolic}
-use Rattle.oc_linking.specs.Targets.{Target, named_by}
+use Rattle.oc_linking.specs.Targets.{Target}
 use Rattle.oc_neutral.specs.declared.section.Section.{Section}
 use Rattle.oc_neutral.specs.declared.symbol.Symbol.{Symbol}
 use Rattle.oc_neutral.specs.Objects.{Object}
@@ -22,6 +22,7 @@ use Rattle.oc_neutral.specs.RowFields.{place_target}
 use Rattle.oc_neutral.specs.Seen.{seen_binding, seen_symbol}
 use Rattle.oc_neutral.specs.TargetRelocations.{is_homeless}
 use Rattle.oc_shelf.specs.Writing.Parts.{Laid}
+use Rattle.oc_shows.proofs.MadeLaws.{named_by_symbol}
 use Rattle.oc_coff.specs.Entries.{entries_in, entry_numbered}
 use Rattle.oc_coff.specs.Sections.{sections_in}
 use Rattle.oc_coff.specs.Symbols.{is_own, value_of, symbol_of}
@@ -69,15 +70,8 @@ module _ (w : CoffForm) (n : Object) (is : IsForCoff w n) (tags_fit : AreTagged 
       ∙ ap (λ o. Some (option_and_then (aim_at (word_of w)) o)) placed
 
   -- the binding of a symbol, as it is seen
-  abbrev pub seen_as : Binding → Binding
+  abbrev seen_as : Binding → Binding
   seen_as b = shown_binding (syms n) (seen_binding coff_manner n (shown n) b)
-
-  pub named : (number : ℕ) (b : Binding) → is_local b ≡ false → named_by number (seen_as b) ≡ Some (Symbolic number)
-  named number (Local v) e = absurd (true≢false e)
-  named number (Global v) e = refl
-  named number Undefined e = refl
-  named number (Common size align) e = refl
-  named number (Weak f) e = refl
 
   homeless_seen : (b : Binding) → is_homeless (seen_as b) ≡ is_homeless b
   homeless_seen (Local v) = refl
@@ -102,6 +96,6 @@ module _ (w : CoffForm) (n : Object) (is : IsForCoff w n) (tags_fit : AreTagged 
       aim_made (outer_number lines j)
       ∙ ap (option_and_then (λ e. aim_for (word_of w) (S w n is) (E w n is) e (symbol_of (string_table w n) (S w n is) (E w n is) e))) (entry_where w n is (is_outer_line j) (OuterLine j t) f)
       ∙ ap (aim_for (word_of w) (S w n is) (E w n is) (made_entry w n l)) symbol
-      ∙ ap (λ o. made f.one.at o (is_homeless (seen_as t.binding))) (named f.one.at t.binding outer)
+      ∙ ap (λ o. made f.one.at o (is_homeless (seen_as t.binding))) (named_by_symbol coff_manner n f.one.at t.binding outer)
       ∙ ap (made f.one.at (Some (Symbolic f.one.at))) (homeless_seen t.binding)
       ∙ ap (λ m. made m (Some (Symbolic m)) (is_homeless t.binding)) (sym f.place)

@@ -50,12 +50,7 @@ made w n = map (made_section w n) (enumerate_from 0 n.sections)
 framed : ℕ → ℕ → List ℕ → List ℕ → Kind → ℕ → ℕ → parts.Section
 framed size number contents name kind align tag = record { name = name; kind = kind; align = align; size = size; contents = contents; tag = tag; number = number; group = None }
 
-pub made_at : (w : Word) (n : Object) (k : ℕ) (s : Section) → slice_get n.sections k ≡ Some s → slice_get (made w n) k ≡ Some (made_section w n (k, s))
-made_at w n k s here =
-    let e : 0 + k ≡ k = omega arith in
-    member_map (made_section w n) (enumerate_from 0 n.sections) k (0 + k, s) (member_enumerated 0 n.sections k s here) ∙ ap (λ i. Some (made_section w n (i, s))) e
-
--- its table
+-- a table of the file
 pub table_at : (w : Word) (n : Object) (k : ℕ) (s : Section) → slice_get n.sections k ≡ Some s → slice_get (made_sections w n) k ≡ Some (made_table w n (k, s))
 table_at w n k s here =
     let e : 0 + k ≡ k = omega arith in

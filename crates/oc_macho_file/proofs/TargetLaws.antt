@@ -1,5 +1,5 @@
 -- The targets of a canonical file are those of its object.
-use Rattle.std.proofs.Common.{◌≡◌, ℕ, ◌+◌, ◌-◌, ◌%◌, false, cond, List, [], map, Some, None, refl, sym, ◌∙◌, ap, arith}
+use Rattle.std.proofs.Common.{◌≡◌, ℕ, ◌+◌, ◌-◌, ◌%◌, false, cond, List, [], Some, None, refl, sym, ◌∙◌, ap, arith}
 use Rattle.std.specs.Prelude.{slice_get}
 use Rattle.std.specs.Option.{option_map, option_and_then, unwrap_or}
 use Rattle.std.proofs.lemmas.Bool.{true≢false}
@@ -7,32 +7,28 @@ use Rattle.oc_base.specs.declared.format.Word.{Word}
 use Rattle.oc_base.specs.declared.format.Word.TheVariants.{W32, W64}
 use Rattle.oc_linking.specs.declared.terms.Base.{Base}
 use Rattle.oc_linking.specs.declared.terms.Base.TheVariants as base
-use Rattle.oc_linking.specs.declared.terms.Binding.{Binding}
-use Rattle.oc_linking.specs.declared.terms.Binding.TheVariants.{Local, Global, Undefined, Common, Weak}
 use Rattle.oc_linking.specs.Keeping.{all}
 use Rattle.oc_linking.specs.Numbers.{modulus}
 use Rattle.oc_linking.specs.Parts as parts
 use Rattle.oc_linking.specs.Parts.{is_local}
 use Rattle.oc_linking.specs.Placing.{Placement}
-use Rattle.oc_linking.specs.Rules.{Symbolic}
 use Rattle.oc_linking.specs.Targets as file
-use Rattle.oc_linking.specs.Targets.{named_by, symbol_target}
+use Rattle.oc_linking.specs.Targets.{symbol_target}
 use Rattle.oc_linking.specs.Values.{Valuation}
 use Rattle.oc_neutral.specs.declared.symbol.Symbol.{Symbol}
 use Rattle.oc_neutral.specs.declared.reloc.Target.{Target}
 use Rattle.oc_neutral.specs.declared.reloc.Target.TheVariants as target
 use Rattle.oc_neutral.specs.Built.{named_in}
 use Rattle.oc_neutral.specs.Dialects.{Dialect}
-use Rattle.oc_neutral.specs.Faces.{shown_binding, shown_symbol, shown_symbols}
+use Rattle.oc_neutral.specs.Faces.{shown_symbol, shown_symbols}
 use Rattle.oc_neutral.specs.Manners.{mach_manner}
 use Rattle.oc_neutral.specs.Normal.{place_among}
 use Rattle.oc_neutral.specs.Objects.{Object}
 use Rattle.oc_neutral.specs.RowFields.{place_target}
-use Rattle.oc_neutral.specs.Seen.{seen_binding, seen_symbol, new_position}
+use Rattle.oc_neutral.specs.Seen.{seen_symbol, new_position}
 use Rattle.oc_neutral.specs.Shows.{IsTrueToFixed}
 use Rattle.oc_neutral.specs.Worth.{base_of, target_worth}
-use Rattle.oc_neutral.proofs.RowFieldLaws.{symbol_is_target}
-use Rattle.oc_shelf.proofs.WritingLaws.MemberLemmas.{member_map}
+use Rattle.oc_shows.proofs.MadeLaws.{numbered_target, named_by_symbol, outer_aimed}
 use Rattle.oc_macho.specs.declared.relocation_info.Reference.TheVariants as reference
 use Rattle.oc_macho.specs.Tables.{Tables}
 use Rattle.oc_macho.specs.Symbols.{name_of, symbol_of}
@@ -67,19 +63,6 @@ section_target w f b n j = record { named = refl; bases = λ p v fixed c. by p c
     by p base.GotBase = refl
     by p base.HomeNumber = refl
 
--- what a symbol is named that is not Local
-named_by_symbol : (w : Word) (n : Object) (ys : List Symbol) (sh : List (ℕ × ℕ)) (number : ℕ) (b : Binding) → is_local b ≡ false
-    → named_by number (shown_binding ys (seen_binding (mach_manner w) n sh b)) ≡ Some (Symbolic number)
-named_by_symbol w n ys sh number (Local v) outer = absurd (true≢false outer)
-named_by_symbol w n ys sh number (Global v) outer = refl
-named_by_symbol w n ys sh number Undefined outer = refl
-named_by_symbol w n ys sh number (Common size align) outer = refl
-named_by_symbol w n ys sh number (Weak f) outer = refl
-
--- the symbol of that number, as the file knows it
-abbrev pub numbered_target : ℕ → file.Target
-numbered_target number = record { named = Symbolic number; worth = λ p v. v number }
-
 module _ (w : Word) (n : Object) (is : IsForMach w n) (j : ℕ) (s : Symbol) (there : slice_get n.symbols j ≡ Some s) (outer : is_local s.binding ≡ false) where
   abbrev t : Tables
   t = made_tables w n
@@ -98,11 +81,8 @@ module _ (w : Word) (n : Object) (is : IsForMach w n) (j : ℕ) (s : Symbol) (th
   abbrev pub shown_there : parts.Symbol
   shown_there = shown_symbol (syms w n) (seen_symbol (mach_manner w) n (shown w n) number s)
 
-  pub symbol_shown : slice_get (map (shown_symbol (syms w n)) (syms w n)) (new_position (shown w n) j) ≡ Some shown_there
-  symbol_shown = member_map (shown_symbol (syms w n)) (syms w n) (new_position (shown w n) j) (seen_symbol (mach_manner w) n (shown w n) number s) (seen_there w n j s there outer)
-
-  pub targeted : symbol_target shown_there ≡ Some (numbered_target number)
-  targeted = ap (option_map (λ named. record { named = named; worth = λ p v. v number })) (named_by_symbol w n (syms w n) (shown w n) number s.binding outer)
+  targeted : symbol_target shown_there ≡ Some (numbered_target number)
+  targeted = ap (option_map (λ named. record { named = named; worth = λ p v. v number })) (named_by_symbol (mach_manner w) n number s.binding outer)
 
   -- an entry that names it refers to it
   pub symbol_aimed : aim_in t (reference.Symbol number) ≡ Some (Some (record { target = numbered_target number; counted = None; place = fixed_place (shown_there.binding) }))
@@ -117,5 +97,5 @@ module _ (w : Word) (n : Object) (is : IsForMach w n) (j : ℕ) (s : Symbol) (th
   -- and it is the target of the object that is seen
   pub symbol_target_is : (f : Dialect) (b : List ℕ) → f.rules.symbols b all ≡ shown_symbols (again w n) → IsAimedAt w f b (again w n) (target.Symbol (new_position (shown w n) j)) (numbered_target number)
   symbol_target_is f b symbols =
-      let is = symbol_is_target f b all (again w n) (new_position (shown w n) j) shown_there (numbered_target number) (sym symbols) (ap (λ ys. slice_get ys (new_position (shown w n) j)) symbols ∙ symbol_shown) targeted in
+      let is = outer_aimed (mach_manner w) n f b symbols j s outer number (seen_there w n j s there outer) in
       record { named = is.named; bases = λ p v fixed c. ap (λ x. base_of p x c % modulus w) (sym (is.worth p v fixed)) }

@@ -1,24 +1,22 @@
 -- The symbols that are seen of an object, by the outputs of its file.
-use Rattle.std.proofs.Common.{◌≡◌, ℕ, zero, suc, ◌+◌, List, [], ◌∷◌, map, Option, Some, refl, sym, ◌∙◌, ap, arith}
-use Rattle.std.specs.Prelude.{slice_get, nat_eq, filter_map}
-use Rattle.std.specs.List.{cons_option}
-use Rattle.std.specs.Option.{option_map}
-use Rattle.std.proofs.lemmas.Bool.{eq-eqb, ne_eqb}
+use Rattle.std.proofs.Common.{◌≡◌, ℕ, zero, suc, ◌+◌, List, [], ◌∷◌, map, Some, refl, sym, ◌∙◌, ap, arith}
+use Rattle.std.specs.Prelude.{slice_get}
 use Rattle.std.proofs.lemmas.Option.{none-some, same_Some}
 use Rattle.oc_base.specs.declared.format.Format.TheVariants.{Omf}
 use Rattle.oc_base.specs.Formats.{word_for}
 use Rattle.oc_neutral.specs.declared.symbol.Symbol.{Symbol}
 use Rattle.oc_neutral.specs.Objects.{Object}
 use Rattle.oc_neutral.specs.Families.{container_of}
-use Rattle.oc_neutral.specs.Manners.{Manner, omf_manner, manner_of}
+use Rattle.oc_neutral.specs.Manners.{omf_manner, manner_of, own_manner}
 use Rattle.oc_neutral.specs.Seen.{shown_from, new_position, seen_symbol, seen_symbols, seen_with, seen}
 use Rattle.oc_neutral.specs.SymbolLines.{omf_lines}
 use Rattle.oc_neutral.proofs.SeenFamilies.{omf_table}
 use Rattle.oc_neutral.proofs.SeenLines.{IsShown, table_shows}
-use Rattle.oc_shelf.proofs.WritingLaws.MemberLemmas.{position_first}
+use Rattle.oc_shows.proofs.MadeLaws as made
+use Rattle.oc_shows.proofs.ShownLines as by_lines
 use Rattle.oc_omf_file.specs.Outputs.{Output, symbol_outputs}
 use Rattle.oc_omf_file.proofs.CodedLaws.{IsForOmf}
-use Rattle.oc_omf_file.proofs.LineLaws.{key_of, line_of, lines_are, strong, listed_at}
+use Rattle.oc_omf_file.proofs.LineLaws.{key_of, line_of, lines_are, strong}
 
 -- the symbols that are shown, by position, with their numbers
 abbrev pub shown : Object → List (ℕ × ℕ)
@@ -32,8 +30,11 @@ again n = seen_with omf_manner n (shown n)
 abbrev pub syms : Object → List Symbol
 syms n = seen_symbols omf_manner n (shown n)
 
+pub manner_is : (n : Object) → n.format ≡ Omf → own_manner n ≡ omf_manner
+manner_is n format = ap (λ f. manner_of (container_of f) (word_for f)) format
+
 pub again_is : (n : Object) → n.format ≡ Omf → seen n ≡ again n
-again_is n format = ap (λ (m : Manner). seen_with m n (shown_from 0 (m.lines n))) (ap (λ f. manner_of (container_of f) (word_for f)) format)
+again_is n format = made.again_is omf_manner n (manner_is n format)
 
 -- the same by outputs, the first of which has that number
 abbrev pub shown_outputs : ℕ → List Output → List (ℕ × ℕ)
@@ -56,47 +57,14 @@ module _ (n : Object) (is : IsForOmf n) where
   pub are_shown : IsShown n (shown n)
   are_shown = table_shows n (omf_lines n) (omf_table n (strong n is)).table
 
-  -- a symbol that is shown
-  abbrev pub seen_one : ℕ × ℕ → Option Symbol
-  seen_one x = option_map (seen_symbol omf_manner n (shown n) x.1) (slice_get n.symbols x.0)
-
-  -- those of some outputs that have symbols
-  pub record HasSymbols (os : List Output) : Type 0 where
-    pub symbol : (i : ℕ) (o : Output) → slice_get os i ≡ Some o → (s : Symbol) × (slice_get n.symbols (key_of o) ≡ Some s)
-
-  pub symbol_at : (i : ℕ) (o : Output) → slice_get (symbol_outputs n) i ≡ Some o → (s : Symbol) × (slice_get n.symbols (key_of o) ≡ Some s)
-  symbol_at i o h = let l = listed_at n is i o h in (l.symbol, l.there)
-
-  seen_at : (at : ℕ) (os : List Output) → HasSymbols os → (i : ℕ) (o : Output) (s : Symbol) → slice_get os i ≡ Some o → slice_get n.symbols (key_of o) ≡ Some s
-      → slice_get (filter_map seen_one (shown_outputs at os)) i ≡ Some (seen_symbol omf_manner n (shown n) (at + i) s)
-  seen_at at [] has i o s h there = absurd (none-some o h)
-  seen_at at (p ∷ os) has zero o s h there =
-      let e : at ≡ at + 0 = omega arith in
-      let own : seen_one (key_of p, at) ≡ Some (seen_symbol omf_manner n (shown n) at s)
-      = ap (λ q. seen_one (key_of q, at)) (same_Some p o h) ∙ ap (option_map (seen_symbol omf_manner n (shown n) at)) there in
-      ap (λ x. slice_get (cons_option x (filter_map seen_one (shown_outputs (at + 1) os))) 0) own ∙ ap (λ k. Some (seen_symbol omf_manner n (shown n) k s)) e
-  seen_at at (p ∷ os) has (suc i) o s h there =
-      let e : at + 1 + i ≡ at + suc i = omega arith in
-      let x = has.symbol 0 p refl in
-      let own : seen_one (key_of p, at) ≡ Some (seen_symbol omf_manner n (shown n) at x.0) = ap (option_map (seen_symbol omf_manner n (shown n) at)) x.1 in
-      ap (λ y. slice_get (cons_option y (filter_map seen_one (shown_outputs (at + 1) os))) (suc i)) own
-      ∙ seen_at (at + 1) os (record { symbol = λ j q g. has.symbol (suc j) q g }) i o s h there
-      ∙ ap (λ k. Some (seen_symbol omf_manner n (shown n) k s)) e
+  shown_here : (i : ℕ) (o : Output) → slice_get (symbol_outputs n) i ≡ Some o → slice_get (shown n) i ≡ Some (key_of o, i)
+  shown_here i o h = let e : 0 + i ≡ i = omega arith in ap (λ xs. slice_get xs i) (shown_are n) ∙ shown_at 0 (symbol_outputs n) i o h ∙ ap (λ k. Some (key_of o, k)) e
 
   -- the symbol of an output, as it is seen
   pub seen_there : (i : ℕ) (o : Output) (s : Symbol) → slice_get (symbol_outputs n) i ≡ Some o → slice_get n.symbols (key_of o) ≡ Some s
       → slice_get (syms n) i ≡ Some (seen_symbol omf_manner n (shown n) i s)
-  unfolding seen_symbols
-  seen_there i o s h there =
-      let e : 0 + i ≡ i = omega arith in
-      ap (λ xs. slice_get (filter_map seen_one xs) i) (shown_are n)
-      ∙ seen_at 0 (symbol_outputs n) (record { symbol = symbol_at }) i o s h there
-      ∙ ap (λ k. Some (seen_symbol omf_manner n (shown n) k s)) e
+  seen_there i o s h there = by_lines.seen_at omf_manner n are_shown i (key_of o, i) s (shown_here i o h) there
 
   -- its position
   pub position_is : (i : ℕ) (o : Output) → slice_get (symbol_outputs n) i ≡ Some o → new_position (shown n) (key_of o) ≡ i
-  position_is i o h =
-      let e : 0 + i ≡ i = omega arith in
-      let here : slice_get (shown n) i ≡ Some (key_of o, i) = ap (λ xs. slice_get xs i) (shown_are n) ∙ shown_at 0 (symbol_outputs n) i o h ∙ ap (λ k. Some (key_of o, k)) e in
-      position_first (λ (x : ℕ × ℕ). nat_eq x.0 (key_of o)) (shown n) i (key_of o, i) here (eq-eqb (key_of o) (key_of o) refl)
-      (λ j x l g. ne_eqb x.0 (key_of o) (are_shown.once j i x (key_of o, i) l g here))
+  position_is i o h = by_lines.position_is omf_manner n are_shown i (key_of o, i) (shown_here i o h)

@@ -22,6 +22,7 @@ use Rattle.oc_omf.specs.Structures.{Public, External}
 use Rattle.oc_omf.specs.Entries.{entries_in}
 use Rattle.oc_omf.specs.Tables.{Tables, tables_of}
 use Rattle.oc_omf.specs.Symbols.{Mention, same_symbol, public_mention, external_mention, entry_mentions, with_new, mentions_in, number_of, public_of, public_binding, communal_of, binding_of, symbol_of, symbols_in}
+use Rattle.oc_shows.proofs.ShownLines.{seen_one}
 use Rattle.oc_omf_file.specs.Outputs.{Output, symbol_outputs, outputs_of}
 use Rattle.oc_omf_file.specs.Outputs as output
 use Rattle.oc_omf_file.specs.Canonical.{size_by, omf_file}
@@ -35,7 +36,7 @@ use Rattle.oc_omf_file.proofs.CodedLaws.{IsForOmf, short_names, fields_apart}
 use Rattle.oc_omf_file.proofs.LineLaws.{key_of, name_by, listed_at, names_once}
 use Rattle.oc_omf_file.proofs.SmallLaws.{all_small}
 use Rattle.oc_omf_file.proofs.SectionLaws.{tables_read}
-use Rattle.oc_omf_file.proofs.SeenLaws.{shown, again, syms, shown_are, shown_outputs, seen_one}
+use Rattle.oc_omf_file.proofs.SeenLaws.{shown, again, syms, shown_are, shown_outputs}
 
 -- ... what is found
 
@@ -307,23 +308,23 @@ module _ (n : Object) (is : IsForOmf n) where
       rw (binding_read i o s here (symbols_are n i o here) there, name) refl
 
   symbols_from : (at : ℕ) (os : List Output) → ((i : ℕ) (o : Output) → slice_get os i ≡ Some o → slice_get outs (at + i) ≡ Some o)
-      → map (symbol_of t) (enumerate_from at (map mentioned os)) ≡ map (shown_symbol (syms n)) (filter_map (seen_one n is) (shown_outputs at os))
+      → map (symbol_of t) (enumerate_from at (map mentioned os)) ≡ map (shown_symbol (syms n)) (filter_map (seen_one omf_manner n) (shown_outputs at os))
   symbols_from at [] are = refl
   symbols_from at (o ∷ os) are =
       let z : at + 0 ≡ at = omega arith in
       let here : slice_get outs at ≡ Some o = ap (slice_get outs) (sym z) ∙ are 0 o refl in
       let l = listed_at n is at o here in
-      let own : seen_one n is (key_of o, at) ≡ Some (seen_symbol omf_manner n (shown n) at l.symbol) = ap (option_map (seen_symbol omf_manner n (shown n) at)) l.there in
+      let own : seen_one omf_manner n (key_of o, at) ≡ Some (seen_symbol omf_manner n (shown n) at l.symbol) = ap (option_map (seen_symbol omf_manner n (shown n) at)) l.there in
       ap (λ x. x ∷ map (symbol_of t) (enumerate_from (at + 1) (map mentioned os))) (symbol_read at o l.symbol here l.there)
       ∙ ap (λ xs. shown_symbol (syms n) (seen_symbol omf_manner n (shown n) at l.symbol) ∷ xs)
       (symbols_from (at + 1) os (λ i p h. let e : at + 1 + i ≡ at + suc i = omega arith in ap (slice_get outs) e ∙ are (suc i) p h))
-      ∙ ap (λ x. map (shown_symbol (syms n)) (cons_option x (filter_map (seen_one n is) (shown_outputs (at + 1) os)))) (sym own)
+      ∙ ap (λ x. map (shown_symbol (syms n)) (cons_option x (filter_map (seen_one omf_manner n) (shown_outputs (at + 1) os)))) (sym own)
 
   pub symbols_told : map (symbol_of t) (enumerate_from 0 (map mentioned outs)) ≡ shown_symbols (again n)
   unfolding seen_symbols
   symbols_told =
       symbols_from 0 outs (λ i o h. let e : 0 + i ≡ i = omega arith in ap (slice_get outs) e ∙ h)
-      ∙ ap (λ xs. map (shown_symbol (syms n)) (filter_map (seen_one n is) xs)) (sym (shown_are n))
+      ∙ ap (λ xs. map (shown_symbol (syms n)) (filter_map (seen_one omf_manner n) xs)) (sym (shown_are n))
 
   pub symbols_read : symbols_in (entries_in (omf_file n)) ≡ shown_symbols (again n)
   unfolding symbols_in

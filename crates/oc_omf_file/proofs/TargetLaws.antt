@@ -3,7 +3,7 @@ use Rattle.std.proofs.Common.{◌≡◌, ℕ, zero, suc, ◌+◌, ◌-◌, inl, 
 use Rattle.std.specs.Prelude.{slice_get, flat_map, filter_map, codes}
 use Rattle.std.specs.List.{enumerate_from}
 use Rattle.std.specs.Option.{option_map, option_map_or, option_and_then, unwrap_or}
-use Rattle.std.proofs.lemmas.Bool.{eq-eqb, ne_eqb, true≢false}
+use Rattle.std.proofs.lemmas.Bool.{eq-eqb, ne_eqb}
 use Rattle.std.proofs.lemmas.Bool.Decides.{nat_tests}
 use Rattle.std.proofs.lemmas.Grind.{flat_map-append}
 use Rattle.std.proofs.lemmas.List.{length-map}
@@ -11,17 +11,18 @@ use Rattle.std.proofs.lemmas.Option.{none-some, same_Some, slice_get_within}
 use Rattle.oc_linking.specs.declared.terms.Binding.{Binding}
 use Rattle.oc_linking.specs.declared.terms.Binding.TheVariants.{Local, Global, Undefined, Common, Weak}
 use Rattle.oc_linking.specs.Rules.{Symbolic}
-use Rattle.oc_linking.specs.Targets.{Target, named_by, symbol_target}
+use Rattle.oc_linking.specs.Parts.{is_local}
+use Rattle.oc_linking.specs.Targets.{Target, symbol_target}
 use Rattle.oc_linking.specs.Values.{numbered}
 use Rattle.oc_neutral.specs.declared.symbol.Symbol.{Symbol}
 use Rattle.oc_neutral.specs.declared.reloc.Reloc.{Reloc}
 use Rattle.oc_neutral.specs.declared.reloc.Target.TheVariants as target
 use Rattle.oc_neutral.specs.Bindings.{is_external}
-use Rattle.oc_neutral.specs.Faces.{shown_symbol, shown_symbols, shown_binding}
+use Rattle.oc_neutral.specs.Faces.{shown_symbol, shown_symbols}
 use Rattle.oc_neutral.specs.Manners.{omf_manner}
 use Rattle.oc_neutral.specs.Objects.{Object, reloc_at}
 use Rattle.oc_neutral.specs.Omf.Relocs.{Framed, ByFlat, ByTarget, BySelf, fixup_row}
-use Rattle.oc_neutral.specs.Seen.{seen_symbol, seen_binding}
+use Rattle.oc_neutral.specs.Seen.{seen_symbol}
 use Rattle.oc_shelf.proofs.WritingLaws.MemberLemmas.{each_append, each_filter_map, member_map}
 use Rattle.oc_omf.specs.declared.structures.Method.{Method}
 use Rattle.oc_omf.specs.Structures.{External}
@@ -30,6 +31,7 @@ use Rattle.oc_omf.specs.Symbols.{Mention, external_mention, number_of, symbol_of
 use Rattle.oc_omf.specs.Fixups.{Fixed}
 use Rattle.oc_omf.specs.Targets.{Meaning, section_target, target_of, is_flat, is_home}
 use Rattle.oc_omf.specs.Fields.{framed_row, row_of}
+use Rattle.oc_shows.proofs.MadeLaws.{named_by_symbol}
 use Rattle.oc_omf_file.specs.Outputs.{Output, external_by, communal_by, external_output, communal_output, public_output, indexed_outputs, symbol_outputs, symbol_number}
 use Rattle.oc_omf_file.specs.Outputs as output
 use Rattle.oc_omf_file.specs.Fixups.{is_row, written_reloc, target_method}
@@ -50,13 +52,13 @@ use Rattle.oc_omf_file.proofs.FixedLaws.{IsFixed, reloc_of}
 abbrev pub meant : Object → Meaning
 meant n = record { tables = told n; mentions = map mentioned (symbol_outputs n); symbols = shown_symbols (again n) }
 
--- a symbol that is no Local is named by its number
-pub named_by_symbol : (n : Object) (number : ℕ) (b : Binding) → is_external b ≡ true → named_by number (shown_binding (syms n) (seen_binding omf_manner n (shown n) b)) ≡ Some (Symbolic number)
-named_by_symbol n number (Local v) e = absurd (true≢false (sym e))
-named_by_symbol n number (Global v) e = absurd (true≢false (sym e))
-named_by_symbol n number Undefined e = refl
-named_by_symbol n number (Common size align) e = refl
-named_by_symbol n number (Weak f) e = absurd (true≢false (sym e))
+-- an external is no Local
+pub is_outer : (b : Binding) → is_external b ≡ true → is_local b ≡ false
+is_outer (Local v) e = sym e
+is_outer (Global v) e = refl
+is_outer Undefined e = refl
+is_outer (Common size align) e = refl
+is_outer (Weak f) e = refl
 
 -- where each gives one thing, the thing of a position is that of its output
 one_each : {X Y : Type 0} (f : X → List Y) (xs : List X) (rest : List Y) → ((j : ℕ) (x : X) → slice_get xs j ≡ Some x → (y : Y) × (f x ≡ y ∷ []))
@@ -168,7 +170,7 @@ module _ (n : Object) (is : IsForOmf n) where
       ∙ ap (λ j. option_and_then symbol_target (numbered (shown_symbols (again n)) j)) (mention_number n is m.index m.out m.there)
       ∙ ap (option_and_then symbol_target) found
       ∙ ap symbol_target symbol
-      ∙ ap (option_map (λ named. record { named = named; worth = λ p v. v m.index })) (named_by_symbol n m.index s.binding external)
+      ∙ ap (option_map (λ named. record { named = named; worth = λ p v. v m.index })) (named_by_symbol omf_manner n m.index s.binding (is_outer s.binding external))
       ∙ ap (λ j. Some (outer_target j)) (sym m.number)
 
   pub section_target_read : (k : ℕ) → target_of (meant n) (target_method n (target.Section k)) ≡ Some (section_target k)
