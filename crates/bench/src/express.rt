@@ -9,10 +9,10 @@ use crate::MOST;
 use crate::objects::{object, timed_walk};
 use crate::timing::micros;
 use anyhow::{Result, anyhow};
-use oc_base::{Format, word_of};
+use oc_base::{Format, Stop, word_of};
 use oc_coff_write::CoffWriter64;
 use oc_elf_write::{ElfWriter32, ElfWriter64};
-use oc_express::{FitFault, fit};
+use oc_express::fit;
 use oc_macho_write::{MachWriter32, MachWriter64};
 use oc_neutral::{Emits, Fitted, Neutral, Writes};
 use oc_omf_write::OmfWriter;
@@ -66,7 +66,7 @@ fn fitted<R: Clock + Eprint>(
     alloc: Global,
     target: Format,
     neutral: Neutral,
-) -> Result<Result<Fitted, FitFault>>
+) -> Result<Result<Fitted, Stop>>
     requires { IsElf neutral }
 {
     neutral.is_object();

@@ -11,8 +11,8 @@ use crate::many_sections::sectioned;
 use crate::objects::{BEGIN, name, object, timed_walk};
 use crate::timing::micros;
 use anyhow::{Result, anyhow};
-use oc_base::{Bytes, Format, NoMemory, Word};
-use oc_names::{Choice, Edit, EditFault, Edits, apply};
+use oc_base::{Bytes, Format, NoMemory, Stop, Word};
+use oc_names::{Choice, Edit, Edits, apply};
 use oc_neutral::Neutral;
 use std::alloc::Global;
 use std::rt::Clock;
@@ -86,7 +86,7 @@ fn timed_apply<R: Clock + Eprint>(
     alloc: Global,
     neutral: Neutral,
     edits: &Edits,
-) -> Result<Result<Neutral, EditFault>> {
+) -> Result<Result<Neutral, Stop>> {
     let format = neutral.format();
     let start = Instant::now(rt)?;
     let made = apply(alloc, neutral, edits, format);

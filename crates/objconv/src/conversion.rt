@@ -8,8 +8,7 @@ ghost use Rattle.objconv.specs.Runs.{IsEnd};
 ghost use Rattle.oc_runs.specs.States.{state_of};
 
 use crate::writing::write_output;
-use oc_base::Format;
-use oc_convert::ConvertFault;
+use oc_base::{Format, Stop};
 use oc_dispatch::{AnyPlan, dispatch};
 use oc_names::Edits;
 use oc_neutral::Emits;
@@ -39,8 +38,8 @@ fn plan<F: Files>(
     };
     match dispatch(alloc, to, bytes.as_slice(), edits) {
         Ok(plan) => Ok(plan),
-        Err(ConvertFault::Refused(fault)) => Err(InputFault::Refused(fault)),
-        Err(ConvertFault::NoMemory) => Err(InputFault::NoMemory),
+        Err(Stop::Refused(fault)) => Err(InputFault::Refused(fault)),
+        Err(Stop::NoMemory) => Err(InputFault::NoMemory),
     }
 }
 

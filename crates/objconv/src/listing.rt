@@ -7,8 +7,7 @@ ghost use Rattle.oc_runs.specs.Reports as reports;
 ghost use Rattle.objconv.specs.Runs.{IsEnd};
 ghost use Rattle.oc_runs.specs.States.{state_of};
 
-use oc_base::Bytes;
-use oc_convert::ConvertFault;
+use oc_base::{Bytes, Stop};
 use oc_dispatch::read_any;
 use oc_dump::symbol_lines;
 use oc_neutral::Keep;
@@ -42,8 +41,8 @@ fn lines_of<F: Files>(alloc: Global, files: &mut F, input: &str) -> Result<Bytes
             Ok(lines) => Ok(lines),
             Err(_) => Err(InputFault::NoMemory),
         },
-        Err(ConvertFault::Refused(fault)) => Err(InputFault::Refused(fault)),
-        Err(ConvertFault::NoMemory) => Err(InputFault::NoMemory),
+        Err(Stop::Refused(fault)) => Err(InputFault::Refused(fault)),
+        Err(Stop::NoMemory) => Err(InputFault::NoMemory),
     }
 }
 

@@ -7,8 +7,7 @@ ghost use Rattle.objconv.specs.Runs.{IsEnd};
 ghost use Rattle.oc_runs.specs.States.{state_of};
 
 use crate::writing::write_output;
-use oc_base::{Bytes, Format, NoMemory, word_of};
-use oc_convert::ConvertFault;
+use oc_base::{Bytes, Format, NoMemory, Stop, word_of};
 use oc_dispatch::{AnyPlan, dispatch};
 use oc_made::made_file;
 use oc_names::Edits;
@@ -56,8 +55,8 @@ fn plan(alloc: Global, count: u32, to: Format) -> Result<AnyPlan, NoMemory>
     let edits = Edits::new(alloc);
     match dispatch(alloc, to, bytes.as_slice(), &edits) {
         Ok(plan) => Ok(plan),
-        Err(ConvertFault::NoMemory) => Err(NoMemory),
-        Err(ConvertFault::Refused(_)) => unreachable!(),
+        Err(Stop::NoMemory) => Err(NoMemory),
+        Err(Stop::Refused(_)) => unreachable!(),
     }
 }
 

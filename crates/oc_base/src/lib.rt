@@ -1,5 +1,5 @@
-//! What every crate of objconv stands on: bytes and texts, views of a file, the formats, and
-//! faults with their messages.
+//! What every crate of objconv stands on: bytes and texts, views of a file, the formats,
+//! faults with their messages, and why a step stops.
 #![tactic(auto)]
 
 mod answers;
@@ -11,6 +11,7 @@ mod format;
 mod limits;
 mod messages;
 mod numbers;
+mod stop;
 mod view;
 mod words;
 
@@ -23,4 +24,5 @@ pub use format::{Format, Word, plain_of, word_of};
 pub use limits::{MOST_CONTENTS, MOST_INPUT};
 pub use messages::message;
 pub use numbers::{u8_in, u16_in, u32_in, u64_in};
+pub use stop::Stop;
 pub use view::View;

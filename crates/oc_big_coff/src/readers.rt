@@ -5,9 +5,10 @@ ghost use Rattle.oc_coff.specs.declared.form.Shape.TheVariants.{Big};
 ghost use Rattle.oc_coff.specs.Rules.{coff_dialect};
 ghost use Rattle.oc_coff_read.specs.Shown.{coff_is_dialect};
 
+use oc_base::Stop;
 use oc_coff::CoffForm;
 use oc_coff_read::read_object;
-use oc_neutral::{Keep, Neutral, ReadFault, Reads};
+use oc_neutral::{Keep, Neutral, Reads};
 use std::alloc::Global;
 
 /// The reader of COFF objects of many sections of 32 bits, for i386. The time is that of `read_object`.
@@ -17,7 +18,7 @@ pub struct BigCoffReader32;
 impl Reads for BigCoffReader32 {
     ghost dialect = { coff_dialect Big32 };
 
-    fn read(&self, alloc: Global, bytes: &[u8], keep: &Keep) -> Result<Neutral, ReadFault> {
+    fn read(&self, alloc: Global, bytes: &[u8], keep: &Keep) -> Result<Neutral, Stop> {
         read_object(alloc, CoffForm::Big32, bytes, keep)
     }
 
@@ -31,7 +32,7 @@ pub struct BigCoffReader64;
 impl Reads for BigCoffReader64 {
     ghost dialect = { coff_dialect Big64 };
 
-    fn read(&self, alloc: Global, bytes: &[u8], keep: &Keep) -> Result<Neutral, ReadFault> {
+    fn read(&self, alloc: Global, bytes: &[u8], keep: &Keep) -> Result<Neutral, Stop> {
         read_object(alloc, CoffForm::Big64, bytes, keep)
     }
 

@@ -2,9 +2,10 @@
 ghost use Rattle.oc_elf.specs.Elf.{elf_dialect, elf_is_dialect};
 ghost use Rattle.oc_elf.specs.declared.class.ElfClass.TheVariants.{Big32, Big64};
 
+use oc_base::Stop;
 use oc_elf::ElfClass;
 use oc_elf_read::read_elf;
-use oc_neutral::{Keep, Neutral, ReadFault, Reads};
+use oc_neutral::{Keep, Neutral, Reads};
 use std::alloc::Global;
 
 /// The reader of ELF objects of 32 bits with many sections, for i386: the number of section headers and
@@ -18,7 +19,7 @@ pub struct BigElfReader32;
 impl Reads for BigElfReader32 {
     ghost dialect = { elf_dialect Big32 };
 
-    fn read(&self, alloc: Global, bytes: &[u8], keep: &Keep) -> Result<Neutral, ReadFault> {
+    fn read(&self, alloc: Global, bytes: &[u8], keep: &Keep) -> Result<Neutral, Stop> {
         read_elf(alloc, ElfClass::Big32, bytes, keep)
     }
 
@@ -35,7 +36,7 @@ pub struct BigElfReader64;
 impl Reads for BigElfReader64 {
     ghost dialect = { elf_dialect Big64 };
 
-    fn read(&self, alloc: Global, bytes: &[u8], keep: &Keep) -> Result<Neutral, ReadFault> {
+    fn read(&self, alloc: Global, bytes: &[u8], keep: &Keep) -> Result<Neutral, Stop> {
         read_elf(alloc, ElfClass::Big64, bytes, keep)
     }
 

@@ -13,7 +13,7 @@ use Rattle.oc_linking.specs.FirstFault.{Condition, Stage}
 use Rattle.oc_neutral.specs.KindRules.{has, same_kind}
 use Rattle.oc_neutral.specs.TargetSections.{each_of}
 use Rattle.oc_neutral.specs.declared.coff.TheConstants.{IMAGE_SCN_CNT_UNINITIALIZED_DATA}
-use Rattle.oc_shelf.specs.Reading.Stops.{sum_upto, passes}
+use Rattle.oc_shelf.specs.Reading.Sums.{sum_upto, passes}
 use Rattle.oc_coff.specs.declared.constants.TheConstants.{IMAGE_COMDAT_SELECT_NODUPLICATES, IMAGE_COMDAT_SELECT_ANY, IMAGE_COMDAT_SELECT_ASSOCIATIVE}
 use Rattle.oc_coff.specs.declared.section_header.TheConstants.{SECTION_HEADER_SIZE}
 use Rattle.oc_coff.specs.declared.relocation.TheConstants.{RELOCATION_SIZE}

@@ -46,7 +46,7 @@ use Rattle.oc_coff_file.proofs.KeyLaws.{leader_selects, member_selects, member_k
 use Rattle.oc_coff.specs.Comdat.{key_symbol, definition_in, selects, is_comdat}
 use Rattle.oc_coff_file.proofs.GroupLaws.{leader_of}
 use Rattle.oc_coff.specs.Names.{section_name}
-use Rattle.oc_shelf.specs.Reading.Stops.{sum_upto}
+use Rattle.oc_shelf.specs.Reading.Sums.{sum_upto}
 use Rattle.oc_neutral.specs.Building.{stored_size, is_zero}
 use Rattle.oc_linking.specs.declared.terms.Kind.{Kind}
 use Rattle.oc_coff_file.proofs.FieldLaws.{no_member}

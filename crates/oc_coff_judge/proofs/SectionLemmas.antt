@@ -11,7 +11,7 @@ use Rattle.oc_base.specs.declared.fault.Fault.{Fault}
 use Rattle.oc_linking.specs.declared.terms.Kind.{Kind}
 use Rattle.oc_linking.specs.FirstFault.{Condition, first_broken}
 use Rattle.oc_linking.specs.Numbers.{first_upto, or_else}
-use Rattle.oc_shelf.specs.Reading.Stops.{sum_upto}
+use Rattle.oc_shelf.specs.Reading.Sums.{sum_upto}
 use Rattle.oc_shelf.proofs.ReadingLaws.StageLemmas.{all_hold, first_broken-append, sum_more}
 use Rattle.oc_coff.specs.declared.section_header.SectionHeader.{SectionHeader}
 use Rattle.oc_coff.specs.Tables.{SectionTable, section_table}

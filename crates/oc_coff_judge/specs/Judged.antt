@@ -10,7 +10,7 @@ use Rattle.oc_linking.specs.FirstFault.{Condition, fault_of}
 use Rattle.oc_linking.specs.declared.terms.Kind.{Kind}
 use Rattle.oc_linking.specs.declared.terms.Kind.TheVariants.{Zero}
 use Rattle.oc_neutral.specs.KindRules.{same_kind}
-use Rattle.oc_shelf.specs.Reading.Stops.{sum_upto}
+use Rattle.oc_shelf.specs.Reading.Sums.{sum_upto}
 use Rattle.oc_coff.specs.declared.section_header.SectionHeader.{SectionHeader}
 use Rattle.oc_coff.specs.declared.symbol.SymbolEntry.{SymbolEntry}
 use Rattle.oc_coff.specs.Tables.{Tables}

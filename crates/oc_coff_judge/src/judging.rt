@@ -1,7 +1,7 @@
 //! Judging a file: the first of its faults.
 ghost use Rattle.std.specs.Prelude.{◌≡◌, ◌+◌, ◌<◌, length, slice_get, None, Some, IfErr, IfOk, OnOk};
+ghost use Rattle.oc_base.specs.Stops.{IsStop};
 ghost use Rattle.oc_linking.specs.FirstFault.{first_fault, stage_fault};
-ghost use Rattle.oc_shelf.specs.Reading.Stops.{IsStop};
 ghost use Rattle.oc_coff.specs.RelocationFaults.{relocation_stage};
 ghost use Rattle.oc_coff.specs.SectionFaults.{section_stage};
 ghost use Rattle.oc_coff.specs.Sections as sections;
@@ -18,10 +18,9 @@ use crate::section_stage::check_sections;
 use crate::sections::kind_in;
 use crate::symbol_stage::check_symbols;
 use crate::weight::{section_weight, weigh_relocs, weigh_symbols};
-use oc_base::{Word, u32_in};
+use oc_base::{Stop, Word, u32_in};
 use oc_coff::{Coff, RELOCATION_SIZE, SectionHeader, Shape, is_overflowed, is_stored};
 use oc_neutral::{Keep, Kind};
-use oc_shelf::Stop;
 use std::alloc::Global;
 
 // where the relocation entries of a section begin in the file, behind the one that has their count
@@ -114,7 +113,7 @@ fn check_headers(coff: &Coff, found: &Found) -> Result<(), Stop>
     ensures stop { IfErr result (IsStop (stage_fault (section_stage coff.now.bytes (files.tables_in coff.now)))) }
 {
     match check_sections(coff, &found.owners()) {
-        Err(fault) => Err(Stop::Fault(fault)),
+        Err(fault) => Err(Stop::Refused(fault)),
         Ok(()) => Ok(()),
     }
 }

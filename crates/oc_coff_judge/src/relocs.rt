@@ -1,21 +1,21 @@
 //! Relocation entries, and the conditions on each.
 ghost use Rattle.std.specs.Prelude.{◌≡◌, ◌+◌, ◌*◌, ◌<◌, ◌≤◌, is_some, slice_index_or, None, Some, IfErr, OnOk, ◌^◌};
 ghost use Rattle.oc_base.specs.declared.limits.TheConstants.{MOST_INPUT};
+ghost use Rattle.oc_base.specs.Stops.{IsStop};
 ghost use Rattle.oc_linking.specs.FirstFault.{first_broken};
 ghost use Rattle.oc_linking.specs.Numbers.{first_upto};
-ghost use Rattle.oc_shelf.specs.Reading.Stops.{IsStop};
 ghost use Rattle.oc_coff.specs.Fields as fields;
 ghost use Rattle.oc_coff.specs.Files as files;
 ghost use Rattle.oc_coff_judge.specs.Aimed as aimed;
 ghost use Rattle.oc_coff_judge.specs.Relocs as rules;
 
 use crate::aims::{Aim, aim_at};
-use oc_base::{Code, Fault, Phase, Word};
+use oc_base::{Code, Fault, Phase, Stop, Word};
 use oc_coff::{
     Coff, IMAGE_REL_I386_ABSOLUTE, RELOCATION_SIZE, Relocation, meaning_of, relocation_at,
 };
 use oc_neutral::{Base, Less};
-use oc_shelf::{Bitmap, Stop};
+use oc_shelf::Bitmap;
 use std::alloc::Global;
 
 /// The relocation table of a section that is carried.
@@ -189,13 +189,13 @@ fn judge_entry(
     }
     let place = reloc_place(table, k);
     match own_fault(aims, i, table, place, &r) {
-        Some(fault) => return Err(Stop::Fault(fault)),
+        Some(fault) => return Err(Stop::Refused(fault)),
         None => (),
     }
     let begin = u64::from(r.VirtualAddress);
     let end = begin + u64::from(width_of(aims.word, &r));
     if bytes.is_met(begin, end) {
-        return Err(Stop::Fault(reloc_fault(Code::Overlap, i, place)));
+        return Err(Stop::Refused(reloc_fault(Code::Overlap, i, place)));
     }
     bytes.take(begin, end);
     Ok(())

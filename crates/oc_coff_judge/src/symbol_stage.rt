@@ -1,9 +1,9 @@
 //! The stage of symbols.
 ghost use Rattle.std.specs.Prelude.{◌≡◌, ◌+◌, ◌<◌, length, None, Some, MatchOption, IfErr, IfOk, OnOk};
+ghost use Rattle.oc_base.specs.Stops.{IsStop};
 ghost use Rattle.oc_linking.specs.FirstFault.{first_broken, stage_fault};
 ghost use Rattle.oc_neutral.specs.Repeats as repeats;
 ghost use Rattle.oc_shelf.specs.Reading.Slots.{AreSlots};
-ghost use Rattle.oc_shelf.specs.Reading.Stops.{IsStop};
 ghost use Rattle.oc_coff.specs.Entries as entries;
 ghost use Rattle.oc_coff.specs.Sections as sections;
 ghost use Rattle.oc_coff.specs.SymbolFaults as rules;
@@ -19,13 +19,13 @@ use crate::owners::number_at;
 use crate::symbols::{
     class_fault, has_home, is_external, is_weak, name_of, place_fault, symbol_fault,
 };
-use oc_base::{Code, Fault, NoMemory};
+use oc_base::{Code, Fault, NoMemory, Stop};
 use oc_coff::{
     Coff, IMAGE_SYM_ABSOLUTE, IMAGE_SYM_CLASS_EXTERNAL, IMAGE_SYM_CLASS_STATIC, IMAGE_SYM_DEBUG,
     SymbolEntry,
 };
 use oc_neutral::{Repeat, first_repeat};
-use oc_shelf::{Slots, Stop, earlier};
+use oc_shelf::{Slots, earlier};
 use std::alloc::Global;
 
 // whether a weak external may tag a symbol
@@ -160,7 +160,7 @@ pub(crate) fn check_symbols(alloc: Global, coff: &Coff, found: &Found) -> Result
     for i in 0..end {
         let j = number_at(numbers, i);
         match judge_symbol(coff, found, j, ends_at(repeat, i)) {
-            Some(fault) => return Err(Stop::Fault(fault)),
+            Some(fault) => return Err(Stop::Refused(fault)),
             None => (),
         }
     }

@@ -24,7 +24,7 @@ use Rattle.oc_neutral.specs.Started.{groups_by, plain_draft, stored_section}
 use Rattle.oc_neutral.proofs.BuiltSteps.{within}
 use Rattle.oc_neutral.proofs.StartedLaws.{section_more}
 use Rattle.oc_shelf.specs.Reading.Collected.{collected}
-use Rattle.oc_shelf.specs.Reading.Stops.{sum_upto}
+use Rattle.oc_shelf.specs.Reading.Sums.{sum_upto}
 use Rattle.oc_shelf.proofs.ReadingLaws.CollectedLemmas.{collected-some, collected-none, collected-sum, length-collected}
 use Rattle.oc_shelf.proofs.ReadingLaws.StageLemmas.{all_hold, clean_at, clean_both}
 use Rattle.oc_coff.specs.declared.section_header.SectionHeader.{SectionHeader}

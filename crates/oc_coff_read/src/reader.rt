@@ -1,10 +1,10 @@
 //! Reading in a form of COFF, and the readers of the two forms for few sections.
 ghost use Rattle.std.specs.Prelude.{◌≡◌, ◌≤◌, length, None, IfErr, IfOk, OnOk};
 ghost use Rattle.oc_base.specs.declared.limits.TheConstants.{MOST_INPUT};
+ghost use Rattle.oc_base.specs.Stops.{IsStop};
 ghost use Rattle.oc_linking.specs.FirstFault.{first_fault};
-ghost use Rattle.oc_neutral.specs.Readable.{IsReadable, IsReadFault};
+ghost use Rattle.oc_neutral.specs.Readable.{IsReadable};
 ghost use Rattle.oc_neutral.specs.Shows.{Shows};
-ghost use Rattle.oc_shelf.specs.Reading.Stops.{IsStop};
 ghost use Rattle.oc_coff.specs.Rules.{coff_dialect, dialect_by, fault_by, fault_of};
 ghost use Rattle.oc_coff_judge.specs.Found.{IsFound};
 ghost use Rattle.oc_coff_judge.specs.Relocs.{rest_stages};
@@ -12,11 +12,10 @@ ghost use Rattle.oc_coff_judge.specs.Relocs.{rest_stages};
 use crate::added_relocs::add_relocations;
 use crate::built_symbols::Positions;
 use crate::started::start;
-use oc_base::{NoMemory, Word};
+use oc_base::{NoMemory, Stop, Word};
 use oc_coff::{Coff, CoffForm, Shape, read_coff, shape_of, word_of};
 use oc_coff_judge::{Found, check_rest, symbol_positions};
-use oc_neutral::{Keep, Neutral, ReadFault, Reads, are_bytes};
-use oc_shelf::Stop;
+use oc_neutral::{Keep, Neutral, Reads, are_bytes};
 use std::alloc::Global;
 
 // the object of a file without faults, by what was found in it
@@ -62,7 +61,7 @@ fn read_file(
     ensures readable { IfOk result IsReadable }
 {
     let coff = match read_coff(shape, file) {
-        Err(fault) => return Err(Stop::Fault(fault)),
+        Err(fault) => return Err(Stop::Refused(fault)),
         Ok(coff) => coff,
     };
     let found = match check_rest(alloc, word, &coff, keep) {
@@ -79,9 +78,9 @@ fn read_file(
 /// structures of winnt.h, "ANON_OBJECT_HEADER_BIGOBJ", "IMAGE_SYMBOL_EX" and "IMAGE_AUX_SYMBOL_EX"). It has
 /// all carried sections and symbols, and relocations in the sections that are kept.
 ///
-/// Refused exactly where the file has a fault when it is read in that form under `keep`, with the first one
-/// in the variant of its class; `NoMemory` where memory ran out, or where the names weigh more than 1 GiB,
-/// or all relocation tables have more than 2^23 entries (`oc_weight`).
+/// Refused exactly where the file has a fault when it is read in that form under `keep`, with the first one;
+/// `NoMemory` where memory ran out, or where the names weigh more than 1 GiB, or all relocation tables have
+/// more than 2^23 entries (`oc_weight`).
 ///
 /// The time is linear in the bytes of the file, and that of n log2(n) steps for n symbols or relocations,
 /// in any order of names and offsets: some 1 GiB and 10 seconds for the worst files known (measured:
@@ -91,17 +90,16 @@ pub fn read_object(
     form: CoffForm,
     bytes: &[u8],
     keep: &Keep,
-) -> Result<Neutral, ReadFault>
+) -> Result<Neutral, Stop>
     requires { length bytes.now ≤ MOST_INPUT }
     ensures well_formed { OnOk result (fault_of form bytes.now keep.now ≡ None) }
     ensures shows { IfOk result (Shows (coff_dialect form) bytes.now keep.now) }
     ensures readable { IfOk result IsReadable }
-    ensures fault { IfErr result (IsReadFault (fault_of form bytes.now keep.now)) }
+    ensures fault { IfErr result (IsStop (fault_of form bytes.now keep.now)) }
 {
     match read_file(alloc, word_of(form), shape_of(form), bytes, keep) {
         Ok(object) => Ok(object),
-        Err(Stop::NoMemory) => Err(ReadFault::NoMemory),
-        Err(Stop::Fault(fault)) => Err(ReadFault::of(fault)),
+        Err(stop) => Err(stop),
     }
 }
 
@@ -118,7 +116,7 @@ impl Reads for CoffReader32 {
 
     ghost dialect = { coff_dialect Usual32 };
 
-    fn read(&self, alloc: Global, bytes: &[u8], keep: &Keep) -> Result<Neutral, ReadFault> {
+    fn read(&self, alloc: Global, bytes: &[u8], keep: &Keep) -> Result<Neutral, Stop> {
         read_object(alloc, CoffForm::Usual32, bytes, keep)
     }
 
@@ -138,7 +136,7 @@ impl Reads for CoffReader64 {
 
     ghost dialect = { coff_dialect Usual64 };
 
-    fn read(&self, alloc: Global, bytes: &[u8], keep: &Keep) -> Result<Neutral, ReadFault> {
+    fn read(&self, alloc: Global, bytes: &[u8], keep: &Keep) -> Result<Neutral, Stop> {
         read_object(alloc, CoffForm::Usual64, bytes, keep)
     }
 

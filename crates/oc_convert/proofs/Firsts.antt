@@ -2,6 +2,9 @@
 use Rattle.std.proofs.Common.{◌≡◌, ℕ, List, None, Result, Ok, sym, ◌∙◌, ap, subst}
 use Rattle.oc_base.specs.declared.format.Format.{Format}
 use Rattle.oc_base.specs.declared.fault.Fault.{Fault}
+use Rattle.oc_base.specs.declared.stop.Stop.{Stop}
+use Rattle.oc_base.specs.declared.stop.Stop.TheVariants as stop
+use Rattle.oc_base.specs.Stops.{IsStop}
 use Rattle.oc_linking.specs.declared.terms.Keep.{Keep}
 use Rattle.oc_linking.specs.Numbers.{or_else}
 use Rattle.oc_neutral.specs.Objects.{Object}
@@ -11,17 +14,16 @@ use Rattle.oc_neutral.specs.Shows.{Shows}
 use Rattle.oc_neutral.specs.Computed.{object_in}
 use Rattle.oc_neutral.specs.Fitted.{first_unfit}
 use Rattle.oc_neutral.proofs.ShownComputed.{shown_is_computed}
+use Rattle.oc_drop.specs.Refusals.{IsStepRefusal}
 use Rattle.oc_names.specs.Wishes.{Wishes}
 use Rattle.oc_names.specs.Edited.{edited}
-use Rattle.oc_convert.specs.declared.fault.ConvertFault.{ConvertFault}
-use Rattle.oc_convert.specs.declared.fault.ConvertFault.TheVariants as fault
 use Rattle.oc_convert.specs.Converted.{HasObject}
-use Rattle.oc_convert.specs.Refusals.{IsFaultOf, IsStepFault, kept_of_file, edited_refusal, object_refusal, first_refusal}
+use Rattle.oc_convert.specs.Refusals.{kept_of_file, edited_refusal, object_refusal, first_refusal}
 
 -- a fault of editing
-pub edit_stands : (to : Format) (step : Result Object Fault) (e : ConvertFault) → IsStepFault step e → IsFaultOf (edited_refusal to step) e
-edit_stands to step fault.NoMemory is = tt
-edit_stands to step (fault.Refused f) is = ap (edited_refusal to) is
+pub edit_stands : (to : Format) (step : Result Object Fault) (e : Stop) → IsStepRefusal step e → IsStop (edited_refusal to step) e
+edit_stands to step stop.NoMemory is = tt
+edit_stands to step (stop.Refused f) is = ap (edited_refusal to) is
 
 module _ (wishes : Wishes) (f : Dialect) (to : Format) (b : List ℕ) (n : Object) (is : IsObject n) (shows : Shows f b (kept_of_file wishes f to) n) where
   abbrev keep : Keep

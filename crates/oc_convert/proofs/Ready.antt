@@ -3,6 +3,7 @@ use Rattle.std.proofs.Common.{◌≡◌, ◌^◌, ◌≤◌, ℕ, List, length, 
 use Rattle.std.specs.Prelude.{IfOk, OnOk}
 use Rattle.oc_base.specs.declared.format.Format.{Format}
 use Rattle.oc_base.specs.Formats.{word_for}
+use Rattle.oc_base.specs.declared.stop.Stop.{Stop}
 use Rattle.oc_linking.specs.declared.terms.Keep.{Keep}
 use Rattle.oc_linking.specs.Parts as parts
 use Rattle.oc_neutral.specs.Objects.{Object}
@@ -20,7 +21,6 @@ use Rattle.oc_names.specs.Edited.{edited}
 use Rattle.oc_names.specs.EditedShows.{is_folded_after, HasEdited}
 use Rattle.oc_names.proofs.EditedParts.{edited_parts}
 use Rattle.oc_names.proofs.EditedShown.{edited_shows_law}
-use Rattle.oc_convert.specs.declared.fault.ConvertFault.{ConvertFault}
 use Rattle.oc_convert.specs.Converted.{IsFaithful, IsReady, edited_file, on_ok}
 use Rattle.oc_convert.specs.Refusals.{kept_of_file}
 use Rattle.oc_convert.proofs.Firsts.{has_object, refused_by_edited}
@@ -60,7 +60,7 @@ module _ (wishes : Wishes) (f : Dialect) (to : Format) (b : List ℕ) (n : Objec
   }
 
   -- so is each that is given
-  pub if_ready : f.rules.word ≡ word_for f.format → f.rules.fault b keep ≡ None → IsObject m → (r : Result Object ConvertFault)
+  pub if_ready : f.rules.word ≡ word_for f.format → f.rules.fault b keep ≡ None → IsObject m → (r : Result Object Stop)
       → IfOk r (λ x. x ≡ fit_of to m) → IfOk r (IsFitted to) → IfOk r (IsFit to m) → OnOk r (first_unfit to m ≡ None) → IfOk r (IsReady wishes f to b)
   if_ready word good object (Ok x) computed fitted fit expressible = is_ready word good object x expressible computed fitted fit
   if_ready word good object (Err e) computed fitted fit expressible = tt

@@ -1,5 +1,5 @@
 -- The first refusal of a conversion (our profile).
-use Rattle.std.specs.Prelude.{◌≡◌, List, ℕ, Option, Some, Result, Ok, Err}
+use Rattle.std.specs.Prelude.{List, ℕ, Option, Some, Result, Ok, Err}
 use Rattle.oc_base.specs.declared.format.Format.{Format}
 use Rattle.oc_base.specs.declared.fault.Fault.{Fault}
 use Rattle.oc_linking.specs.declared.terms.Keep.{Keep}
@@ -11,18 +11,6 @@ use Rattle.oc_neutral.specs.Fitted.{first_unfit}
 use Rattle.oc_names.specs.Wishes.{Wishes}
 use Rattle.oc_names.specs.Kept.{keep_for}
 use Rattle.oc_names.specs.Edited.{edited}
-use Rattle.oc_convert.specs.declared.fault.ConvertFault.{ConvertFault}
-use Rattle.oc_convert.specs.declared.fault.ConvertFault.TheVariants as fault
-
--- the fault is the first; want of memory says nothing
-abbrev pub IsFaultOf : Option Fault → ConvertFault → Type 0
-IsFaultOf first (fault.Refused f) = first ≡ Some f
-IsFaultOf first fault.NoMemory = Unit {0}
-
--- the fault is that of the step; want of memory says nothing
-abbrev pub IsStepFault : {X : Type 0} → Result X Fault → ConvertFault → Type 0
-IsStepFault step (fault.Refused f) = step ≡ Err f
-IsStepFault step fault.NoMemory = Unit {0}
 
 -- what is kept of a file of the dialect on its way to a target
 abbrev pub kept_of_file : Wishes → Dialect → Format → Keep

@@ -3,11 +3,9 @@
 #![tactic(auto)]
 
 mod conversion;
-mod fault;
 mod first_bytes;
 mod identifying;
 mod steps;
 
 pub use conversion::convert;
-pub use fault::ConvertFault;
 pub use identifying::identify;

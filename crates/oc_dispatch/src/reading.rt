@@ -1,52 +1,40 @@
 //! The object of a file of any format.
 ghost use Rattle.std.specs.Prelude.{◌≡◌, ◌≤◌, length, None, IfErr, IfOk, OnOk};
 ghost use Rattle.oc_base.specs.declared.limits.TheConstants.{MOST_INPUT};
+ghost use Rattle.oc_base.specs.Stops.{IsStop};
 ghost use Rattle.oc_neutral.specs.Computed.{object_in};
 ghost use Rattle.oc_neutral.specs.Readable.{IsReadable};
 ghost use Rattle.oc_neutral.specs.Shows.{Shows};
 ghost use Rattle.oc_neutral.specs.Targets.{IsDialect};
 ghost use Rattle.oc_convert.specs.Dispatched.{reading_refusal};
-ghost use Rattle.oc_convert.specs.Refusals.{IsFaultOf};
 ghost use Rattle.oc_dispatch.specs.Built.{IsRead, built};
 
 use crate::header::header_refusal;
-use oc_base::{Code, Format};
+use oc_base::{Code, Format, Stop};
 use oc_big_coff::{BigCoffReader32, BigCoffReader64};
 use oc_big_elf::{BigElfReader32, BigElfReader64};
 use oc_coff_read::{CoffReader32, CoffReader64};
-use oc_convert::{ConvertFault, identify};
+use oc_convert::identify;
 use oc_elf_read::{ElfReader32, ElfReader64};
 use oc_macho_read::{MachReader32, MachReader64};
-use oc_neutral::{Keep, Neutral, ReadFault, Reads, shown_object_is_computed};
+use oc_neutral::{Keep, Neutral, Reads, shown_object_is_computed};
 use oc_omf_read::OmfReader;
 use std::alloc::Global;
 
 // the object of a file that this reader reads
-fn read_by<R: Reads>(
-    alloc: Global,
-    reader: &R,
-    bytes: &[u8],
-    keep: &Keep,
-) -> Result<Neutral, ConvertFault>
+fn read_by<R: Reads>(alloc: Global, reader: &R, bytes: &[u8], keep: &Keep) -> Result<Neutral, Stop>
     requires { length bytes.now ≤ MOST_INPUT }
     ensures well_formed { OnOk result (R.dialect.rules.fault bytes.now keep.now ≡ None) }
-    ensures refused { IfErr result (IsFaultOf (R.dialect.rules.fault bytes.now keep.now)) }
+    ensures refused { IfErr result (IsStop (R.dialect.rules.fault bytes.now keep.now)) }
     ensures computed { IfOk result (λ n. n ≡ object_in R.dialect bytes.now keep.now) }
     ensures shows { IfOk result (Shows R.dialect bytes.now keep.now) }
     ensures readable { IfOk result IsReadable }
     ensures dialect { OnOk result (IsDialect R.dialect) }
 {
     shown_object_is_computed();
-    match reader.read(alloc, bytes, keep) {
-        Ok(neutral) => {
-            neutral.is_object();
-            Ok(neutral)
-        }
-        Err(ReadFault::Malformed(fault) | ReadFault::Outside(fault) | ReadFault::Limit(fault)) => {
-            Err(ConvertFault::Refused(fault))
-        }
-        Err(ReadFault::NoMemory) => Err(ConvertFault::NoMemory),
-    }
+    let neutral = reader.read(alloc, bytes, keep)?;
+    neutral.is_object();
+    Ok(neutral)
 }
 
 /// The object of a file of at most 67,108,864 bytes, of which only what `keep` says is examined for
@@ -58,10 +46,10 @@ fn read_by<R: Reads>(
 /// and time of reading: some 1 GiB and 10 seconds for the worst files known, but for modules of OMF with
 /// millions of names (measured: docs/SAFETY.md).
 #[tactic(auto, unfolding(crate::specs::Built::built))]
-pub fn read_any(alloc: Global, bytes: &[u8], keep: &Keep) -> Result<Neutral, ConvertFault>
+pub fn read_any(alloc: Global, bytes: &[u8], keep: &Keep) -> Result<Neutral, Stop>
     requires { length bytes.now ≤ MOST_INPUT }
     ensures well_formed { OnOk result (reading_refusal built keep.now bytes.now ≡ None) }
-    ensures refused { IfErr result (IsFaultOf (reading_refusal built keep.now bytes.now)) }
+    ensures refused { IfErr result (IsStop (reading_refusal built keep.now bytes.now)) }
     ensures read { IfOk result (IsRead keep.now bytes.now) }
 {
     match identify(bytes) {

@@ -5,9 +5,9 @@ ghost use Rattle.oc_linking.specs.Keeping.{keeps};
 ghost use Rattle.oc_drop.specs.Refusals.{IsStepRefusal};
 ghost use Rattle.oc_drop.specs.Dropping as dropping;
 
-use crate::fault::{EditFault, unless};
+use crate::fault::unless;
 use crate::judging::{references_fault, symbols_fault};
-use oc_base::NoMemory;
+use oc_base::{NoMemory, Stop};
 use oc_neutral::{Keep, Kind, Neutral, Section};
 use std::alloc::Global;
 
@@ -51,7 +51,7 @@ fn all_stay(stay: &[bool]) -> bool
 /// `NoMemory` where memory ran out. A refusal gives nothing back.
 ///
 /// Linear in the object, and no relocation is moved; where every section is kept, a flag a section.
-pub fn dropped(alloc: Global, keep: Keep, neutral: Neutral) -> Result<Neutral, EditFault>
+pub fn dropped(alloc: Global, keep: Keep, neutral: Neutral) -> Result<Neutral, Stop>
     ensures ok { IfOk result (λ left. dropping.dropped keep neutral ≡ Ok left) }
     ensures refused { IfErr result (IsStepRefusal (dropping.dropped keep neutral)) }
 {

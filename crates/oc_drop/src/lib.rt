@@ -8,6 +8,6 @@ mod judging;
 mod laws;
 
 pub use dropping::dropped;
-pub use fault::{EditFault, edit_fault, unless};
+pub use fault::{edit_fault, unless};
 pub use judging::is_local;
 pub use laws::{dropped_shows_kept, nothing_is_dropped, positions_are_new};

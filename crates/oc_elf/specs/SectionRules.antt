@@ -12,7 +12,7 @@ use Rattle.oc_neutral.specs.KindRules.{has}
 use Rattle.oc_neutral.specs.Building.{is_zero}
 use Rattle.oc_neutral.specs.Elf.Kinds.{carried_types}
 use Rattle.oc_shelf.specs.Reading.Firsts.{any_upto}
-use Rattle.oc_shelf.specs.Reading.Stops.{sum_upto}
+use Rattle.oc_shelf.specs.Reading.Sums.{sum_upto}
 use Rattle.oc_elf.specs.declared.constants.TheConstants.{SHT_NULL, SHT_SYMTAB, SHT_STRTAB, SHT_RELA, SHT_REL, SHT_GROUP, SHT_SYMTAB_SHNDX, SHNDX_SIZE, SHF_LINK_ORDER, SHF_TLS, SHF_COMPRESSED}
 use Rattle.oc_elf.specs.declared.constants.TheConstants.{GRP_COMDAT, GRP_ENTRY_SIZE, MOST_SIZE, MOST_SIZES}
 use Rattle.oc_base.specs.declared.limits.TheConstants.{MOST_CONTENTS}

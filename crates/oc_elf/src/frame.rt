@@ -2,9 +2,9 @@
 ghost use Rattle.std.specs.Prelude.{◌≡◌, ◌+◌, ◌*◌, ◌<◌, ◌≤◌, ◌^◌, length, map, if◌then◌else◌, IfErr, IfOk, OnOk, None, Some};
 ghost use Rattle.std.specs.List.{range_with_len};
 ghost use Rattle.oc_base.specs.declared.limits.TheConstants.{MOST_INPUT};
+ghost use Rattle.oc_base.specs.Stops.{IsStop};
 ghost use Rattle.oc_linking.specs.FirstFault.{first_broken, first_fault};
 ghost use Rattle.oc_linking.specs.Numbers.{or_else};
-ghost use Rattle.oc_shelf.specs.Reading.Stops.{IsStop};
 ghost use Rattle.oc_elf.specs.Ehdr.{ehdr_in};
 ghost use Rattle.oc_elf.specs.Shdr.{shdr_size};
 ghost use Rattle.oc_elf.specs.Frames as frames;
@@ -17,8 +17,7 @@ use crate::constants::SHT_SYMTAB_SHNDX;
 use crate::ehdr::{Ehdr, ehdr_of};
 use crate::headers::{big_count, big_names, header_fault, names_fault};
 use crate::shdr::{Shdr, null_shdr, shdr_at, shdr_size};
-use oc_base::NoMemory;
-use oc_shelf::Stop;
+use oc_base::{NoMemory, Stop};
 use std::alloc::Global;
 use std::marker::Model;
 
@@ -239,12 +238,12 @@ pub fn read_frame<'a>(alloc: Global, class: ElfClass, file: &'a [u8]) -> Result<
     ensures stop { IfErr result (IsStop (first_fault (rules.header_stages class file.now))) }
 {
     match header_fault(class, file) {
-        Some(fault) => return Err(Stop::Fault(fault)),
+        Some(fault) => return Err(Stop::Refused(fault)),
         None => (),
     }
     let frame = frame_of(alloc, class, file)?;
     if let Some(fault) = names_fault(frame.count(), &frame.names()) {
-        return Err(Stop::Fault(fault));
+        return Err(Stop::Refused(fault));
     }
     Ok(frame)
 }

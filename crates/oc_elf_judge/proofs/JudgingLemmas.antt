@@ -2,12 +2,12 @@
 use Rattle.std.proofs.Common.{◌≡◌, ℕ, ◌<◌, ◌^◌, true, cond, List, length, Option, None, sym, ◌∙◌, ap, arith, inl, inr}
 use Rattle.std.proofs.lemmas.Bool.{true≢false}
 use Rattle.oc_base.specs.declared.fault.Fault.{Fault}
+use Rattle.oc_base.specs.declared.stop.Stop.{Stop}
+use Rattle.oc_base.specs.declared.stop.Stop.TheVariants as stop
+use Rattle.oc_base.specs.Stops.{IsStop}
 use Rattle.oc_linking.specs.declared.terms.Keep.{Keep}
 use Rattle.oc_linking.specs.FirstFault.{fault_of, first_fault, stage_fault}
 use Rattle.oc_linking.specs.Numbers.{first_upto, or_else}
-use Rattle.oc_shelf.specs.declared.reading.stop.Stop.{Stop}
-use Rattle.oc_shelf.specs.declared.reading.stop.Stop.TheVariants as stop
-use Rattle.oc_shelf.specs.Reading.Stops.{IsStop}
 use Rattle.oc_shelf.proofs.ReadingLaws.StageLemmas.{both_hold, clean_at, first_fault-append}
 use Rattle.oc_elf.specs.declared.class.ElfClass.{ElfClass}
 use Rattle.oc_elf.specs.Elf.{fault_in, rest_stages}
@@ -39,7 +39,7 @@ fault_parts class file keep = first_fault-append (header_stages class file) (res
 
 -- a fault of the header is that of the file
 pub header_stops : (class : ElfClass) (file : List ℕ) (keep : Keep) (s : Stop) → IsStop (first_fault (header_stages class file)) s → IsStop (fault_in class file keep) s
-header_stops class file keep (stop.Fault fault) is = fault_parts class file keep ∙ ap (λ (o : Option Fault). or_else o (first_fault (rest_stages (framed class file) keep))) is
+header_stops class file keep (stop.Refused fault) is = fault_parts class file keep ∙ ap (λ (o : Option Fault). or_else o (first_fault (rest_stages (framed class file) keep))) is
 header_stops class file keep stop.NoMemory is = tt
 
 pub header_clean : (class : ElfClass) (file : List ℕ) (keep : Keep) → first_fault (header_stages class file) ≡ None → fault_in class file keep ≡ first_fault (rest_stages (framed class file) keep)

@@ -9,7 +9,7 @@ use Rattle.oc_base.specs.declared.fault.Fault.{Fault}
 use Rattle.oc_linking.specs.Numbers.{first_upto, or_else}
 use Rattle.oc_linking.specs.FirstFault.{Condition, first_broken, fault_of}
 use Rattle.oc_neutral.specs.Building.{is_zero}
-use Rattle.oc_shelf.specs.Reading.Stops.{sum_upto}
+use Rattle.oc_shelf.specs.Reading.Sums.{sum_upto}
 use Rattle.oc_shelf.specs.Reading.Slots.{AreSlots}
 use Rattle.oc_shelf.specs.Reading.Firsts.{any_upto}
 use Rattle.oc_shelf.proofs.ReadingLaws.StageLemmas.{all_hold, implied, both_hold, not_false, clean_both, clean_more, broken_of_three, first_broken-append, sum_more}

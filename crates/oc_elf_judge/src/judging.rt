@@ -1,10 +1,9 @@
 //! Judging a file: the first of its faults.
 ghost use Rattle.std.specs.Prelude.{◌≡◌, ◌+◌, ◌<◌, ◌≤◌, ◌∷◌, length, None, Some, IfErr, IfOk, OnOk};
 ghost use Rattle.oc_base.specs.declared.limits.TheConstants.{MOST_INPUT};
+ghost use Rattle.oc_base.specs.Stops.{IsStop};
 ghost use Rattle.oc_linking.specs.FirstFault.{first_fault, stage_fault};
-ghost use Rattle.oc_neutral.specs.Readable.{IsReadFault};
 ghost use Rattle.oc_shelf.specs.Reading.Slots.{AreSlots};
-ghost use Rattle.oc_shelf.specs.Reading.Stops.{IsStop};
 ghost use Rattle.oc_elf.specs.Elf.{fault_in, rest_stages};
 ghost use Rattle.oc_elf.specs.Frames.{framed};
 ghost use Rattle.oc_elf_judge.specs.Known.{IsAimed, IsFound};
@@ -19,10 +18,10 @@ use crate::section_stage::{Tables, check_sections};
 use crate::sections::kind_of;
 use crate::symbol_stage::check_symbols;
 use crate::weight::{header_weight, weigh_symbols};
-use oc_base::Fault;
+use oc_base::{Fault, Stop};
 use oc_elf::{ElfClass, Frame, is_carried_type, read_frame};
-use oc_neutral::{Keep, ReadFault};
-use oc_shelf::{Slots, Stop};
+use oc_neutral::Keep;
+use oc_shelf::Slots;
 use std::alloc::Global;
 
 /// Whether section `i` is carried and kept. Linear in its name.
@@ -133,22 +132,6 @@ pub fn check_rest(alloc: Global, frame: &Frame, keep: &Keep) -> Result<Found, St
     }
 }
 
-// judges a file
-fn check_file(alloc: Global, class: ElfClass, file: &[u8], keep: &Keep) -> Result<(), Stop>
-    requires { length file.now ≤ MOST_INPUT }
-    ensures clean { OnOk result (fault_in class file.now keep.now ≡ None) }
-    ensures stop { IfErr result (IsStop (fault_in class file.now keep.now)) }
-{
-    let frame = match read_frame(alloc, class, file) {
-        Err(stop) => return Err(stop),
-        Ok(frame) => frame,
-    };
-    match check_rest(alloc, &frame, keep) {
-        Err(stop) => Err(stop),
-        Ok(_) => Ok(()),
-    }
-}
-
 /// Whether a file of at most 67,108,864 bytes is a well formed object of a class, when it is read
 /// under `keep`: an error exactly where it is not, with its first fault; `NoMemory` where memory ran
 /// out, or where the names weigh more than 1 GiB, or all relocation tables have more than 2^23 entries
@@ -157,14 +140,17 @@ fn check_file(alloc: Global, class: ElfClass, file: &[u8], keep: &Keep) -> Resul
 /// The time is linear in the sections, their bytes and their relocations, in any order of offsets, and
 /// that of n log2(n) steps for n symbols, in any order of names; each name is read as often as headers
 /// and symbols have it. What the worst files known take is told in docs/SAFETY.md.
-pub fn judge(alloc: Global, class: ElfClass, bytes: &[u8], keep: &Keep) -> Result<(), ReadFault>
+pub fn judge(alloc: Global, class: ElfClass, bytes: &[u8], keep: &Keep) -> Result<(), Stop>
     requires { length bytes.now ≤ MOST_INPUT }
     ensures well_formed { OnOk result (fault_in class bytes.now keep.now ≡ None) }
-    ensures fault { IfErr result (IsReadFault (fault_in class bytes.now keep.now)) }
+    ensures fault { IfErr result (IsStop (fault_in class bytes.now keep.now)) }
 {
-    match check_file(alloc, class, bytes, keep) {
-        Ok(()) => Ok(()),
-        Err(Stop::NoMemory) => Err(ReadFault::NoMemory),
-        Err(Stop::Fault(fault)) => Err(ReadFault::of(fault)),
+    let frame = match read_frame(alloc, class, bytes) {
+        Err(stop) => return Err(stop),
+        Ok(frame) => frame,
+    };
+    match check_rest(alloc, &frame, keep) {
+        Err(stop) => Err(stop),
+        Ok(_) => Ok(()),
     }
 }

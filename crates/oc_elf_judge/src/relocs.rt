@@ -1,8 +1,8 @@
 //! Relocation entries, and the conditions on each.
 ghost use Rattle.std.specs.Prelude.{◌≡◌, ◌+◌, ◌*◌, ◌<◌, ◌≤◌, ◌^◌, length, is_some, None, Some, IfErr, OnOk};
+ghost use Rattle.oc_base.specs.Stops.{IsStop};
 ghost use Rattle.oc_linking.specs.Numbers.{first_upto};
 ghost use Rattle.oc_linking.specs.FirstFault.{first_broken};
-ghost use Rattle.oc_shelf.specs.Reading.Stops.{IsStop};
 ghost use Rattle.oc_elf.specs.Fields as fields;
 ghost use Rattle.oc_elf.specs.Frames.{header_at};
 ghost use Rattle.oc_elf_judge.specs.Known.{AreTaken, IsAimed, IsTable};
@@ -11,11 +11,11 @@ ghost use Rattle.oc_elf.specs.Tables as tables;
 
 use crate::homes::home_of;
 use crate::symbols::{entry_of, is_local, is_section_symbol, symbol_count};
-use oc_base::{Code, Fault, Phase};
+use oc_base::{Code, Fault, Phase, Stop};
 use oc_elf::{Frame, R_NONE, Rel, Shdr, meaning_of, rel_at, rel_size};
 use oc_neutral::Base;
 use oc_neutral::elf::SHT_NOBITS;
-use oc_shelf::{Bitmap, Slots, Stop};
+use oc_shelf::{Bitmap, Slots};
 use std::alloc::Global;
 
 /// How many entries the relocation table of section `i` has. Constant time.
@@ -195,12 +195,12 @@ fn judge_entry(
     }
     let place = reloc_place(frame, i, table, k);
     match own_fault(frame, aims, i, place, &r) {
-        Some(fault) => return Err(Stop::Fault(fault)),
+        Some(fault) => return Err(Stop::Refused(fault)),
         None => (),
     }
     let end = r.r_offset + u64::from(width_of(frame, &r));
     if bytes.is_met(r.r_offset, end) {
-        return Err(Stop::Fault(reloc_fault(Code::Overlap, i, place)));
+        return Err(Stop::Refused(reloc_fault(Code::Overlap, i, place)));
     }
     bytes.take(r.r_offset, end);
     Ok(())

@@ -1,10 +1,11 @@
 //! The stage of section headers.
 ghost use Rattle.std.specs.Prelude.{◌≡◌, ◌+◌, ◌<◌, ◌≤◌, length, if◌then◌else◌, true, None, Some, slice_set, IfErr, IfOk, IfNone, OnOk};
 ghost use Rattle.oc_base.specs.declared.limits.TheConstants.{MOST_CONTENTS};
+ghost use Rattle.oc_base.specs.Stops.{IsStop};
 ghost use Rattle.oc_linking.specs.Numbers.{or_else};
 ghost use Rattle.oc_linking.specs.FirstFault.{first_broken, stage_fault};
 ghost use Rattle.oc_shelf.specs.Reading.Slots.{AreSlots};
-ghost use Rattle.oc_shelf.specs.Reading.Stops.{IsStop, sum_upto};
+ghost use Rattle.oc_shelf.specs.Reading.Sums.{sum_upto};
 ghost use Rattle.oc_elf.specs.Classes.{reloc_type};
 ghost use Rattle.oc_elf.specs.Frames.{header_at};
 ghost use Rattle.oc_elf.specs.Groups.{owner_among};
@@ -13,9 +14,9 @@ ghost use Rattle.oc_elf.specs.SectionRules as rules;
 
 use crate::groups::group_fault;
 use crate::sections::{Sums, carried_fault, counted, form_fault, table_fault};
-use oc_base::Fault;
+use oc_base::{Fault, Stop};
 use oc_elf::{Frame, SHT_SYMTAB, first_of};
-use oc_shelf::{Slots, Stop, earlier};
+use oc_shelf::{Slots, earlier};
 use std::alloc::Global;
 
 /// What the section headers of a file describe beside sections, by the numbers of headers.
@@ -103,7 +104,7 @@ pub(crate) fn check_sections(alloc: Global, frame: &Frame) -> Result<Tables, Sto
         let s = frame.header(k);
         let before = relocs.get(s.sh_info);
         match judge_section(frame, &mut owners, symtab, before, sums, k) {
-            Some(fault) => return Err(Stop::Fault(fault)),
+            Some(fault) => return Err(Stop::Refused(fault)),
             None => (),
         }
         symtab = first_of(symtab, s.sh_type == SHT_SYMTAB, k);

@@ -5,7 +5,7 @@ ghost use Rattle.std.specs.Option.{option_map_or};
 ghost use Rattle.oc_base.specs.declared.limits.TheConstants.{MOST_CONTENTS};
 ghost use Rattle.oc_linking.specs.FirstFault.{first_broken};
 ghost use Rattle.oc_neutral.specs.Building.{is_zero};
-ghost use Rattle.oc_shelf.specs.Reading.Stops.{sum_upto};
+ghost use Rattle.oc_shelf.specs.Reading.Sums.{sum_upto};
 ghost use Rattle.oc_elf.specs.Frames.{header_at};
 ghost use Rattle.oc_elf.specs.Sections as sections;
 ghost use Rattle.oc_elf.specs.SectionRules as rules;

@@ -1,9 +1,9 @@
 //! The stage of symbols.
 ghost use Rattle.std.specs.Prelude.{◌≡◌, ◌<◌, ◌+◌, length, map, nat_eq, is_some, if◌then◌else◌, None, Some, MatchOption, IfErr, IfOk, OnOk};
 ghost use Rattle.std.specs.List.{range_with_len};
+ghost use Rattle.oc_base.specs.Stops.{IsStop};
 ghost use Rattle.oc_linking.specs.FirstFault.{first_broken, stage_fault};
 ghost use Rattle.oc_neutral.specs.Repeats as repeats;
-ghost use Rattle.oc_shelf.specs.Reading.Stops.{IsStop};
 ghost use Rattle.oc_elf_judge.specs.Known.{IsSymtab, AreSigned};
 ghost use Rattle.oc_elf_judge.specs.Marks.{AreMarks};
 ghost use Rattle.oc_elf.specs.SectionRules.{section_stage};
@@ -14,10 +14,10 @@ use crate::signatures::bad_signatures;
 use crate::symbols::{
     entry_fault, entry_of, is_local, name_of, symbol_count, symbol_fault, symbol_place,
 };
-use oc_base::{Code, Fault, NoMemory};
+use oc_base::{Code, Fault, NoMemory, Stop};
 use oc_elf::{Frame, Shdr};
 use oc_neutral::{Repeat, first_repeat};
-use oc_shelf::{Slots, Stop, earlier};
+use oc_shelf::{Slots, earlier};
 use std::alloc::Global;
 
 // the name of symbol `k`, where it is nonlocal
@@ -118,7 +118,7 @@ pub(crate) fn check_symbols(alloc: Global, frame: &Frame, table: &Shdr) -> Resul
         let own = entry_fault(frame, table, k);
         let other = other_fault(frame, table, found, &marks, k);
         match earlier(own, other) {
-            Some(fault) => return Err(Stop::Fault(fault)),
+            Some(fault) => return Err(Stop::Refused(fault)),
             None => (),
         }
     }

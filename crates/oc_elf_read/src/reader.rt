@@ -1,20 +1,19 @@
 //! The readers of objects with few sections, and the reading that all classes share.
 ghost use Rattle.std.specs.Prelude.{◌≡◌, ◌≤◌, length, None, IfErr, IfOk, OnOk};
 ghost use Rattle.oc_base.specs.declared.limits.TheConstants.{MOST_INPUT};
+ghost use Rattle.oc_base.specs.Stops.{IsStop};
 ghost use Rattle.oc_linking.specs.FirstFault.{first_fault};
-ghost use Rattle.oc_neutral.specs.Readable.{IsReadable, IsReadFault};
+ghost use Rattle.oc_neutral.specs.Readable.{IsReadable};
 ghost use Rattle.oc_neutral.specs.Shows.{Shows};
-ghost use Rattle.oc_shelf.specs.Reading.Stops.{IsStop};
 ghost use Rattle.oc_elf.specs.Elf.{elf_dialect, fault_in, rest_stages};
 ghost use Rattle.oc_elf_judge.specs.Known.{IsFound};
 
 use crate::added_relocs::add_relocations;
 use crate::started::start;
-use oc_base::NoMemory;
+use oc_base::{NoMemory, Stop};
 use oc_elf::{ElfClass, Frame, read_frame};
 use oc_elf_judge::{Aims, Found, check_rest};
-use oc_neutral::{Keep, Neutral, ReadFault, Reads, are_bytes};
-use oc_shelf::Stop;
+use oc_neutral::{Keep, Neutral, Reads, are_bytes};
 use std::alloc::Global;
 
 // the object of a file without faults
@@ -45,15 +44,20 @@ fn object_of(alloc: Global, frame: &Frame, keep: &Keep, found: &Found) -> Result
     Ok(builder.finish())
 }
 
-// reads a file
-fn read_file(alloc: Global, class: ElfClass, file: &[u8], keep: &Keep) -> Result<Neutral, Stop>
-    requires { length file.now ≤ MOST_INPUT }
-    ensures clean { OnOk result (fault_in class file.now keep.now ≡ None) }
-    ensures stop { IfErr result (IsStop (fault_in class file.now keep.now)) }
-    ensures shows { IfOk result (Shows (elf_dialect class) file.now keep.now) }
+/// The object of an ELF file of that class, of at most 67,108,864 bytes: with all carried sections and
+/// symbols, and with the relocations of the sections that are kept (gABI, "Sections", "Symbol Table" and
+/// "Relocation").
+///
+/// Refused exactly where the file has a fault when it is read under `keep`, with the first one;
+/// `NoMemory` where memory ran out. The time is that of `judge`, and linear in the bytes of the file.
+pub fn read_elf(alloc: Global, class: ElfClass, bytes: &[u8], keep: &Keep) -> Result<Neutral, Stop>
+    requires { length bytes.now ≤ MOST_INPUT }
+    ensures well_formed { OnOk result (fault_in class bytes.now keep.now ≡ None) }
+    ensures shows { IfOk result (Shows (elf_dialect class) bytes.now keep.now) }
     ensures readable { IfOk result IsReadable }
+    ensures fault { IfErr result (IsStop (fault_in class bytes.now keep.now)) }
 {
-    let frame = match read_frame(alloc, class, file) {
+    let frame = match read_frame(alloc, class, bytes) {
         Err(stop) => return Err(stop),
         Ok(frame) => frame,
     };
@@ -64,32 +68,6 @@ fn read_file(alloc: Global, class: ElfClass, file: &[u8], keep: &Keep) -> Result
     match object_of(alloc, &frame, keep, &found) {
         Err(NoMemory) => Err(Stop::NoMemory),
         Ok(object) => Ok(object),
-    }
-}
-
-/// The object of an ELF file of that class, of at most 67,108,864 bytes: with all carried sections and
-/// symbols, and with the relocations of the sections that are kept (gABI, "Sections", "Symbol Table" and
-/// "Relocation").
-///
-/// Refused exactly where the file has a fault when it is read under `keep`, with the first one, in the
-/// variant of its class (`Malformed`, `Outside` or `Limit`); `NoMemory` where memory ran out. The time is
-/// that of `judge`, and linear in the bytes of the file.
-pub fn read_elf(
-    alloc: Global,
-    class: ElfClass,
-    bytes: &[u8],
-    keep: &Keep,
-) -> Result<Neutral, ReadFault>
-    requires { length bytes.now ≤ MOST_INPUT }
-    ensures well_formed { OnOk result (fault_in class bytes.now keep.now ≡ None) }
-    ensures shows { IfOk result (Shows (elf_dialect class) bytes.now keep.now) }
-    ensures readable { IfOk result IsReadable }
-    ensures fault { IfErr result (IsReadFault (fault_in class bytes.now keep.now)) }
-{
-    match read_file(alloc, class, bytes, keep) {
-        Ok(object) => Ok(object),
-        Err(Stop::NoMemory) => Err(ReadFault::NoMemory),
-        Err(Stop::Fault(fault)) => Err(ReadFault::of(fault)),
     }
 }
 
@@ -105,7 +83,7 @@ impl Reads for ElfReader32 {
 
     ghost dialect = { elf_dialect Class32 };
 
-    fn read(&self, alloc: Global, bytes: &[u8], keep: &Keep) -> Result<Neutral, ReadFault> {
+    fn read(&self, alloc: Global, bytes: &[u8], keep: &Keep) -> Result<Neutral, Stop> {
         read_elf(alloc, ElfClass::Class32, bytes, keep)
     }
 
@@ -124,7 +102,7 @@ impl Reads for ElfReader64 {
 
     ghost dialect = { elf_dialect Class64 };
 
-    fn read(&self, alloc: Global, bytes: &[u8], keep: &Keep) -> Result<Neutral, ReadFault> {
+    fn read(&self, alloc: Global, bytes: &[u8], keep: &Keep) -> Result<Neutral, Stop> {
         read_elf(alloc, ElfClass::Class64, bytes, keep)
     }
 

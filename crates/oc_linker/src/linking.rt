@@ -9,8 +9,7 @@ ghost use Rattle.oc_linker.specs.Causes as causes;
 ghost use Rattle.oc_linker.specs.Outcomes.{LinkText, object_refusal};
 ghost use Rattle.oc_linker.specs.Runs.{ComesOf};
 
-use oc_base::{Bytes, NoMemory};
-use oc_convert::ConvertFault;
+use oc_base::{Bytes, NoMemory, Stop};
 use oc_dispatch::ReadsAny;
 use oc_link::{link_text, texts_agree};
 use oc_neutral::{Keep, Neutral};
@@ -80,8 +79,8 @@ fn object_of<R: ReadsAny, F: Files>(
     };
     match reader.read(alloc, bytes.as_slice(), &ALL) {
         Ok(object) => Ok(object),
-        Err(ConvertFault::Refused(fault)) => Err(InputFault::Refused(fault)),
-        Err(ConvertFault::NoMemory) => Err(InputFault::NoMemory),
+        Err(Stop::Refused(fault)) => Err(InputFault::Refused(fault)),
+        Err(Stop::NoMemory) => Err(InputFault::NoMemory),
     }
 }
 

@@ -1,18 +1,17 @@
 //! One run of the command.
 ghost use Rattle.std.specs.Prelude.{◌≡◌, ◌+◌, ◌-◌, ◌^◌, ◌<◌, ◌≤◌, length, Err, IfOk, IfErr, None, OnOk};
 ghost use Rattle.oc_base.specs.declared.limits.TheConstants.{MOST_INPUT};
+ghost use Rattle.oc_base.specs.Stops.{IsStop};
 ghost use Rattle.oc_outside.specs.Causes.{Counts};
 ghost use Rattle.oc_linking.specs.Keeping.{all};
 ghost use Rattle.oc_convert.specs.Dispatched.{reading_refusal};
-ghost use Rattle.oc_convert.specs.Refusals.{IsFaultOf};
 ghost use Rattle.oc_dispatch.specs.Built.{IsRead, built};
 ghost use Rattle.oc_runs.specs.Reports as reports;
 ghost use Rattle.oc_runs.specs.States.{state_of};
 ghost use Rattle.oc_lister.specs.Runs as runs;
 
 use crate::words::asked;
-use oc_base::Bytes;
-use oc_convert::ConvertFault;
+use oc_base::{Bytes, Stop};
 use oc_dispatch::ReadsAny;
 use oc_linking::Keep;
 use oc_listings::{Listing, listings_agree, object_text};
@@ -42,11 +41,11 @@ fn text_of<R: ReadsAny>(
     reader: &R,
     bytes: &[u8],
     listing: Listing,
-) -> Result<Bytes, ConvertFault>
+) -> Result<Bytes, Stop>
     requires { length bytes.now ≤ MOST_INPUT }
     ensures accepted { OnOk result (reading_refusal built all bytes.now ≡ None) }
     ensures listed { IfOk result (runs.IsListed listing bytes.now) }
-    ensures refused { IfErr result (IsFaultOf (reading_refusal built all bytes.now)) }
+    ensures refused { IfErr result (IsStop (reading_refusal built all bytes.now)) }
 {
     listings_agree();
     let neutral = match reader.read(alloc, bytes, &ALL) {
@@ -56,7 +55,7 @@ fn text_of<R: ReadsAny>(
     neutral.is_object();
     match object_text(alloc, &neutral, bytes.len() as u64, listing) {
         Ok(text) => Ok(text),
-        Err(_) => Err(ConvertFault::NoMemory),
+        Err(_) => Err(Stop::NoMemory),
     }
 }
 
@@ -82,8 +81,8 @@ fn lines_of<R: ReadsAny, F: Files>(
     };
     match text_of(alloc, reader, bytes.as_slice(), listing) {
         Ok(text) => Ok(text),
-        Err(ConvertFault::Refused(fault)) => Err(InputFault::Refused(fault)),
-        Err(ConvertFault::NoMemory) => Err(InputFault::NoMemory),
+        Err(Stop::Refused(fault)) => Err(InputFault::Refused(fault)),
+        Err(Stop::NoMemory) => Err(InputFault::NoMemory),
     }
 }
 

@@ -8,7 +8,7 @@ use Rattle.oc_base.specs.declared.fault.Phase.TheVariants.{Header}
 use Rattle.oc_base.specs.declared.fault.Fault.{Fault}
 use Rattle.oc_linking.specs.FirstFault.{Condition, Stage}
 use Rattle.oc_shelf.specs.Reading.Firsts.{any_upto}
-use Rattle.oc_shelf.specs.Reading.Stops.{sum_upto}
+use Rattle.oc_shelf.specs.Reading.Sums.{sum_upto}
 use Rattle.oc_macho.specs.declared.constants.TheConstants.{MH_OBJECT, LC_SYMTAB, LC_DYSYMTAB}
 use Rattle.oc_macho.specs.declared.load_command.TheConstants.{LOAD_COMMAND_SIZE, DYSYMTAB_COMMAND_SIZE}
 use Rattle.oc_macho.specs.declared.symtab_command.TheConstants.{SYMTAB_COMMAND_SIZE}

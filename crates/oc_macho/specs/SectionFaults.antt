@@ -11,7 +11,7 @@ use Rattle.oc_linking.specs.FirstFault.{Condition, Stage}
 use Rattle.oc_linking.specs.Numbers.{modulus}
 use Rattle.oc_neutral.specs.KindRules.{same_kind}
 use Rattle.oc_neutral.specs.Mach.Kinds.{is_comma, is_read_type}
-use Rattle.oc_shelf.specs.Reading.Stops.{sum_upto}
+use Rattle.oc_shelf.specs.Reading.Sums.{sum_upto}
 use Rattle.oc_macho.specs.declared.constants.TheConstants.{MOST_ALIGN_EXPONENT}
 use Rattle.oc_macho.specs.declared.relocation_info.TheConstants.{RELOCATION_INFO_SIZE}
 use Rattle.oc_macho.specs.declared.section_header.SectionHeader.{SectionHeader}

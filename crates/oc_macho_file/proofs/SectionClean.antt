@@ -19,7 +19,7 @@ use Rattle.oc_neutral.specs.Mach.Kinds.{is_comma, is_read_type, is_zerofill_tag,
 use Rattle.oc_neutral.specs.Mach.Kinds as kinds
 use Rattle.oc_neutral.specs.Objects.{Object}
 use Rattle.oc_neutral.proofs.Positions.{there_at}
-use Rattle.oc_shelf.specs.Reading.Stops.{sum_upto}
+use Rattle.oc_shelf.specs.Reading.Sums.{sum_upto}
 use Rattle.oc_shelf.proofs.ReadingLaws.StageLemmas.{Unbroken, IsUnbroken, unbroken_append}
 use Rattle.oc_shelf.proofs.WritingLaws.StandingLemmas.{stands_inside}
 use Rattle.oc_macho.specs.declared.section_header.SectionHeader.{SectionHeader}

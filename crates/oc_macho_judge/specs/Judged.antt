@@ -5,7 +5,7 @@ use Rattle.oc_neutral.specs.declared.repeats.Repeat.{Repeat}
 use Rattle.oc_base.specs.declared.fault.Fault.{Fault}
 use Rattle.oc_linking.specs.FirstFault.{first_broken}
 use Rattle.oc_shelf.specs.Reading.Bitmaps.{AreBytesOf, room}
-use Rattle.oc_shelf.specs.Reading.Stops.{sum_upto}
+use Rattle.oc_shelf.specs.Reading.Sums.{sum_upto}
 use Rattle.oc_macho.specs.Tables.{SectionTable, Tables}
 use Rattle.oc_macho.specs.RelocationFaults.{entry_conditions, span_at, stored_size}
 use Rattle.oc_macho.specs.SectionFaults.{size_at, stored_at}

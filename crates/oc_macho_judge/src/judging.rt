@@ -1,9 +1,8 @@
 //! Judging a file: the first of its faults.
 ghost use Rattle.std.specs.Prelude.{◌≡◌, ◌<◌, ◌≤◌, length, None, Some, IfErr, IfOk, OnOk};
 ghost use Rattle.oc_base.specs.declared.limits.TheConstants.{MOST_INPUT};
+ghost use Rattle.oc_base.specs.Stops.{IsStop};
 ghost use Rattle.oc_linking.specs.FirstFault.{first_fault, stage_fault};
-ghost use Rattle.oc_neutral.specs.Readable.{IsReadFault};
-ghost use Rattle.oc_shelf.specs.Reading.Stops.{IsStop};
 ghost use Rattle.oc_macho.specs.Framed as framed;
 ghost use Rattle.oc_macho_judge.specs.Holders.{AreHolders};
 ghost use Rattle.oc_macho.specs.RelocationFaults as rules;
@@ -16,10 +15,9 @@ use crate::relocs::check_table;
 use crate::section_stage::check_sections;
 use crate::symbol_stage::check_symbols;
 use crate::weight::{weigh_relocs, weigh_symbols};
-use oc_base::{Fault, Word};
+use oc_base::{Fault, Stop, Word};
 use oc_macho::{Frame, kind_of, read_frame};
-use oc_neutral::{Keep, ReadFault};
-use oc_shelf::Stop;
+use oc_neutral::Keep;
 use std::alloc::Global;
 
 /// What judging finds in a file that has no fault.
@@ -83,7 +81,7 @@ fn check_rest(alloc: Global, frame: &Frame, keep: &Keep) -> Result<Holders, Stop
     weigh_relocs(frame)?;
     weigh_symbols(frame)?;
     match check_sections(frame) {
-        Err(fault) => return Err(Stop::Fault(fault)),
+        Err(fault) => return Err(Stop::Refused(fault)),
         Ok(()) => (),
     }
     match check_symbols(alloc, frame) {
@@ -93,25 +91,6 @@ fn check_rest(alloc: Global, frame: &Frame, keep: &Keep) -> Result<Holders, Stop
     match check_relocs(alloc, frame, keep) {
         Err(stop) => Err(stop),
         Ok(holders) => Ok(holders),
-    }
-}
-
-// what is found in a file, where it has no fault
-fn check_file<'a>(alloc: Global, word: Word, file: &'a [u8], keep: &Keep) -> Result<Found<'a>, Stop>
-    requires { length file.now ≤ MOST_INPUT }
-    ensures clean { OnOk result (fault_of word file.now keep.now ≡ None) }
-    ensures frame { IfOk result (λ found. found.frame ≡ tables_of word file.now) }
-    ensures holders { IfOk result (λ found. AreHolders found.frame found.holders) }
-    ensures rest { IfOk result (λ found. first_fault (rest_stages found.frame keep.now) ≡ None) }
-    ensures stop { IfErr result (IsStop (fault_of word file.now keep.now)) }
-{
-    let frame = match read_frame(word, file) {
-        Err(fault) => return Err(Stop::Fault(fault)),
-        Ok(frame) => frame,
-    };
-    match check_rest(alloc, &frame, keep) {
-        Err(stop) => Err(stop),
-        Ok(holders) => Ok(Found { frame, holders }),
     }
 }
 
@@ -130,17 +109,20 @@ pub fn judged<'a>(
     word: Word,
     bytes: &'a [u8],
     keep: &Keep,
-) -> Result<Found<'a>, ReadFault>
+) -> Result<Found<'a>, Stop>
     requires { length bytes.now ≤ MOST_INPUT }
     ensures well_formed { OnOk result (fault_of word bytes.now keep.now ≡ None) }
     ensures frame { IfOk result (λ found. found.frame ≡ tables_of word bytes.now) }
     ensures holders { IfOk result (λ found. AreHolders found.frame found.holders) }
     ensures rest { IfOk result (λ found. first_fault (rest_stages found.frame keep.now) ≡ None) }
-    ensures fault { IfErr result (IsReadFault (fault_of word bytes.now keep.now)) }
+    ensures fault { IfErr result (IsStop (fault_of word bytes.now keep.now)) }
 {
-    match check_file(alloc, word, bytes, keep) {
-        Ok(found) => Ok(found),
-        Err(Stop::NoMemory) => Err(ReadFault::NoMemory),
-        Err(Stop::Fault(fault)) => Err(ReadFault::of(fault)),
+    let frame = match read_frame(word, bytes) {
+        Err(fault) => return Err(Stop::Refused(fault)),
+        Ok(frame) => frame,
+    };
+    match check_rest(alloc, &frame, keep) {
+        Err(stop) => Err(stop),
+        Ok(holders) => Ok(Found { frame, holders }),
     }
 }

@@ -1,7 +1,6 @@
 //! Relocation entries of a section, and the conditions on each field.
 ghost use Rattle.std.specs.Prelude.{◌≡◌, ◌+◌, ◌<◌, true, false, length, slice_get, None, Some, IfErr, IfOk, OnOk};
 ghost use Rattle.oc_linking.specs.FirstFault.{first_broken, stage_fault};
-ghost use Rattle.oc_shelf.specs.Reading.Stops.{IsStop};
 ghost use Rattle.oc_macho_judge.specs.Judged as judged;
 ghost use Rattle.oc_macho.specs.Entries as entries;
 ghost use Rattle.oc_macho.specs.Framed as framed;
@@ -10,17 +9,18 @@ ghost use Rattle.oc_macho_judge.specs.Holders.{AreHolders};
 ghost use Rattle.oc_macho.specs.Referents as referents;
 ghost use Rattle.oc_macho.specs.RelocationFaults as rules;
 ghost use Rattle.std.specs.Option.{option_map, option_map_or};
+ghost use Rattle.oc_base.specs.Stops.{IsStop};
 
 use crate::differences::is_too_wide;
 use crate::holders::Holders;
 use crate::referents::referent_of;
-use oc_base::{Code, Fault, NoMemory, Phase, Word};
+use oc_base::{Code, Fault, NoMemory, Phase, Stop, Word};
 use oc_macho::{
     Frame, Item, RELOCATION_INFO_SIZE, Referent, RelocationInfo, SectionHeader, is_first,
     is_zerofill, meaning_of,
 };
 use oc_neutral::Base;
-use oc_shelf::{Bitmap, Stop};
+use oc_shelf::Bitmap;
 use std::alloc::Global;
 
 // the entry behind entry `k`, where there is one
@@ -221,21 +221,21 @@ fn judge_item(
 {
     let item = item_of(frame, i, h, k);
     match form_fault(frame, i, h, k, &item) {
-        Some(fault) => return Err(Stop::Fault(fault)),
+        Some(fault) => return Err(Stop::Refused(fault)),
         None => (),
     }
     let fault = target_fault(alloc, frame, holders, i, h, k, &item)?;
     match fault {
-        Some(fault) => return Err(Stop::Fault(fault)),
+        Some(fault) => return Err(Stop::Refused(fault)),
         None => (),
     }
     let (begin, end) = span_of(&item);
     if bytes.is_met(begin, end) {
-        return Err(Stop::Fault(entry_fault(frame, i, h, k, Code::Overlap)));
+        return Err(Stop::Refused(entry_fault(frame, i, h, k, Code::Overlap)));
     }
     let wide = is_too_wide(alloc, frame, holders, i, h, &item)?;
     if wide {
-        return Err(Stop::Fault(entry_fault(frame, i, h, k, Code::FoldTooWide)));
+        return Err(Stop::Refused(entry_fault(frame, i, h, k, Code::FoldTooWide)));
     }
     bytes.take(begin, end);
     Ok(())

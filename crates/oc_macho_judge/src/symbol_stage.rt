@@ -1,16 +1,15 @@
 //! The stage of symbols.
 ghost use Rattle.std.specs.Prelude.{◌≡◌, ◌<◌, length, None, Some, MatchOption, IfErr, IfOk, OnOk};
+ghost use Rattle.oc_base.specs.Stops.{IsStop};
 ghost use Rattle.oc_linking.specs.FirstFault.{stage_fault};
 ghost use Rattle.oc_neutral.specs.Repeats as repeats;
-ghost use Rattle.oc_shelf.specs.Reading.Stops.{IsStop};
 ghost use Rattle.oc_macho_judge.specs.Judged as judged;
 ghost use Rattle.oc_macho.specs.SymbolFaults as rules;
 
 use crate::symbols::{entry_fault, is_external, is_stab, name_of};
-use oc_base::NoMemory;
+use oc_base::{NoMemory, Stop};
 use oc_macho::{Frame, Nlist};
 use oc_neutral::{Repeat, first_repeat};
-use oc_shelf::Stop;
 use std::alloc::Global;
 
 // the name of a symbol, where it is external
@@ -65,7 +64,7 @@ pub(crate) fn check_symbols(alloc: Global, frame: &Frame) -> Result<(), Stop>
     let count = frame.symbol_count();
     for j in 0..count {
         match entry_fault(frame, j, &frame.symbol(j), ends_at(found, j)) {
-            Some(fault) => return Err(Stop::Fault(fault)),
+            Some(fault) => return Err(Stop::Refused(fault)),
             None => (),
         }
     }

@@ -26,7 +26,7 @@ use Rattle.oc_neutral.specs.KindRules.{same_kind}
 use Rattle.oc_neutral.specs.Started.{plain_draft, stored_section}
 use Rattle.oc_neutral.specs.declared.section.Section.{Section}
 use Rattle.oc_shelf.proofs.ReadingLaws.StageLemmas.{all_hold, clean_at, clean_both}
-use Rattle.oc_shelf.specs.Reading.Stops.{sum_upto}
+use Rattle.oc_shelf.specs.Reading.Sums.{sum_upto}
 use Rattle.oc_linking.specs.Parts as parts
 use Rattle.oc_macho.specs.SectionFaults as rules
 

@@ -1,8 +1,9 @@
 //! The readers of both words.
 ghost use Rattle.std.specs.Prelude.{◌≡◌, ◌≤◌, length, None, IfErr, IfOk, OnOk};
 ghost use Rattle.oc_base.specs.declared.limits.TheConstants.{MOST_INPUT};
+ghost use Rattle.oc_base.specs.Stops.{IsStop};
 ghost use Rattle.oc_linking.specs.FirstFault.{first_fault};
-ghost use Rattle.oc_neutral.specs.Readable.{IsReadable, IsReadFault};
+ghost use Rattle.oc_neutral.specs.Readable.{IsReadable};
 ghost use Rattle.oc_neutral.specs.Shows.{Shows};
 ghost use Rattle.oc_shelf.specs.Reading.Slots.{AreSlots};
 ghost use Rattle.oc_macho.specs.Rules.{fault_of, mach_dialect, rest_stages};
@@ -17,10 +18,10 @@ use crate::aims::Known;
 use crate::built_sections::add_sections;
 use crate::built_symbols::add_symbols;
 use crate::pins::pins_of;
-use oc_base::{NoMemory, Word};
+use oc_base::{NoMemory, Stop, Word};
 use oc_macho::{Frame, format_of};
 use oc_macho_judge::{Found, judged};
-use oc_neutral::{Builder, Keep, Neutral, ReadFault, Reads, are_bytes};
+use oc_neutral::{Builder, Keep, Neutral, Reads, are_bytes};
 use oc_shelf::Slots;
 use std::alloc::Global;
 
@@ -67,19 +68,19 @@ fn object_of(
 }
 
 // reads a file
-fn read_bytes(alloc: Global, word: Word, bytes: &[u8], keep: &Keep) -> Result<Neutral, ReadFault>
+fn read_bytes(alloc: Global, word: Word, bytes: &[u8], keep: &Keep) -> Result<Neutral, Stop>
     requires { length bytes.now ≤ MOST_INPUT }
     ensures well_formed { OnOk result (fault_of word bytes.now keep.now ≡ None) }
     ensures shows { IfOk result (Shows (mach_dialect word) bytes.now keep.now) }
     ensures readable { IfOk result IsReadable }
-    ensures fault { IfErr result (IsReadFault (fault_of word bytes.now keep.now)) }
+    ensures fault { IfErr result (IsStop (fault_of word bytes.now keep.now)) }
 {
     let found = match judged(alloc, word, bytes, keep) {
         Err(fault) => return Err(fault),
         Ok(found) => found,
     };
     match object_of(alloc, word, bytes, &found, keep) {
-        Err(NoMemory) => Err(ReadFault::NoMemory),
+        Err(NoMemory) => Err(Stop::NoMemory),
         Ok(object) => Ok(object),
     }
 }
@@ -97,7 +98,7 @@ impl Reads for MachReader32 {
 
     ghost dialect = { mach_dialect W32 };
 
-    fn read(&self, alloc: Global, bytes: &[u8], keep: &Keep) -> Result<Neutral, ReadFault> {
+    fn read(&self, alloc: Global, bytes: &[u8], keep: &Keep) -> Result<Neutral, Stop> {
         read_bytes(alloc, Word::W32, bytes, keep)
     }
 
@@ -117,7 +118,7 @@ impl Reads for MachReader64 {
 
     ghost dialect = { mach_dialect W64 };
 
-    fn read(&self, alloc: Global, bytes: &[u8], keep: &Keep) -> Result<Neutral, ReadFault> {
+    fn read(&self, alloc: Global, bytes: &[u8], keep: &Keep) -> Result<Neutral, Stop> {
         read_bytes(alloc, Word::W64, bytes, keep)
     }
 

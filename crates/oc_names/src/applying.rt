@@ -10,14 +10,14 @@ use crate::edits::Edits;
 use crate::keep::keep_for;
 use crate::name_step::{MOST_SYMBOLS, named_parts};
 use crate::rebind_step::rebound;
-use oc_base::Format;
-use oc_drop::{EditFault, dropped};
+use oc_base::{Format, Stop};
+use oc_drop::dropped;
 use oc_neutral::Neutral;
 use std::alloc::Global;
 
 // the object with further symbols, new names and new keys; without edits as it is, unless it has too
 // many symbols
-fn named(alloc: Global, edits: &[Edit], to: Format, neutral: Neutral) -> Result<Neutral, EditFault>
+fn named(alloc: Global, edits: &[Edit], to: Format, neutral: Neutral) -> Result<Neutral, Stop>
     requires { length edits.now < 2 ^ 32 }
     ensures ok { IfOk result (λ out. naming.named_object edits.now to neutral ≡ Ok out) }
     ensures few { IfOk result (λ out. length out.symbols ≤ 16777216) }
@@ -69,12 +69,7 @@ fn named(alloc: Global, edits: &[Edit], to: Format, neutral: Neutral) -> Result<
 /// front or an end, and else linear in the object. What is not asked for is not paid for: where every
 /// section is kept and there is no edit, the object is given back as it is, at the cost of a flag a
 /// section.
-pub fn apply(
-    alloc: Global,
-    neutral: Neutral,
-    edits: &Edits,
-    to: Format,
-) -> Result<Neutral, EditFault>
+pub fn apply(alloc: Global, neutral: Neutral, edits: &Edits, to: Format) -> Result<Neutral, Stop>
     ensures ok { IfOk result (λ out. edited edits.now to neutral ≡ Ok out) }
     ensures refused { IfErr result (IsStepRefusal (edited edits.now to neutral)) }
     ensures few { IfOk result (λ out. length out.symbols ≤ 16777216) }

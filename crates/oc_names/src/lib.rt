@@ -30,4 +30,3 @@ pub use laws::{
     fallbacks_keep_sites, naming_keeps_targets, nothing_is_edited, rebinding_keeps_fields,
     words_keep_sites,
 };
-pub use oc_drop::EditFault;

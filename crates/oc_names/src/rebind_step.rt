@@ -9,8 +9,7 @@ use crate::fallbacks::after_fallbacks;
 use crate::places::edit_places;
 use crate::rebinding::after_words;
 use crate::reloc_step::relocs_left;
-use oc_base::word_of;
-use oc_drop::EditFault;
+use oc_base::{Stop, word_of};
 use oc_neutral::{Neutral, Symbol};
 use std::alloc::Global;
 
@@ -19,14 +18,14 @@ pub(crate) fn symbols_after(
     alloc: Global,
     edits: &[Edit],
     symbols: Vec<Symbol>,
-) -> Result<Vec<Symbol>, EditFault>
+) -> Result<Vec<Symbol>, Stop>
     ensures ok { IfOk result (λ out. then_by rebinding.after_fallbacks (rebinding.after_words edits.now symbols.items) ≡ Ok out.items) }
     ensures refused { IfErr result (IsStepRefusal (then_by rebinding.after_fallbacks (rebinding.after_words edits.now symbols.items))) }
 {
     let mut symbols = symbols;
     let places = edit_places(alloc, edits, symbols.as_slice())?;
     if let Err(fault) = after_words(edits, places.as_slice(), symbols.as_mut_slice()) {
-        return Err(EditFault::Refused(fault));
+        return Err(Stop::Refused(fault));
     }
     after_fallbacks(alloc, symbols.as_mut_slice())?;
     Ok(symbols)
@@ -38,7 +37,7 @@ pub(crate) fn symbols_after(
 /// symbols; a Weak whose fallback became Weak, or a Local with a number, in order of symbols; a
 /// constant that does not fit its field, by sections and offsets. `NoMemory` where memory ran out.
 /// Linear in the object; without edits it is given back as it is.
-pub(crate) fn rebound(alloc: Global, edits: &[Edit], neutral: Neutral) -> Result<Neutral, EditFault>
+pub(crate) fn rebound(alloc: Global, edits: &[Edit], neutral: Neutral) -> Result<Neutral, Stop>
     ensures ok { IfOk result (λ out. rebinding.rebound_object edits.now neutral ≡ Ok out) }
     ensures refused { IfErr result (IsStepRefusal (rebinding.rebound_object edits.now neutral)) }
 {

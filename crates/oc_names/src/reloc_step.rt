@@ -2,32 +2,27 @@
 ghost use Rattle.std.specs.Prelude.{◌≡◌, ◌+◌, ◌≤◌, ◌++◌, None, IfErr, IfOk, OnOk, length};
 ghost use Rattle.std.specs.Option.{option_to_list};
 ghost use Rattle.std.specs.List.{AllByRecursion, filter_map, fold};
+ghost use Rattle.oc_base.specs.Stops.{IsStop};
 ghost use Rattle.oc_linking.specs.Fits.{bytes_of};
 ghost use Rattle.oc_chains.specs.declared.field.Field.{Field as FieldOf};
 ghost use Rattle.oc_neutral.specs.Objects.{Object};
 ghost use Rattle.oc_drop.specs.Steps.{first_field, first_in};
-ghost use Rattle.oc_drop.specs.Refusals.{IsRefusal};
 ghost use Rattle.oc_names.specs.Rebinding as rebinding;
 
 use crate::lists::add_list;
 use oc_algebra::fold_difference;
-use oc_base::{Code, NoMemory, Word};
+use oc_base::{Code, NoMemory, Stop, Word};
 use oc_chains::{Chains, Field, Walk};
-use oc_drop::{EditFault, edit_fault};
+use oc_drop::edit_fault;
 use oc_neutral::{Normal, Reloc, Relocs, Section, Symbol, normalize};
 use std::alloc::Global;
 
 // stores a constant in a field; refused where it does not fit
-fn store(
-    word: Word,
-    section: &mut Section,
-    field: Field<Reloc>,
-    value: i64,
-) -> Result<(), EditFault>
+fn store(word: Word, section: &mut Section, field: Field<Reloc>, value: i64) -> Result<(), Stop>
     requires { field.at + bytes_of field.item.form.width ≤ length section.old.bytes }
     ensures stored { OnOk result (section.new ≡ rebinding.with_stored section.old field (rebinding.stored_number word field value)) }
     ensures clean { OnOk result (rebinding.stored_fault section.old field (rebinding.stored_number word field value) ≡ None) }
-    ensures refused { IfErr result (IsRefusal (rebinding.stored_fault section.old field (rebinding.stored_number word field value))) }
+    ensures refused { IfErr result (IsStop (rebinding.stored_fault section.old field (rebinding.stored_number word field value))) }
 {
     let form = field.item.form;
     match fold_difference(word, form.width, form.check, value) {
@@ -37,7 +32,7 @@ fn store(
         }
         Err(_) => {
             let place = field.at.into();
-            Err(EditFault::Refused(edit_fault(Code::FoldTooWide, section.number, place)))
+            Err(Stop::Refused(edit_fault(Code::FoldTooWide, section.number, place)))
         }
     }
 }
@@ -49,12 +44,12 @@ fn left_of(
     at: u32,
     section: &mut Section,
     field: Field<Reloc>,
-) -> Result<Option<Field<Reloc>>, EditFault>
+) -> Result<Option<Field<Reloc>>, Stop>
     requires { field.at + bytes_of field.item.form.width ≤ length section.old.bytes }
     ensures field { IfOk result (λ left. left ≡ rebinding.kept_field word symbols.now at field) }
     ensures section { OnOk result (section.new ≡ rebinding.with_constant word symbols.now at section.old field) }
     ensures clean { OnOk result (rebinding.unfit_fault word symbols.now at section.old field ≡ None) }
-    ensures refused { IfErr result (IsRefusal (rebinding.unfit_fault word symbols.now at section.old field)) }
+    ensures refused { IfErr result (IsStop (rebinding.unfit_fault word symbols.now at section.old field)) }
 {
     match normalize(word, symbols, at, field.at, field.item) {
         Normal::Constant(value) => {
@@ -83,12 +78,12 @@ fn fields_left(
     at: u32,
     section: &mut Section,
     fields: Walk<'_, Reloc>,
-) -> Result<Vec<Field<Reloc>>, EditFault>
+) -> Result<Vec<Field<Reloc>>, Stop>
     requires { AllByRecursion (λ (x : FieldOf Reloc). x.at + bytes_of x.item.form.width ≤ length section.old.bytes) fields }
     ensures fields { IfOk result (λ left. left.items ≡ filter_map (rebinding.kept_field word symbols.now at) fields.entry) }
     ensures section { OnOk result (section.new ≡ fold (rebinding.with_constant word symbols.now at) section.old fields.entry) }
     ensures clean { OnOk result (first_in (rebinding.unfit_fault word symbols.now at section.old) fields.entry ≡ None) }
-    ensures refused { IfErr result (IsRefusal (first_in (rebinding.unfit_fault word symbols.now at section.old) fields.entry)) }
+    ensures refused { IfErr result (IsStop (first_in (rebinding.unfit_fault word symbols.now at section.old) fields.entry)) }
 {
     let mut left = Vec::new(alloc);
     for field in fields {
@@ -109,12 +104,12 @@ pub(crate) fn relocs_left(
     symbols: &[Symbol],
     sections: &mut [Section],
     relocs: &Relocs,
-) -> Result<Relocs, EditFault>
+) -> Result<Relocs, Stop>
     requires fields { rebinding.AreStorable sections.old relocs.now.lists }
     ensures relocs { IfOk result (λ left. left.lists ≡ rebinding.lists_left word symbols.now relocs.now.lists) }
     ensures sections { OnOk result (sections.new ≡ rebinding.sections_left word symbols.now relocs.now.lists sections.old) }
     ensures clean { (n : Object) → n.sections ≡ sections.old → n.relocs ≡ relocs.now.lists → OnOk result (first_field (rebinding.unfit_fault word symbols.now) n ≡ None) }
-    ensures refused { (n : Object) → n.sections ≡ sections.old → n.relocs ≡ relocs.now.lists → IfErr result (IsRefusal (first_field (rebinding.unfit_fault word symbols.now) n)) }
+    ensures refused { (n : Object) → n.sections ≡ sections.old → n.relocs ≡ relocs.now.lists → IfErr result (IsStop (first_field (rebinding.unfit_fault word symbols.now) n)) }
 {
     let mut out = Chains::new(alloc);
     for at in 0..relocs.section_count() {

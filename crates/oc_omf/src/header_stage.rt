@@ -2,8 +2,8 @@
 ghost use Rattle.std.specs.Prelude.{◌≡◌, ℕ, ◌<◌, ◌≤◌, length, take, get_or, ◌||◌, OnOk, IfOk, IfErr, Some, None};
 ghost use Rattle.std.specs.Option.{option_map};
 ghost use Rattle.oc_base.specs.declared.limits.TheConstants.{MOST_INPUT};
+ghost use Rattle.oc_base.specs.Stops.{IsStop};
 ghost use Rattle.oc_linking.specs.FirstFault.{fault_of, first_broken, stage_fault};
-ghost use Rattle.oc_shelf.specs.Reading.Stops.{IsStop};
 ghost use Rattle.oc_omf_records.specs.NextEntry.{entry_of};
 ghost use Rattle.oc_omf.specs.declared.constants.TheConstants.{THEADR};
 ghost use Rattle.oc_omf.specs.Entries.{is_kind, places_in};
@@ -14,9 +14,8 @@ use crate::constants::{
     LINNUM, LNAMES, LPUBDEF, MODEND, PUBDEF, SEGDEF, THEADR,
 };
 use crate::entries::is_kind;
-use oc_base::{Code, Fault, Phase, View};
+use oc_base::{Code, Fault, Phase, Stop, View};
 use oc_omf_records::{Entry, RecordFault, entry_at};
-use oc_shelf::Stop;
 
 // whether a type is of a record of our profile
 fn is_known(kind: u8) -> bool
@@ -128,7 +127,7 @@ pub(crate) fn check_entries(file: &View<'_>, places: &[u32]) -> Result<(), Stop>
         match judge_entry(file, begun, at) {
             Ok(kind) => begun = is_begun(begun, kind),
             Err(code) => {
-                return Err(Stop::Fault(Fault {
+                return Err(Stop::Refused(Fault {
                     phase: Phase::Header,
                     index: i as u32,
                     code,

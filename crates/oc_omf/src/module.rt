@@ -1,17 +1,16 @@
 //! A module whose entries have no fault by themselves, with their places.
 ghost use Rattle.std.specs.Prelude.{◌≡◌, ◌+◌, ◌<◌, ◌≤◌, length, true, Some, slice_get, OnOk, IfOk, IfErr, None};
 ghost use Rattle.oc_base.specs.declared.limits.TheConstants.{MOST_INPUT};
+ghost use Rattle.oc_base.specs.Stops.{IsStop};
 ghost use Rattle.oc_linking.specs.FirstFault.{stage_fault};
 ghost use Rattle.oc_omf_records.specs.NextEntry.{entry_of, is_whole};
-ghost use Rattle.oc_shelf.specs.Reading.Stops.{IsStop};
 ghost use Rattle.oc_omf.specs.Entries.{places_in};
 ghost use Rattle.oc_omf.specs.HeaderFaults.{header_stage, IsModule};
 
 use crate::entries::places_of;
 use crate::header_stage::check_entries;
-use oc_base::{View, u8_in, u16_in};
+use oc_base::{Stop, View, u8_in, u16_in};
 use oc_omf_records::Entry;
-use oc_shelf::Stop;
 use std::alloc::Global;
 use std::marker::Model;
 

@@ -7,7 +7,7 @@ use Rattle.std.proofs.lemmas.Bool.{cases_eq}
 use Rattle.std.proofs.lemmas.List.Sums.{sum_by-cons}
 use Rattle.oc_linking.specs.declared.terms.Kind.TheVariants.{Zero}
 use Rattle.oc_neutral.specs.KindRules.{same_kind}
-use Rattle.oc_shelf.specs.Reading.Stops.{sum_upto}
+use Rattle.oc_shelf.specs.Reading.Sums.{sum_upto}
 use Rattle.oc_omf_judge.specs.declared.defined.Defined.{Defined}
 use Rattle.oc_omf.specs.declared.structures.Segment.{Segment}
 use Rattle.oc_omf.specs.Tables.{Tables}

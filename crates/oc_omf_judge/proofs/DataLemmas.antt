@@ -2,9 +2,9 @@
 use Rattle.std.proofs.Common.{◌≡◌, ℕ, ◌≤◌, Bool, List, [], ◌∷◌, ◌++◌, length, Some, Result, Ok, Err, refl, sym, ◌∙◌, ap, subst, arith, append-nil}
 use Rattle.std.specs.Prelude.{drop}
 use Rattle.oc_base.specs.declared.code.Code.TheVariants.{BadTable}
+use Rattle.oc_base.specs.declared.stop.Stop.{Stop}
+use Rattle.oc_base.specs.Stops.{IsStop}
 use Rattle.oc_linking.specs.FirstFault.{first_broken}
-use Rattle.oc_shelf.specs.declared.reading.stop.Stop.{Stop}
-use Rattle.oc_shelf.specs.Reading.Stops.{IsStop}
 use Rattle.oc_omf_records.specs.declared.faults.BlockFault.{BlockFault}
 use Rattle.oc_omf_records.specs.declared.faults.BlockFault.TheVariants as block
 use Rattle.oc_omf_records.specs.Blocks.{Blocks}

@@ -1,11 +1,11 @@
 -- The first fault of a module, by its stages.
 use Rattle.std.proofs.Common.{◌≡◌, ℕ, List, None, sym, ◌∙◌, ap, subst}
+use Rattle.oc_base.specs.declared.stop.Stop.{Stop}
+use Rattle.oc_base.specs.declared.stop.Stop.TheVariants as stop
+use Rattle.oc_base.specs.Stops.{IsStop}
 use Rattle.oc_linking.specs.declared.terms.Keep.{Keep}
 use Rattle.oc_linking.specs.Numbers.{or_else}
 use Rattle.oc_linking.specs.FirstFault.{first_fault}
-use Rattle.oc_shelf.specs.declared.reading.stop.Stop.{Stop}
-use Rattle.oc_shelf.specs.declared.reading.stop.Stop.TheVariants as stop
-use Rattle.oc_shelf.specs.Reading.Stops.{IsStop}
 use Rattle.oc_shelf.proofs.ReadingLaws.StageLemmas.{first_fault-append}
 use Rattle.oc_omf.specs.Entries.{entries_in}
 use Rattle.oc_omf.specs.RelocationFaults.{relocation_stages}
@@ -26,5 +26,5 @@ pub front_stops : (file : List ℕ) (keep : Keep) (s : Stop) → IsStop (first_f
 front_stops file keep s is = subst (λ o. IsStop o s) (sym (fault_is file keep)) (by s is)
   where
     by : (s : Stop) → IsStop (first_fault (front_stages file)) s → IsStop (or_else (first_fault (front_stages file)) (first_fault (relocation_stages (entries_in file) keep))) s
-    by (stop.Fault f) e = ap (λ o. or_else o (first_fault (relocation_stages (entries_in file) keep))) e
+    by (stop.Refused f) e = ap (λ o. or_else o (first_fault (relocation_stages (entries_in file) keep))) e
     by stop.NoMemory e = tt

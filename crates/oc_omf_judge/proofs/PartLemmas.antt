@@ -5,14 +5,14 @@ use Rattle.std.specs.List.{enumerate_from}
 use Rattle.std.proofs.lemmas.Grind.{flat_map-append}
 use Rattle.oc_base.specs.declared.code.Code.TheVariants.{BadTable}
 use Rattle.oc_base.specs.declared.fault.Fault.{Fault}
+use Rattle.oc_base.specs.declared.stop.Stop.{Stop}
+use Rattle.oc_base.specs.declared.stop.Stop.TheVariants as stop
+use Rattle.oc_base.specs.Stops.{IsStop}
 use Rattle.oc_linking.specs.Numbers.{first_upto, or_else}
 use Rattle.oc_linking.specs.FirstFault.{first_broken, first_fault, stage_fault}
 use Rattle.oc_neutral.proofs.FieldLists.{take_here}
 use Rattle.oc_neutral.specs.TargetSections.{each_of}
 use Rattle.oc_shelf.proofs.WritingLaws.MemberLemmas.{member_enumerated}
-use Rattle.oc_shelf.specs.declared.reading.stop.Stop.{Stop}
-use Rattle.oc_shelf.specs.declared.reading.stop.Stop.TheVariants as stop
-use Rattle.oc_shelf.specs.Reading.Stops.{IsStop}
 use Rattle.oc_shelf.proofs.ReadingLaws.StageLemmas.{first_upto-head, first_upto-same}
 use Rattle.oc_omf.specs.declared.constants.TheConstants.{ENTRY_HEAD}
 use Rattle.oc_omf.specs.declared.cut.Cut.{Cut}
@@ -68,7 +68,7 @@ module _ (w : Whole) (index place : ℕ) (wide : Bool) (b : List ℕ) (before : 
       where
         first : (s : Stop) → IsStop (first_broken (relocation_conditions (meaning w) w.keep walk.0 (part_at at x))) s
             → IsStop (or_else (first_broken (relocation_conditions (meaning w) w.keep walk.0 (part_at at x))) (judged_behind w (walk.0 ++ part_at at x ∷ []) (left_at q))) s
-        first (stop.Fault f) i = ap (λ o. or_else o (judged_behind w (walk.0 ++ part_at at x ∷ []) (left_at q))) i
+        first (stop.Refused f) i = ap (λ o. or_else o (judged_behind w (walk.0 ++ part_at at x ∷ []) (left_at q))) i
         first stop.NoMemory i = tt
 
     pub walk_cut : (c : Cut) → at < length b → subrecord_read wide b at ≡ Err c → judged_behind w start (left_at 0) ≡ Some (relocation_fault (index, place + ENTRY_HEAD + at) BadTable)

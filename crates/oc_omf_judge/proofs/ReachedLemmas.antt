@@ -6,11 +6,11 @@ use Rattle.std.specs.Option.{is_some, option_and_then, option_map, option_map_or
 use Rattle.std.proofs.lemmas.Option.{get_or_from_slice_get, none-some, slice_get_within}
 use Rattle.oc_base.specs.declared.code.Code.TheVariants.{BadOffset, BadTarget, Overlap, RelocKind, TargetKind}
 use Rattle.oc_base.specs.declared.fault.Fault.{Fault}
+use Rattle.oc_base.specs.declared.stop.Stop.{Stop}
+use Rattle.oc_base.specs.declared.stop.Stop.TheVariants as stop
+use Rattle.oc_base.specs.Stops.{IsStop}
 use Rattle.oc_linking.specs.Numbers.{or_else}
 use Rattle.oc_linking.specs.FirstFault.{Condition, first_broken}
-use Rattle.oc_shelf.specs.declared.reading.stop.Stop.{Stop}
-use Rattle.oc_shelf.specs.declared.reading.stop.Stop.TheVariants as stop
-use Rattle.oc_shelf.specs.Reading.Stops.{IsStop}
 use Rattle.oc_shelf.proofs.WritingLaws.MemberLemmas.{of_map}
 use Rattle.oc_omf_records.specs.Blocks.{copies_of, moved, size_of}
 use Rattle.oc_omf_records.proofs.CopyLemmas.{IsWithin, copies_of-within}
@@ -270,5 +270,5 @@ module _ (w : Whole) (before : Tables) (earlier : List Placed) (old : Reached) (
 
 -- where a field meets another, and nothing is wrong before that
 pub stopped_by : (old : Reached) (at : ℕ × ℕ) (ps : List ℕ) (s : Stop) (meets : Bool) → AreFieldsStopped old at ps s → (IsMet old.starts (base_in old) ps → meets ≡ true) → IsStop (cond meets (Some (relocation_fault at Overlap)) None) s
-stopped_by old at ps (stop.Fault f) meets stopped met = ap (λ b. cond b (Some (relocation_fault at Overlap)) None) (met stopped.1) ∙ ap (λ (x : Fault). Some x) (sym stopped.0)
+stopped_by old at ps (stop.Refused f) meets stopped met = ap (λ b. cond b (Some (relocation_fault at Overlap)) None) (met stopped.1) ∙ ap (λ (x : Fault). Some x) (sym stopped.0)
 stopped_by old at ps stop.NoMemory meets stopped met = tt

@@ -1,10 +1,10 @@
 -- A walk along the structures of an entry, each judged behind those before it.
 use Rattle.std.proofs.Common.{◌≡◌, ℕ, ◌+◌, ◌<◌, ◌≤◌, List, [], ◌∷◌, ◌++◌, length, Some, None, Ok, Err, refl, sym, ◌∙◌, ap, subst, append-nil, append_assoc}
+use Rattle.oc_base.specs.declared.stop.Stop.{Stop}
+use Rattle.oc_base.specs.declared.stop.Stop.TheVariants as stop
+use Rattle.oc_base.specs.Stops.{IsStop}
 use Rattle.oc_linking.specs.Numbers.{or_else}
 use Rattle.oc_linking.specs.FirstFault.{Condition, first_broken}
-use Rattle.oc_shelf.specs.declared.reading.stop.Stop.{Stop}
-use Rattle.oc_shelf.specs.declared.reading.stop.Stop.TheVariants as stop
-use Rattle.oc_shelf.specs.Reading.Stops.{IsStop}
 use Rattle.oc_omf.specs.declared.constants.TheConstants.{ENTRY_HEAD}
 use Rattle.oc_omf.specs.declared.cut.Cut.{Cut}
 use Rattle.oc_omf.specs.Cursor.{Read, Reading}
@@ -54,7 +54,7 @@ module _ {X S : Type 0} (holds : List X → S → Type 0) (conditions : List X �
       where
         first : (s : Stop) → IsStop (first_broken (conditions w.0 (index, place + ENTRY_HEAD + at) y)) s
             → IsStop (or_else (first_broken (conditions w.0 (index, place + ENTRY_HEAD + at) y)) (walked conditions index (w.0 ++ y ∷ []) (left_at q))) s
-        first (stop.Fault f) i = ap (λ o. or_else o (walked conditions index (w.0 ++ y ∷ []) (left_at q))) i
+        first (stop.Refused f) i = ap (λ o. or_else o (walked conditions index (w.0 ++ y ∷ []) (left_at q))) i
         first stop.NoMemory i = tt
 
     pub walk_cut : (i p : ℕ) (c : Cut) → at < length b → read b at ≡ Err c → i ≡ index → p ≡ place + ENTRY_HEAD + at → walked conditions index start (left_at from) ≡ Some (symbol_fault (i, p) (code_of c))

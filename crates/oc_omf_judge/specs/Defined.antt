@@ -2,12 +2,12 @@
 use Rattle.std.specs.Prelude.{◌≡◌, ℕ, ◌+◌, ◌*◌, ◌<◌, ◌≤◌, Bool, false, nat_lt, if◌then◌else◌, List, [], ◌∷◌, ◌++◌, length, map, take, get_or, slice_get, Option, Some, None, Result, Ok, Err}
 use Rattle.std.specs.List.{sum_by}
 use Rattle.std.specs.Option.{option_and_then, option_map_or}
+use Rattle.oc_base.specs.declared.stop.Stop.{Stop}
+use Rattle.oc_base.specs.Stops.{IsStop}
 use Rattle.oc_linking.specs.declared.terms.Kind.{Kind}
 use Rattle.oc_linking.specs.declared.terms.Kind.TheVariants.{Data}
 use Rattle.oc_linking.specs.FirstFault.{first_broken}
-use Rattle.oc_shelf.specs.declared.reading.stop.Stop.{Stop}
 use Rattle.oc_shelf.specs.Reading.Spans.{AreSpansOf}
-use Rattle.oc_shelf.specs.Reading.Stops.{IsStop}
 use Rattle.oc_omf_records.specs.declared.faults.BlockFault.{BlockFault}
 use Rattle.oc_omf_records.specs.Blocks.{Blocks}
 use Rattle.oc_omf.specs.declared.structures.Head.{Head}

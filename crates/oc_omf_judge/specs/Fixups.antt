@@ -2,10 +2,10 @@
 use Rattle.std.specs.Prelude.{◌≡◌, ℕ, true, ◌||◌, if◌then◌else◌, List, [], ◌∷◌, ◌++◌, Option, Some, None, Ok}
 use Rattle.oc_base.specs.declared.code.Code.TheVariants.{BadTarget, TargetKind, Overlap}
 use Rattle.oc_base.specs.declared.fault.Fault.{Fault}
+use Rattle.oc_base.specs.declared.stop.Stop.{Stop}
+use Rattle.oc_base.specs.declared.stop.Stop.TheVariants as stop
+use Rattle.oc_base.specs.Stops.{IsStop}
 use Rattle.oc_linking.specs.FirstFault.{first_broken}
-use Rattle.oc_shelf.specs.declared.reading.stop.Stop.{Stop}
-use Rattle.oc_shelf.specs.declared.reading.stop.Stop.TheVariants as stop
-use Rattle.oc_shelf.specs.Reading.Stops.{IsStop}
 use Rattle.oc_omf.specs.declared.structures.Fixup.{Fixup}
 use Rattle.oc_omf.specs.declared.structures.Method.{Method}
 use Rattle.oc_omf.specs.declared.structures.Subrecord.TheVariants as subrecord
@@ -37,7 +37,7 @@ pub record AreFieldsTaken (old : Reached) (places : List ℕ) (new : Reached) : 
 
 -- one meets another
 abbrev pub AreFieldsStopped : Reached → ℕ × ℕ → List ℕ → Stop → Type 0
-AreFieldsStopped old at places (stop.Fault f) = (f ≡ relocation_fault at Overlap) × IsMet old.starts (base_in old) places
+AreFieldsStopped old at places (stop.Refused f) = (f ≡ relocation_fault at Overlap) × IsMet old.starts (base_in old) places
 AreFieldsStopped old at places stop.NoMemory = Unit {0}
 
 -- a fixup that is judged behind what is kept has no fault, and is taken up

@@ -4,10 +4,10 @@ use Rattle.std.specs.List.{list_any}
 use Rattle.std.specs.Option.{option_map_or}
 use Rattle.oc_base.specs.declared.code.Code.TheVariants.{SymbolPastEnd, SymbolKind, DuplicateName, BadSymbol}
 use Rattle.oc_base.specs.declared.fault.Fault.{Fault}
+use Rattle.oc_base.specs.declared.stop.Stop.{Stop}
+use Rattle.oc_base.specs.Stops.{IsStop}
 use Rattle.oc_linking.specs.Numbers.{or_else}
 use Rattle.oc_linking.specs.FirstFault.{Condition, first_broken, stage_fault}
-use Rattle.oc_shelf.specs.declared.reading.stop.Stop.{Stop}
-use Rattle.oc_shelf.specs.Reading.Stops.{IsStop}
 use Rattle.oc_omf_judge.specs.declared.seen.External.{External as Mentioned}
 use Rattle.oc_omf_judge.specs.declared.seen.Seen.{Seen}
 use Rattle.oc_omf.specs.declared.structures.Communal.{Communal}

@@ -13,9 +13,8 @@ use crate::publics::{cut_fault, spot_in};
 use crate::section_stage::Spot;
 use crate::seen::{External, Seen};
 use crate::symbol_stage::{communal_fault, symbol_fault};
-use oc_base::{Code, View};
+use oc_base::{Code, Stop, View};
 use oc_omf::{Communal, read_communal, read_external};
-use oc_shelf::Stop;
 use std::collections::BTreeMap;
 
 // whether an external of that name is of this module alone, but defined nowhere in it; `known` has
@@ -38,10 +37,10 @@ fn take_external<'a>(
     ensures stop { IfErr result (specs.IsExternalStopped known.now seen.old (here.index, here.place) (specs.external_with local name.now None)) }
 {
     if is_lost(known, local, name) {
-        return Err(Stop::Fault(symbol_fault(here, Code::BadSymbol)));
+        return Err(Stop::Refused(symbol_fault(here, Code::BadSymbol)));
     }
     if name.is_empty() {
-        return Err(Stop::Fault(symbol_fault(here, Code::SymbolKind)));
+        return Err(Stop::Refused(symbol_fault(here, Code::SymbolKind)));
     }
     seen.externals.push(External { local, name })?;
     Ok(())
@@ -71,7 +70,7 @@ pub(crate) fn take_externals<'a>(
                 Ok(()) => at = after,
                 Err(stop) => return Err(stop),
             },
-            Err(cut) => return Err(Stop::Fault(cut_fault(here, cut))),
+            Err(cut) => return Err(Stop::Refused(cut_fault(here, cut))),
         }
     }
     Ok(())
@@ -88,15 +87,15 @@ fn take_communal<'a>(
     ensures stop { IfErr result (λ s. (known : Held) → specs.IsExternalStopped known seen.old (here.index, here.place) (specs.external_with false name.now (Some communal)) s) }
 {
     match communal_fault(here, communal) {
-        Some(fault) => return Err(Stop::Fault(fault)),
+        Some(fault) => return Err(Stop::Refused(fault)),
         None => (),
     }
     if name.is_empty() {
-        return Err(Stop::Fault(symbol_fault(here, Code::SymbolKind)));
+        return Err(Stop::Refused(symbol_fault(here, Code::SymbolKind)));
     }
     let before = take_up(&mut seen.communals, name, communal.length)?;
     if is_other(before, communal.length) {
-        return Err(Stop::Fault(symbol_fault(here, Code::DuplicateName)));
+        return Err(Stop::Refused(symbol_fault(here, Code::DuplicateName)));
     }
     seen.externals.push(External { local: false, name })?;
     Ok(())
@@ -133,7 +132,7 @@ pub(crate) fn take_communals<'a>(
                 Ok(()) => at = after,
                 Err(stop) => return Err(stop),
             },
-            Err(cut) => return Err(Stop::Fault(cut_fault(here, cut))),
+            Err(cut) => return Err(Stop::Refused(cut_fault(here, cut))),
         }
     }
     Ok(())

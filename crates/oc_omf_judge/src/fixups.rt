@@ -13,10 +13,9 @@ use crate::rows::has_row;
 use crate::section_stage::Spot;
 use crate::threads::{method_of, relocation_fault};
 use crate::whole::{Whole, is_judged};
-use oc_base::{Code, Fault};
+use oc_base::{Code, Fault, Stop};
 use oc_omf::{Fixup, Method, OFFSET_32};
 use oc_omf_records::CopyFault;
-use oc_shelf::Stop;
 use std::alloc::Global;
 
 // the fault of what a fixup in data of a segment names
@@ -50,7 +49,7 @@ fn take_fields(reached: &mut Reached<'_>, here: Spot, places: &[u32]) -> Result<
 {
     let base = reached.base();
     if reached.starts.are_met(base, places) {
-        return Err(Stop::Fault(relocation_fault(here, Code::Overlap)));
+        return Err(Stop::Refused(relocation_fault(here, Code::Overlap)));
     }
     reached.starts.take_up(base, places)?;
     Ok(())
@@ -69,12 +68,12 @@ fn judge_fixup(
     ensures stop { IfErr result (fixups.IsFixupStopped whole.now reached.old (here.index, here.place) fixup) }
 {
     if fixup.location != OFFSET_32 {
-        return Err(Stop::Fault(relocation_fault(here, Code::RelocKind)));
+        return Err(Stop::Refused(relocation_fault(here, Code::RelocKind)));
     }
     let places = match reached.copies(alloc, fixup.offset) {
         Ok(places) => places,
         Err(CopyFault::NotContent) => {
-            return Err(Stop::Fault(relocation_fault(here, Code::BadOffset)));
+            return Err(Stop::Refused(relocation_fault(here, Code::BadOffset)));
         }
         Err(CopyFault::NoMemory) => return Err(Stop::NoMemory),
     };
@@ -82,7 +81,7 @@ fn judge_fixup(
     let target = method_of(&reached.threads, false, fixup.target);
     let frame = method_of(&reached.threads, true, fixup.frame);
     match names_fault(whole, reached.counts, segment, here, fixup, target, frame) {
-        Some(fault) => return Err(Stop::Fault(fault)),
+        Some(fault) => return Err(Stop::Refused(fault)),
         None => (),
     }
     match take_fields(reached, here, places.as_slice()) {

@@ -1,16 +1,16 @@
 //! Judging a module, as far as its symbols.
 ghost use Rattle.std.specs.Prelude.{◌≡◌, ◌≤◌, length, None, IfErr, IfOk, OnOk};
 ghost use Rattle.oc_base.specs.declared.limits.TheConstants.{MOST_INPUT};
+ghost use Rattle.oc_base.specs.Stops.{IsStop};
 ghost use Rattle.oc_linking.specs.FirstFault.{first_fault};
-ghost use Rattle.oc_shelf.specs.Reading.Stops.{IsStop};
 ghost use Rattle.oc_omf_judge.specs.Judged.{IsFront, front_stages};
 
 use crate::defined::Defined;
 use crate::sections::check_sections;
 use crate::seen::Seen;
 use crate::symbol_loop::check_symbols;
+use oc_base::Stop;
 use oc_omf::{Module, read_module};
-use oc_shelf::Stop;
 use std::alloc::Global;
 
 /// A module whose entries, sections and symbols have no fault.

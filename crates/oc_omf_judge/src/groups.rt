@@ -13,9 +13,8 @@ ghost use Rattle.oc_omf.specs.declared.topics.Topic.TheVariants as topic;
 
 use crate::defined::Defined;
 use crate::section_stage::{Spot, own_fault};
-use oc_base::{Code, Fault, View};
+use oc_base::{Code, Fault, Stop, View};
 use oc_omf::{SEGMENT_INDEX, read_index, read_member};
-use oc_shelf::Stop;
 
 /// What is wrong with the members of a group.
 #[derive(Clone, Copy, Drop)]
@@ -114,11 +113,11 @@ pub(crate) fn take_group(
     let names = defined.names.len() as u64;
     let segments = defined.segments.len() as u64;
     match group_fault(names, segments, spot, contents) {
-        Some(fault) => return Err(Stop::Fault(fault)),
+        Some(fault) => return Err(Stop::Refused(fault)),
         None => (),
     }
     let Ok((name, _at)) = read_index(contents, 0) else {
-        return Err(Stop::Fault(own_fault(spot, Code::BadTable)));
+        return Err(Stop::Refused(own_fault(spot, Code::BadTable)));
     };
     defined.groups.push(name)?;
     Ok(())

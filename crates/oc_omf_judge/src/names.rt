@@ -1,7 +1,7 @@
 //! The names that entries define.
 ghost use Rattle.std.specs.Prelude.{◌≡◌, ◌++◌, OnOk, IfErr, None};
+ghost use Rattle.oc_base.specs.Stops.{IsStop};
 ghost use Rattle.oc_linking.specs.FirstFault.{first_broken};
-ghost use Rattle.oc_shelf.specs.Reading.Stops.{IsStop};
 ghost use Rattle.oc_omf.specs.Cursor.{each_read, name_read};
 ghost use Rattle.oc_omf_judge.specs.Defined.{IsStoppedAt, IsTakenUp};
 ghost use Rattle.oc_omf.specs.Entries.{all_read};
@@ -12,9 +12,8 @@ ghost use Rattle.oc_omf.specs.declared.topics.Topic.TheVariants as topic;
 
 use crate::defined::Defined;
 use crate::section_stage::{Spot, own_fault};
-use oc_base::{Code, View};
+use oc_base::{Code, Stop, View};
 use oc_omf::read_name;
-use oc_shelf::Stop;
 
 /// Takes up the names in the contents of an entry, behind others.
 ///
@@ -36,7 +35,7 @@ pub(crate) fn take_names<'a>(
                 names.push(name)?;
                 at = after;
             }
-            Err(_) => return Err(Stop::Fault(own_fault(spot, Code::BadName))),
+            Err(_) => return Err(Stop::Refused(own_fault(spot, Code::BadName))),
         }
     }
     Ok(())

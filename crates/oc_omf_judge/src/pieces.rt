@@ -1,18 +1,17 @@
 //! The data that entries have for segments.
 ghost use Rattle.std.specs.Prelude.{◌≡◌, ◌≤◌, ◌-◌, ◌^◌, min, true, Ok, Err, IfOk, OnOk, IfErr, length, drop, slice_set};
+ghost use Rattle.oc_base.specs.declared.stop.Stop.TheVariants as stop;
 ghost use Rattle.oc_omf_records.specs.Blocks.{Blocks, size_of};
 ghost use Rattle.oc_omf_records.specs.declared.faults.BlockFault.TheVariants as block;
-ghost use Rattle.oc_shelf.specs.declared.reading.stop.Stop.TheVariants as stop;
 ghost use Rattle.oc_omf_judge.specs.Defined as specs;
 ghost use Rattle.oc_omf.specs.Topics.{said_on};
 ghost use Rattle.oc_omf.specs.declared.topics.Topic.TheVariants as topic;
 
 use crate::defined::{Defined, segment_at};
 use crate::section_stage::{Spot, own_fault, segment_size};
-use oc_base::{Code, Fault, View};
+use oc_base::{Code, Fault, Stop, View};
 use oc_omf::{Head, read_data, read_head};
 use oc_omf_records::BlockFault;
-use oc_shelf::Stop;
 use std::alloc::Global;
 
 // the place of an offset of a segment, such that those of two segments are far apart
@@ -39,17 +38,17 @@ fn take_piece(defined: &mut Defined<'_>, spot: Spot, head: Head, size: u64) -> R
     ensures stop { IfErr result (λ s. (row : Blocks) → size ≡ min (size_of row) (2 ^ 32) → specs.IsPieceStopped defined.old (spot.index, spot.place) (specs.piece_with head (Ok row)) s) }
 {
     let Some(segment) = segment_at(defined.segments.as_slice(), head.segment) else {
-        return Err(Stop::Fault(own_fault(spot, Code::BadIndex)));
+        return Err(Stop::Refused(own_fault(spot, Code::BadIndex)));
     };
     if u64::from(head.offset) + size > segment_size(&segment) {
-        return Err(Stop::Fault(own_fault(spot, Code::DataPastEnd)));
+        return Err(Stop::Refused(own_fault(spot, Code::DataPastEnd)));
     }
     if size == 0 {
         return Ok(());
     }
     let begin = place_in(head.segment, head.offset);
     if defined.spans.is_met(begin, begin + size) {
-        return Err(Stop::Fault(own_fault(spot, Code::DataOverlap)));
+        return Err(Stop::Refused(own_fault(spot, Code::DataOverlap)));
     }
     defined.spans.take(begin, begin + size)?;
     cover(defined.covered.as_mut_slice(), head.segment);
@@ -58,7 +57,7 @@ fn take_piece(defined: &mut Defined<'_>, spot: Spot, head: Head, size: u64) -> R
 
 // the fault of data that are nested too deep
 fn deep_fault(defined: &Defined<'_>, spot: Spot, head: Head) -> Fault
-    ensures { specs.IsPieceStopped defined.now (spot.index, spot.place) (specs.piece_with head (Err block.TooDeep)) (stop.Fault result) }
+    ensures { specs.IsPieceStopped defined.now (spot.index, spot.place) (specs.piece_with head (Err block.TooDeep)) (stop.Refused result) }
 {
     match segment_at(defined.segments.as_slice(), head.segment) {
         Some(_segment) => own_fault(spot, Code::TooDeep),
@@ -83,12 +82,12 @@ pub(crate) fn take_data(
     ensures stop { IfErr result (specs.IsStoppedAt defined.old (spot.index, spot.place) (said_on (topic.Data iterated) spot.place wide contents.now)) }
 {
     let Ok((head, at)) = read_head(contents, wide) else {
-        return Err(Stop::Fault(own_fault(spot, Code::BadTable)));
+        return Err(Stop::Refused(own_fault(spot, Code::BadTable)));
     };
     match read_data(alloc, contents, wide, iterated, at) {
         Ok(data) => take_piece(defined, spot, head, data.size()),
-        Err(BlockFault::BadBlock) => Err(Stop::Fault(own_fault(spot, Code::BadTable))),
-        Err(BlockFault::TooDeep) => Err(Stop::Fault(deep_fault(defined, spot, head))),
+        Err(BlockFault::BadBlock) => Err(Stop::Refused(own_fault(spot, Code::BadTable))),
+        Err(BlockFault::TooDeep) => Err(Stop::Refused(deep_fault(defined, spot, head))),
         Err(BlockFault::NoMemory) => Err(Stop::NoMemory),
     }
 }

@@ -16,9 +16,8 @@ use crate::defined::segment_at;
 use crate::section_stage::{Spot, segment_size};
 use crate::seen::Seen;
 use crate::symbol_stage::{base_fault, code_of, symbol_fault};
-use oc_base::{Code, Fault, View};
+use oc_base::{Code, Fault, Stop, View};
 use oc_omf::{Cut, ENTRY_HEAD, Public, read_base, read_public};
-use oc_shelf::Stop;
 
 /// What stands at a place in an entry, counted from the first byte of its contents. Constant time.
 pub(crate) fn spot_in(spot: Spot, at: u64) -> Spot
@@ -61,14 +60,14 @@ fn take_public<'a>(
     ensures stop { IfErr result (specs.IsPublicStopped seen.old (here.index, here.place) (specs.public_with local public.entry.name.now segment public.entry.offset)) }
 {
     if u64::from(public.offset) > size_at(seen, segment) {
-        return Err(Stop::Fault(symbol_fault(here, Code::SymbolPastEnd)));
+        return Err(Stop::Refused(symbol_fault(here, Code::SymbolPastEnd)));
     }
     if public.name.is_empty() {
-        return Err(Stop::Fault(symbol_fault(here, Code::SymbolKind)));
+        return Err(Stop::Refused(symbol_fault(here, Code::SymbolKind)));
     }
     let again = seen.take_name(local, public.name)?;
     if again {
-        return Err(Stop::Fault(symbol_fault(here, Code::DuplicateName)));
+        return Err(Stop::Refused(symbol_fault(here, Code::DuplicateName)));
     }
     Ok(())
 }
@@ -95,7 +94,7 @@ fn take_publics<'a>(
                 Ok(()) => at = after,
                 Err(stop) => return Err(stop),
             },
-            Err(cut) => return Err(Stop::Fault(cut_fault(here, cut))),
+            Err(cut) => return Err(Stop::Refused(cut_fault(here, cut))),
         }
     }
     Ok(())
@@ -118,12 +117,12 @@ pub(crate) fn take_public_entry<'a>(
 {
     let (base, at) = match read_base(contents) {
         Ok(read) => read,
-        Err(cut) => return Err(Stop::Fault(cut_fault(spot, cut))),
+        Err(cut) => return Err(Stop::Refused(cut_fault(spot, cut))),
     };
     let groups = seen.groups.len() as u64;
     let segments = seen.segments.len() as u64;
     match base_fault(groups, segments, spot, base) {
-        Some(fault) => return Err(Stop::Fault(fault)),
+        Some(fault) => return Err(Stop::Refused(fault)),
         None => (),
     }
     match take_publics(seen, spot, wide, local, base.segment, contents, at) {

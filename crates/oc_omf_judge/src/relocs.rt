@@ -1,9 +1,9 @@
 //! Judging threads and fixups, entry by entry.
 ghost use Rattle.std.specs.Prelude.{◌≡◌, ℕ, ◌+◌, ◌≤◌, Bool, length, Ok, None, IfErr, OnOk};
 ghost use Rattle.oc_base.specs.declared.limits.TheConstants.{MOST_INPUT};
+ghost use Rattle.oc_base.specs.Stops.{IsStop};
+ghost use Rattle.oc_base.specs.declared.stop.Stop.TheVariants as stop;
 ghost use Rattle.oc_linking.specs.FirstFault.{first_fault};
-ghost use Rattle.oc_shelf.specs.Reading.Stops.{IsStop};
-ghost use Rattle.oc_shelf.specs.declared.reading.stop.Stop.TheVariants as stop;
 ghost use Rattle.oc_omf.specs.Cursor.{each_read};
 ghost use Rattle.oc_omf.specs.Entries.{in_file};
 ghost use Rattle.oc_omf.specs.RelocationFaults.{relocation_stages};
@@ -24,9 +24,8 @@ use crate::reached::Reached;
 use crate::section_stage::Spot;
 use crate::threads::{relocation_fault, take_thread};
 use crate::whole::Whole;
-use oc_base::{Code, View};
+use oc_base::{Code, Stop, View};
 use oc_omf::{Subrecord, Topic, is_wide, read_index, read_segment, read_subrecord, topic_of};
-use oc_shelf::Stop;
 use std::alloc::Global;
 
 // judges a thread or a fixup, and takes it up
@@ -71,7 +70,7 @@ fn take_parts(
                 Ok(()) => at = after,
                 Err(stop) => return Err(stop),
             },
-            Err(_) => return Err(Stop::Fault(relocation_fault(here, Code::BadTable))),
+            Err(_) => return Err(Stop::Refused(relocation_fault(here, Code::BadTable))),
         }
     }
     Ok(())

@@ -1,7 +1,7 @@
 //! Judging names, segments, groups and data, entry by entry.
 ghost use Rattle.std.specs.Prelude.{◌≡◌, ◌<◌, ◌≤◌, length, None, IfErr, IfOk, OnOk};
+ghost use Rattle.oc_base.specs.Stops.{IsStop};
 ghost use Rattle.oc_linking.specs.FirstFault.{first_broken, stage_fault};
-ghost use Rattle.oc_shelf.specs.Reading.Stops.{IsStop};
 ghost use Rattle.oc_omf_judge.specs.Defined.{IsDefined, IsStoppedAt, IsTakenUp, bytes_in, kind_in};
 ghost use Rattle.oc_omf.specs.Entries.{entries_in};
 ghost use Rattle.oc_omf.specs.SectionFaults.{all_bytes, end_conditions, section_stage};
@@ -15,10 +15,9 @@ use crate::names::take_name_entry;
 use crate::pieces::take_data;
 use crate::section_stage::{Spot, limit_fault, segment_size};
 use crate::segments::take_segment;
-use oc_base::{Code, Fault, MOST_CONTENTS, View};
+use oc_base::{Code, Fault, MOST_CONTENTS, Stop, View};
 use oc_neutral::Kind;
 use oc_omf::{Module, Topic, is_wide, kind_of, topic_of};
-use oc_shelf::Stop;
 use std::alloc::Global;
 
 /// The kind of segment `k`, counted from 0. Linear in its class.
@@ -95,7 +94,7 @@ fn take_others(
     let _ = wide;
     let _ = contents.len();
     match judge_others(defined, spot, ends) {
-        Some(fault) => Err(Stop::Fault(fault)),
+        Some(fault) => Err(Stop::Refused(fault)),
         None => Ok(()),
     }
 }

@@ -10,9 +10,8 @@ ghost use Rattle.oc_omf.specs.declared.topics.Topic.TheVariants as topic;
 
 use crate::defined::Defined;
 use crate::section_stage::{Spot, own_fault, segment_fault, segment_size};
-use oc_base::{Code, Fault, View};
+use oc_base::{Code, Fault, Stop, View};
 use oc_omf::{Segment, read_segment};
-use oc_shelf::Stop;
 
 // the segment in the contents of an entry, of the odd type where `wide`, behind so many names and
 // segments of so many bytes
@@ -54,7 +53,7 @@ pub(crate) fn take_segment(
     let names = defined.names.len() as u64;
     let segment = match judge_segment(names, defined.sizes, spot, wide, contents) {
         Ok(segment) => segment,
-        Err(fault) => return Err(Stop::Fault(fault)),
+        Err(fault) => return Err(Stop::Refused(fault)),
     };
     defined.sizes += segment_size(&segment);
     defined.segments.push(segment)?;

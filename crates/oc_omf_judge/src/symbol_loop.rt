@@ -1,8 +1,8 @@
 //! Judging symbols, entry by entry.
 ghost use Rattle.std.specs.Prelude.{◌≡◌, ◌+◌, ◌++◌, ◌∷◌, [], ◌≤◌, List, length, true, None, IfErr, IfOk, OnOk};
 ghost use Rattle.oc_base.specs.declared.limits.TheConstants.{MOST_INPUT};
+ghost use Rattle.oc_base.specs.Stops.{IsStop};
 ghost use Rattle.oc_linking.specs.FirstFault.{first_fault};
-ghost use Rattle.oc_shelf.specs.Reading.Stops.{IsStop};
 ghost use Rattle.oc_omf.specs.Entries.{entries_in};
 ghost use Rattle.oc_omf_judge.specs.Held.{Held};
 ghost use Rattle.oc_omf_judge.specs.Seen as specs;
@@ -16,9 +16,8 @@ use crate::locals::local_segments;
 use crate::publics::take_public_entry;
 use crate::section_stage::Spot;
 use crate::seen::Seen;
-use oc_base::View;
+use oc_base::{Stop, View};
 use oc_omf::{Module, Topic, is_wide, read_index, read_segment, topic_of};
-use oc_shelf::Stop;
 use std::alloc::Global;
 use std::collections::BTreeMap;
 

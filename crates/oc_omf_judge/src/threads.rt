@@ -8,9 +8,8 @@ ghost use Rattle.oc_omf_judge.specs.declared.whole.Whole.{Whole};
 use crate::counts::is_there;
 use crate::reached::Reached;
 use crate::section_stage::Spot;
-use oc_base::{Code, Fault, Phase};
+use oc_base::{Code, Fault, Phase, Stop};
 use oc_omf::{Datum, Method, Thread, Threads};
-use oc_shelf::Stop;
 
 /// A fault of what stands at a place in an entry. Constant time.
 pub(crate) fn relocation_fault(here: Spot, code: Code) -> Fault
@@ -42,7 +41,7 @@ pub(crate) fn take_thread(reached: &mut Reached<'_>, here: Spot, thread: Thread)
     ensures stop { IfErr result (λ s. (w : Whole) → specs.IsPartStopped w reached.old (here.index, here.place) (Ok (subrecord.Thread thread)) s) }
 {
     if !is_there(reached.counts, thread.method) {
-        return Err(Stop::Fault(relocation_fault(here, Code::BadTarget)));
+        return Err(Stop::Refused(relocation_fault(here, Code::BadTarget)));
     }
     reached.threads.take_up(thread);
     Ok(())

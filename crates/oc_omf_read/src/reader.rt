@@ -1,8 +1,9 @@
 //! The reader.
 ghost use Rattle.std.specs.Prelude.{◌≡◌, ◌≤◌, length, None, IfErr, IfOk, OnOk};
 ghost use Rattle.oc_base.specs.declared.limits.TheConstants.{MOST_INPUT};
+ghost use Rattle.oc_base.specs.Stops.{IsStop};
 ghost use Rattle.oc_linking.specs.FirstFault.{first_fault, stage_fault};
-ghost use Rattle.oc_neutral.specs.Readable.{IsReadable, IsReadFault};
+ghost use Rattle.oc_neutral.specs.Readable.{IsReadable};
 ghost use Rattle.oc_neutral.specs.Shows.{Shows};
 ghost use Rattle.oc_omf.specs.Entries.{entries_in};
 ghost use Rattle.oc_omf.specs.RelocationFaults.{relocation_stages};
@@ -20,8 +21,8 @@ use crate::heard::heard_in;
 use crate::mentioned::mentions_of;
 use crate::started::start;
 use crate::weight::weigh_segments;
-use oc_base::NoMemory;
-use oc_neutral::{Keep, Neutral, ReadFault, Reads, are_bytes};
+use oc_base::{NoMemory, Stop};
+use oc_neutral::{Keep, Neutral, Reads, are_bytes};
 use oc_omf::Module;
 use oc_omf_judge::{Defined, judged};
 use std::alloc::Global;
@@ -62,19 +63,19 @@ pub(crate) fn object_of<'f>(
 }
 
 // reads a file
-fn read_bytes(alloc: Global, bytes: &[u8], keep: &Keep) -> Result<Neutral, ReadFault>
+fn read_bytes(alloc: Global, bytes: &[u8], keep: &Keep) -> Result<Neutral, Stop>
     requires { length bytes.now ≤ MOST_INPUT }
     ensures well_formed { OnOk result (fault_of bytes.now keep.now ≡ None) }
     ensures shows { IfOk result (Shows omf_dialect bytes.now keep.now) }
     ensures readable { IfOk result IsReadable }
-    ensures fault { IfErr result (IsReadFault (fault_of bytes.now keep.now)) }
+    ensures fault { IfErr result (IsStop (fault_of bytes.now keep.now)) }
 {
     let found = match judged(alloc, bytes, keep) {
         Err(fault) => return Err(fault),
         Ok(found) => found,
     };
     match object_of(alloc, bytes, &found.omf, &found.defined, keep) {
-        Err(NoMemory) => Err(ReadFault::NoMemory),
+        Err(NoMemory) => Err(Stop::NoMemory),
         Ok(object) => Ok(object),
     }
 }
@@ -93,7 +94,7 @@ impl Reads for OmfReader {
 
     ghost dialect = { omf_dialect };
 
-    fn read(&self, alloc: Global, bytes: &[u8], keep: &Keep) -> Result<Neutral, ReadFault> {
+    fn read(&self, alloc: Global, bytes: &[u8], keep: &Keep) -> Result<Neutral, Stop> {
         read_bytes(alloc, bytes, keep)
     }
 

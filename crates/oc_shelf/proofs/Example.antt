@@ -4,7 +4,7 @@ use Rattle.oc_base.specs.declared.code.Code.TheVariants.{LimitBytes}
 use Rattle.oc_base.specs.declared.fault.Fault.{Fault}
 use Rattle.oc_base.specs.declared.fault.Phase.TheVariants.{Section}
 use Rattle.oc_linking.specs.FirstFault.{Stage}
-use Rattle.oc_shelf.specs.Reading.Stops.{passes}
+use Rattle.oc_shelf.specs.Reading.Sums.{passes}
 
 -- what structure i is worth
 abbrev pub worth_of : List ℕ → ℕ → ℕ

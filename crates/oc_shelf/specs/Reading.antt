@@ -6,5 +6,5 @@ pub mod Rows
 pub mod Slots
 pub mod Spans
 pub mod Steps
-pub mod Stops
+pub mod Sums
 pub mod Texts

@@ -4,7 +4,7 @@
 mod reading;
 mod writing;
 
-pub use reading::{Bitmap, Placed, Rows, Slots, Spans, Stop, earlier, sort_by_place, text_at};
+pub use reading::{Bitmap, Placed, Rows, Slots, Spans, earlier, sort_by_place, text_at};
 pub use writing::{
     Layout, Packed, Parts, ROW, WritesRows, aligned_place, copy_window, rows_window, window_of,
     zero_window,

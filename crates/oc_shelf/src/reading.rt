@@ -1,17 +1,17 @@
-//! What readers share: why reading stops, tables, positions by number, texts, taken bytes,
+//! What readers share: the first of two faults, tables, positions by number, texts, taken bytes,
 //! spans, entries in order.
 mod bitmap;
+mod first;
 mod order;
 mod rows;
 mod slots;
 mod spans;
-mod stop;
 mod texts;
 
 pub use bitmap::Bitmap;
+pub use first::earlier;
 pub use order::{Placed, sort_by_place};
 pub use rows::Rows;
 pub use slots::Slots;
 pub use spans::Spans;
-pub use stop::{Stop, earlier};
 pub use texts::text_at;

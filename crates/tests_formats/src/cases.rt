@@ -1,6 +1,6 @@
 //! What the tests of readers share: files into which bytes are put, and the faults that they have then.
-use oc_base::{Code, Fault, Phase};
-use oc_neutral::{Keep, ReadFault};
+use oc_base::{Code, Fault, Phase, Stop};
+use oc_neutral::Keep;
 
 /// What is put into a file, and where.
 pub(crate) type Edits = &'static [(usize, &'static [u8])];
@@ -25,12 +25,10 @@ pub(crate) fn put(file: &mut [u8], edits: Edits) {
 }
 
 /// The fault of a file that was not read, if memory sufficed.
-pub(crate) fn fault_in(read: ReadFault) -> Option<Fault> {
+pub(crate) fn fault_in(read: Stop) -> Option<Fault> {
     match read {
-        ReadFault::Malformed(fault) | ReadFault::Outside(fault) | ReadFault::Limit(fault) => {
-            Some(fault)
-        }
-        ReadFault::NoMemory => None,
+        Stop::Refused(fault) => Some(fault),
+        Stop::NoMemory => None,
     }
 }
 

@@ -1,7 +1,6 @@
 //! Modules put together by hand from TIS OMF 1.1, with the first fault of their entries.
-use oc_base::{Code, Phase};
+use oc_base::{Code, Phase, Stop};
 use oc_omf::read_module;
-use oc_shelf::Stop;
 
 /// A module, and the number, code and place of its first fault, or how many entries it has.
 type Case = (&'static [u8], Result<u32, (u32, Code, u64)>);
@@ -45,7 +44,7 @@ fn first_faults_of_entries(rt: HostRuntime) {
     for (bytes, want) in &CASES {
         let got = match read_module(rt.alloc(), bytes) {
             Ok(module) => Ok(module.count()),
-            Err(Stop::Fault(fault)) => {
+            Err(Stop::Refused(fault)) => {
                 assert_eq!(rt; fault.phase, Phase::Header);
                 Err((fault.index, fault.code, fault.place))
             }

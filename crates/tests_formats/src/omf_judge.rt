@@ -4,8 +4,8 @@ mod front;
 mod names;
 
 use crate::cases::KEEP;
-use oc_base::{Code, Fault, MOST_INPUT, NoMemory, Phase};
-use oc_neutral::{Keep, ReadFault};
+use oc_base::{Code, Fault, MOST_INPUT, NoMemory, Phase, Stop};
+use oc_neutral::Keep;
 use oc_omf_judge::judged;
 use std::alloc::Global;
 
@@ -34,13 +34,13 @@ fn module_of(alloc: Global, entries: &[u8]) -> Result<Vec<u8>, NoMemory> {
 }
 
 /// Judges the module of a case.
-fn judge(alloc: Global, entries: &[u8], debug: bool) -> Result<(), ReadFault> {
+fn judge(alloc: Global, entries: &[u8], debug: bool) -> Result<(), Stop> {
     let keep = Keep { debug, ..KEEP };
     let Ok(file) = module_of(alloc, entries) else {
-        return Err(ReadFault::NoMemory);
+        return Err(Stop::NoMemory);
     };
     if file.len() as u64 > MOST_INPUT {
-        return Err(ReadFault::NoMemory);
+        return Err(Stop::NoMemory);
     }
     match judged(alloc, file.as_slice(), &keep) {
         Ok(_module) => Ok(()),
@@ -48,22 +48,18 @@ fn judge(alloc: Global, entries: &[u8], debug: bool) -> Result<(), ReadFault> {
     }
 }
 
-/// What judging tells of a first fault, in the variant of its class.
-fn told(index: u32, code: Code, place: u64) -> ReadFault {
-    let fault = Fault {
+/// What judging tells of a first fault.
+fn told(index: u32, code: Code, place: u64) -> Stop {
+    Stop::Refused(Fault {
         phase: Phase::Relocation,
         index,
         code,
         place,
-    };
-    match code {
-        Code::RelocKind | Code::TargetKind | Code::Overlap => ReadFault::Outside(fault),
-        _ => ReadFault::Malformed(fault),
-    }
+    })
 }
 
 /// What judging is to answer.
-fn wanted(first: Option<(u32, Code, u64)>) -> Result<(), ReadFault> {
+fn wanted(first: Option<(u32, Code, u64)>) -> Result<(), Stop> {
     match first {
         Some((index, code, place)) => Err(told(index, code, place)),
         None => Ok(()),

@@ -3,8 +3,8 @@ ghost use Rattle.std.specs.Prelude.{◌≤◌, length};
 ghost use Rattle.oc_base.specs.declared.limits.TheConstants.{MOST_INPUT};
 
 use crate::cases::KEEP;
-use oc_base::{MOST_INPUT, NoMemory};
-use oc_neutral::{Binding, Keep, Kind, Less, Neutral, ReadFault, Reads, Target, Value};
+use oc_base::{MOST_INPUT, NoMemory, Stop};
+use oc_neutral::{Binding, Keep, Kind, Less, Neutral, Reads, Target, Value};
 use oc_omf_read::OmfReader;
 use std::alloc::Global;
 use std::test::Fail;
@@ -180,7 +180,7 @@ fn sections() -> &'static [(Kind, u32, u32)] {
 }
 
 // reads a module, with debug sections or without
-fn read(alloc: Global, file: &[u8], debug: bool) -> Result<Neutral, ReadFault>
+fn read(alloc: Global, file: &[u8], debug: bool) -> Result<Neutral, Stop>
     requires { length file.now ≤ MOST_INPUT }
 {
     OmfReader.read(alloc, file, &Keep { debug, ..KEEP })

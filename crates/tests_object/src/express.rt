@@ -7,8 +7,8 @@ ghost use Rattle.tests_object.specs.Small.{IsAlone, IsPlain};
 ghost use Rattle.tests_object.specs.Elf.{IsGiven, elf_of};
 
 use crate::small::{add_first, begun, plain};
-use oc_base::{Bytes, Code, Format, NoMemory, Phase, Word, word_of};
-use oc_express::{FitFault, NoForm, Spelling, fit, lookup};
+use oc_base::{Bytes, Code, Format, NoMemory, Phase, Stop, Word, word_of};
+use oc_express::{NoForm, Spelling, fit, lookup};
 use oc_neutral::{
     Base, Binding, Check, Fallback, Form, Hint, Kind, Less, Neutral, Section, Symbol, Width,
 };
@@ -153,8 +153,8 @@ fn first_conditions_of_targets(rt: HostRuntime) -> Result<(), Fail> {
         let object = object(rt.alloc(), target, purpose, is_weak)?;
         let found = match fit(rt.alloc(), target, object) {
             Ok(_fitted) => None,
-            Err(FitFault::Refused(fault)) => Some((fault.phase, fault.index, fault.code)),
-            Err(FitFault::NoMemory) => Err(NoMemory)?,
+            Err(Stop::Refused(fault)) => Some((fault.phase, fault.index, fault.code)),
+            Err(Stop::NoMemory) => Err(NoMemory)?,
         };
         assert_eq!(rt; found, want, "{target:?}");
     }

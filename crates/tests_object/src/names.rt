@@ -5,8 +5,8 @@ ghost use Rattle.tests_object.specs.Small.{IsBare, IsPlain, Speaks};
 
 use crate::small::{add_first, add_symbol, begun, code, plain};
 use Ask::{Alias, AliasPrefix, AliasSuffix, Local, Prefix, Rename, Suffix, Under, Weaken};
-use oc_base::{Bytes, Code, Fault, Format, NoMemory, Phase};
-use oc_names::{Edit, EditFault, Edits, apply};
+use oc_base::{Bytes, Code, Fault, Format, NoMemory, Phase, Stop};
+use oc_names::{Edit, Edits, apply};
 use oc_neutral::{Binding, Builder, Fallback, Neutral, Symbol, Value};
 use std::alloc::Global;
 use std::process::Abort;
@@ -161,7 +161,7 @@ fn edited(
     from: Format,
     to: Format,
     shown: &[Shown],
-) -> Result<Result<Neutral, EditFault>, Fail> {
+) -> Result<Result<Neutral, Stop>, Fail> {
     let mut edits = Edits::new(alloc);
     for ask in asks {
         edits.push(edit(alloc, *ask)?)?;
@@ -182,8 +182,8 @@ fn are_shown(symbols: &[Symbol], shown: &[Shown]) -> bool {
 }
 
 /// A fault of the Edit phase.
-fn fault(code: Code, index: u32, place: u64) -> EditFault {
-    EditFault::Refused(Fault {
+fn fault(code: Code, index: u32, place: u64) -> Stop {
+    Stop::Refused(Fault {
         phase: Phase::Edit,
         index,
         code,

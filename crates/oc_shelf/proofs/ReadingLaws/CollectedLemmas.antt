@@ -7,7 +7,7 @@ use Rattle.std.proofs.lemmas.Bool.{cases_eq, cases_lt}
 use Rattle.std.proofs.lemmas.Option.{none-some, same_Some}
 use Rattle.std.proofs.lemmas.List.Sums.{sum_by-append, sum_by-cons}
 use Rattle.oc_shelf.specs.Reading.Collected.{with_option, collected}
-use Rattle.oc_shelf.specs.Reading.Stops.{sum_upto}
+use Rattle.oc_shelf.specs.Reading.Sums.{sum_upto}
 
 module _ {X : Type 0} where
   -- the last of a list with one more

@@ -5,13 +5,14 @@ use Rattle.std.specs.List.{AllByRecursion, range_with_len}
 use Rattle.std.proofs.lemmas.Bool.{true≢false}
 use Rattle.std.proofs.lemmas.Option.{none-some}
 use Rattle.oc_base.specs.declared.fault.Fault.{Fault}
+use Rattle.oc_base.specs.declared.stop.Stop.{Stop}
+use Rattle.oc_base.specs.declared.stop.Stop.TheVariants as stop
+use Rattle.oc_base.specs.Stops.{IsStop}
 use Rattle.oc_linking.specs.Numbers.{or_else, first_upto}
 use Rattle.oc_linking.specs.FirstFault.{Condition, first_broken, Stage, fault_of, stage_fault, first_fault}
 use Rattle.oc_linking.proofs.Upto.{first_upto_stop}
 use Rattle.oc_linking.proofs.FirstFaultLaws.{first_upto_none}
-use Rattle.oc_shelf.specs.declared.reading.stop.Stop.{Stop}
-use Rattle.oc_shelf.specs.declared.reading.stop.Stop.TheVariants as stop
-use Rattle.oc_shelf.specs.Reading.Stops.{IsStop, sum_upto}
+use Rattle.oc_shelf.specs.Reading.Sums.{sum_upto}
 
 -- the first of two lists of conditions
 pub first_broken-append : (cs ds : List Condition) → first_broken (cs ++ ds) ≡ or_else (first_broken cs) (first_broken ds)
@@ -66,12 +67,12 @@ clean_at item n i none l = first_upto_none item n none i l
 
 -- what stops at a structure stops the stage
 pub stops_at : (item : ℕ → Option Fault) (i n : ℕ) (s : Stop) → first_upto item i ≡ None → i < n → IsStop (item i) s → IsStop (first_upto item n) s
-stops_at item i n (stop.Fault f) none l is = first_upto_stop item i n f none is l
+stops_at item i n (stop.Refused f) none l is = first_upto_stop item i n f none is l
 stops_at item i n stop.NoMemory none l is = tt
 
 -- what stops a stage stops the stages
 pub stops_first : (stage : Stage) (stages : List Stage) (s : Stop) → IsStop (stage_fault stage) s → IsStop (first_fault (stage ∷ stages)) s
-stops_first stage stages (stop.Fault f) is = rw is refl
+stops_first stage stages (stop.Refused f) is = rw is refl
 stops_first stage stages stop.NoMemory is = tt
 
 -- stages behind one without a fault

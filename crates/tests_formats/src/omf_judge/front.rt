@@ -1,7 +1,6 @@
 //! Modules put together by hand from TIS OMF 1.1, with the first fault of their sections and symbols.
-use oc_base::{Code, MOST_INPUT, Phase};
+use oc_base::{Code, MOST_INPUT, Phase, Stop};
 use oc_omf_judge::judge_front;
-use oc_shelf::Stop;
 use std::alloc::Global;
 
 /// A module, and the first fault of its sections and symbols.
@@ -363,7 +362,7 @@ fn first_faults_of_sections_and_symbols(rt: HostRuntime) {
     for (bytes, want) in judged() {
         let got = match check(rt.alloc(), bytes) {
             Ok(()) => None,
-            Err(Stop::Fault(fault)) => Some((fault.phase, fault.index, fault.code, fault.place)),
+            Err(Stop::Refused(fault)) => Some((fault.phase, fault.index, fault.code, fault.place)),
             Err(Stop::NoMemory) => Some((Phase::Header, 0, Code::Short, 0)),
         };
         assert_eq!(rt; got, *want, "{bytes:?}");

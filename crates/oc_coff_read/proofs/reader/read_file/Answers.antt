@@ -2,8 +2,8 @@
 use Rattle.oc_coff.specs.Files.{CoffFile}
 use Rattle.std.proofs.Common.{Option, ◌∙◌, sym, ap, subst}
 use Rattle.oc_base.specs.declared.fault.Fault.{Fault}
+use Rattle.oc_base.specs.Stops.{IsStop}
 use Rattle.oc_linking.specs.FirstFault.{first_fault}
-use Rattle.oc_shelf.specs.Reading.Stops.{IsStop}
 use Rattle.oc_coff_judge.specs.Relocs.{rest_stages}
 use Rattle.oc_coff_read.proofs.JudgedFiles.{header_clean, header_stops}
 use Rattle.oc_coff_read.proofs.reader.read_file.Goals as goal

@@ -1,6 +1,7 @@
 use Rattle.std.proofs.Common.{◌≡◌, None, sym, ◌∙◌, ap, subst}
 use Rattle.std.proofs.lemmas.Result.{IfErr-weaker, err_from_is_err_and}
 use Rattle.oc_base.specs.Formats.{word_for}
+use Rattle.oc_base.specs.Stops.{IsStop}
 use Rattle.oc_neutral.specs.Objects.{Object}
 use Rattle.oc_neutral.specs.Dialects.{Dialect}
 use Rattle.oc_neutral.specs.Shows.{Shows}
@@ -8,7 +9,7 @@ use Rattle.oc_neutral.specs.Fitted.{first_unfit}
 use Rattle.oc_names.specs.Wishes.{Wishes}
 use Rattle.oc_names.specs.Edited.{edited}
 use Rattle.oc_names.specs.Kept.{keep_for}
-use Rattle.oc_convert.specs.Refusals.{IsFaultOf, kept_of_file, first_refusal}
+use Rattle.oc_convert.specs.Refusals.{kept_of_file, first_refusal}
 use Rattle.oc_convert.proofs.Firsts.{edit_stands, refused_by_object, refused_by_edited}
 use Rattle.oc_convert.proofs.Ready.{can_fit, if_ready}
 use Rattle.oc_convert.proofs.steps.ready.Goals as goal
@@ -24,12 +25,12 @@ returns-in_err-neutral-2-clause-refused g c =
     let good = subst (λ k. f.rules.fault c.args.bytes.now k ≡ None) keep c.in_ok-neutral.ensures.well_formed in
     let e = c.in_err-neutral-2.field-0.0 in
     let p = err_from_is_err_and c.from_residual-in_err-neutral-2.result c.from_residual-in_err-neutral-2.ensures.1 in
-    rw (p.1, p.2) (subst (λ o. IsFaultOf o e) (sym (refused_by_object wishes f c.args.to c.args.bytes.now n c.in_ok-neutral.ensures.object shows good))
+    rw (p.1, p.2) (subst (λ o. IsStop o e) (sym (refused_by_object wishes f c.args.to c.args.bytes.now n c.in_ok-neutral.ensures.object shows good))
     (edit_stands c.args.to (edited wishes c.args.to n) e c.in_err-neutral-2.ensures.refused))
 
 -- src/steps.rt:106:5
-pub fitted-requires : goal.fitted-requires
-fitted-requires g c =
+pub fit-requires : goal.fit-requires
+fit-requires g c =
     let f : Dialect = g.R.Reads.dialect in
     let wishes : Wishes = c.args.edits.now in
     let n : Object = c.in_ok-neutral.neutral in
@@ -49,7 +50,7 @@ returns-clause-refused g c =
     let shows = subst (λ k. Shows f c.args.bytes.now k n) keep c.in_ok-neutral.ensures.shows in
     let good = subst (λ k. f.rules.fault c.args.bytes.now k ≡ None) keep c.in_ok-neutral.ensures.well_formed in
     let same = refused_by_edited wishes f c.args.to c.args.bytes.now n c.in_ok-neutral.ensures.object shows good m c.in_ok-neutral-2.ensures.ok in
-    IfErr-weaker c.fitted.result (IsFaultOf (first_unfit c.args.to m)) (IsFaultOf (first_refusal wishes f c.args.to c.args.bytes.now)) (λ e told. subst (λ o. IsFaultOf o e) (sym same) told) c.fitted.ensures.refused
+    IfErr-weaker c.fit.result (IsStop (first_unfit c.args.to m)) (IsStop (first_refusal wishes f c.args.to c.args.bytes.now)) (λ e told. subst (λ o. IsStop o e) (sym same) told) c.fit.ensures.refused
 
 -- src/steps.rt:89:1
 pub returns-clause-ready : goal.returns-clause-ready
@@ -62,4 +63,4 @@ returns-clause-ready g c =
     let shows = subst (λ k. Shows f c.args.bytes.now k n) keep c.in_ok-neutral.ensures.shows in
     let good = subst (λ k. f.rules.fault c.args.bytes.now k ≡ None) keep c.in_ok-neutral.ensures.well_formed in
     if_ready wishes f c.args.to c.args.bytes.now n c.in_ok-neutral.ensures.object shows m c.in_ok-neutral-2.ensures.ok g.met.R.Reads.law.word good c.in_ok-neutral-2.ensures.object
-    c.fitted.result c.fitted.ensures.object c.fitted.ensures.fitted c.fitted.ensures.fit c.fitted.ensures.expressible
+    c.fit.result c.fit.ensures.object c.fit.ensures.fitted c.fit.ensures.fit c.fit.ensures.expressible

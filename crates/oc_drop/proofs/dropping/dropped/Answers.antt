@@ -3,12 +3,12 @@ use Rattle.std.specs.List.{list_all}
 use Rattle.oc_drop.proofs.NothingDropped.{all_keep, dropped_same}
 use Rattle.std.proofs.lemmas.Result.{err_from_is_err_and}
 use Rattle.oc_base.specs.declared.fault.Fault.{Fault}
+use Rattle.oc_base.specs.Stops.{IsStop}
 use Rattle.oc_linking.specs.Numbers.{or_else}
 use Rattle.oc_neutral.specs.Objects.{Object}
 use Rattle.std.proofs.lemmas.List.{length-map}
 use Rattle.oc_neutral.specs.Without.{IsDetached, without_of, left_of, symbols_stay}
 use Rattle.oc_drop.proofs.Detached.{detached}
-use Rattle.oc_drop.specs.Refusals.{IsRefusal}
 use Rattle.oc_drop.specs.Steps.{first_in, first_field}
 use Rattle.oc_drop.specs.Dropping.{dropped_symbol, dropped_reference, dropping_fault, sections_stay}
 use Rattle.oc_drop.proofs.StepLaws.{refused_first, refused_second, step_clean, step_refused}
@@ -25,7 +25,7 @@ returns-in_err-unless-clause-refused c =
     ∙ ap (first_in (dropped_symbol stay)) c.symbols.ensures in
     rw (p.1, p.2) (step_refused (dropping_fault stay n) (left_of stay (symbols_stay stay n.symbols) n) c.in_err-unless.field-0.0
     (refused_first (first_in (dropped_symbol stay) n.symbols) (first_field (dropped_reference stay) n) c.in_err-unless.field-0.0
-    (subst (λ (o : Option Fault). IsRefusal o c.in_err-unless.field-0.0) fault c.in_err-unless.ensures.refused)))
+    (subst (λ (o : Option Fault). IsStop o c.in_err-unless.field-0.0) fault c.in_err-unless.ensures.refused)))
 
 pub returns-in_err-unless-2-clause-refused : goal.returns-in_err-unless-2-clause-refused
 returns-in_err-unless-2-clause-refused c =
@@ -42,7 +42,7 @@ returns-in_err-unless-2-clause-refused c =
     c.references_fault.ensures ∙ ap (λ (ss : List Bool). first_field (dropped_reference ss) n) same in
     rw (p.1, p.2) (step_refused (dropping_fault stay n) (left_of stay (symbols_stay stay n.symbols) n) c.in_err-unless-2.field-0.0
     (refused_second (first_in (dropped_symbol stay) n.symbols) (first_field (dropped_reference stay) n) c.in_err-unless-2.field-0.0 none
-    (subst (λ (o : Option Fault). IsRefusal o c.in_err-unless-2.field-0.0) fault c.in_err-unless-2.ensures.refused)))
+    (subst (λ (o : Option Fault). IsStop o c.in_err-unless-2.field-0.0) fault c.in_err-unless-2.ensures.refused)))
 
 pub without-requires-clause-counted : goal.without-requires-clause-counted
 without-requires-clause-counted c =

@@ -6,13 +6,13 @@ use Rattle.oc_names.proofs.Unedited.{no_items, rebound_same}
 use Rattle.std.proofs.lemmas.Result.{err_from_is_err_and}
 use Rattle.oc_base.specs.declared.format.Word.{Word}
 use Rattle.oc_base.specs.Formats.{word_for}
+use Rattle.oc_base.specs.Stops.{IsStop}
 use Rattle.oc_chains.specs.Lists.{Lists}
 use Rattle.oc_neutral.specs.declared.section.Section.{Section}
 use Rattle.oc_neutral.specs.declared.symbol.Symbol.{Symbol}
 use Rattle.oc_neutral.specs.declared.reloc.Reloc.{Reloc}
 use Rattle.oc_neutral.specs.Objects.{Object}
 use Rattle.oc_neutral.specs.Invariants.{IsObject}
-use Rattle.oc_drop.specs.Refusals.{IsRefusal}
 use Rattle.oc_drop.specs.Steps.{first_field, then_by}
 use Rattle.oc_names.proofs.FieldBounds.{parts_same, storable}
 use Rattle.oc_names.proofs.LeftLists.{sections_long, written_back}
@@ -38,9 +38,9 @@ returns-in_err-relocs-clause-refused c =
     let sections : c.as_mut_slice-places.result.now ≡ n.sections = c.as_mut_slice-places.ensures.value ∙ c.into_parts-groups.ensures.sections in
     let word : c.word_of-word.result ≡ w = cc in
     let p = err_from_is_err_and c.from_residual-in_err-relocs.result c.from_residual-in_err-relocs.ensures.1 in
-    let told : IsRefusal (first_field (unfit_fault w symbols) n) c.in_err-relocs.field-0.0 =
-    subst (λ (v : Word). IsRefusal (first_field (unfit_fault v symbols) n) c.in_err-relocs.field-0.0) word
-    (subst (λ (ys : List Symbol). IsRefusal (first_field (unfit_fault c.word_of-word.result ys) n) c.in_err-relocs.field-0.0) c.as_slice.ensures.value
+    let told : IsStop (first_field (unfit_fault w symbols) n) c.in_err-relocs.field-0.0 =
+    subst (λ (v : Word). IsStop (first_field (unfit_fault v symbols) n) c.in_err-relocs.field-0.0) word
+    (subst (λ (ys : List Symbol). IsStop (first_field (unfit_fault c.word_of-word.result ys) n) c.in_err-relocs.field-0.0) c.as_slice.ensures.value
     (c.in_err-relocs.ensures.refused n (sym sections) (sym c.into_parts-groups.ensures.relocs))) in
     rw (p.1, p.2) (then_step (after_relocs n) (then_by after_fallbacks (after_words c.args.edits.now n.symbols)) symbols c.in_err-relocs.field-0.0
     (ap (λ (ys : List Symbol). then_by after_fallbacks (after_words c.args.edits.now ys)) (sym c.into_parts-groups.ensures.symbols) ∙ c.in_ok-symbols.ensures.ok)

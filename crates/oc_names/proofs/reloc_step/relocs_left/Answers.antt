@@ -3,6 +3,7 @@ use Rattle.std.specs.List.{AllByRecursion, filter_map, fold}
 use Rattle.std.proofs.lemmas.List.{length-set}
 use Rattle.std.proofs.lemmas.Option.{get_or_from_slice_get}
 use Rattle.std.proofs.lemmas.Result.{err_from_is_err_and}
+use Rattle.oc_base.specs.Stops.{IsStop}
 use Rattle.oc_linking.specs.Fits.{bytes_of}
 use Rattle.oc_chains.specs.declared.field.Field.{Field}
 use Rattle.oc_chains.specs.Fields.{FollowFrom}
@@ -10,7 +11,6 @@ use Rattle.oc_chains.specs.Lists.{Lists, held_in, list_of}
 use Rattle.oc_neutral.specs.declared.section.Section.{Section}
 use Rattle.oc_neutral.specs.declared.reloc.Reloc.{Reloc}
 use Rattle.oc_neutral.proofs.Positions.{each_weaker, there_at}
-use Rattle.oc_drop.specs.Refusals.{IsRefusal}
 use Rattle.oc_drop.specs.Steps.{first_in}
 use Rattle.oc_names.specs.Rebinding.{IsInside, kept_field, unfit_fault, with_constant, lists_left}
 use Rattle.oc_names.proofs.FieldBounds.{IsNarrow}
@@ -40,9 +40,9 @@ returns-in_err-fields-clause-refused c n is lists_are =
     let s = there_at c.args.sections.now at (omega (arith, low, counted)) in
     let now = get_or_from_slice_get c.loop-at.sections at s.0 c.index-sections-at.result (c.loop-at.invariant.rest at (omega arith) ∙ s.1) in
     let p = err_from_is_err_and c.from_residual.result c.from_residual.ensures.1 in
-    let told : IsRefusal (first_in (unfit_fault w symbols at s.0) (list_of lists at)) c.in_err-fields.field-0.0 =
-    subst (λ (z : Section). IsRefusal (first_in (unfit_fault w symbols at z) (list_of lists at)) c.in_err-fields.field-0.0) now
-    (subst (λ (xs : List (Field Reloc)). IsRefusal (first_in (unfit_fault w symbols at (get_or c.loop-at.sections at c.index-sections-at.result)) xs) c.in_err-fields.field-0.0) c.walk.ensures.items c.in_err-fields.ensures.refused) in
+    let told : IsStop (first_in (unfit_fault w symbols at s.0) (list_of lists at)) c.in_err-fields.field-0.0 =
+    subst (λ (z : Section). IsStop (first_in (unfit_fault w symbols at z) (list_of lists at)) c.in_err-fields.field-0.0) now
+    (subst (λ (xs : List (Field Reloc)). IsStop (first_in (unfit_fault w symbols at (get_or c.loop-at.sections at c.index-sections-at.result)) xs) c.in_err-fields.field-0.0) c.walk.ensures.items c.in_err-fields.ensures.refused) in
     rw (p.1, p.2) (stopped w symbols c.args.sections.now lists c.requires.fields n at s.0 c.in_err-fields.field-0.0 is lists_are s.1 (c.loop-at.invariant.clean n is lists_are) told)
 
 pub add_list-requires-clause-apart : goal.add_list-requires-clause-apart

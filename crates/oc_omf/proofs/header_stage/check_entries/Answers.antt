@@ -1,8 +1,8 @@
 use Rattle.std.proofs.Common.{◌≡◌, ◌||◌, ℕ, length, slice_get, get_or, Some, sym, ◌∙◌, ap, arith}
 use Rattle.std.proofs.lemmas.Option.{slice_get-get_or}
 use Rattle.oc_base.specs.declared.fault.Phase.TheVariants.{Header}
+use Rattle.oc_base.specs.declared.stop.Stop.TheVariants as stop
 use Rattle.oc_linking.specs.FirstFault.{fault_of}
-use Rattle.oc_shelf.specs.declared.reading.stop.Stop.TheVariants as stop
 use Rattle.oc_shelf.proofs.ReadingLaws.StageLemmas.{clean_more, stops_at}
 use Rattle.oc_omf_records.specs.NextEntry.{entry_of}
 use Rattle.oc_omf.specs.declared.constants.TheConstants.{THEADR}
@@ -23,7 +23,7 @@ returns-in-Err-clause-stop c =
     let file = c.args.file.now in
     let same : length c.args.places.now ≡ length (places_in file) = ap length c.requires.places in
     let here = sym (ap (λ xs. slice_get xs c.loop-i.i) c.requires.places) ∙ slice_get-get_or c.args.places.now c.loop-i.i 0 (omega arith) in
-    stops_at (fault_of (header_stage file)) c.loop-i.i (length (places_in file)) (stop.Fault (record { phase = Header; index = c.loop-i.i; code = c.in-Err.code; place = c.from.result })) c.loop-i.invariant.clean (omega (arith, same))
+    stops_at (fault_of (header_stage file)) c.loop-i.i (length (places_in file)) (stop.Refused (record { phase = Header; index = c.loop-i.i; code = c.in-Err.code; place = c.from.result })) c.loop-i.invariant.clean (omega (arith, same))
     (fault_here file c.loop-i.i _ c.loop-i.begun here c.loop-i.invariant.begun ∙ c.in-Err.ensures.fault c.loop-i.i
     ∙ ap (λ (p : ℕ). Some (record { phase = Header; index = c.loop-i.i; code = c.in-Err.code; place = p })) (sym c.from.ensures))
 

@@ -4,8 +4,8 @@ use Rattle.std.specs.List.{list_any}
 use Rattle.std.specs.Option.{option_map}
 use Rattle.std.proofs.lemmas.Bool.Decides.{nat_tests}
 use Rattle.oc_base.specs.declared.code.Code.TheVariants.{Overlap}
+use Rattle.oc_base.specs.Stops.{IsStop}
 use Rattle.oc_linking.specs.Numbers.{or_else}
-use Rattle.oc_shelf.specs.Reading.Stops.{IsStop}
 use Rattle.oc_omf.specs.declared.constants.TheConstants.{OFFSET_32}
 use Rattle.oc_omf.specs.declared.structures.Method.{Method}
 use Rattle.oc_omf.specs.Fixups.{fixed_in, fixed_of, meet}

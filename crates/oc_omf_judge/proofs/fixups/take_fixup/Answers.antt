@@ -1,6 +1,6 @@
 -- A fixup is judged, or its section is not kept.
 use Rattle.std.proofs.Common.{◌≡◌, ℕ, true, false, sym, ◌∙◌, ap, subst}
-use Rattle.oc_shelf.specs.Reading.Stops.{IsStop}
+use Rattle.oc_base.specs.Stops.{IsStop}
 use Rattle.oc_omf.specs.Fixups.{fixed_of}
 use Rattle.oc_omf_judge.specs.Whole.{is_judged, is_judged_in}
 use Rattle.oc_omf_judge.proofs.ReachedLemmas.{fixup_passed, judged_is, part_judged, part_passed}

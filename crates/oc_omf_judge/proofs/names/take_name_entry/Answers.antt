@@ -1,6 +1,6 @@
 -- Names are judged and taken up by themselves.
 use Rattle.std.proofs.Common.{◌++◌, refl, sym, ◌∙◌, ap, subst, append-nil}
-use Rattle.oc_shelf.specs.Reading.Stops.{IsStop}
+use Rattle.oc_base.specs.Stops.{IsStop}
 use Rattle.oc_omf.specs.Cursor.{each_read, name_read}
 use Rattle.oc_omf.specs.Entries.{all_read}
 use Rattle.oc_omf_judge.specs.Defined.{and_entry}

@@ -2,7 +2,7 @@
 use Rattle.std.proofs.Common.{◌≡◌, ℕ, ◌^◌, min, Some, Ok, Err, sym, ◌∙◌, ap}
 use Rattle.std.specs.Prelude.{drop}
 use Rattle.std.proofs.lemmas.Result.{IfErr-weaker, on_ok_weaker}
-use Rattle.oc_shelf.specs.declared.reading.stop.Stop.TheVariants as stop
+use Rattle.oc_base.specs.declared.stop.Stop.TheVariants as stop
 use Rattle.oc_omf_records.specs.declared.faults.BlockFault.TheVariants as block
 use Rattle.oc_omf_records.specs.Blocks.{Blocks, size_of}
 use Rattle.oc_omf.specs.Known.{row_of}
@@ -41,12 +41,12 @@ pub returns-in-Err-BadBlock-clause-stop : goal.returns-in-Err-BadBlock-clause-st
 returns-in-Err-BadBlock-clause-stop c =
     let x : ℕ × ℕ = (c.args.spot.index, c.args.spot.place) in
     let blocks : blocks_by c.args.wide c.args.iterated (drop c.in-Ok.at c.args.contents.now) ≡ Err block.BadBlock = rw c.in-Err-BadBlock.field-0-is at c.in-Err-BadBlock.ensures.refused in
-    data_stopped c.args.defined.now x c.args.spot.place c.args.wide c.args.iterated c.args.contents.now c.in-Ok.head c.in-Ok.at (Err block.BadBlock) (stop.Fault c.own_fault-in-Err-BadBlock.result)
+    data_stopped c.args.defined.now x c.args.spot.place c.args.wide c.args.iterated c.args.contents.now c.in-Ok.head c.in-Ok.at (Err block.BadBlock) (stop.Refused c.own_fault-in-Err-BadBlock.result)
     (sym c.read_head.ensures ∙ c.in-Ok.is) blocks (λ t is. data_bad t x c.in-Ok.head ∙ ap (λ f. Some f) (sym c.own_fault-in-Err-BadBlock.ensures))
 
 pub returns-in-Err-TooDeep-clause-stop : goal.returns-in-Err-TooDeep-clause-stop
 returns-in-Err-TooDeep-clause-stop c =
     let x : ℕ × ℕ = (c.args.spot.index, c.args.spot.place) in
     let blocks : blocks_by c.args.wide c.args.iterated (drop c.in-Ok.at c.args.contents.now) ≡ Err block.TooDeep = rw c.in-Err-TooDeep.field-0-is at c.in-Err-TooDeep.ensures.refused in
-    data_stopped c.args.defined.now x c.args.spot.place c.args.wide c.args.iterated c.args.contents.now c.in-Ok.head c.in-Ok.at (Err block.TooDeep) (stop.Fault c.deep_fault.result)
+    data_stopped c.args.defined.now x c.args.spot.place c.args.wide c.args.iterated c.args.contents.now c.in-Ok.head c.in-Ok.at (Err block.TooDeep) (stop.Refused c.deep_fault.result)
     (sym c.read_head.ensures ∙ c.in-Ok.is) blocks c.deep_fault.ensures

@@ -1,7 +1,7 @@
 -- The base, and then the definitions.
 use Rattle.std.proofs.Common.{◌≡◌, ◌++◌, Ok, Some, sym, ◌∙◌, ap, subst, append-nil}
+use Rattle.oc_base.specs.Stops.{IsStop}
 use Rattle.oc_linking.specs.Numbers.{or_else}
-use Rattle.oc_shelf.specs.Reading.Stops.{IsStop}
 use Rattle.oc_omf.specs.Cursor.{Reading}
 use Rattle.oc_omf.specs.declared.structures.Base.{Base}
 use Rattle.oc_omf.specs.declared.topics.Topic.TheVariants as topic

@@ -1,6 +1,6 @@
 -- One definition after another.
 use Rattle.std.proofs.Common.{◌≡◌, ◌<◌, ◌≤◌, List, ◌++◌, length, None, Some, sym, ◌∙◌, ap, subst, arith}
-use Rattle.oc_shelf.specs.Reading.Stops.{IsStop}
+use Rattle.oc_base.specs.Stops.{IsStop}
 use Rattle.oc_omf_judge.specs.declared.seen.Seen.{Seen}
 use Rattle.oc_omf.specs.Structures.{Public, public_read}
 use Rattle.oc_omf.specs.Entries.{all_read, in_file}

@@ -1,9 +1,9 @@
 -- An entry with a fault stops the stages.
 use Rattle.std.proofs.Common.{◌≡◌, ◌+◌, ◌++◌, length, List, refl, arith, sym, ◌∙◌, ap, subst}
 use Rattle.std.proofs.lemmas.Option.{slice_get_within}
+use Rattle.oc_base.specs.Stops.{IsStop}
 use Rattle.oc_linking.specs.Numbers.{first_upto}
 use Rattle.oc_shelf.proofs.ReadingLaws.StageLemmas.{clean_more, stops_at}
-use Rattle.oc_shelf.specs.Reading.Stops.{IsStop}
 use Rattle.oc_omf.specs.Entries.{Entry}
 use Rattle.oc_omf.specs.Fixups.{Placed, placed_upto}
 use Rattle.oc_omf.specs.Tables.{Tables}

@@ -1,8 +1,8 @@
 -- One thread or fixup after another.
 use Rattle.std.proofs.Common.{◌≡◌, ℕ, ◌+◌, ◌<◌, ◌≤◌, ◌∷◌, [], ◌++◌, length, Ok, None, Some, sym, ◌∙◌, ap, subst, arith}
 use Rattle.oc_base.specs.declared.code.Code.TheVariants.{BadTable}
+use Rattle.oc_base.specs.Stops.{IsStop}
 use Rattle.oc_linking.specs.FirstFault.{first_broken}
-use Rattle.oc_shelf.specs.Reading.Stops.{IsStop}
 use Rattle.oc_omf.specs.declared.constants.TheConstants.{ENTRY_HEAD}
 use Rattle.oc_omf.specs.Entries.{in_file}
 use Rattle.oc_omf.specs.Structures.{subrecord_read}

@@ -1,6 +1,6 @@
 -- One segment after another.
 use Rattle.std.proofs.Common.{◌≡◌, ◌+◌, length, ◌∙◌, ap, arith}
-use Rattle.oc_shelf.specs.Reading.Stops.{sum_upto}
+use Rattle.oc_shelf.specs.Reading.Sums.{sum_upto}
 use Rattle.oc_shelf.proofs.ReadingLaws.StageLemmas.{sum_more}
 use Rattle.oc_omf_judge.specs.Defined.{bytes_in}
 use Rattle.oc_omf_judge.proofs.ByteLemmas.{bytes_are, few_bytes, sum_less}

@@ -1,10 +1,10 @@
 -- An entry with a fault stops the stage.
 use Rattle.std.proofs.Common.{◌≡◌, ◌≤◌, length, arith, sym, ◌∙◌, ap, subst}
 use Rattle.std.proofs.lemmas.Option.{slice_get_within}
+use Rattle.oc_base.specs.Stops.{IsStop}
 use Rattle.oc_linking.specs.Numbers.{first_upto}
 use Rattle.oc_linking.specs.FirstFault.{fault_of}
 use Rattle.oc_shelf.proofs.ReadingLaws.StageLemmas.{clean_more, stops_at}
-use Rattle.oc_shelf.specs.Reading.Stops.{IsStop}
 use Rattle.oc_omf.specs.Entries.{Entry, entries_in}
 use Rattle.oc_omf.specs.SectionFaults.{section_stage}
 use Rattle.oc_omf.specs.Topics.{said_on}
