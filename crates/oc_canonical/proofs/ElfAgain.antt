@@ -53,12 +53,13 @@ use Rattle.oc_elf.specs.declared.ehdr.Ehdr.{Ehdr}
 use Rattle.oc_elf.specs.declared.shdr.Shdr.{Shdr}
 use Rattle.oc_elf.specs.declared.sym.Sym.{Sym}
 use Rattle.oc_elf.specs.declared.rel.Rel.{Rel}
-use Rattle.oc_elf.specs.Classes.{format_of, machine_of, is_big}
+use Rattle.oc_elf.specs.Classes.{format_of, machine_of, is_big, word_of}
 use Rattle.oc_elf.specs.Ehdr.{ehdr_size}
 use Rattle.oc_elf.specs.Shdr.{shdr_size, null_shdr}
 use Rattle.oc_elf.specs.Sym.{sym_size}
 use Rattle.oc_elf.specs.Rel.{rel_size}
 use Rattle.oc_elf.specs.Structures.{ehdr_bytes, shdr_bytes, sym_bytes, index_bytes, rel_bytes}
+use Rattle.oc_base.specs.declared.format.Word.{Word}
 use Rattle.oc_elf_file.specs.Heads.{Head, NullHead, GroupHead, SectionHead, RelocHead, SymtabHead, ShndxHead, StrtabHead, ShstrtabHead, placed_sections, group_head, section_head, reloc_head, group_heads, section_heads, reloc_heads, table_heads_by, table_heads, heads_of, head_size, numbered_heads, head_where, is_group_head, is_section_head, is_symtab_head, is_strtab_head, is_shstrtab_head, group_number, section_number, head_name}
 use Rattle.oc_elf_file.specs.Lines.{Line, NullLine, SectionLine, SignatureLine, LocalLine, OuterLine, section_lines, signature_lines, lines_where, inner_lines, outer_lines, lines_of, line_size, numbered_lines, is_section_line, is_signature_line, own_number, symbol_number, signature_number, line_name}
 use Rattle.oc_elf_file.specs.Groups.{is_member_head, member_number, group_words, group_bytes}
@@ -567,11 +568,9 @@ module _ (class : ElfClass) (n : Object) (is : IsForElf class n) where
     unfolding type_of
     type_again = refl
 
-    addend_again : (class : ElfClass) → addend_of class (seen_reloc elf_manner n (shown n) r) ≡ addend_of class r
-    addend_again Class32 = refl
-    addend_again Class64 = ap (residue_of W64) reduced
-    addend_again Big32 = refl
-    addend_again Big64 = ap (residue_of W64) reduced
+    addend_again : (word : Word) → addend_of word (seen_reloc elf_manner n (shown n) r) ≡ addend_of word r
+    addend_again W32 = refl
+    addend_again W64 = ap (residue_of W64) reduced
 
     patch_again : field_patch (seen_reloc elf_manner n (shown n) r) ≡ field_patch r
     unfolding field_number
@@ -584,9 +583,9 @@ module _ (class : ElfClass) (n : Object) (is : IsForElf class n) where
   rel_again k x here =
       let r : Reloc = x.item in
       let q : Reloc = seen_reloc elf_manner n (shown n) r in
-      ap (λ (number : ℕ). rel_as x.at number (type_of class q) (addend_of class q)) (target_again k x.at r here r.target refl)
-      ∙ ap (λ (type : ℕ). rel_as x.at (target_number (numbered_lines n) r.target) type (addend_of class q)) (type_again k x.at r here)
-      ∙ ap (λ (addend : ℕ). rel_as x.at (target_number (numbered_lines n) r.target) (type_of class r) addend) (addend_again k x.at r here class)
+      ap (λ (number : ℕ). rel_as x.at number (type_of class q) (addend_of (word_of class) q)) (target_again k x.at r here r.target refl)
+      ∙ ap (λ (type : ℕ). rel_as x.at (target_number (numbered_lines n) r.target) type (addend_of (word_of class) q)) (type_again k x.at r here)
+      ∙ ap (λ (addend : ℕ). rel_as x.at (target_number (numbered_lines n) r.target) (type_of class r) addend) (addend_again k x.at r here (word_of class))
 
   rels_again : (k : ℕ) → rels_of class (numbered_lines a) a k ≡ rels_of class (numbered_lines n) n k
   unfolding rels_of
@@ -604,12 +603,10 @@ module _ (class : ElfClass) (n : Object) (is : IsForElf class n) where
       by None e = refl
       by (Some r) e = ap Some (patch_again k at r e)
 
-  raw_again : (class : ElfClass) (k : ℕ) (s : Section) → raw_of class a k (seen_section elf_manner n (k, s)) ≡ raw_of class n k s
+  raw_again : (word : Word) (k : ℕ) (s : Section) → raw_of word a k (seen_section elf_manner n (k, s)) ≡ raw_of word n k s
   unfolding raw_of
-  raw_again Class32 k s = ap (λ o. overlay o 0 s.bytes) (fun_ext (λ at. patches_again k at))
-  raw_again Class64 k s = refl
-  raw_again Big32 k s = ap (λ o. overlay o 0 s.bytes) (fun_ext (λ at. patches_again k at))
-  raw_again Big64 k s = refl
+  raw_again W32 k s = ap (λ o. overlay o 0 s.bytes) (fun_ext (λ at. patches_again k at))
+  raw_again W64 k s = refl
 
   -- ... groups
 
@@ -637,8 +634,8 @@ module _ (class : ElfClass) (n : Object) (is : IsForElf class n) where
   body_size_again NullHead = refl
   body_size_again (GroupHead k g) = ap (λ words. GRP_ENTRY_SIZE * length words) (words_again k)
   body_size_again (SectionHead k s) = refl
-  body_size_again (RelocHead k s) = ap (λ count. rel_size class * count) (count_again k)
-  body_size_again SymtabHead = ap (λ count. sym_size class * count) (ap length lines_again ∙ length-map (lines_of n) line_again)
+  body_size_again (RelocHead k s) = ap (λ count. rel_size (word_of class) * count) (count_again k)
+  body_size_again SymtabHead = ap (λ count. sym_size (word_of class) * count) (ap length lines_again ∙ length-map (lines_of n) line_again)
   body_size_again ShndxHead = ap (λ count. SHNDX_SIZE * count) (ap length lines_again ∙ length-map (lines_of n) line_again)
   body_size_again StrtabHead = ap (λ names. length (strings_of names)) line_names_again
   body_size_again ShstrtabHead = ap (λ names. length (strings_of names)) head_names_again
@@ -663,7 +660,7 @@ module _ (class : ElfClass) (n : Object) (is : IsForElf class n) where
   size_again : (x : Part) → part_size class a (part_again x) ≡ part_size class n x
   size_again FileHead = refl
   size_again (Body h) = body_size_again h
-  size_again HeadTable = ap (λ count. shdr_size class * count) (ap length heads_again ∙ length-map (heads_of n) head_again)
+  size_again HeadTable = ap (λ count. shdr_size (word_of class) * count) (ap length heads_again ∙ length-map (heads_of n) head_again)
 
   parts_again : parts_of a ≡ map part_again (parts_of n)
   unfolding parts_of
@@ -742,11 +739,11 @@ module _ (class : ElfClass) (n : Object) (is : IsForElf class n) where
         ei_data = ELFDATA2LSB;
         ei_version = EV_CURRENT;
         e_type = ET_REL;
-        e_machine = machine_of class;
+        e_machine = machine_of (word_of class);
         e_version = EV_CURRENT;
         e_shoff = shoff;
-        e_ehsize = ehdr_size class;
-        e_shentsize = shdr_size class;
+        e_ehsize = ehdr_size (word_of class);
+        e_shentsize = shdr_size (word_of class);
         e_shnum = shown_count class shnum;
         e_shstrndx = shown_names class shstrndx;
       }
@@ -756,8 +753,8 @@ module _ (class : ElfClass) (n : Object) (is : IsForElf class n) where
   body_again : (h : Head) → body_bytes class a (head_again h) ≡ body_bytes class n h
   body_again NullHead = refl
   body_again (GroupHead k g) = ap group_bytes (words_again k)
-  body_again (SectionHead k s) = raw_again class k s
-  body_again (RelocHead k s) = ap (flat_map (rel_bytes class)) (rels_again k)
+  body_again (SectionHead k s) = raw_again (word_of class) k s
+  body_again (RelocHead k s) = ap (flat_map (rel_bytes (word_of class))) (rels_again k)
   body_again SymtabHead = symbols_again
   body_again ShndxHead = indexes_again
   body_again StrtabHead = ap strings_of line_names_again
@@ -765,9 +762,9 @@ module _ (class : ElfClass) (n : Object) (is : IsForElf class n) where
 
   bytes_again : (x : Part) → part_bytes class a (part_again x) ≡ part_bytes class n x
   unfolding part_bytes
-  bytes_again FileHead = ap (ehdr_bytes class) file_header_again
+  bytes_again FileHead = ap (ehdr_bytes (word_of class)) file_header_again
   bytes_again (Body h) = body_again h
-  bytes_again HeadTable = ap (flat_map (shdr_bytes class)) stored_again
+  bytes_again HeadTable = ap (flat_map (shdr_bytes (word_of class))) stored_again
 
   pub elf_file_again : elf_file class (seen n) ≡ elf_file class n
   unfolding elf_file

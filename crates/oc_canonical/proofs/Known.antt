@@ -12,7 +12,7 @@ use Rattle.oc_elf.specs.declared.class.ElfClass.{ElfClass}
 use Rattle.oc_elf.specs.declared.class.ElfClass.TheVariants.{Class32, Class64, Big32, Big64}
 use Rattle.oc_elf.specs.declared.constants.TheConstants.{SHN_XINDEX}
 use Rattle.oc_elf.specs.declared.ehdr.Ehdr.{Ehdr}
-use Rattle.oc_elf.specs.Classes.{format_of, is_big}
+use Rattle.oc_elf.specs.Classes.{format_of, is_big, word_of}
 use Rattle.oc_elf.specs.Ehdr.{ehdr_in, ehdr_size}
 use Rattle.oc_elf.specs.Structures as elf
 use Rattle.oc_elf_file.specs.Layout as elf_layout
@@ -42,7 +42,7 @@ use Rattle.oc_omf_file.specs.Canonical.{omf_file}
 
 -- the numbers of the section headers stand in the first of them, by this file header of a file of so many bytes
 abbrev stand_elsewhere : ElfClass → ℕ → Ehdr → Bool
-stand_elsewhere class size h = nat_le (ehdr_size class) size && not (eqb h.e_shoff 0) && (eqb h.e_shnum 0 || eqb h.e_shstrndx SHN_XINDEX)
+stand_elsewhere class size h = nat_le (ehdr_size (word_of class)) size && not (eqb h.e_shoff 0) && (eqb h.e_shnum 0 || eqb h.e_shstrndx SHN_XINDEX)
 
 low_is : (a b : ℕ) → a ≤ b → nat_le a b ≡ true
 low_is a b le = grind (arith, nat_tests, le)
@@ -59,37 +59,37 @@ module _ (class : ElfClass) (n : Object) (is : IsForElf class n) where
   abbrev header : Ehdr
   header = file_header class n
 
-  elsewhere_is : stand_elsewhere class (length file) (ehdr_in class file) ≡ stand_elsewhere class (length file) header
+  elsewhere_is : stand_elsewhere class (length file) (ehdr_in (word_of class) file) ≡ stand_elsewhere class (length file) header
   elsewhere_is = ap (stand_elsewhere class (length file)) (header_read class n (has_numbers class n is))
 
-  few_here : is_big class ≡ false → stand_elsewhere class (length file) (ehdr_in class file) ≡ false
+  few_here : is_big class ≡ false → stand_elsewhere class (length file) (ehdr_in (word_of class) file) ≡ false
   few_here plain =
       elsewhere_is
-      ∙ ap (λ b. nat_le (ehdr_size class) (length file) && not (eqb header.e_shoff 0) && (b || eqb header.e_shstrndx SHN_XINDEX)) (plain_number class n is plain)
-      ∙ ap (λ b. nat_le (ehdr_size class) (length file) && not (eqb header.e_shoff 0) && b) (plain_names class n is plain)
-      ∙ none_stands (nat_le (ehdr_size class) (length file)) (not (eqb header.e_shoff 0))
+      ∙ ap (λ b. nat_le (ehdr_size (word_of class)) (length file) && not (eqb header.e_shoff 0) && (b || eqb header.e_shstrndx SHN_XINDEX)) (plain_number class n is plain)
+      ∙ ap (λ b. nat_le (ehdr_size (word_of class)) (length file) && not (eqb header.e_shoff 0) && b) (plain_names class n is plain)
+      ∙ none_stands (nat_le (ehdr_size (word_of class)) (length file)) (not (eqb header.e_shoff 0))
 
-  many_elsewhere : is_big class ≡ true → stand_elsewhere class (length file) (ehdr_in class file) ≡ true
+  many_elsewhere : is_big class ≡ true → stand_elsewhere class (length file) (ehdr_in (word_of class) file) ≡ true
   many_elsewhere big =
       elsewhere_is
-      ∙ ap (λ b. b && not (eqb header.e_shoff 0) && (eqb header.e_shnum 0 || eqb header.e_shstrndx SHN_XINDEX)) (low_is (ehdr_size class) (length file) (header_inside class n))
+      ∙ ap (λ b. b && not (eqb header.e_shoff 0) && (eqb header.e_shnum 0 || eqb header.e_shstrndx SHN_XINDEX)) (low_is (ehdr_size (word_of class)) (length file) (header_inside class n))
       ∙ ap (λ b. not b && (eqb header.e_shnum 0 || eqb header.e_shstrndx SHN_XINDEX)) (some_table class n)
       ∙ ap (λ (count : ℕ). eqb count 0 || eqb header.e_shstrndx SHN_XINDEX) (big_number class n big)
 
 -- what a header of ELF is looked at for
-elsewhere_32 : (file : List ℕ) → is_big_elf32 file ≡ stand_elsewhere Class32 (length file) (ehdr_in Class32 file)
+elsewhere_32 : (file : List ℕ) → is_big_elf32 file ≡ stand_elsewhere Class32 (length file) (ehdr_in W32 file)
 unfolding ehdr_in
 elsewhere_32 file = refl
 
-elsewhere_64 : (file : List ℕ) → is_big_elf64 file ≡ stand_elsewhere Class64 (length file) (ehdr_in Class64 file)
+elsewhere_64 : (file : List ℕ) → is_big_elf64 file ≡ stand_elsewhere Class64 (length file) (ehdr_in W64 file)
 unfolding ehdr_in
 elsewhere_64 file = refl
 
-big_elsewhere_32 : (file : List ℕ) → is_big_elf32 file ≡ stand_elsewhere Big32 (length file) (ehdr_in Big32 file)
+big_elsewhere_32 : (file : List ℕ) → is_big_elf32 file ≡ stand_elsewhere Big32 (length file) (ehdr_in W32 file)
 unfolding ehdr_in
 big_elsewhere_32 file = refl
 
-big_elsewhere_64 : (file : List ℕ) → is_big_elf64 file ≡ stand_elsewhere Big64 (length file) (ehdr_in Big64 file)
+big_elsewhere_64 : (file : List ℕ) → is_big_elf64 file ≡ stand_elsewhere Big64 (length file) (ehdr_in W64 file)
 unfolding ehdr_in
 big_elsewhere_64 file = refl
 

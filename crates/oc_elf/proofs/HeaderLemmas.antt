@@ -4,6 +4,7 @@ use Rattle.std.specs.Prelude.{not, ◌&&◌, ◌||◌, nat_lt}
 use Rattle.std.specs.List.{AllByRecursion, range_with_len}
 use Rattle.std.proofs.lemmas.Bool.{eqb-true, true≢false}
 use Rattle.std.proofs.lemmas.Bool.Decides.{nat_tests}
+use Rattle.oc_base.specs.declared.format.Word.{Word}
 use Rattle.oc_elf.specs.declared.class.ElfClass.{ElfClass}
 use Rattle.oc_base.specs.declared.code.Code.TheVariants.{BadHeader, Short}
 use Rattle.oc_linking.specs.FirstFault.{Condition, first_broken}
@@ -12,12 +13,12 @@ use Rattle.oc_elf.specs.declared.ehdr.Ehdr.{Ehdr}
 use Rattle.oc_elf.specs.declared.shdr.Shdr.{Shdr}
 use Rattle.oc_elf.specs.Shdr.{shdr_size}
 use Rattle.oc_elf.specs.Frames.{headers_of, header_of, header_at, framed, count_by, big_count, shdr_count, names_number}
-use Rattle.oc_elf.specs.Classes.{is_big}
+use Rattle.oc_elf.specs.Classes.{is_big, word_of}
 use Rattle.oc_elf.specs.Laid.{HasHeader}
 use Rattle.oc_elf.specs.Headers.{header_conditions, header_fault, plain_conditions, big_conditions, table_conditions, is_extended}
 
 -- a table of a file header that is not extended, by cases on whether there is one
-plain_lies : (w : ElfClass) (size : ℕ) (h : Ehdr) → (eqb h.e_shnum 0 && not (eqb h.e_shoff 0) || eqb h.e_shstrndx 65535) ≡ false → AllByRecursion (λ (c : Condition). c.0 ≡ false) (plain_conditions w size h) → h.e_shoff + shdr_size w * h.e_shnum ≤ size
+plain_lies : (w : Word) (size : ℕ) (h : Ehdr) → (eqb h.e_shnum 0 && not (eqb h.e_shoff 0) || eqb h.e_shstrndx 65535) ≡ false → AllByRecursion (λ (c : Condition). c.0 ≡ false) (plain_conditions w size h) → h.e_shoff + shdr_size w * h.e_shnum ≤ size
 plain_lies w size h plain holds = elim (eqb h.e_shnum 0) as (λ a. eqb h.e_shnum 0 ≡ a → (a && not (eqb h.e_shoff 0) || eqb h.e_shstrndx 65535) ≡ false
     → AllByRecursion (λ (c : Condition). c.0 ≡ false) (cond (not a) ((not (eqb h.e_shentsize (shdr_size w)), header_fault BadHeader 0) ∷ (nat_lt size (h.e_shoff + shdr_size w * h.e_shnum), header_fault Short h.e_shoff) ∷ []) [])
     → h.e_shoff + shdr_size w * h.e_shnum ≤ size) [
@@ -30,18 +31,18 @@ plain_lies w size h plain holds = elim (eqb h.e_shnum 0) as (λ a. eqb h.e_shnum
     ] refl plain holds
 
 -- by the class
-table_lies : (w : ElfClass) (size : ℕ) (h : Ehdr) (zero : Shdr) → is_extended w h ≡ false → AllByRecursion (λ (c : Condition). c.0 ≡ false) (table_conditions w size h zero) → h.e_shoff + shdr_size w * count_by w h zero ≤ size
+table_lies : (w : ElfClass) (size : ℕ) (h : Ehdr) (zero : Shdr) → is_extended w h ≡ false → AllByRecursion (λ (c : Condition). c.0 ≡ false) (table_conditions w size h zero) → h.e_shoff + shdr_size (word_of w) * count_by w h zero ≤ size
 table_lies w size h zero = by (is_big w)
   where
     by : (b : Bool) → (not b && (eqb h.e_shnum 0 && not (eqb h.e_shoff 0) || eqb h.e_shstrndx 65535)) ≡ false
-        → AllByRecursion (λ (c : Condition). c.0 ≡ false) (cond b (big_conditions w size h zero) (plain_conditions w size h)) → h.e_shoff + shdr_size w * cond b (big_count h zero) h.e_shnum ≤ size
+        → AllByRecursion (λ (c : Condition). c.0 ≡ false) (cond b (big_conditions (word_of w) size h zero) (plain_conditions (word_of w) size h)) → h.e_shoff + shdr_size (word_of w) * cond b (big_count h zero) h.e_shnum ≤ size
     by true plain holds = let inside = holds.1.1.1.0 in grind (arith, nat_tests)
-    by false plain holds = plain_lies w size h plain holds
+    by false plain holds = plain_lies (word_of w) size h plain holds
 
-first_lies : (w : ElfClass) (size : ℕ) (h : Ehdr) (zero : Shdr) → AllByRecursion (λ (c : Condition). c.0 ≡ false) (table_conditions w size h zero) → is_big w ≡ true → h.e_shoff + shdr_size w ≤ size
+first_lies : (w : ElfClass) (size : ℕ) (h : Ehdr) (zero : Shdr) → AllByRecursion (λ (c : Condition). c.0 ≡ false) (table_conditions w size h zero) → is_big w ≡ true → h.e_shoff + shdr_size (word_of w) ≤ size
 first_lies w size h zero = by (is_big w)
   where
-    by : (b : Bool) → AllByRecursion (λ (c : Condition). c.0 ≡ false) (cond b (big_conditions w size h zero) (plain_conditions w size h)) → b ≡ true → h.e_shoff + shdr_size w ≤ size
+    by : (b : Bool) → AllByRecursion (λ (c : Condition). c.0 ≡ false) (cond b (big_conditions (word_of w) size h zero) (plain_conditions (word_of w) size h)) → b ≡ true → h.e_shoff + shdr_size (word_of w) ≤ size
     by true holds e = let inside = holds.1.0 in grind (arith, nat_tests)
     by false holds e = absurd (true≢false (sym e))
 
@@ -56,10 +57,10 @@ has_header w size h zero clean =
     }
 
 -- a file with its section headers, from its parts
-pub framed_is : (w : ElfClass) (file : List ℕ) (hs : List Shdr) (names : Shdr) (count number : ℕ) → count ≡ shdr_count w file → number ≡ names_number w file → hs ≡ map (header_of w file) (range_with_len 0 count) → names ≡ header_at hs number
+pub framed_is : (w : ElfClass) (file : List ℕ) (hs : List Shdr) (names : Shdr) (count number : ℕ) → count ≡ shdr_count w file → number ≡ names_number w file → hs ≡ map (header_of (word_of w) file) (range_with_len 0 count) → names ≡ header_at hs number
     → record { class = w; file = file; headers = hs; names = names } ≡ framed w file
 unfolding framed headers_of
 framed_is w file hs names count number counted numbered are at = rw (at, are, counted, numbered) refl
 
-pub frame_lies : (w : ElfClass) (file : List ℕ) (hs : List Shdr) (start count : ℕ) → start + shdr_size w * count ≤ length file → length hs ≡ count → start + shdr_size w * length hs ≤ length file
+pub frame_lies : (w : ElfClass) (file : List ℕ) (hs : List Shdr) (start count : ℕ) → start + shdr_size (word_of w) * count ≤ length file → length hs ≡ count → start + shdr_size (word_of w) * length hs ≤ length file
 frame_lies w file hs start count lies long = rw long lies

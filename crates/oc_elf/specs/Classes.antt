@@ -1,4 +1,4 @@
--- What differs by the class of a file (gABI, "ELF Identification" and "ELF Header"; i386 and x86-64 psABI).
+-- The classes of files, and what differs by their words (gABI, "ELF Identification" and "ELF Header"; i386 and x86-64 psABI).
 use Rattle.std.specs.Prelude.{ℕ, Bool, true, false}
 use Rattle.oc_base.specs.declared.format.Word.{Word}
 use Rattle.oc_base.specs.declared.format.Word.TheVariants.{W32, W64}
@@ -22,30 +22,24 @@ format_of Class64 = Elf64
 format_of Big32 = BigElf32
 format_of Big64 = BigElf64
 
--- the machine
-abbrev pub machine_of : ElfClass → ℕ
-machine_of Class32 = EM_386
-machine_of Class64 = EM_X86_64
-machine_of Big32 = EM_386
-machine_of Big64 = EM_X86_64
-
--- the type of its relocation tables: with the addends in the fields, or in the entries
-abbrev pub reloc_type : ElfClass → ℕ
-reloc_type Class32 = SHT_REL
-reloc_type Class64 = SHT_RELA
-reloc_type Big32 = SHT_REL
-reloc_type Big64 = SHT_RELA
-
--- that of the other class
-abbrev pub foreign_type : ElfClass → ℕ
-foreign_type Class32 = SHT_RELA
-foreign_type Class64 = SHT_REL
-foreign_type Big32 = SHT_RELA
-foreign_type Big64 = SHT_REL
-
 -- sections are numbered in header 0 where the file header has no room
 abbrev pub is_big : ElfClass → Bool
 is_big Class32 = false
 is_big Class64 = false
 is_big Big32 = true
 is_big Big64 = true
+
+-- the machine of a word
+abbrev pub machine_of : Word → ℕ
+machine_of W32 = EM_386
+machine_of W64 = EM_X86_64
+
+-- the type of the relocation tables: with the addends in the fields, or in the entries
+abbrev pub reloc_type : Word → ℕ
+reloc_type W32 = SHT_REL
+reloc_type W64 = SHT_RELA
+
+-- that of the other word
+abbrev pub foreign_type : Word → ℕ
+foreign_type W32 = SHT_RELA
+foreign_type W64 = SHT_REL

@@ -11,8 +11,8 @@ use Rattle.oc_algebra.specs.Fields.{extended}
 use Rattle.oc_neutral.specs.Rows.{Row}
 use Rattle.oc_neutral.specs.RelocTables.{row_of}
 use Rattle.oc_neutral.specs.RowFields.{number_in, place_target, row_field}
-use Rattle.oc_elf.specs.declared.class.ElfClass.{ElfClass}
-use Rattle.oc_elf.specs.declared.class.ElfClass.TheVariants.{Class32, Class64, Big32, Big64}
+use Rattle.oc_base.specs.declared.format.Word.{Word}
+use Rattle.oc_base.specs.declared.format.Word.TheVariants.{W32, W64}
 use Rattle.oc_elf.specs.declared.constants.TheConstants.{R_NONE}
 use Rattle.oc_elf.specs.declared.rel.Rel.{Rel}
 use Rattle.oc_elf.specs.Classes.{word_of, format_of}
@@ -35,11 +35,9 @@ abbrev pub width_of : Framed → Rel → ℕ
 width_of f r = option_map_or (λ (row : Row). bytes_of row.width) (row_for f r) 0
 
 -- the number that is added: it stands in the field, or in the entry
-abbrev pub addend_in : ElfClass → Row → List ℕ → Rel → ℤ
-addend_in Class32 row contents r = number_in row contents r.r_offset
-addend_in Class64 row contents r = extended Eight r.r_addend
-addend_in Big32 row contents r = number_in row contents r.r_offset
-addend_in Big64 row contents r = extended Eight r.r_addend
+abbrev pub addend_in : Word → Row → List ℕ → Rel → ℤ
+addend_in W32 row contents r = number_in row contents r.r_offset
+addend_in W64 row contents r = extended Eight r.r_addend
 
 -- what symbol j stands for: a section's own symbol for a place in its section, a carried one for itself; entry 0 for nothing
 unfoldable pub target_of : Framed → ℕ → Option Target
@@ -52,7 +50,7 @@ target_of f j =
 
 -- the field of an entry with that row, for the section at position s with these contents; no row of ELF takes a section
 abbrev pub field_with : Framed → ℕ → List ℕ → Rel → Row → Target → Field
-field_with f s contents r row target = row_field (word_of f.class) row 0 (addend_in f.class row contents r) s r.r_offset target
+field_with f s contents r row target = row_field (word_of f.class) row 0 (addend_in (word_of f.class) row contents r) s r.r_offset target
 
 -- where its type has a row, and its symbol can be a target
 unfoldable pub field_by : Framed → ℕ → List ℕ → Rel → Option Field

@@ -1,17 +1,18 @@
 -- A file with its section headers (gABI, "ELF Header" and "Sections"; our profile).
 use Rattle.std.specs.Prelude.{ℕ, ◌+◌, ◌*◌, nat_eq, if◌then◌else◌, List, map, slice_index_or}
 use Rattle.std.specs.List.{range_with_len}
+use Rattle.oc_base.specs.declared.format.Word.{Word}
 use Rattle.oc_elf.specs.declared.class.ElfClass.{ElfClass}
 use Rattle.oc_elf.specs.declared.ehdr.Ehdr.{Ehdr}
 use Rattle.oc_elf.specs.declared.shdr.Shdr.{Shdr}
 use Rattle.oc_elf.specs.declared.constants.TheConstants.{SHN_XINDEX}
-use Rattle.oc_elf.specs.Classes.{is_big}
+use Rattle.oc_elf.specs.Classes.{is_big, word_of}
 use Rattle.oc_elf.specs.Ehdr.{ehdr_in}
 use Rattle.oc_elf.specs.Shdr.{shdr_in, shdr_size, null_shdr}
 
 -- header 0 as it stands: where sections are many, it has the numbers for which the file header has no room
-abbrev pub zero_in : ElfClass → List ℕ → Shdr
-zero_in class file = shdr_in class file (ehdr_in class file).e_shoff
+abbrev pub zero_in : Word → List ℕ → Shdr
+zero_in word file = shdr_in word file (ehdr_in word file).e_shoff
 
 -- how many section headers there are, where sections are many
 abbrev pub big_count : Ehdr → Shdr → ℕ
@@ -26,26 +27,26 @@ abbrev pub count_by : ElfClass → Ehdr → Shdr → ℕ
 count_by class h zero = if is_big class then big_count h zero else h.e_shnum
 
 abbrev pub shdr_count : ElfClass → List ℕ → ℕ
-shdr_count class file = count_by class (ehdr_in class file) (zero_in class file)
+shdr_count class file = count_by class (ehdr_in (word_of class) file) (zero_in (word_of class) file)
 
 -- the number of the header of the names of sections
 abbrev pub names_by : ElfClass → Ehdr → Shdr → ℕ
 names_by class h zero = if is_big class then big_names h zero else h.e_shstrndx
 
 abbrev pub names_number : ElfClass → List ℕ → ℕ
-names_number class file = names_by class (ehdr_in class file) (zero_in class file)
+names_number class file = names_by class (ehdr_in (word_of class) file) (zero_in (word_of class) file)
 
 -- where section header k stands
-abbrev pub header_place : ElfClass → List ℕ → ℕ → ℕ
-header_place class file k = (ehdr_in class file).e_shoff + shdr_size class * k
+abbrev pub header_place : Word → List ℕ → ℕ → ℕ
+header_place word file k = (ehdr_in word file).e_shoff + shdr_size word * k
 
 -- section header k; the first is that of no section, whatever stands there
-unfoldable pub header_of : ElfClass → List ℕ → ℕ → Shdr
-header_of class file k = if nat_eq k 0 then null_shdr else shdr_in class file (header_place class file k)
+unfoldable pub header_of : Word → List ℕ → ℕ → Shdr
+header_of word file k = if nat_eq k 0 then null_shdr else shdr_in word file (header_place word file k)
 
 -- the section headers
 unfoldable pub headers_of : ElfClass → List ℕ → List Shdr
-headers_of class file = map (header_of class file) (range_with_len 0 (shdr_count class file))
+headers_of class file = map (header_of (word_of class) file) (range_with_len 0 (shdr_count class file))
 
 -- the section header of that number; that of no section where there is none
 abbrev pub header_at : List Shdr → ℕ → Shdr

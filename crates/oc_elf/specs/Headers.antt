@@ -5,11 +5,12 @@ use Rattle.oc_base.specs.declared.code.Code.TheVariants.{Short, BadHeader, NotRe
 use Rattle.oc_base.specs.declared.fault.Fault.{Fault}
 use Rattle.oc_base.specs.declared.fault.Phase.TheVariants.{Header}
 use Rattle.oc_linking.specs.FirstFault.{Condition, Stage}
+use Rattle.oc_base.specs.declared.format.Word.{Word}
 use Rattle.oc_elf.specs.declared.class.ElfClass.{ElfClass}
 use Rattle.oc_elf.specs.declared.constants.TheConstants.{ELFDATA2LSB, EV_CURRENT, ET_REL, SHN_XINDEX, SHT_STRTAB}
 use Rattle.oc_elf.specs.declared.ehdr.Ehdr.{Ehdr}
 use Rattle.oc_elf.specs.declared.shdr.Shdr.{Shdr}
-use Rattle.oc_elf.specs.Classes.{machine_of, is_big}
+use Rattle.oc_elf.specs.Classes.{machine_of, is_big, word_of}
 use Rattle.oc_elf.specs.Ehdr.{ehdr_in, ehdr_size}
 use Rattle.oc_elf.specs.Shdr.{shdr_size}
 use Rattle.oc_elf.specs.Frames.{framed, zero_in, big_count}
@@ -18,14 +19,14 @@ use Rattle.oc_elf.specs.Frames.{framed, zero_in, big_count}
 abbrev pub header_fault : Code → ℕ → Fault
 header_fault code place = record { phase = Header; index = 0; code = code; place = place }
 
--- little-endian, of the current version, and with a header of its class's size
-abbrev pub is_current : ElfClass → Ehdr → Bool
-is_current class h =
-    nat_eq h.ei_data ELFDATA2LSB && nat_eq h.ei_version EV_CURRENT && nat_eq h.e_version EV_CURRENT && nat_eq h.e_ehsize (ehdr_size class)
+-- little-endian, of the current version, and with a header of its word's size
+abbrev pub is_current : Word → Ehdr → Bool
+is_current word h =
+    nat_eq h.ei_data ELFDATA2LSB && nat_eq h.ei_version EV_CURRENT && nat_eq h.e_version EV_CURRENT && nat_eq h.e_ehsize (ehdr_size word)
 
--- a relocatable object for the machine of its class
-abbrev pub is_relocatable : ElfClass → Ehdr → Bool
-is_relocatable class h = nat_eq h.e_type ET_REL && nat_eq h.e_machine (machine_of class)
+-- a relocatable object for the machine of its word
+abbrev pub is_relocatable : Word → Ehdr → Bool
+is_relocatable word h = nat_eq h.e_type ET_REL && nat_eq h.e_machine (machine_of word)
 
 -- sections are numbered elsewhere than in the header, and may not
 abbrev pub is_extended : ElfClass → Ehdr → Bool
@@ -36,33 +37,33 @@ abbrev pub has_headers : Ehdr → Bool
 has_headers h = not (nat_eq h.e_shnum 0)
 
 -- the conditions on a table of section headers in a file of so many bytes, where there is one
-abbrev pub plain_conditions : ElfClass → ℕ → Ehdr → List Condition
-plain_conditions class size h =
+abbrev pub plain_conditions : Word → ℕ → Ehdr → List Condition
+plain_conditions word size h =
     if has_headers h then (
-    (not (nat_eq h.e_shentsize (shdr_size class)), header_fault BadHeader 0)
-    ∷ (nat_lt size (h.e_shoff + shdr_size class * h.e_shnum), header_fault Short h.e_shoff)
+    (not (nat_eq h.e_shentsize (shdr_size word)), header_fault BadHeader 0)
+    ∷ (nat_lt size (h.e_shoff + shdr_size word * h.e_shnum), header_fault Short h.e_shoff)
     ∷ []
     ) else []
 
 -- where sections are many: header 0 is there, and tells a number
-abbrev pub big_conditions : ElfClass → ℕ → Ehdr → Shdr → List Condition
-big_conditions class size h zero =
-    (not (nat_eq h.e_shentsize (shdr_size class)), header_fault BadHeader 0)
-    ∷ (nat_lt size (h.e_shoff + shdr_size class), header_fault Short h.e_shoff)
+abbrev pub big_conditions : Word → ℕ → Ehdr → Shdr → List Condition
+big_conditions word size h zero =
+    (not (nat_eq h.e_shentsize (shdr_size word)), header_fault BadHeader 0)
+    ∷ (nat_lt size (h.e_shoff + shdr_size word), header_fault Short h.e_shoff)
     ∷ (nat_eq (big_count h zero) 0, header_fault BadHeader 0)
-    ∷ (nat_lt size (h.e_shoff + shdr_size class * big_count h zero), header_fault Short h.e_shoff)
+    ∷ (nat_lt size (h.e_shoff + shdr_size word * big_count h zero), header_fault Short h.e_shoff)
     ∷ []
 
 -- by the class
 abbrev pub table_conditions : ElfClass → ℕ → Ehdr → Shdr → List Condition
-table_conditions class size h zero = if is_big class then big_conditions class size h zero else plain_conditions class size h
+table_conditions class size h zero = if is_big class then big_conditions (word_of class) size h zero else plain_conditions (word_of class) size h
 
 -- the conditions on the file header, in a file of so many bytes
 unfoldable pub header_conditions : ElfClass → ℕ → Ehdr → Shdr → List Condition
 header_conditions class size h zero =
-    (nat_lt size (ehdr_size class), header_fault Short 0)
-    ∷ (not (is_current class h), header_fault BadHeader 0)
-    ∷ (not (is_relocatable class h), header_fault NotRelocatable 0)
+    (nat_lt size (ehdr_size (word_of class)), header_fault Short 0)
+    ∷ (not (is_current (word_of class) h), header_fault BadHeader 0)
+    ∷ (not (is_relocatable (word_of class) h), header_fault NotRelocatable 0)
     ∷ (is_extended class h, header_fault ExtendedNumbering 0)
     ∷ table_conditions class size h zero
 
@@ -72,7 +73,7 @@ names_conditions count names = (not (nat_eq count 0) && not (nat_eq names.sh_typ
 
 -- the stage of the file header: one structure with these conditions
 abbrev pub header_stage : ElfClass → List ℕ → Stage
-header_stage class file = record { count = 1; conditions = λ _. header_conditions class (length file) (ehdr_in class file) (zero_in class file) }
+header_stage class file = record { count = 1; conditions = λ _. header_conditions class (length file) (ehdr_in (word_of class) file) (zero_in (word_of class) file) }
 
 -- that of the header that it names
 abbrev pub names_stage : ElfClass → List ℕ → Stage

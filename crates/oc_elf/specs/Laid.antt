@@ -3,7 +3,7 @@ use Rattle.std.specs.Prelude.{◌≡◌, ℕ, true, ◌+◌, ◌*◌, ◌<◌, �
 use Rattle.oc_elf.specs.declared.class.ElfClass.{ElfClass}
 use Rattle.oc_elf.specs.declared.ehdr.Ehdr.{Ehdr}
 use Rattle.oc_elf.specs.declared.shdr.Shdr.{Shdr}
-use Rattle.oc_elf.specs.Classes.{is_big}
+use Rattle.oc_elf.specs.Classes.{is_big, word_of}
 use Rattle.oc_elf.specs.Ehdr.{ehdr_in, ehdr_size}
 use Rattle.oc_elf.specs.Shdr.{shdr_size}
 use Rattle.oc_elf.specs.Sections.{shndx_number}
@@ -12,10 +12,10 @@ use Rattle.oc_elf.specs.Frames.{Framed, framed, count_by}
 -- the headers begin where the file header says, and end in the file
 pub record IsLaid (f : Framed) (start : ℕ) (shndx : Option ℕ) : Type 0 where
   pub is : f ≡ framed f.class f.file
-  pub start_is : start ≡ (ehdr_in f.class f.file).e_shoff
+  pub start_is : start ≡ (ehdr_in (word_of f.class) f.file).e_shoff
   pub shndx_is : shndx ≡ shndx_number f.class f.headers
   pub few : length f.headers < 2 ^ 21
-  pub ends : start + shdr_size f.class * length f.headers ≤ length f.file
+  pub ends : start + shdr_size (word_of f.class) * length f.headers ≤ length f.file
   pub small : length f.file ≤ 67108864
 
 -- its headers are those of its file, and there are few
@@ -26,6 +26,6 @@ pub record IsFrame (f : Framed) : Type 0 where
 
 -- the file header is there, and the section headers lie in a file of so many bytes
 pub record HasHeader (w : ElfClass) (size : ℕ) (h : Ehdr) (zero : Shdr) : Type 0 where
-  pub there : ehdr_size w ≤ size
-  pub first : is_big w ≡ true → h.e_shoff + shdr_size w ≤ size
-  pub lies : h.e_shoff + shdr_size w * count_by w h zero ≤ size
+  pub there : ehdr_size (word_of w) ≤ size
+  pub first : is_big w ≡ true → h.e_shoff + shdr_size (word_of w) ≤ size
+  pub lies : h.e_shoff + shdr_size (word_of w) * count_by w h zero ≤ size

@@ -18,7 +18,7 @@ use Rattle.oc_elf.specs.declared.constants.TheConstants.{GRP_COMDAT, GRP_ENTRY_S
 use Rattle.oc_base.specs.declared.limits.TheConstants.{MOST_CONTENTS}
 use Rattle.oc_elf.specs.declared.shdr.Shdr.{Shdr}
 use Rattle.std.specs.Option.{option_map_or}
-use Rattle.oc_elf.specs.Classes.{is_big, reloc_type, foreign_type}
+use Rattle.oc_elf.specs.Classes.{is_big, reloc_type, foreign_type, word_of}
 use Rattle.oc_elf.specs.Sym.{sym_size}
 use Rattle.oc_elf.specs.Rel.{rel_size}
 use Rattle.oc_elf.specs.Names.{name_in}
@@ -61,11 +61,11 @@ is_good_group f s =
     && nat_lt s.sh_info (entry_count f (header_at f.headers s.sh_link))
 
 -- a kind of section that is left out: thread-local, compressed, ordered by another, zeros that are not allocated, relocations in the
--- form of the other class, and what is allocated and of a type that has no name here
+-- form of the other word, and what is allocated and of a type that has no name here
 unfoldable pub is_left_out : Framed → Shdr → Bool
 is_left_out f s =
     has_flag s SHF_TLS || has_flag s SHF_COMPRESSED || has_flag s SHF_LINK_ORDER || is_type SHT_NOBITS s && not (has_flag s SHF_ALLOC)
-    || is_type (foreign_type f.class) s || not (list_any (nat_eq s.sh_type) known_types) && has_flag s SHF_ALLOC
+    || is_type (foreign_type (word_of f.class)) s || not (list_any (nat_eq s.sh_type) known_types) && has_flag s SHF_ALLOC
 
 -- the conditions on each header
 unfoldable pub form_conditions : Framed → ℕ → ℕ → Shdr → List Condition
@@ -91,19 +91,19 @@ group_conditions f k place s =
 
 -- a symbol table with whole entries, its names in a string table, and none before it
 unfoldable pub is_good_symtab : Framed → ℕ → Shdr → Bool
-is_good_symtab f k s = has_entries (sym_size f.class) s && is_type SHT_STRTAB (header_at f.headers s.sh_link) && not (is_some (symtab_among f k))
+is_good_symtab f k s = has_entries (sym_size (word_of f.class)) s && is_type SHT_STRTAB (header_at f.headers s.sh_link) && not (is_some (symtab_among f k))
 
 -- a relocation table with whole entries, its symbols in a symbol table, of a section that is there and has none before it
 unfoldable pub is_good_table : Framed → ℕ → Shdr → Bool
 is_good_table f k s =
-    has_entries (rel_size f.class) s && is_type SHT_SYMTAB (header_at f.headers s.sh_link) && nat_lt s.sh_info (length f.headers)
+    has_entries (rel_size (word_of f.class)) s && is_type SHT_SYMTAB (header_at f.headers s.sh_link) && nat_lt s.sh_info (length f.headers)
     && not (is_some (table_among f k s.sh_info))
 
 -- a table of section numbers with whole entries, one for each symbol of a symbol table, and none before it
 unfoldable pub is_good_shndx : Framed → ℕ → Shdr → Bool
 is_good_shndx f k s =
     has_entries SHNDX_SIZE s && is_type SHT_SYMTAB (header_at f.headers s.sh_link)
-    && nat_le ((header_at f.headers s.sh_link).sh_size / sym_size f.class) (s.sh_size / SHNDX_SIZE)
+    && nat_le ((header_at f.headers s.sh_link).sh_size / sym_size (word_of f.class)) (s.sh_size / SHNDX_SIZE)
     && option_map_or (λ j. nat_eq j k) (shndx_number f.class f.headers) false
 
 -- the conditions on kinds and on tables
@@ -111,7 +111,7 @@ unfoldable pub table_conditions : Framed → ℕ → ℕ → Shdr → List Condi
 table_conditions f k place s =
     (is_left_out f s, section_fault SectionKind k place)
     ∷ (is_type SHT_SYMTAB s && not (is_good_symtab f k s), section_fault BadTable k place)
-    ∷ (is_type (reloc_type f.class) s && not (is_good_table f k s), section_fault BadTable k place)
+    ∷ (is_type (reloc_type (word_of f.class)) s && not (is_good_table f k s), section_fault BadTable k place)
     ∷ (is_type SHT_SYMTAB_SHNDX s && not (is_good_shndx f k s), section_fault BadTable k place)
     ∷ []
 
@@ -162,7 +162,7 @@ conditions_on f k place s = form_conditions f k place s ++ (group_conditions f k
 
 -- the conditions on section k; header 0 is that of no section
 unfoldable pub section_conditions : Framed → ℕ → List Condition
-section_conditions f k = if nat_eq k 0 then [] else conditions_on f k (header_place f.class f.file k) (header_at f.headers k)
+section_conditions f k = if nat_eq k 0 then [] else conditions_on f k (header_place (word_of f.class) f.file k) (header_at f.headers k)
 
 -- the stage of section headers
 abbrev pub section_stage : Framed → Stage

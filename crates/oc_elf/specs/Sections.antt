@@ -7,7 +7,7 @@ use Rattle.oc_neutral.specs.Elf.Kinds.{is_carried_type, elf_kind}
 use Rattle.oc_shelf.specs.Reading.Firsts.{first_place, first_keyed}
 use Rattle.oc_elf.specs.declared.constants.TheConstants.{SHT_SYMTAB, SHT_SYMTAB_SHNDX}
 use Rattle.oc_elf.specs.declared.shdr.Shdr.{Shdr}
-use Rattle.oc_elf.specs.Classes.{is_big, reloc_type}
+use Rattle.oc_elf.specs.Classes.{is_big, reloc_type, word_of}
 use Rattle.oc_elf.specs.declared.class.ElfClass.{ElfClass}
 use Rattle.oc_elf.specs.Shdr.{null_shdr}
 use Rattle.oc_elf.specs.Names.{name_in}
@@ -35,7 +35,7 @@ contents_of f s = if is_type SHT_NOBITS s then replicate s.sh_size 0 else take s
 
 -- the section whose relocations section k has, where it is a relocation table
 abbrev pub relocated_by : Framed → ℕ → Option ℕ
-relocated_by f k = if is_type (reloc_type f.class) (header_at f.headers k) then Some (header_at f.headers k).sh_info else None
+relocated_by f k = if is_type (reloc_type (word_of f.class)) (header_at f.headers k) then Some (header_at f.headers k).sh_info else None
 
 -- the first relocation table of section j, among the first n headers
 abbrev pub table_among : Framed → ℕ → ℕ → Option ℕ

@@ -3,49 +3,46 @@ use Rattle.std.specs.Prelude.{ℕ, ◌+◌, ◌*◌, ◌%◌, ◌^◌, Bool, not
 use Rattle.oc_base.specs.Numbers.{bytes_of_number}
 use Rattle.oc_shelf.specs.Writing.Packed.{packed}
 use Rattle.oc_elf.specs.declared.class.ElfClass.{ElfClass}
-use Rattle.oc_elf.specs.declared.class.ElfClass.TheVariants.{Class32, Class64, Big32, Big64}
+use Rattle.oc_base.specs.declared.format.Word.{Word}
+use Rattle.oc_base.specs.declared.format.Word.TheVariants.{W32, W64}
 use Rattle.oc_elf.specs.declared.constants.TheConstants.{SHN_LORESERVE, SHN_XINDEX, SHNDX_SIZE}
 use Rattle.oc_elf.specs.declared.ehdr.Ehdr.{Ehdr}
 use Rattle.oc_elf.specs.declared.shdr.Shdr.{Shdr}
 use Rattle.oc_elf.specs.declared.sym.Sym.{Sym}
 use Rattle.oc_elf.specs.declared.rel.Rel.{Rel}
-use Rattle.oc_elf.specs.Classes.{is_big}
+use Rattle.oc_elf.specs.Classes.{is_big, word_of}
 use Rattle.oc_elf.specs.declared.constants.TheConstants.{ELFCLASS32, ELFCLASS64, FIRST_TOLD}
 
--- how many bytes an address and an offset of the class have
-abbrev pub word_bytes : ElfClass → ℕ
-word_bytes Class32 = 4
-word_bytes Class64 = 8
-word_bytes Big32 = 4
-word_bytes Big64 = 8
+-- how many bytes an address and an offset have
+abbrev pub word_bytes : Word → ℕ
+word_bytes W32 = 4
+word_bytes W64 = 8
 
--- the number of the class
-abbrev pub ei_class_of : ElfClass → ℕ
-ei_class_of Class32 = ELFCLASS32
-ei_class_of Class64 = ELFCLASS64
-ei_class_of Big32 = ELFCLASS32
-ei_class_of Big64 = ELFCLASS64
+-- the file class as the file header has it
+abbrev pub ei_class_of : Word → ℕ
+ei_class_of W32 = ELFCLASS32
+ei_class_of W64 = ELFCLASS64
 
 -- the numbers of a file header, each after its width: `\x7fELF` first; no entry point, no program headers and no flags
-abbrev pub ehdr_numbers : ElfClass → Ehdr → List (ℕ × ℕ)
-ehdr_numbers class h =
-    (1, 0x7F) ∷ (1, 0x45) ∷ (1, 0x4C) ∷ (1, 0x46) ∷ (1, ei_class_of class) ∷ (1, h.ei_data) ∷ (1, h.ei_version) ∷ (9, 0)
-    ∷ (2, h.e_type) ∷ (2, h.e_machine) ∷ (4, h.e_version) ∷ (word_bytes class, 0) ∷ (word_bytes class, 0) ∷ (word_bytes class, h.e_shoff)
+abbrev pub ehdr_numbers : Word → Ehdr → List (ℕ × ℕ)
+ehdr_numbers word h =
+    (1, 0x7F) ∷ (1, 0x45) ∷ (1, 0x4C) ∷ (1, 0x46) ∷ (1, ei_class_of word) ∷ (1, h.ei_data) ∷ (1, h.ei_version) ∷ (9, 0)
+    ∷ (2, h.e_type) ∷ (2, h.e_machine) ∷ (4, h.e_version) ∷ (word_bytes word, 0) ∷ (word_bytes word, 0) ∷ (word_bytes word, h.e_shoff)
     ∷ (4, 0) ∷ (2, h.e_ehsize) ∷ (2, 0) ∷ (2, 0) ∷ (2, h.e_shentsize) ∷ (2, h.e_shnum) ∷ (2, h.e_shstrndx) ∷ []
 
 -- its bytes
-unfoldable pub ehdr_bytes : ElfClass → Ehdr → List ℕ
-ehdr_bytes class h = packed (ehdr_numbers class h)
+unfoldable pub ehdr_bytes : Word → Ehdr → List ℕ
+ehdr_bytes word h = packed (ehdr_numbers word h)
 
 -- the numbers of a section header; its address is 0
-abbrev pub shdr_numbers : ElfClass → Shdr → List (ℕ × ℕ)
-shdr_numbers class s =
-    (4, s.sh_name) ∷ (4, s.sh_type) ∷ (word_bytes class, s.sh_flags) ∷ (word_bytes class, 0) ∷ (word_bytes class, s.sh_offset) ∷ (word_bytes class, s.sh_size)
-    ∷ (4, s.sh_link) ∷ (4, s.sh_info) ∷ (word_bytes class, s.sh_addralign) ∷ (word_bytes class, s.sh_entsize) ∷ []
+abbrev pub shdr_numbers : Word → Shdr → List (ℕ × ℕ)
+shdr_numbers word s =
+    (4, s.sh_name) ∷ (4, s.sh_type) ∷ (word_bytes word, s.sh_flags) ∷ (word_bytes word, 0) ∷ (word_bytes word, s.sh_offset) ∷ (word_bytes word, s.sh_size)
+    ∷ (4, s.sh_link) ∷ (4, s.sh_info) ∷ (word_bytes word, s.sh_addralign) ∷ (word_bytes word, s.sh_entsize) ∷ []
 
 -- its bytes
-unfoldable pub shdr_bytes : ElfClass → Shdr → List ℕ
-shdr_bytes class s = packed (shdr_numbers class s)
+unfoldable pub shdr_bytes : Word → Shdr → List ℕ
+shdr_bytes word s = packed (shdr_numbers word s)
 
 -- the section number stands elsewhere
 abbrev pub is_told : ℕ → Bool
@@ -63,24 +60,24 @@ told_index m = if is_told m then m else 0
 unfoldable pub index_bytes : Sym → List ℕ
 index_bytes s = bytes_of_number SHNDX_SIZE (told_index s.st_shndx)
 
--- the numbers of a symbol table entry, in the order of the class
+-- the numbers of a symbol table entry with its section number, in the order of the word
+abbrev pub sym_row : Word → Sym → ℕ → List (ℕ × ℕ)
+sym_row W32 s index = (4, s.st_name) ∷ (4, s.st_value) ∷ (4, s.st_size) ∷ (1, s.st_info) ∷ (1, s.st_other) ∷ (2, index) ∷ []
+sym_row W64 s index = (4, s.st_name) ∷ (1, s.st_info) ∷ (1, s.st_other) ∷ (2, index) ∷ (8, s.st_value) ∷ (8, s.st_size) ∷ []
+
+-- with the one that is stored
 abbrev pub sym_numbers : ElfClass → Sym → List (ℕ × ℕ)
-sym_numbers Class32 s = (4, s.st_name) ∷ (4, s.st_value) ∷ (4, s.st_size) ∷ (1, s.st_info) ∷ (1, s.st_other) ∷ (2, stored_index Class32 s.st_shndx) ∷ []
-sym_numbers Class64 s = (4, s.st_name) ∷ (1, s.st_info) ∷ (1, s.st_other) ∷ (2, stored_index Class64 s.st_shndx) ∷ (8, s.st_value) ∷ (8, s.st_size) ∷ []
-sym_numbers Big32 s = (4, s.st_name) ∷ (4, s.st_value) ∷ (4, s.st_size) ∷ (1, s.st_info) ∷ (1, s.st_other) ∷ (2, stored_index Big32 s.st_shndx) ∷ []
-sym_numbers Big64 s = (4, s.st_name) ∷ (1, s.st_info) ∷ (1, s.st_other) ∷ (2, stored_index Big64 s.st_shndx) ∷ (8, s.st_value) ∷ (8, s.st_size) ∷ []
+sym_numbers class s = sym_row (word_of class) s (stored_index class s.st_shndx)
 
 -- its bytes
 unfoldable pub sym_bytes : ElfClass → Sym → List ℕ
 sym_bytes class s = packed (sym_numbers class s)
 
 -- the numbers of a relocation entry: in ELF32 r_info has the symbol above eight bits of the type, and there is no addend
-abbrev pub rel_numbers : ElfClass → Rel → List (ℕ × ℕ)
-rel_numbers Class32 r = (4, r.r_offset) ∷ (4, 256 * r.r_sym + r.r_type) ∷ []
-rel_numbers Class64 r = (8, r.r_offset) ∷ (4, r.r_type) ∷ (4, r.r_sym) ∷ (8, r.r_addend) ∷ []
-rel_numbers Big32 r = (4, r.r_offset) ∷ (4, 256 * r.r_sym + r.r_type) ∷ []
-rel_numbers Big64 r = (8, r.r_offset) ∷ (4, r.r_type) ∷ (4, r.r_sym) ∷ (8, r.r_addend) ∷ []
+abbrev pub rel_numbers : Word → Rel → List (ℕ × ℕ)
+rel_numbers W32 r = (4, r.r_offset) ∷ (4, 256 * r.r_sym + r.r_type) ∷ []
+rel_numbers W64 r = (8, r.r_offset) ∷ (4, r.r_type) ∷ (4, r.r_sym) ∷ (8, r.r_addend) ∷ []
 
 -- its bytes
-unfoldable pub rel_bytes : ElfClass → Rel → List ℕ
-rel_bytes class r = packed (rel_numbers class r)
+unfoldable pub rel_bytes : Word → Rel → List ℕ
+rel_bytes word r = packed (rel_numbers word r)

@@ -8,7 +8,7 @@ use Rattle.oc_elf.specs.Sym.{sym_in, sym_size}
 use Rattle.oc_elf.specs.Rel.{rel_in, rel_size}
 use Rattle.oc_elf.specs.Frames.{Framed, header_at}
 use Rattle.oc_elf.specs.Sections.{is_type, shndx_by, symtab_among, table_among}
-use Rattle.oc_elf.specs.Classes.{is_big}
+use Rattle.oc_elf.specs.Classes.{is_big, word_of}
 use Rattle.oc_elf.specs.declared.constants.TheConstants.{SHT_SYMTAB_SHNDX, INDEX_TOLD, NO_INDEX, ZERO_TOLD, SHNDX_SIZE}
 use Rattle.oc_base.specs.Numbers.{number_at}
 
@@ -18,7 +18,7 @@ symtab_of f = header_at f.headers (unwrap_or (symtab_among f (length f.headers))
 
 -- how many entries a symbol table has
 abbrev pub entry_count : Framed → Shdr → ℕ
-entry_count f table = table.sh_size / sym_size f.class
+entry_count f table = table.sh_size / sym_size (word_of f.class)
 
 -- how many symbols there are
 abbrev pub symbol_count : Framed → ℕ
@@ -26,7 +26,7 @@ symbol_count f = entry_count f (symtab_of f)
 
 -- where symbol k stands
 abbrev pub symbol_place : Framed → ℕ → ℕ
-symbol_place f k = (symtab_of f).sh_offset + sym_size f.class * k
+symbol_place f k = (symtab_of f).sh_offset + sym_size (word_of f.class) * k
 
 -- the header of the table of section numbers; that of no section where there is none
 abbrev pub shndx_of : Framed → Shdr
@@ -54,7 +54,7 @@ indexed f k s = if is_big f.class && nat_eq s.st_shndx INDEX_TOLD then with_inde
 
 -- symbol k
 unfoldable pub entry_of : Framed → ℕ → Sym
-entry_of f k = indexed f k (sym_in f.class f.file (symbol_place f k))
+entry_of f k = indexed f k (sym_in (word_of f.class) f.file (symbol_place f k))
 
 -- the relocation table of section j; the header of no section where there is none
 abbrev pub table_of : Framed → ℕ → Shdr
@@ -62,12 +62,12 @@ table_of f j = header_at f.headers (unwrap_or (table_among f (length f.headers) 
 
 -- how many entries it has
 abbrev pub reloc_count : Framed → ℕ → ℕ
-reloc_count f j = (table_of f j).sh_size / rel_size f.class
+reloc_count f j = (table_of f j).sh_size / rel_size (word_of f.class)
 
 -- where entry k of it stands
 abbrev pub reloc_place : Framed → ℕ → ℕ → ℕ
-reloc_place f j k = (table_of f j).sh_offset + rel_size f.class * k
+reloc_place f j k = (table_of f j).sh_offset + rel_size (word_of f.class) * k
 
 -- entry k of it
 unfoldable pub reloc_of : Framed → ℕ → ℕ → Rel
-reloc_of f j k = rel_in f.class f.file (reloc_place f j k)
+reloc_of f j k = rel_in (word_of f.class) f.file (reloc_place f j k)

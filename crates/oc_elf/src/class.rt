@@ -5,8 +5,8 @@ ghost use Rattle.oc_elf.specs.Classes as classes;
 use crate::constants::{EM_386, EM_X86_64, SHT_REL, SHT_RELA};
 use oc_base::{Format, Word};
 
-/// The class of a file (gABI, "ELF Identification"). Structures and the types of relocations differ
-/// by it, and nothing else does.
+/// The class of a file (gABI, "ELF Identification"), and whether it may have many sections. Functions
+/// of what the word alone decides take the word.
 #[derive(Clone, Copy, Debug, PartialEq, Eq)]
 pub enum ElfClass {
     /// Objects of 32 bits, for i386.
@@ -51,34 +51,34 @@ impl ElfClass {
             ElfClass::Big32 | ElfClass::Big64 => true,
         }
     }
+}
 
-    /// The machine of its files, one of the constants `EM_*`. Constant time.
-    pub fn machine(self) -> u16
-        ensures { result ≡ classes.machine_of self }
-    {
-        match self {
-            ElfClass::Class32 | ElfClass::Big32 => EM_386,
-            ElfClass::Class64 | ElfClass::Big64 => EM_X86_64,
-        }
+/// The machine of files of a word, one of the constants `EM_*`. Constant time.
+pub fn machine_of(word: Word) -> u16
+    ensures { result ≡ classes.machine_of word }
+{
+    match word {
+        Word::W32 => EM_386,
+        Word::W64 => EM_X86_64,
     }
+}
 
-    /// The type of its relocation tables, one of the constants `SHT_*`. Constant time.
-    pub fn reloc_type(self) -> u32
-        ensures { result ≡ classes.reloc_type self }
-    {
-        match self {
-            ElfClass::Class32 | ElfClass::Big32 => SHT_REL,
-            ElfClass::Class64 | ElfClass::Big64 => SHT_RELA,
-        }
+/// The type of their relocation tables, one of the constants `SHT_*`. Constant time.
+pub fn reloc_type(word: Word) -> u32
+    ensures { result ≡ classes.reloc_type word }
+{
+    match word {
+        Word::W32 => SHT_REL,
+        Word::W64 => SHT_RELA,
     }
+}
 
-    /// The type of the relocation tables of the other class. Constant time.
-    pub fn foreign_type(self) -> u32
-        ensures { result ≡ classes.foreign_type self }
-    {
-        match self {
-            ElfClass::Class32 | ElfClass::Big32 => SHT_RELA,
-            ElfClass::Class64 | ElfClass::Big64 => SHT_REL,
-        }
+/// The type of the relocation tables of the other word. Constant time.
+pub fn foreign_type(word: Word) -> u32
+    ensures { result ≡ classes.foreign_type word }
+{
+    match word {
+        Word::W32 => SHT_RELA,
+        Word::W64 => SHT_REL,
     }
 }

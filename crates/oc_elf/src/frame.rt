@@ -5,6 +5,7 @@ ghost use Rattle.oc_base.specs.declared.limits.TheConstants.{MOST_INPUT};
 ghost use Rattle.oc_base.specs.Stops.{IsStop};
 ghost use Rattle.oc_linking.specs.FirstFault.{first_broken, first_fault};
 ghost use Rattle.oc_linking.specs.Numbers.{or_else};
+ghost use Rattle.oc_elf.specs.Classes.{word_of};
 ghost use Rattle.oc_elf.specs.Ehdr.{ehdr_in};
 ghost use Rattle.oc_elf.specs.Shdr.{shdr_size};
 ghost use Rattle.oc_elf.specs.Frames as frames;
@@ -17,7 +18,7 @@ use crate::constants::SHT_SYMTAB_SHNDX;
 use crate::ehdr::{Ehdr, ehdr_of};
 use crate::headers::{big_count, big_names, header_fault, names_fault};
 use crate::shdr::{Shdr, null_shdr, shdr_at, shdr_size};
-use oc_base::{NoMemory, Stop};
+use oc_base::{NoMemory, Stop, Word};
 use std::alloc::Global;
 use std::marker::Model;
 
@@ -50,6 +51,13 @@ impl<'a> Frame<'a> {
         ensures { result ≡ self.now.class }
     {
         self.class
+    }
+
+    /// The word. Constant time.
+    pub fn word(&self) -> Word
+        ensures { result ≡ word_of self.now.class }
+    {
+        self.class.word()
     }
 
     /// The bytes of the file. Constant time.
@@ -105,9 +113,9 @@ impl<'a> Frame<'a> {
     /// Where a section header stands, in bytes from the start of the file. Constant time.
     pub fn place(&self, k: u32) -> u64
         requires { k < length self.now.headers }
-        ensures { result ≡ frames.header_place self.now.class self.now.file k }
+        ensures { result ≡ frames.header_place (word_of self.now.class) self.now.file k }
     {
-        self.start + u64::from(shdr_size(self.class)) * u64::from(k)
+        self.start + u64::from(shdr_size(self.class.word())) * u64::from(k)
     }
 
     /// What is known of it, for callers to cite. It does nothing.
@@ -120,36 +128,36 @@ impl<'a> Frame<'a> {
 
 // section header `k` of those that begin at `start`
 #[tactic(auto, unfolding(crate::specs::Frames::header_of))]
-fn header_of(class: ElfClass, file: &[u8], start: u64, k: u32) -> Shdr
-    requires start { start ≡ (ehdr_in class file.now).e_shoff }
-    requires lies { start + shdr_size class * (k + 1) ≤ length file.now }
-    ensures { result ≡ frames.header_of class file.now k }
+fn header_of(word: Word, file: &[u8], start: u64, k: u32) -> Shdr
+    requires start { start ≡ (ehdr_in word file.now).e_shoff }
+    requires lies { start + shdr_size word * (k + 1) ≤ length file.now }
+    ensures { result ≡ frames.header_of word file.now k }
 {
     if k == 0 {
         return null_shdr();
     }
     shdr_at(
-        class,
+        word,
         file,
-        start as usize + usize::from(shdr_size(class)) * k as usize,
+        start as usize + usize::from(shdr_size(word)) * k as usize,
     )
 }
 
 // the section headers that begin at `start`
 fn headers_of(
     alloc: Global,
-    class: ElfClass,
+    word: Word,
     file: &[u8],
     start: u64,
     count: u32,
 ) -> Result<Vec<Shdr>, NoMemory>
-    requires start { start ≡ (ehdr_in class file.now).e_shoff }
-    requires lies { start + shdr_size class * count ≤ length file.now }
-    ensures { IfOk result (λ hs. hs.items ≡ map (frames.header_of class file.now) (range_with_len 0 count)) }
+    requires start { start ≡ (ehdr_in word file.now).e_shoff }
+    requires lies { start + shdr_size word * count ≤ length file.now }
+    ensures { IfOk result (λ hs. hs.items ≡ map (frames.header_of word file.now) (range_with_len 0 count)) }
 {
     let mut headers = Vec::with_capacity(alloc, count as usize)?;
     for k in 0..count {
-        headers.push(header_of(class, file, start, k))?;
+        headers.push(header_of(word, file, start, k))?;
     }
     Ok(headers)
 }
@@ -192,8 +200,8 @@ fn shndx_among(class: ElfClass, headers: &[Shdr]) -> Option<u32>
 
 // how many section headers there are, and the number of that of the names of sections
 fn numbers_of(class: ElfClass, file: &[u8], ehdr: &Ehdr) -> (u32, u32)
-    requires is { ehdr.now ≡ ehdr_in class file.now }
-    requires lies { HasHeader class (length file.now) ehdr.now (frames.zero_in class file.now) }
+    requires is { ehdr.now ≡ ehdr_in (word_of class) file.now }
+    requires lies { HasHeader class (length file.now) ehdr.now (frames.zero_in (word_of class) file.now) }
     requires small { length file.now ≤ MOST_INPUT }
     ensures count { result.0 ≡ frames.shdr_count class file.now }
     ensures names { result.1 ≡ frames.names_number class file.now }
@@ -201,20 +209,21 @@ fn numbers_of(class: ElfClass, file: &[u8], ehdr: &Ehdr) -> (u32, u32)
     if !class.is_big() {
         return (ehdr.e_shnum.into(), ehdr.e_shstrndx.into());
     }
-    let zero = shdr_at(class, file, ehdr.e_shoff as usize);
+    let zero = shdr_at(class.word(), file, ehdr.e_shoff as usize);
     (big_count(ehdr, &zero) as u32, big_names(ehdr, &zero))
 }
 
 // the file with its section headers, where the file header has no fault
 fn frame_of<'a>(alloc: Global, class: ElfClass, file: &'a [u8]) -> Result<Frame<'a>, NoMemory>
-    requires clean { first_broken (rules.header_conditions class (length file.now) (ehdr_in class file.now) (frames.zero_in class file.now)) ≡ None }
+    requires clean { first_broken (rules.header_conditions class (length file.now) (ehdr_in (word_of class) file.now) (frames.zero_in (word_of class) file.now)) ≡ None }
     requires small { length file.now ≤ MOST_INPUT }
     ensures { IfOk result (λ f. f ≡ frames.framed class file.now) }
 {
-    let ehdr = ehdr_of(class, file);
+    let word = class.word();
+    let ehdr = ehdr_of(word, file);
     let start = ehdr.e_shoff;
     let (count, number) = numbers_of(class, file, &ehdr);
-    let headers = headers_of(alloc, class, file, start, count)?;
+    let headers = headers_of(alloc, word, file, start, count)?;
     let names = header_among(headers.as_slice(), number);
     let shndx = shndx_among(class, headers.as_slice());
     Ok(Frame {

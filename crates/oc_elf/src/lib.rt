@@ -15,7 +15,7 @@ mod shdr;
 mod structures;
 mod sym;
 
-pub use class::ElfClass;
+pub use class::{ElfClass, foreign_type, machine_of, reloc_type};
 pub use constants::{
     ELFCLASS32, ELFCLASS64, ELFDATA2LSB, ET_REL, EV_CURRENT, FIRST_TOLD, GRP_COMDAT,
     GRP_ENTRY_SIZE, INDEX_TOLD, MOST_FILE_ALIGN, MOST_SIZE, MOST_SIZES, NO_INDEX, R_NONE,

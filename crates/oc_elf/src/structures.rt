@@ -11,6 +11,7 @@ use crate::ehdr::Ehdr;
 use crate::rel::Rel;
 use crate::shdr::Shdr;
 use crate::sym::Sym;
+use oc_base::Word;
 use oc_shelf::Packed;
 
 /// The first bytes of every file (gABI, "ELF Identification").
@@ -24,13 +25,13 @@ pub fn has_room(number: u32) -> bool
 }
 
 /// The size of an address and an offset, in bytes: tables stand at multiples of it. Constant time.
-pub fn word_bytes(class: ElfClass) -> u64
-    ensures bytes { result ≡ structures.word_bytes class }
+pub fn word_bytes(word: Word) -> u64
+    ensures bytes { result ≡ structures.word_bytes word }
     ensures low { result ≤ 8 }
 {
-    match class {
-        ElfClass::Class32 | ElfClass::Big32 => 4,
-        ElfClass::Class64 | ElfClass::Big64 => 8,
+    match word {
+        Word::W32 => 4,
+        Word::W64 => 8,
     }
 }
 
@@ -55,24 +56,24 @@ fn put_low(out: &mut Packed, x: u64)
 }
 
 // puts an address, an offset or another number as wide
-fn put_word(out: &mut Packed, class: ElfClass, x: u64)
-    requires { length out.old + structures.word_bytes class ≤ ROW }
-    ensures bytes { out.new ≡ out.old ++ bytes_of_number (structures.word_bytes class) x }
-    ensures long { length out.new ≡ length out.old + structures.word_bytes class }
+fn put_word(out: &mut Packed, word: Word, x: u64)
+    requires { length out.old + structures.word_bytes word ≤ ROW }
+    ensures bytes { out.new ≡ out.old ++ bytes_of_number (structures.word_bytes word) x }
+    ensures long { length out.new ≡ length out.old + structures.word_bytes word }
 {
-    match class {
-        ElfClass::Class32 | ElfClass::Big32 => put_low(out, x),
-        ElfClass::Class64 | ElfClass::Big64 => put_u64(out, x),
+    match word {
+        Word::W32 => put_low(out, x),
+        Word::W64 => put_u64(out, x),
     }
 }
 
-// the number of the class
-fn ei_class(class: ElfClass) -> u8
-    ensures { result ≡ structures.ei_class_of class }
+// the file class as the file header has it
+fn ei_class(word: Word) -> u8
+    ensures { result ≡ structures.ei_class_of word }
 {
-    match class {
-        ElfClass::Class32 | ElfClass::Big32 => ELFCLASS32,
-        ElfClass::Class64 | ElfClass::Big64 => ELFCLASS64,
+    match word {
+        Word::W32 => ELFCLASS32,
+        Word::W64 => ELFCLASS64,
     }
 }
 
@@ -97,30 +98,30 @@ fn put_magic(out: &mut Packed)
 }
 
 // puts the identification of a file
-fn put_ident(out: &mut Packed, class: ElfClass, ehdr: &Ehdr)
+fn put_ident(out: &mut Packed, word: Word, ehdr: &Ehdr)
     requires { length out.old + 16 ≤ ROW }
-    ensures bytes { out.new ≡ out.old ++ packed ((1, 0x7F) ∷ (1, 0x45) ∷ (1, 0x4C) ∷ (1, 0x46) ∷ (1, structures.ei_class_of class) ∷ (1, ehdr.now.ei_data) ∷ (1, ehdr.now.ei_version) ∷ (9, 0) ∷ []) }
+    ensures bytes { out.new ≡ out.old ++ packed ((1, 0x7F) ∷ (1, 0x45) ∷ (1, 0x4C) ∷ (1, 0x46) ∷ (1, structures.ei_class_of word) ∷ (1, ehdr.now.ei_data) ∷ (1, ehdr.now.ei_version) ∷ (9, 0) ∷ []) }
     ensures long { length out.new ≡ length out.old + 16 }
 {
     put_magic(out);
-    out.put_u8(ei_class(class));
+    out.put_u8(ei_class(word));
     out.put_u8(ehdr.ei_data);
     out.put_u8(ehdr.ei_version);
     put_nine(out);
 }
 
 // puts what a file is, and where its section headers begin; it has no entry point and no program headers
-fn put_kind(out: &mut Packed, class: ElfClass, ehdr: &Ehdr)
-    requires { length out.old + 8 + 3 * structures.word_bytes class ≤ ROW }
-    ensures bytes { out.new ≡ out.old ++ packed ((2, ehdr.now.e_type) ∷ (2, ehdr.now.e_machine) ∷ (4, ehdr.now.e_version) ∷ (structures.word_bytes class, 0) ∷ (structures.word_bytes class, 0) ∷ (structures.word_bytes class, ehdr.now.e_shoff) ∷ []) }
-    ensures long { length out.new ≡ length out.old + 8 + 3 * structures.word_bytes class }
+fn put_kind(out: &mut Packed, word: Word, ehdr: &Ehdr)
+    requires { length out.old + 8 + 3 * structures.word_bytes word ≤ ROW }
+    ensures bytes { out.new ≡ out.old ++ packed ((2, ehdr.now.e_type) ∷ (2, ehdr.now.e_machine) ∷ (4, ehdr.now.e_version) ∷ (structures.word_bytes word, 0) ∷ (structures.word_bytes word, 0) ∷ (structures.word_bytes word, ehdr.now.e_shoff) ∷ []) }
+    ensures long { length out.new ≡ length out.old + 8 + 3 * structures.word_bytes word }
 {
     out.put_u16(ehdr.e_type);
     out.put_u16(ehdr.e_machine);
     out.put_u32(ehdr.e_version);
-    put_word(out, class, 0);
-    put_word(out, class, 0);
-    put_word(out, class, ehdr.e_shoff);
+    put_word(out, word, 0);
+    put_word(out, word, 0);
+    put_word(out, word, ehdr.e_shoff);
 }
 
 // puts the sizes and counts of headers; there are no flags and no program headers
@@ -139,49 +140,49 @@ fn put_counts(out: &mut Packed, ehdr: &Ehdr)
 
 /// A file header. Constant time.
 #[tactic(auto, unfolding(crate::specs::Structures::ehdr_bytes))]
-pub fn pack_ehdr(class: ElfClass, ehdr: &Ehdr) -> Packed
-    ensures { result ≡ structures.ehdr_bytes class ehdr.now }
+pub fn pack_ehdr(word: Word, ehdr: &Ehdr) -> Packed
+    ensures { result ≡ structures.ehdr_bytes word ehdr.now }
 {
     let mut out = Packed::new();
-    put_ident(&mut out, class, ehdr);
-    put_kind(&mut out, class, ehdr);
+    put_ident(&mut out, word, ehdr);
+    put_kind(&mut out, word, ehdr);
     put_counts(&mut out, ehdr);
     out
 }
 
 // puts the name, the type, the flags, the address, which is 0, and the offset of a section
-fn put_section(out: &mut Packed, class: ElfClass, shdr: &Shdr)
-    requires { length out.old + 8 + 3 * structures.word_bytes class ≤ ROW }
-    ensures bytes { out.new ≡ out.old ++ packed ((4, shdr.now.sh_name) ∷ (4, shdr.now.sh_type) ∷ (structures.word_bytes class, shdr.now.sh_flags) ∷ (structures.word_bytes class, 0) ∷ (structures.word_bytes class, shdr.now.sh_offset) ∷ []) }
-    ensures long { length out.new ≡ length out.old + 8 + 3 * structures.word_bytes class }
+fn put_section(out: &mut Packed, word: Word, shdr: &Shdr)
+    requires { length out.old + 8 + 3 * structures.word_bytes word ≤ ROW }
+    ensures bytes { out.new ≡ out.old ++ packed ((4, shdr.now.sh_name) ∷ (4, shdr.now.sh_type) ∷ (structures.word_bytes word, shdr.now.sh_flags) ∷ (structures.word_bytes word, 0) ∷ (structures.word_bytes word, shdr.now.sh_offset) ∷ []) }
+    ensures long { length out.new ≡ length out.old + 8 + 3 * structures.word_bytes word }
 {
     out.put_u32(shdr.sh_name);
     out.put_u32(shdr.sh_type);
-    put_word(out, class, shdr.sh_flags);
-    put_word(out, class, 0);
-    put_word(out, class, shdr.sh_offset);
+    put_word(out, word, shdr.sh_flags);
+    put_word(out, word, 0);
+    put_word(out, word, shdr.sh_offset);
 }
 
 // puts the size of a section and what else is said of it
-fn put_rest(out: &mut Packed, class: ElfClass, shdr: &Shdr)
-    requires { length out.old + 8 + 3 * structures.word_bytes class ≤ ROW }
-    ensures { out.new ≡ out.old ++ packed ((structures.word_bytes class, shdr.now.sh_size) ∷ (4, shdr.now.sh_link) ∷ (4, shdr.now.sh_info) ∷ (structures.word_bytes class, shdr.now.sh_addralign) ∷ (structures.word_bytes class, shdr.now.sh_entsize) ∷ []) }
+fn put_rest(out: &mut Packed, word: Word, shdr: &Shdr)
+    requires { length out.old + 8 + 3 * structures.word_bytes word ≤ ROW }
+    ensures { out.new ≡ out.old ++ packed ((structures.word_bytes word, shdr.now.sh_size) ∷ (4, shdr.now.sh_link) ∷ (4, shdr.now.sh_info) ∷ (structures.word_bytes word, shdr.now.sh_addralign) ∷ (structures.word_bytes word, shdr.now.sh_entsize) ∷ []) }
 {
-    put_word(out, class, shdr.sh_size);
+    put_word(out, word, shdr.sh_size);
     out.put_u32(shdr.sh_link);
     out.put_u32(shdr.sh_info);
-    put_word(out, class, shdr.sh_addralign);
-    put_word(out, class, shdr.sh_entsize);
+    put_word(out, word, shdr.sh_addralign);
+    put_word(out, word, shdr.sh_entsize);
 }
 
 /// A section header. Constant time.
 #[tactic(auto, unfolding(crate::specs::Structures::shdr_bytes))]
-pub fn pack_shdr(class: ElfClass, shdr: &Shdr) -> Packed
-    ensures { result ≡ structures.shdr_bytes class shdr.now }
+pub fn pack_shdr(word: Word, shdr: &Shdr) -> Packed
+    ensures { result ≡ structures.shdr_bytes word shdr.now }
 {
     let mut out = Packed::new();
-    put_section(&mut out, class, shdr);
-    put_rest(&mut out, class, shdr);
+    put_section(&mut out, word, shdr);
+    put_rest(&mut out, word, shdr);
     out
 }
 
@@ -246,22 +247,29 @@ fn pack_sym64(sym: &Sym, index: u16) -> Packed
     out
 }
 
+// a symbol table entry, with its section number
+fn pack_row(word: Word, sym: &Sym, index: u16) -> Packed
+    ensures { result ≡ packed (structures.sym_row word sym.now index) }
+{
+    match word {
+        Word::W32 => pack_sym32(sym, index),
+        Word::W64 => pack_sym64(sym, index),
+    }
+}
+
 /// A symbol table entry. Constant time.
 #[tactic(auto, unfolding(crate::specs::Structures::sym_bytes))]
 pub fn pack_sym(class: ElfClass, sym: &Sym) -> Packed
     ensures { result ≡ structures.sym_bytes class sym.now }
 {
     let index = stored_index(class, sym.st_shndx);
-    match class {
-        ElfClass::Class32 | ElfClass::Big32 => pack_sym32(sym, index),
-        ElfClass::Class64 | ElfClass::Big64 => pack_sym64(sym, index),
-    }
+    pack_row(class.word(), sym, index)
 }
 
 // a relocation entry of ELF32: the symbol stands above eight bits of the type
 #[tactic(auto, unfolding(crate::specs::Structures::rel_bytes))]
 fn pack_rel32(rel: Rel) -> Packed
-    ensures { result ≡ structures.rel_bytes ElfClass.Class32 rel }
+    ensures { result ≡ structures.rel_bytes Word.W32 rel }
 {
     let mut out = Packed::new();
     put_low(&mut out, rel.r_offset);
@@ -272,7 +280,7 @@ fn pack_rel32(rel: Rel) -> Packed
 // a relocation entry of ELF64
 #[tactic(auto, unfolding(crate::specs::Structures::rel_bytes))]
 fn pack_rel64(rel: Rel) -> Packed
-    ensures { result ≡ structures.rel_bytes ElfClass.Class64 rel }
+    ensures { result ≡ structures.rel_bytes Word.W64 rel }
 {
     let mut out = Packed::new();
     put_u64(&mut out, rel.r_offset);
@@ -284,12 +292,12 @@ fn pack_rel64(rel: Rel) -> Packed
 
 /// A relocation entry. Constant time.
 #[tactic(auto, unfolding(crate::specs::Structures::rel_bytes))]
-pub fn pack_rel(class: ElfClass, rel: Rel) -> Packed
-    ensures { result ≡ structures.rel_bytes class rel }
+pub fn pack_rel(word: Word, rel: Rel) -> Packed
+    ensures { result ≡ structures.rel_bytes word rel }
 {
-    match class {
-        ElfClass::Class32 | ElfClass::Big32 => pack_rel32(rel),
-        ElfClass::Class64 | ElfClass::Big64 => pack_rel64(rel),
+    match word {
+        Word::W32 => pack_rel32(rel),
+        Word::W64 => pack_rel64(rel),
     }
 }
 

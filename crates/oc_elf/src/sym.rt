@@ -2,8 +2,7 @@
 ghost use Rattle.std.specs.Prelude.{◌≡◌, ◌+◌, ◌≤◌, length};
 ghost use Rattle.oc_elf.specs.Sym.{signed_index, sym_in, sym_size, bind_of, type_of};
 
-use crate::class::ElfClass;
-use oc_base::{u8_in, u16_in, u32_in, u64_in};
+use oc_base::{Word, u8_in, u16_in, u32_in, u64_in};
 use oc_neutral::elf;
 
 /// A symbol table entry (gABI, "Symbol Table"). Fields are as wide as in ELF64.
@@ -24,12 +23,12 @@ pub struct Sym {
 }
 
 /// The size of a symbol table entry, in bytes. Constant time.
-pub fn sym_size(class: ElfClass) -> u64
-    ensures { result ≡ sym_size class }
+pub fn sym_size(word: Word) -> u64
+    ensures { result ≡ sym_size word }
 {
-    match class {
-        ElfClass::Class32 | ElfClass::Big32 => 16,
-        ElfClass::Class64 | ElfClass::Big64 => 24,
+    match word {
+        Word::W32 => 16,
+        Word::W64 => 24,
     }
 }
 
@@ -45,13 +44,13 @@ fn signed_index(number: u16) -> u32
 
 /// The symbol table entry at `at`, an offset in the file. Constant time.
 #[tactic(auto, unfolding(crate::specs::Sym::sym_in))]
-pub fn sym_at(class: ElfClass, file: &[u8], at: usize) -> Sym
-    requires { at + sym_size class ≤ length file.now }
-    ensures { result ≡ sym_in class file.now at }
+pub fn sym_at(word: Word, file: &[u8], at: usize) -> Sym
+    requires { at + sym_size word ≤ length file.now }
+    ensures { result ≡ sym_in word file.now at }
 {
     let st_name = u32_in(file, at);
-    match class {
-        ElfClass::Class32 | ElfClass::Big32 => Sym {
+    match word {
+        Word::W32 => Sym {
             st_name,
             st_value: u32_in(file, at + 4).into(),
             st_size: u32_in(file, at + 8).into(),
@@ -59,7 +58,7 @@ pub fn sym_at(class: ElfClass, file: &[u8], at: usize) -> Sym
             st_other: u8_in(file, at + 13),
             st_shndx: signed_index(u16_in(file, at + 14)),
         },
-        ElfClass::Class64 | ElfClass::Big64 => Sym {
+        Word::W64 => Sym {
             st_name,
             st_value: u64_in(file, at + 8),
             st_size: u64_in(file, at + 16),

@@ -19,12 +19,13 @@ use Rattle.oc_neutral.specs.Elf.Family.{elf_symbol_count, signature_count}
 use Rattle.oc_neutral.specs.SymbolLines.{needs_signature}
 use Rattle.oc_shelf.specs.Writing.Parts.{laid, behind}
 use Rattle.oc_elf.specs.declared.class.ElfClass.{ElfClass}
-use Rattle.oc_elf.specs.declared.class.ElfClass.TheVariants.{Class32, Class64, Big32, Big64}
-use Rattle.oc_elf.specs.Classes.{format_of}
+use Rattle.oc_elf.specs.Classes.{format_of, word_of}
 use Rattle.oc_elf.specs.Ehdr.{ehdr_size}
 use Rattle.oc_elf.specs.Shdr.{shdr_size}
 use Rattle.oc_elf.specs.Sym.{sym_size}
 use Rattle.oc_elf.specs.Rel.{rel_size}
+use Rattle.oc_base.specs.declared.format.Word.{Word}
+use Rattle.oc_base.specs.declared.format.Word.TheVariants.{W32, W64}
 use Rattle.oc_elf_file.specs.Heads.{Head, NullHead, RelocHead, SymtabHead, ShndxHead, StrtabHead, ShstrtabHead, placed_sections, group_head, section_head, reloc_head, group_heads, section_heads, reloc_heads, table_heads_by, table_heads, heads_of, head_size, numbered_heads, head_name, reloc_prefix}
 use Rattle.oc_neutral.specs.Families.{is_many}
 use Rattle.oc_elf_file.specs.Lines.{Line, NullLine, SectionLine, SignatureLine, LocalLine, OuterLine, lines_of, line_name, section_lines, signature_lines, lines_where, inner_lines, outer_lines}
@@ -162,11 +163,9 @@ module _ (class : ElfClass) (n : Object) (is : IsForElf class n) where
   reloc_names i [] = omega arith
   reloc_names i (s ∷ xs) = by (eqb (length (list_of n.relocs i)) 0) (reloc_names (i + 1) xs) (sum_by-cons (λ (s : Section). length s.name) s xs)
     where
-      long : (class : ElfClass) → length (reloc_prefix class) ≤ 5
-      long Class32 = omega arith
-      long Class64 = omega arith
-      long Big32 = omega arith
-      long Big64 = omega arith
+      long : (word : Word) → length (reloc_prefix word) ≤ 5
+      long W32 = omega arith
+      long W64 = omega arith
 
       by : (b : Bool) → sum_by (λ (h : Head). ended_size (head_name class h)) (filter_map (reloc_head n) (enumerate_from (i + 1) xs)) ≤ sum_by (λ (s : Section). length s.name) xs + 6 * length xs
           → sum_by (λ (s : Section). length s.name) (s ∷ xs) ≡ length s.name + sum_by (λ (s : Section). length s.name) xs
@@ -174,8 +173,8 @@ module _ (class : ElfClass) (n : Object) (is : IsForElf class n) where
       by true rest sum = omega (arith, rest, sum)
       by false rest sum =
           let a = sum_by-cons (λ (h : Head). ended_size (head_name class h)) (RelocHead i s) (filter_map (reloc_head n) (enumerate_from (i + 1) xs)) in
-          let b = length-append (reloc_prefix class) s.name in
-          let c = long class in
+          let b = length-append (reloc_prefix (word_of class)) s.name in
+          let c = long (word_of class) in
           omega (arith, rest, sum, a, b, c)
 
   tables_text : (b : Bool) → sum_by (λ (h : Head). ended_size (head_name class h)) (table_heads_by b) ≤ 40
@@ -236,11 +235,9 @@ module _ (class : ElfClass) (n : Object) (is : IsForElf class n) where
       by (eqb (length (list_of n.relocs i)) 0) own (sum_by-cons length l ls)
       (relocs_size (i + 1) xs ls (omega (arith, e)) (λ j. let next : i + 1 + j ≡ i + suc j = omega arith in ap (list_of n.relocs) next ∙ same (suc j)))
     where
-      wide : (class : ElfClass) (m : ℕ) → rel_size class * m ≤ 24 * m
-      wide Class32 m = omega arith
-      wide Class64 m = omega arith
-      wide Big32 m = omega arith
-      wide Big64 m = omega arith
+      wide : (word : Word) (m : ℕ) → rel_size word * m ≤ 24 * m
+      wide W32 m = omega arith
+      wide W64 m = omega arith
 
       by : (b : Bool) → length (list_of n.relocs i) ≡ length l → sum_by length (l ∷ ls) ≡ length l + sum_by length ls
           → sum_by head_size_of (filter_map (reloc_head n) (enumerate_from (i + 1) xs)) ≤ 24 * sum_by length ls + 16 * length xs
@@ -248,26 +245,20 @@ module _ (class : ElfClass) (n : Object) (is : IsForElf class n) where
       by true own sum rest = omega (arith, rest, sum)
       by false own sum rest =
           let a = sum_by-cons head_size_of (RelocHead i s) (filter_map (reloc_head n) (enumerate_from (i + 1) xs)) in
-          let w = wide class (length (list_of n.relocs i)) in
+          let w = wide (word_of class) (length (list_of n.relocs i)) in
           omega (arith, rest, sum, own, a, w)
 
-  sym_low : (class : ElfClass) (m : ℕ) → sym_size class * m ≤ 24 * m
-  sym_low Class32 m = omega arith
-  sym_low Class64 m = omega arith
-  sym_low Big32 m = omega arith
-  sym_low Big64 m = omega arith
+  sym_low : (word : Word) (m : ℕ) → sym_size word * m ≤ 24 * m
+  sym_low W32 m = omega arith
+  sym_low W64 m = omega arith
 
-  shdr_low : (class : ElfClass) (m : ℕ) → shdr_size class * m ≤ 64 * m
-  shdr_low Class32 m = omega arith
-  shdr_low Class64 m = omega arith
-  shdr_low Big32 m = omega arith
-  shdr_low Big64 m = omega arith
+  shdr_low : (word : Word) (m : ℕ) → shdr_size word * m ≤ 64 * m
+  shdr_low W32 m = omega arith
+  shdr_low W64 m = omega arith
 
-  ehdr_low : (class : ElfClass) → ehdr_size class ≤ 64
-  ehdr_low Class32 = omega arith
-  ehdr_low Class64 = omega arith
-  ehdr_low Big32 = omega arith
-  ehdr_low Big64 = omega arith
+  ehdr_low : (word : Word) → ehdr_size word ≤ 64
+  ehdr_low W32 = omega arith
+  ehdr_low W64 = omega arith
 
   tables_size : (b : Bool) → sum_by head_size_of (table_heads_by b) ≤ head_size_of SymtabHead + head_size_of ShndxHead + head_size_of StrtabHead + head_size_of ShstrtabHead
   tables_size true =
@@ -297,7 +288,7 @@ module _ (class : ElfClass) (n : Object) (is : IsForElf class n) where
       let few = few_heads class n is in
       let sections = sum_map head_size_of section_head (placed_sections n) ∙ sum_enumerated (λ (s : Section). length s.bytes + 16) 0 n.sections ∙ sections_size n.sections is.object.built.bytes in
       let relocs = relocs_size 0 n.sections n.relocs is.object.built.fields.counted (λ j. let e : 0 + j ≡ j = omega arith in ap (list_of n.relocs) e) in
-      let symtab = sym_low class (length (lines_of n)) in
+      let symtab = sym_low (word_of class) (length (lines_of n)) in
       let lines = few_lines in
       let strtab = strings_size (map line_name (lines_of n)) in
       let shstrtab = strings_size (map (head_name class) (heads_of n)) in
@@ -322,8 +313,8 @@ module _ (class : ElfClass) (n : Object) (is : IsForElf class n) where
       let c = sum_map size_of Body (heads_of n) in
       let d = sum_by-cons size_of HeadTable [] in
       let heads = heads_size in
-      let head = ehdr_low class in
-      let table = shdr_low class (length (heads_of n)) in
+      let head = ehdr_low (word_of class) in
+      let table = shdr_low (word_of class) (length (heads_of n)) in
       let all = length-heads class n is in
       let tables = few_reloc_heads class n is in
       let counted = counted_tables class n is in

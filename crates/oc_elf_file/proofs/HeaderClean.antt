@@ -11,12 +11,13 @@ use Rattle.oc_shelf.specs.Writing.Parts.{place_where}
 use Rattle.oc_shelf.proofs.ReadingLaws.StageLemmas.{Unbroken}
 use Rattle.oc_shelf.proofs.WritingLaws.StandingLemmas.{stands_inside}
 use Rattle.oc_elf.specs.declared.class.ElfClass.{ElfClass}
-use Rattle.oc_elf.specs.declared.class.ElfClass.TheVariants.{Class32, Class64, Big32, Big64}
-use Rattle.oc_elf.specs.Classes.{is_big, machine_of}
+use Rattle.oc_elf.specs.Classes.{is_big, machine_of, word_of}
 use Rattle.oc_elf.specs.Ehdr.{ehdr_size}
 use Rattle.oc_elf.specs.Shdr.{shdr_size}
 use Rattle.oc_elf.specs.Headers.{header_conditions, names_conditions}
 use Rattle.oc_elf.specs.Structures.{ehdr_bytes, shdr_bytes}
+use Rattle.oc_base.specs.declared.format.Word.{Word}
+use Rattle.oc_base.specs.declared.format.Word.TheVariants.{W32, W64}
 use Rattle.oc_elf_file.specs.Heads.{ShstrtabHead, heads_of, head_where, is_shstrtab_head}
 use Rattle.oc_elf_file.specs.Layout.{laid_parts, is_head_table}
 use Rattle.oc_elf_file.specs.Headers.{shdr_of, zero_shdr, stored_headers}
@@ -48,38 +49,34 @@ module _ (class : ElfClass) (n : Object) (is : IsForElf class n) (fits : IsCodab
       let few = plain_heads class n is plain in
       ne_eqb (head_where n is_shstrtab_head) 0xFFFF (λ e. omega (arith, e, low, few))
 
-  table_inside : place_where is_head_table (laid_parts class n) + shdr_size class * length (heads_of n) ≤ length file
+  table_inside : place_where is_head_table (laid_parts class n) + shdr_size (word_of class) * length (heads_of n) ≤ length file
   table_inside =
-      let inside = stands_inside file (flat_map (shdr_bytes class) (stored_headers class n)) (place_where is_head_table (laid_parts class n)) (table_stands class n) in
-      let size : length (flat_map (shdr_bytes class) (stored_headers class n)) ≡ shdr_size class * length (heads_of n)
-      = length-table (shdr_bytes class) (shdr_size class) (stored_headers class n) (length-shdr_bytes class) ∙ ap (λ m. shdr_size class * m) (length-stored_headers class n) in
+      let inside = stands_inside file (flat_map (shdr_bytes (word_of class)) (stored_headers class n)) (place_where is_head_table (laid_parts class n)) (table_stands class n) in
+      let size : length (flat_map (shdr_bytes (word_of class)) (stored_headers class n)) ≡ shdr_size (word_of class) * length (heads_of n)
+      = length-table (shdr_bytes (word_of class)) (shdr_size (word_of class)) (stored_headers class n) (length-shdr_bytes (word_of class)) ∙ ap (λ m. shdr_size (word_of class) * m) (length-stored_headers class n) in
       omega (arith, inside, size)
 
-  header_inside : ehdr_size class ≤ length file
+  header_inside : ehdr_size (word_of class) ≤ length file
   header_inside =
-      let inside = stands_inside file (ehdr_bytes class (file_header class n)) 0 (stands_file_header class n) in
-      let size = length-ehdr_bytes class (file_header class n) in
+      let inside = stands_inside file (ehdr_bytes (word_of class) (file_header class n)) 0 (stands_file_header class n) in
+      let size = length-ehdr_bytes (word_of class) (file_header class n) in
       omega (arith, inside, size)
 
-  same : (class : ElfClass) → (eqb (ehdr_size class) (ehdr_size class) ≡ true) × (eqb (machine_of class) (machine_of class) ≡ true) × (eqb (shdr_size class) (shdr_size class) ≡ true)
-  same Class32 = (refl, refl, refl)
-  same Class64 = (refl, refl, refl)
-  same Big32 = (refl, refl, refl)
-  same Big64 = (refl, refl, refl)
+  same : (word : Word) → (eqb (ehdr_size word) (ehdr_size word) ≡ true) × (eqb (machine_of word) (machine_of word) ≡ true) × (eqb (shdr_size word) (shdr_size word) ≡ true)
+  same W32 = (refl, refl, refl)
+  same W64 = (refl, refl, refl)
 
   -- header 0 lies in the file
-  first_inside : place_where is_head_table (laid_parts class n) + shdr_size class ≤ length file
+  first_inside : place_where is_head_table (laid_parts class n) + shdr_size (word_of class) ≤ length file
   first_inside =
       let low = slice_get_within (heads_of n) (head_where n is_shstrtab_head) ShstrtabHead (shstrtab_at n) in
       let all = table_inside in
-      let more = times class (length (heads_of n)) (omega (arith, low)) in
+      let more = times (word_of class) (length (heads_of n)) (omega (arith, low)) in
       omega (arith, all, more)
     where
-      times : (class : ElfClass) (m : ℕ) → 1 ≤ m → shdr_size class ≤ shdr_size class * m
-      times Class32 m some = omega (arith, some)
-      times Class64 m some = omega (arith, some)
-      times Big32 m some = omega (arith, some)
-      times Big64 m some = omega (arith, some)
+      times : (word : Word) (m : ℕ) → 1 ≤ m → shdr_size word ≤ shdr_size word * m
+      times W32 m some = omega (arith, some)
+      times W64 m some = omega (arith, some)
 
   pub header_clean : Unbroken (header_conditions class (length file) (file_header class n) (zero_shdr class n))
   unfolding header_conditions file_header
@@ -87,9 +84,9 @@ module _ (class : ElfClass) (n : Object) (is : IsForElf class n) (fits : IsCodab
     where
       by : (b : Bool) → is_big class ≡ b → Unbroken (header_conditions class (length file) (file_header class n) (zero_shdr class n))
       by true big =
-          let s = same class in
+          let s = same (word_of class) in
           rw (big, s.0, s.1, s.2, some_heads) (
-            within_file (length file) (ehdr_size class) header_inside,
+            within_file (length file) (ehdr_size (word_of class)) header_inside,
             (
               refl,
               (
@@ -99,10 +96,10 @@ module _ (class : ElfClass) (n : Object) (is : IsForElf class n) (fits : IsCodab
                   (
                     refl,
                     (
-                      within_file (length file) (place_where is_head_table (laid_parts class n) + shdr_size class) first_inside,
+                      within_file (length file) (place_where is_head_table (laid_parts class n) + shdr_size (word_of class)) first_inside,
                       (
                         refl,
-                        (within_file (length file) (place_where is_head_table (laid_parts class n) + shdr_size class * length (heads_of n)) table_inside, tt),
+                        (within_file (length file) (place_where is_head_table (laid_parts class n) + shdr_size (word_of class) * length (heads_of n)) table_inside, tt),
                       ),
                     ),
                   ),
@@ -111,10 +108,10 @@ module _ (class : ElfClass) (n : Object) (is : IsForElf class n) (fits : IsCodab
             ),
           )
       by false plain =
-          let s = same class in
+          let s = same (word_of class) in
           rw (plain, s.0, s.1, s.2, some_heads, not_extended plain) (
-            within_file (length file) (ehdr_size class) header_inside,
-            (refl, (refl, (refl, (refl, (within_file (length file) (place_where is_head_table (laid_parts class n) + shdr_size class * length (heads_of n)) table_inside, tt))))),
+            within_file (length file) (ehdr_size (word_of class)) header_inside,
+            (refl, (refl, (refl, (refl, (within_file (length file) (place_where is_head_table (laid_parts class n) + shdr_size (word_of class) * length (heads_of n)) table_inside, tt))))),
           )
 
   pub names_clean : Unbroken (names_conditions (length (made_frame class n).headers) (made_frame class n).names)

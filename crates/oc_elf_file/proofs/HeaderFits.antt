@@ -17,10 +17,11 @@ use Rattle.oc_shelf.proofs.WritingLaws.PackedLemmas.{Fit}
 use Rattle.oc_shelf.proofs.WritingLaws.StandingLemmas.{stands_inside}
 use Rattle.oc_shelf.proofs.WritingLaws.StringLemmas.{name_in_table}
 use Rattle.oc_elf.specs.declared.class.ElfClass.{ElfClass}
-use Rattle.oc_elf.specs.declared.class.ElfClass.TheVariants.{Class32, Class64, Big32, Big64}
 use Rattle.oc_elf.specs.declared.shdr.Shdr.{Shdr}
-use Rattle.oc_elf.specs.Classes.{is_big, machine_of, reloc_type}
+use Rattle.oc_elf.specs.Classes.{is_big, machine_of, reloc_type, word_of}
 use Rattle.oc_elf.specs.Structures.{word_bytes, ehdr_numbers, shdr_bytes, shdr_numbers}
+use Rattle.oc_base.specs.declared.format.Word.{Word}
+use Rattle.oc_base.specs.declared.format.Word.TheVariants.{W32, W64}
 use Rattle.oc_elf_file.specs.Heads.{Head, NullHead, GroupHead, SectionHead, RelocHead, SymtabHead, ShndxHead, StrtabHead, ShstrtabHead, heads_of, head_where, head_name, section_number, is_symtab_head, is_strtab_head, is_shstrtab_head}
 use Rattle.oc_elf_file.specs.Lines.{Line, lines_of, inner_lines, numbered_lines, signature_number, outer_lines}
 use Rattle.oc_elf_file.specs.Layout.{head_names, line_names, strings_of, body_size, laid_parts, is_head_table}
@@ -48,35 +49,23 @@ pub record IsSmall (s : Shdr) : Type 0 where
   pub sh_addralign : s.sh_addralign < 2 ^ 32
   pub sh_entsize : s.sh_entsize < 2 ^ 32
 
-header_fits : (class : ElfClass) (s : Shdr) → IsSmall s → Fit (shdr_numbers class s)
-header_fits Class32 s m =
+header_fits : (word : Word) (s : Shdr) → IsSmall s → Fit (shdr_numbers word s)
+header_fits W32 s m =
     let a = m.sh_name in let b = m.sh_type in let c = m.sh_flags in let d = m.sh_offset in let e = m.sh_size in
     let f = m.sh_link in let g = m.sh_info in let h = m.sh_addralign in let i = m.sh_entsize in
     (omega (arith, a), (omega (arith, b), (omega (arith, c), (omega arith, (omega (arith, d), (omega (arith, e), (omega (arith, f), (omega (arith, g), (omega (arith, h), (omega (arith, i), tt))))))))))
-header_fits Class64 s m =
-    let a = m.sh_name in let b = m.sh_type in let c = m.sh_flags in let d = m.sh_offset in let e = m.sh_size in
-    let f = m.sh_link in let g = m.sh_info in let h = m.sh_addralign in let i = m.sh_entsize in
-    (omega (arith, a), (omega (arith, b), (omega (arith, c), (omega arith, (omega (arith, d), (omega (arith, e), (omega (arith, f), (omega (arith, g), (omega (arith, h), (omega (arith, i), tt))))))))))
-header_fits Big32 s m =
-    let a = m.sh_name in let b = m.sh_type in let c = m.sh_flags in let d = m.sh_offset in let e = m.sh_size in
-    let f = m.sh_link in let g = m.sh_info in let h = m.sh_addralign in let i = m.sh_entsize in
-    (omega (arith, a), (omega (arith, b), (omega (arith, c), (omega arith, (omega (arith, d), (omega (arith, e), (omega (arith, f), (omega (arith, g), (omega (arith, h), (omega (arith, i), tt))))))))))
-header_fits Big64 s m =
+header_fits W64 s m =
     let a = m.sh_name in let b = m.sh_type in let c = m.sh_flags in let d = m.sh_offset in let e = m.sh_size in
     let f = m.sh_link in let g = m.sh_info in let h = m.sh_addralign in let i = m.sh_entsize in
     (omega (arith, a), (omega (arith, b), (omega (arith, c), (omega arith, (omega (arith, d), (omega (arith, e), (omega (arith, f), (omega (arith, g), (omega (arith, h), (omega (arith, i), tt))))))))))
 
-word_low : (class : ElfClass) → word_bytes class < 2 ^ 32
-word_low Class32 = omega arith
-word_low Class64 = omega arith
-word_low Big32 = omega arith
-word_low Big64 = omega arith
+word_low : (word : Word) → word_bytes word < 2 ^ 32
+word_low W32 = omega arith
+word_low W64 = omega arith
 
-type_low : (class : ElfClass) → reloc_type class < 2 ^ 32
-type_low Class32 = omega arith
-type_low Class64 = omega arith
-type_low Big32 = omega arith
-type_low Big64 = omega arith
+type_low : (word : Word) → reloc_type word < 2 ^ 32
+type_low W32 = omega arith
+type_low W64 = omega arith
 
 module _ (class : ElfClass) (n : Object) (is : IsForElf class n) where
   -- ... what stands in the file is small
@@ -214,21 +203,19 @@ module _ (class : ElfClass) (n : Object) (is : IsForElf class n) where
       let info = head_low (section_number n j) (SectionHead j s) (section_at n j s own.0) in
       record {
         sh_name = head_offset_low (RelocHead j s);
-        sh_type = type_low class;
+        sh_type = type_low (word_of class);
         sh_flags = table_flags_low s;
         sh_offset = l.0;
         sh_size = l.1;
         sh_link = omega (arith, link);
         sh_info = omega (arith, info);
-        sh_addralign = word_low class;
-        sh_entsize = rel_low class;
+        sh_addralign = word_low (word_of class);
+        sh_entsize = rel_low (word_of class);
       }
     where
-      rel_low : (class : ElfClass) → rel_size class < 2 ^ 32
-      rel_low Class32 = omega arith
-      rel_low Class64 = omega arith
-      rel_low Big32 = omega arith
-      rel_low Big64 = omega arith
+      rel_low : (word : Word) → rel_size word < 2 ^ 32
+      rel_low W32 = omega arith
+      rel_low W64 = omega arith
   small_header k SymtabHead here b own =
       let l = body_low k SymtabHead here b in
       let link = head_low (head_where n is_strtab_head) StrtabHead (strtab_at n) in
@@ -241,15 +228,13 @@ module _ (class : ElfClass) (n : Object) (is : IsForElf class n) where
         sh_size = l.1;
         sh_link = omega (arith, link);
         sh_info = omega (arith, info);
-        sh_addralign = word_low class;
-        sh_entsize = sym_low class;
+        sh_addralign = word_low (word_of class);
+        sh_entsize = sym_low (word_of class);
       }
     where
-      sym_low : (class : ElfClass) → sym_size class < 2 ^ 32
-      sym_low Class32 = omega arith
-      sym_low Class64 = omega arith
-      sym_low Big32 = omega arith
-      sym_low Big64 = omega arith
+      sym_low : (word : Word) → sym_size word < 2 ^ 32
+      sym_low W32 = omega arith
+      sym_low W64 = omega arith
   small_header k ShndxHead here b own =
       let l = body_low k ShndxHead here b in
       let link = head_low (head_where n is_symtab_head) SymtabHead (symtab_at n) in
@@ -267,14 +252,14 @@ module _ (class : ElfClass) (n : Object) (is : IsForElf class n) where
   small_header k StrtabHead here b own = small_plain k StrtabHead here b
   small_header k ShstrtabHead here b own = small_plain k ShstrtabHead here b
 
-  pub headers_fit : (k : ℕ) (s : Shdr) → slice_get (made_headers class n) k ≡ Some s → Fit (shdr_numbers class s)
+  pub headers_fit : (k : ℕ) (s : Shdr) → slice_get (made_headers class n) k ≡ Some s → Fit (shdr_numbers (word_of class) s)
   headers_fit k s here =
       let low = slice_get_within (made_headers class n) k s here in
       let long = length-made_headers class n in
       let h = there_at (heads_of n) k (omega (arith, low, long)) in
       let b = body_stands class n k h.0 h.1 in
-      subst (λ (y : Shdr). Fit (shdr_numbers class y)) (same_Some (shdr_of class n b.at h.0) s (sym b.header ∙ here))
-      (header_fits class (shdr_of class n b.at h.0) (small_header k h.0 h.1 b (head_at n k h.0 h.1)))
+      subst (λ (y : Shdr). Fit (shdr_numbers (word_of class) y)) (same_Some (shdr_of class n b.at h.0) s (sym b.header ∙ here))
+      (header_fits (word_of class) (shdr_of class n b.at h.0) (small_header k h.0 h.1 b (head_at n k h.0 h.1)))
 
   -- the numbers in the file header
 
@@ -308,28 +293,24 @@ module _ (class : ElfClass) (n : Object) (is : IsForElf class n) where
           let few = plain_heads class n is e in
           absurd (omega (arith, high, low, few))
 
-  pub head_fits : Fit (ehdr_numbers class (file_header class n))
+  pub head_fits : Fit (ehdr_numbers (word_of class) (file_header class n))
   unfolding file_header
   head_fits =
-      let at = stands_inside (elf_file class n) (flat_map (shdr_bytes class) (stored_headers class n)) (place_where is_head_table (laid_parts class n)) (table_stands class n) in
+      let at = stands_inside (elf_file class n) (flat_map (shdr_bytes (word_of class)) (stored_headers class n)) (place_where is_head_table (laid_parts class n)) (table_stands class n) in
       let small = small_file class n is in
       let shoff : place_where is_head_table (laid_parts class n) < 2 ^ 32 = omega (arith, at, small) in
-      by class (place_where is_head_table (laid_parts class n)) shoff (shown_count class (length (heads_of n))) count_low (shown_names class (head_where n is_shstrtab_head)) names_low
+      by (word_of class) (place_where is_head_table (laid_parts class n)) shoff (shown_count class (length (heads_of n))) count_low (shown_names class (head_where n is_shstrtab_head)) names_low
     where
-      by : (class : ElfClass) (shoff : ℕ) → shoff < 2 ^ 32 → (count : ℕ) → count < 2 ^ 16 → (names : ℕ) → names < 2 ^ 16
-          → Fit (ehdr_numbers class (record { ei_data = 1; ei_version = 1; e_type = 1; e_machine = machine_of class; e_version = 1; e_shoff = shoff; e_ehsize = ehdr_size class; e_shentsize = shdr_size class; e_shnum = count; e_shstrndx = names }))
-      by Class32 shoff a count b names c =
+      by : (word : Word) (shoff : ℕ) → shoff < 2 ^ 32 → (count : ℕ) → count < 2 ^ 16 → (names : ℕ) → names < 2 ^ 16
+          → Fit (ehdr_numbers word (record { ei_data = 1; ei_version = 1; e_type = 1; e_machine = machine_of word; e_version = 1; e_shoff = shoff; e_ehsize = ehdr_size word; e_shentsize = shdr_size word; e_shnum = count; e_shstrndx = names }))
+      by W32 shoff a count b names c =
           (omega arith, (omega arith, (omega arith, (omega arith, (omega arith, (omega arith, (omega arith, (omega arith, (omega arith, (omega arith, (omega arith, (omega arith, (omega arith, (omega (arith, a), (omega arith, (omega arith, (omega arith, (omega arith, (omega arith, (omega (arith, b), (omega (arith, c), tt)))))))))))))))))))))
-      by Class64 shoff a count b names c =
-          (omega arith, (omega arith, (omega arith, (omega arith, (omega arith, (omega arith, (omega arith, (omega arith, (omega arith, (omega arith, (omega arith, (omega arith, (omega arith, (omega (arith, a), (omega arith, (omega arith, (omega arith, (omega arith, (omega arith, (omega (arith, b), (omega (arith, c), tt)))))))))))))))))))))
-      by Big32 shoff a count b names c =
-          (omega arith, (omega arith, (omega arith, (omega arith, (omega arith, (omega arith, (omega arith, (omega arith, (omega arith, (omega arith, (omega arith, (omega arith, (omega arith, (omega (arith, a), (omega arith, (omega arith, (omega arith, (omega arith, (omega arith, (omega (arith, b), (omega (arith, c), tt)))))))))))))))))))))
-      by Big64 shoff a count b names c =
+      by W64 shoff a count b names c =
           (omega arith, (omega arith, (omega arith, (omega arith, (omega arith, (omega arith, (omega arith, (omega arith, (omega arith, (omega arith, (omega arith, (omega arith, (omega arith, (omega (arith, a), (omega arith, (omega arith, (omega arith, (omega arith, (omega arith, (omega (arith, b), (omega (arith, c), tt)))))))))))))))))))))
 
   -- header 0 as it is written
-  pub zero_fits : Fit (shdr_numbers class (zero_shdr class n))
-  zero_fits = header_fits class (zero_shdr class n) (by (is_big class))
+  pub zero_fits : Fit (shdr_numbers (word_of class) (zero_shdr class n))
+  zero_fits = header_fits (word_of class) (zero_shdr class n) (by (is_big class))
     where
       names : told_names (head_where n is_shstrtab_head) < 2 ^ 32
       names = elim (cases_lt (head_where n is_shstrtab_head) 0xFF00) [

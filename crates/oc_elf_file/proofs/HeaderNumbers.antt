@@ -7,10 +7,11 @@ use Rattle.oc_neutral.specs.Objects.{Object}
 use Rattle.oc_shelf.specs.Writing.Parts.{laid, place_where}
 use Rattle.oc_shelf.proofs.WritingLaws.StandingLemmas.{stands_inside}
 use Rattle.oc_elf.specs.declared.class.ElfClass.{ElfClass}
-use Rattle.oc_elf.specs.declared.class.ElfClass.TheVariants.{Class32, Class64, Big32, Big64}
-use Rattle.oc_elf.specs.Classes.{is_big}
+use Rattle.oc_elf.specs.Classes.{is_big, word_of}
 use Rattle.oc_elf.specs.Ehdr.{ehdr_size}
 use Rattle.oc_elf.specs.Structures.{ehdr_bytes}
+use Rattle.oc_base.specs.declared.format.Word.{Word}
+use Rattle.oc_base.specs.declared.format.Word.TheVariants.{W32, W64}
 use Rattle.oc_elf_file.specs.Heads.{Head, ShstrtabHead, heads_of, head_where, is_shstrtab_head}
 use Rattle.oc_elf_file.specs.Layout.{Body, HeadTable, parts_of, part_size, part_begin, is_head_table}
 use Rattle.oc_elf_file.specs.Canonical.{shown_count, shown_names, file_header, elf_file}
@@ -22,10 +23,10 @@ use Rattle.oc_elf_file.proofs.HeadCounts.{plain_heads}
 
 module _ (class : ElfClass) (n : Object) where
   -- the file header is whole
-  pub header_inside : ehdr_size class ≤ length (elf_file class n)
+  pub header_inside : ehdr_size (word_of class) ≤ length (elf_file class n)
   header_inside =
-      let inside = stands_inside (elf_file class n) (ehdr_bytes class (file_header class n)) 0 (stands_file_header class n) in
-      let size = length-ehdr_bytes class (file_header class n) in
+      let inside = stands_inside (elf_file class n) (ehdr_bytes (word_of class) (file_header class n)) 0 (stands_file_header class n) in
+      let size = length-ehdr_bytes (word_of class) (file_header class n) in
       omega (arith, inside, size)
 
   table_past : (at : ℕ) (heads : List Head) → at ≤ place_where is_head_table (laid (part_begin class) (part_size class n) at (map Body heads ++ HeadTable ∷ []))
@@ -36,21 +37,19 @@ module _ (class : ElfClass) (n : Object) where
       omega (arith, before, rest)
 
   -- the section headers stand behind it
-  pub table_behind : ehdr_size class ≤ (file_header class n).e_shoff
+  pub table_behind : ehdr_size (word_of class) ≤ (file_header class n).e_shoff
   unfolding file_header parts_of
-  table_behind = let past : 0 + ehdr_size class ≤ (file_header class n).e_shoff = table_past (0 + ehdr_size class) (heads_of n) in omega (arith, past)
+  table_behind = let past : 0 + ehdr_size (word_of class) ≤ (file_header class n).e_shoff = table_past (0 + ehdr_size (word_of class)) (heads_of n) in omega (arith, past)
 
   pub some_table : eqb (file_header class n).e_shoff 0 ≡ false
   some_table =
       let behind = table_behind in
-      let some = long class in
+      let some = long (word_of class) in
       ne_eqb (file_header class n).e_shoff 0 (λ e. omega (arith, behind, some, e))
     where
-      long : (class : ElfClass) → 1 ≤ ehdr_size class
-      long Class32 = omega arith
-      long Class64 = omega arith
-      long Big32 = omega arith
-      long Big64 = omega arith
+      long : (word : Word) → 1 ≤ ehdr_size word
+      long W32 = omega arith
+      long W64 = omega arith
 
   -- where sections are many, their number stands in header 0
   pub big_number : is_big class ≡ true → (file_header class n).e_shnum ≡ 0

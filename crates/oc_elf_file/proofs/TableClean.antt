@@ -16,15 +16,16 @@ use Rattle.oc_shelf.proofs.ReadingLaws.FirstsLemmas.{keyed_from}
 use Rattle.oc_shelf.proofs.ReadingLaws.StageLemmas.{Unbroken, upto_none}
 use Rattle.oc_shelf.proofs.WritingLaws.MemberLemmas.{keyed_once, of_append, of_filter_map}
 use Rattle.oc_elf.specs.declared.class.ElfClass.{ElfClass}
-use Rattle.oc_elf.specs.declared.class.ElfClass.TheVariants.{Class32, Class64, Big32, Big64}
 use Rattle.oc_elf.specs.declared.constants.TheConstants.{SHT_SYMTAB, SHT_STRTAB}
 use Rattle.oc_elf.specs.declared.shdr.Shdr.{Shdr}
-use Rattle.oc_elf.specs.Classes.{reloc_type, foreign_type}
+use Rattle.oc_elf.specs.Classes.{reloc_type, foreign_type, word_of}
 use Rattle.oc_elf.specs.Frames.{Framed, header_at}
 use Rattle.oc_elf.specs.Rel.{rel_size}
 use Rattle.oc_elf.specs.Sections.{is_type, shndx_number, symtab_among, table_among, relocated_by}
 use Rattle.oc_elf.specs.Sym.{sym_size}
 use Rattle.oc_elf.specs.SectionRules.{known_types, has_entries, is_left_out, is_good_symtab, is_good_table, is_good_shndx, table_conditions}
+use Rattle.oc_base.specs.declared.format.Word.{Word}
+use Rattle.oc_base.specs.declared.format.Word.TheVariants.{W32, W64}
 use Rattle.oc_elf_file.specs.Heads.{Head, NullHead, GroupHead, SectionHead, RelocHead, SymtabHead, ShndxHead, StrtabHead, ShstrtabHead, reloc_head, reloc_heads, table_heads_by, table_heads, heads_of, head_where, section_number, is_symtab_head, is_shndx_head, is_strtab_head, is_shstrtab_head}
 use Rattle.oc_neutral.specs.Families.{is_many}
 use Rattle.oc_elf_file.specs.Lines.{lines_of}
@@ -213,40 +214,34 @@ module _ (class : ElfClass) (n : Object) (is : IsForElf class n) (fits : IsCodab
       → left_by tls compressed ordered nobits allocated foreign known ≡ false
   judge tls compressed ordered nobits allocated foreign known a b c d e g = rw (a, b, c, d, e, g) refl
 
-  foreign_not : (t : ℕ) → is_carried_type t ≡ true → eqb t (foreign_type class) ≡ false
-  foreign_not t is = by class
+  foreign_not : (t : ℕ) → is_carried_type t ≡ true → eqb t (foreign_type (word_of class)) ≡ false
+  foreign_not t is = by (word_of class)
     where
-      by : (class : ElfClass) → eqb t (foreign_type class) ≡ false
-      by Class32 = carried_not t 4 is refl
-      by Class64 = carried_not t 9 is refl
-      by Big32 = carried_not t 4 is refl
-      by Big64 = carried_not t 9 is refl
+      by : (word : Word) → eqb t (foreign_type word) ≡ false
+      by W32 = carried_not t 4 is refl
+      by W64 = carried_not t 9 is refl
 
   kept : (i : ℕ) (h : Head) → slice_get (heads_of n) i ≡ Some h → is_left_out f (header_at f.headers i) ≡ false
   unfolding shdr_of is_left_out made_frame
   kept i h here = let b = header_is class n is fits i h here in ap (is_left_out f) b.1 ∙ by h b.0.at (head_at n i h here)
     where
-      plain : (t : ℕ) → eqb t 8 ≡ false → eqb t 4 ≡ false → eqb t 9 ≡ false → list_any (eqb t) known_types ≡ true → left_by false false false (eqb t 8) false (eqb t (foreign_type class)) (list_any (eqb t) known_types) ≡ false
-      plain t a b c known = judge false false false (eqb t 8) false (eqb t (foreign_type class)) (list_any (eqb t) known_types) refl refl refl (ap (λ b. b && true) a) (foreign class) known
+      plain : (t : ℕ) → eqb t 8 ≡ false → eqb t 4 ≡ false → eqb t 9 ≡ false → list_any (eqb t) known_types ≡ true → left_by false false false (eqb t 8) false (eqb t (foreign_type (word_of class))) (list_any (eqb t) known_types) ≡ false
+      plain t a b c known = judge false false false (eqb t 8) false (eqb t (foreign_type (word_of class))) (list_any (eqb t) known_types) refl refl refl (ap (λ b. b && true) a) (foreign (word_of class)) known
         where
-          foreign : (class : ElfClass) → eqb t (foreign_type class) ≡ false
-          foreign Class32 = b
-          foreign Class64 = c
-          foreign Big32 = b
-          foreign Big64 = c
+          foreign : (word : Word) → eqb t (foreign_type word) ≡ false
+          foreign W32 = b
+          foreign W64 = c
 
-      table : (class : ElfClass) → ((eqb (reloc_type class) 8 && true) ≡ false) × (eqb (reloc_type class) (foreign_type class) ≡ false) × (list_any (eqb (reloc_type class)) known_types ≡ true)
-      table Class32 = (refl, refl, refl)
-      table Class64 = (refl, refl, refl)
-      table Big32 = (refl, refl, refl)
-      table Big64 = (refl, refl, refl)
+      table : (word : Word) → ((eqb (reloc_type word) 8 && true) ≡ false) × (eqb (reloc_type word) (foreign_type word) ≡ false) × (list_any (eqb (reloc_type word)) known_types ≡ true)
+      table W32 = (refl, refl, refl)
+      table W64 = (refl, refl, refl)
 
       by : (h : Head) (at : ℕ) → IsHeadAt n i h → is_left_out f (shdr_of class n at h) ≡ false
       by NullHead at own = plain 0 refl refl refl refl
       by (GroupHead k g) at own = plain 17 refl refl refl refl
       by (SectionHead k s) at own =
           let m = meets_section class n is k s own.0 in
-          judge (has (flags_of s) 0x400) (has (flags_of s) 0x800) (has (flags_of s) 0x80) (is_nobits_tag s.tag) (has (flags_of s) 2) (eqb (elf_tag_type s.tag) (foreign_type class)) (list_any (eqb (elf_tag_type s.tag)) known_types)
+          judge (has (flags_of s) 0x400) (has (flags_of s) 0x800) (has (flags_of s) 0x80) (is_nobits_tag s.tag) (has (flags_of s) 2) (eqb (elf_tag_type s.tag) (foreign_type (word_of class))) (list_any (eqb (elf_tag_type s.tag)) known_types)
           (no_tls s) (no_compressed s) (no_link_order s) (ap (λ b. is_nobits_tag s.tag && not b) (alloc s) ∙ zeros (is_nobits_tag s.tag) (has (elf_tag_flags s.tag) 2) refl m.allocated)
           (foreign_not (elf_tag_type s.tag) m.carried) (known_carried (elf_tag_type s.tag) m.carried)
         where
@@ -255,8 +250,8 @@ module _ (class : ElfClass) (n : Object) (is : IsForElf class n) (fits : IsCodab
           zeros true true e allocated = refl
           zeros true false e allocated = absurd (true≢false (sym (allocated e)))
       by (RelocHead k s) at own =
-          judge (has (table_flags s) 0x400) (has (table_flags s) 0x800) (has (table_flags s) 0x80) (eqb (reloc_type class) 8) (has (table_flags s) 2) (eqb (reloc_type class) (foreign_type class)) (list_any (eqb (reloc_type class)) known_types)
-          (table_no_tls s) (table_no_compressed s) (table_no_link_order s) (ap (λ b. eqb (reloc_type class) 8 && not b) (table_no_alloc s) ∙ (table class).0) (table class).1 (table class).2
+          judge (has (table_flags s) 0x400) (has (table_flags s) 0x800) (has (table_flags s) 0x80) (eqb (reloc_type (word_of class)) 8) (has (table_flags s) 2) (eqb (reloc_type (word_of class)) (foreign_type (word_of class))) (list_any (eqb (reloc_type (word_of class))) known_types)
+          (table_no_tls s) (table_no_compressed s) (table_no_link_order s) (ap (λ b. eqb (reloc_type (word_of class)) 8 && not b) (table_no_alloc s) ∙ (table (word_of class)).0) (table (word_of class)).1 (table (word_of class)).2
       by SymtabHead at own = plain 2 refl refl refl refl
       by ShndxHead at own = plain 18 refl refl refl refl
       by StrtabHead at own = plain 3 refl refl refl refl
@@ -264,23 +259,19 @@ module _ (class : ElfClass) (n : Object) (is : IsForElf class n) (fits : IsCodab
 
   -- ... tables
 
-  whole_syms : (m : ℕ) → has_entries (sym_size class) (record null_shdr { sh_entsize = sym_size class; sh_size = sym_size class * m }) ≡ true
-  whole_syms m = by class
+  whole_syms : (m : ℕ) → has_entries (sym_size (word_of class)) (record null_shdr { sh_entsize = sym_size (word_of class); sh_size = sym_size (word_of class) * m }) ≡ true
+  whole_syms m = by (word_of class)
     where
-      by : (class : ElfClass) → (eqb (sym_size class) (sym_size class) && eqb (sym_size class * m % sym_size class) 0) ≡ true
-      by Class32 = let e : 16 * m % 16 ≡ 0 = omega arith in eq-eqb (16 * m % 16) 0 e
-      by Class64 = let e : 24 * m % 24 ≡ 0 = omega arith in eq-eqb (24 * m % 24) 0 e
-      by Big32 = let e : 16 * m % 16 ≡ 0 = omega arith in eq-eqb (16 * m % 16) 0 e
-      by Big64 = let e : 24 * m % 24 ≡ 0 = omega arith in eq-eqb (24 * m % 24) 0 e
+      by : (word : Word) → (eqb (sym_size word) (sym_size word) && eqb (sym_size word * m % sym_size word) 0) ≡ true
+      by W32 = let e : 16 * m % 16 ≡ 0 = omega arith in eq-eqb (16 * m % 16) 0 e
+      by W64 = let e : 24 * m % 24 ≡ 0 = omega arith in eq-eqb (24 * m % 24) 0 e
 
-  whole_rels : (m : ℕ) → (eqb (rel_size class) (rel_size class) && eqb (rel_size class * m % rel_size class) 0) ≡ true
-  whole_rels m = by class
+  whole_rels : (m : ℕ) → (eqb (rel_size (word_of class)) (rel_size (word_of class)) && eqb (rel_size (word_of class) * m % rel_size (word_of class)) 0) ≡ true
+  whole_rels m = by (word_of class)
     where
-      by : (class : ElfClass) → (eqb (rel_size class) (rel_size class) && eqb (rel_size class * m % rel_size class) 0) ≡ true
-      by Class32 = let e : 8 * m % 8 ≡ 0 = omega arith in eq-eqb (8 * m % 8) 0 e
-      by Class64 = let e : 24 * m % 24 ≡ 0 = omega arith in eq-eqb (24 * m % 24) 0 e
-      by Big32 = let e : 8 * m % 8 ≡ 0 = omega arith in eq-eqb (8 * m % 8) 0 e
-      by Big64 = let e : 24 * m % 24 ≡ 0 = omega arith in eq-eqb (24 * m % 24) 0 e
+      by : (word : Word) → (eqb (rel_size word) (rel_size word) && eqb (rel_size word * m % rel_size word) 0) ≡ true
+      by W32 = let e : 8 * m % 8 ≡ 0 = omega arith in eq-eqb (8 * m % 8) 0 e
+      by W64 = let e : 24 * m % 24 ≡ 0 = omega arith in eq-eqb (24 * m % 24) 0 e
 
   strings_type : is_type SHT_STRTAB (header_at f.headers (head_where n is_strtab_head)) ≡ true
   unfolding shdr_of
@@ -318,29 +309,25 @@ module _ (class : ElfClass) (n : Object) (is : IsForElf class n) (fits : IsCodab
       let number : option_map_or (λ j. eqb j i) (shndx_number class f.headers) false ≡ true = ap (λ o. option_map_or (λ j. eqb j i) o false) t.number ∙ eq-eqb t.m i (omega (arith, own, other)) in
       let whole : (true && eqb (4 * length (lines_of n) % 4) 0) ≡ true = eq-eqb (4 * length (lines_of n) % 4) 0 (omega arith) in
       let linked = header_is class n is fits (head_where n is_symtab_head) SymtabHead (symtab_at n) in
-      let count : (header_at f.headers (head_where n is_symtab_head)).sh_size / sym_size class ≡ length (lines_of n) = ap (λ (s : Shdr). s.sh_size / sym_size class) linked.1 ∙ counted class in
-      let enough : nat_le ((header_at f.headers (head_where n is_symtab_head)).sh_size / sym_size class) (4 * length (lines_of n) / 4) ≡ true
+      let count : (header_at f.headers (head_where n is_symtab_head)).sh_size / sym_size (word_of class) ≡ length (lines_of n) = ap (λ (s : Shdr). s.sh_size / sym_size (word_of class)) linked.1 ∙ counted (word_of class) in
+      let enough : nat_le ((header_at f.headers (head_where n is_symtab_head)).sh_size / sym_size (word_of class)) (4 * length (lines_of n) / 4) ≡ true
       = le-leb _ _ (omega (arith, count)) in
-      ap (λ b. b && is_type SHT_SYMTAB (header_at f.headers (head_where n is_symtab_head)) && nat_le ((header_at f.headers (head_where n is_symtab_head)).sh_size / sym_size class) (4 * length (lines_of n) / 4) && option_map_or (λ j. eqb j i) (shndx_number class f.headers) false) whole
-      ∙ ap (λ b. b && nat_le ((header_at f.headers (head_where n is_symtab_head)).sh_size / sym_size class) (4 * length (lines_of n) / 4) && option_map_or (λ j. eqb j i) (shndx_number class f.headers) false) symbols_type
+      ap (λ b. b && is_type SHT_SYMTAB (header_at f.headers (head_where n is_symtab_head)) && nat_le ((header_at f.headers (head_where n is_symtab_head)).sh_size / sym_size (word_of class)) (4 * length (lines_of n) / 4) && option_map_or (λ j. eqb j i) (shndx_number class f.headers) false) whole
+      ∙ ap (λ b. b && nat_le ((header_at f.headers (head_where n is_symtab_head)).sh_size / sym_size (word_of class)) (4 * length (lines_of n) / 4) && option_map_or (λ j. eqb j i) (shndx_number class f.headers) false) symbols_type
       ∙ ap (λ b. b && option_map_or (λ j. eqb j i) (shndx_number class f.headers) false) enough
       ∙ number
     where
-      counted : (class : ElfClass) → sym_size class * length (lines_of n) / sym_size class ≡ length (lines_of n)
-      counted Class32 = omega arith
-      counted Class64 = omega arith
-      counted Big32 = omega arith
-      counted Big64 = omega arith
+      counted : (word : Word) → sym_size word * length (lines_of n) / sym_size word ≡ length (lines_of n)
+      counted W32 = omega arith
+      counted W64 = omega arith
 
-  -- a type that is not that of the class's relocation tables
-  other_type : (t : ℕ) → eqb t 9 ≡ false → eqb t 4 ≡ false → eqb t (reloc_type class) ≡ false
-  other_type t a b = by class
+  -- a type that is not that of the word's relocation tables
+  other_type : (t : ℕ) → eqb t 9 ≡ false → eqb t 4 ≡ false → eqb t (reloc_type (word_of class)) ≡ false
+  other_type t a b = by (word_of class)
     where
-      by : (class : ElfClass) → eqb t (reloc_type class) ≡ false
-      by Class32 = a
-      by Class64 = b
-      by Big32 = a
-      by Big64 = b
+      by : (word : Word) → eqb t (reloc_type word) ≡ false
+      by W32 = a
+      by W64 = b
 
   pub table_clean : (i place : ℕ) (h : Head) → slice_get (heads_of n) i ≡ Some h → Unbroken (table_conditions f i place (header_at f.headers i))
   unfolding shdr_of table_conditions made_frame
@@ -351,14 +338,14 @@ module _ (class : ElfClass) (n : Object) (is : IsForElf class n) (fits : IsCodab
         (
           ap (λ (s : Shdr). is_type SHT_SYMTAB s && not (is_good_symtab f i s)) b.1 ∙ own.0,
           (
-            ap (λ (s : Shdr). is_type (reloc_type class) s && not (is_good_table f i s)) b.1 ∙ own.1,
+            ap (λ (s : Shdr). is_type (reloc_type (word_of class)) s && not (is_good_table f i s)) b.1 ∙ own.1,
             (ap (λ (s : Shdr). is_type 18 s && not (is_good_shndx f i s)) b.1 ∙ own.2, tt),
           ),
         ),
       )
     where
       FineTable : Shdr → Type 0
-      FineTable s = ((is_type SHT_SYMTAB s && not (is_good_symtab f i s)) ≡ false) × ((is_type (reloc_type class) s && not (is_good_table f i s)) ≡ false) × ((is_type 18 s && not (is_good_shndx f i s)) ≡ false)
+      FineTable s = ((is_type SHT_SYMTAB s && not (is_good_symtab f i s)) ≡ false) × ((is_type (reloc_type (word_of class)) s && not (is_good_table f i s)) ≡ false) × ((is_type 18 s && not (is_good_shndx f i s)) ≡ false)
 
       neither : (s : Shdr) → eqb s.sh_type 2 ≡ false → eqb s.sh_type 9 ≡ false → eqb s.sh_type 4 ≡ false → eqb s.sh_type 18 ≡ false → FineTable s
       neither s a b c d = (ap (λ t. t && not (is_good_symtab f i s)) a, ap (λ t. t && not (is_good_table f i s)) (other_type s.sh_type b c), ap (λ t. t && not (is_good_shndx f i s)) d)
@@ -371,16 +358,14 @@ module _ (class : ElfClass) (n : Object) (is : IsForElf class n) (fits : IsCodab
           neither (shdr_of class n at (SectionHead k s)) (carried_not (elf_tag_type s.tag) 2 carried refl) (carried_not (elf_tag_type s.tag) 9 carried refl) (carried_not (elf_tag_type s.tag) 4 carried refl)
           (carried_not (elf_tag_type s.tag) 18 carried refl)
       by (RelocHead k s) at here own = (
-        ap (λ t. t && not (is_good_symtab f i (shdr_of class n at (RelocHead k s)))) (no_symtab class).0,
-        ap (λ b. eqb (reloc_type class) (reloc_type class) && not b) (table_good i at k s here) ∙ none_right (eqb (reloc_type class) (reloc_type class)),
-        ap (λ t. t && not (is_good_shndx f i (shdr_of class n at (RelocHead k s)))) (no_symtab class).1,
+        ap (λ t. t && not (is_good_symtab f i (shdr_of class n at (RelocHead k s)))) (no_symtab (word_of class)).0,
+        ap (λ b. eqb (reloc_type (word_of class)) (reloc_type (word_of class)) && not b) (table_good i at k s here) ∙ none_right (eqb (reloc_type (word_of class)) (reloc_type (word_of class))),
+        ap (λ t. t && not (is_good_shndx f i (shdr_of class n at (RelocHead k s)))) (no_symtab (word_of class)).1,
       )
         where
-          no_symtab : (class : ElfClass) → (eqb (reloc_type class) 2 ≡ false) × (eqb (reloc_type class) 18 ≡ false)
-          no_symtab Class32 = (refl, refl)
-          no_symtab Class64 = (refl, refl)
-          no_symtab Big32 = (refl, refl)
-          no_symtab Big64 = (refl, refl)
+          no_symtab : (word : Word) → (eqb (reloc_type word) 2 ≡ false) × (eqb (reloc_type word) 18 ≡ false)
+          no_symtab W32 = (refl, refl)
+          no_symtab W64 = (refl, refl)
       by SymtabHead at here own =
           (ap not (symtab_good i at here), ap (λ t. t && not (is_good_table f i (shdr_of class n at SymtabHead))) (other_type 2 refl refl), refl)
       by ShndxHead at here own = (refl, ap (λ t. t && not (is_good_table f i (shdr_of class n at ShndxHead))) (other_type 18 refl refl), ap not (shndx_good i at here))

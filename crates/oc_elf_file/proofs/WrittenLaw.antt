@@ -8,6 +8,7 @@ use Rattle.oc_elf.specs.declared.class.ElfClass.{ElfClass}
 use Rattle.oc_elf.specs.Elf.{elf_is_dialect, rest_stages, stages_of, fault_in}
 use Rattle.oc_elf.specs.Frames.{Framed, zero_in}
 use Rattle.oc_elf.specs.Headers.{header_stage, names_stage, header_conditions, names_conditions}
+use Rattle.oc_elf.specs.Classes.{word_of}
 use Rattle.oc_elf_file.specs.Canonical.{file_header, elf_file}
 use Rattle.oc_elf_file.specs.Writing.{ElfIsWritten}
 use Rattle.oc_elf_file.proofs.FrameLaws.{IsCodable, made_frame, header_read, zero_read, frame_read}
@@ -25,7 +26,7 @@ module _ (class : ElfClass) (n : Object) (is : IsForElf class n) (fits : IsCodab
 
   header_stage_clean : IsUnbroken (header_stage class file)
   header_stage_clean i low =
-      subst (λ h. Unbroken (header_conditions class (length file) h (zero_in class file))) (sym (header_read class n fits))
+      subst (λ h. Unbroken (header_conditions class (length file) h (zero_in (word_of class) file))) (sym (header_read class n fits))
       (subst (λ z. Unbroken (header_conditions class (length file) (file_header class n) z)) (sym (zero_read class n fits)) (header_clean class n is fits))
 
   names_stage_clean : IsUnbroken (names_stage class file)

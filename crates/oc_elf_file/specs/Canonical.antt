@@ -4,7 +4,7 @@ use Rattle.oc_neutral.specs.Objects.{Object}
 use Rattle.oc_elf.specs.declared.class.ElfClass.{ElfClass}
 use Rattle.oc_elf.specs.declared.constants.TheConstants.{ELFDATA2LSB, EV_CURRENT, ET_REL, SHN_XINDEX}
 use Rattle.oc_elf.specs.declared.ehdr.Ehdr.{Ehdr}
-use Rattle.oc_elf.specs.Classes.{machine_of, is_big}
+use Rattle.oc_elf.specs.Classes.{machine_of, is_big, word_of}
 use Rattle.oc_elf.specs.Ehdr.{ehdr_size}
 use Rattle.oc_elf.specs.Shdr.{shdr_size}
 use Rattle.oc_shelf.specs.Writing.Parts.{joined, place_where}
@@ -32,11 +32,11 @@ file_header class n = record {
   ei_data = ELFDATA2LSB;
   ei_version = EV_CURRENT;
   e_type = ET_REL;
-  e_machine = machine_of class;
+  e_machine = machine_of (word_of class);
   e_version = EV_CURRENT;
   e_shoff = place_where is_head_table (laid_parts class n);
-  e_ehsize = ehdr_size class;
-  e_shentsize = shdr_size class;
+  e_ehsize = ehdr_size (word_of class);
+  e_shentsize = shdr_size (word_of class);
   e_shnum = shown_count class (length (heads_of n));
   e_shstrndx = shown_names class (head_where n is_shstrtab_head);
 }
@@ -45,8 +45,8 @@ file_header class n = record {
 abbrev pub body_bytes : ElfClass → Object → Head → List ℕ
 body_bytes class n NullHead = []
 body_bytes class n (GroupHead k g) = group_bytes (group_words n k)
-body_bytes class n (SectionHead k s) = raw_of class n k s
-body_bytes class n (RelocHead k s) = flat_map (rel_bytes class) (rels_of class (numbered_lines n) n k)
+body_bytes class n (SectionHead k s) = raw_of (word_of class) n k s
+body_bytes class n (RelocHead k s) = flat_map (rel_bytes (word_of class)) (rels_of class (numbered_lines n) n k)
 body_bytes class n SymtabHead = flat_map (λ (line : Line). sym_bytes class (line_entry n line)) (lines_of n)
 body_bytes class n ShndxHead = flat_map (λ (line : Line). index_bytes (line_entry n line)) (lines_of n)
 body_bytes class n StrtabHead = strings_of (line_names n)
@@ -54,9 +54,9 @@ body_bytes class n ShstrtabHead = strings_of (head_names class n)
 
 -- the bytes of a part
 unfoldable pub part_bytes : ElfClass → Object → Part → List ℕ
-part_bytes class n FileHead = ehdr_bytes class (file_header class n)
+part_bytes class n FileHead = ehdr_bytes (word_of class) (file_header class n)
 part_bytes class n (Body h) = body_bytes class n h
-part_bytes class n HeadTable = flat_map (shdr_bytes class) (stored_headers class n)
+part_bytes class n HeadTable = flat_map (shdr_bytes (word_of class)) (stored_headers class n)
 
 -- the canonical file
 unfoldable pub elf_file : ElfClass → Object → List ℕ

@@ -5,7 +5,7 @@ use Rattle.oc_neutral.specs.Elf.Kinds.{elf_tag_type, elf_tag_flags}
 use Rattle.oc_elf.specs.declared.class.ElfClass.{ElfClass}
 use Rattle.oc_elf.specs.declared.constants.TheConstants.{SHT_SYMTAB, SHT_SYMTAB_SHNDX, SHT_STRTAB, SHT_GROUP, GRP_ENTRY_SIZE, SHNDX_SIZE}
 use Rattle.oc_elf.specs.declared.shdr.Shdr.{Shdr}
-use Rattle.oc_elf.specs.Classes.{is_big, reloc_type}
+use Rattle.oc_elf.specs.Classes.{is_big, reloc_type, word_of}
 use Rattle.oc_elf.specs.Shdr.{null_shdr}
 use Rattle.oc_elf.specs.Sym.{sym_size}
 use Rattle.oc_elf.specs.Rel.{rel_size}
@@ -49,19 +49,19 @@ shdr_of class n at (SectionHead k s) = record (plain_header class n at (SectionH
   sh_addralign = s.align;
 }
 shdr_of class n at (RelocHead k s) = record (plain_header class n at (RelocHead k s)) {
-  sh_type = reloc_type class;
+  sh_type = reloc_type (word_of class);
   sh_flags = SHF_INFO_LINK + member_flag s;
   sh_link = head_where n is_symtab_head;
   sh_info = section_number n k;
-  sh_addralign = word_bytes class;
-  sh_entsize = rel_size class;
+  sh_addralign = word_bytes (word_of class);
+  sh_entsize = rel_size (word_of class);
 }
 shdr_of class n at SymtabHead = record (plain_header class n at SymtabHead) {
   sh_type = SHT_SYMTAB;
   sh_link = head_where n is_strtab_head;
   sh_info = length (inner_lines n);
-  sh_addralign = word_bytes class;
-  sh_entsize = sym_size class;
+  sh_addralign = word_bytes (word_of class);
+  sh_entsize = sym_size (word_of class);
 }
 shdr_of class n at ShndxHead = record (plain_header class n at ShndxHead) {
   sh_type = SHT_SYMTAB_SHNDX;

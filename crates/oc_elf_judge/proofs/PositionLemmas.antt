@@ -7,12 +7,13 @@ use Rattle.oc_shelf.proofs.ReadingLaws.SlotLemmas.{slots_pushed}
 use Rattle.oc_elf.specs.Frames.{Framed, header_at}
 use Rattle.oc_elf.specs.Sections.{is_carried}
 use Rattle.oc_elf.specs.CarriedSections.{section_of, section_with}
-use Rattle.oc_elf.specs.declared.class.ElfClass.{ElfClass}
-use Rattle.oc_elf.specs.declared.class.ElfClass.TheVariants.{Class32, Class64, Big32, Big64}
 use Rattle.oc_elf.specs.declared.shdr.Shdr.{Shdr}
 use Rattle.oc_elf_judge.specs.Known.{IsSymtab}
 use Rattle.oc_elf.specs.Sym.{sym_size}
 use Rattle.oc_elf.specs.Tables.{symbol_count, symtab_of}
+use Rattle.oc_elf.specs.Classes.{word_of}
+use Rattle.oc_base.specs.declared.format.Word.{Word}
+use Rattle.oc_base.specs.declared.format.Word.TheVariants.{W32, W64}
 
 module _ {X : Type 0} (item : ℕ → Option X) where
   -- the positions so far, and the next
@@ -53,11 +54,9 @@ few_symbols f table is =
     let lies = is.lies in
     let small = is.small in
     let size : (symtab_of f).sh_size ≡ table.sh_size = ap (λ (s : Shdr). s.sh_size) (sym is.is) in
-    let less = by f.class (symtab_of f).sh_size in
+    let less = by (word_of f.class) (symtab_of f).sh_size in
     omega (arith, lies, small, size, less)
   where
-    by : (class : ElfClass) (n : ℕ) → n / sym_size class ≤ n
-    by Class32 n = omega arith
-    by Class64 n = omega arith
-    by Big32 n = omega arith
-    by Big64 n = omega arith
+    by : (word : Word) (n : ℕ) → n / sym_size word ≤ n
+    by W32 n = omega arith
+    by W64 n = omega arith

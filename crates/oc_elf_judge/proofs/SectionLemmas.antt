@@ -17,16 +17,16 @@ use Rattle.oc_shelf.proofs.ReadingLaws.FirstsLemmas.{first_more, keyed_more, key
 use Rattle.oc_shelf.proofs.ReadingLaws.SlotLemmas.{slots_same, slots_filled}
 use Rattle.oc_elf.specs.declared.constants.TheConstants.{SHT_SYMTAB, SHT_SYMTAB_SHNDX, SHT_GROUP, GRP_COMDAT}
 use Rattle.oc_elf.specs.declared.shdr.Shdr.{Shdr}
-use Rattle.oc_elf.specs.declared.class.ElfClass.{ElfClass}
-use Rattle.oc_elf.specs.declared.class.ElfClass.TheVariants.{Class32, Class64, Big32, Big64}
 use Rattle.oc_elf.specs.Shdr.{null_shdr}
 use Rattle.oc_elf.specs.Names.{name_in}
 use Rattle.oc_elf.specs.Frames.{Framed, shdr_count, header_at, header_place, framed, headers_of, header_of}
 use Rattle.oc_elf.specs.Laid.{IsFrame}
-use Rattle.oc_elf.specs.Classes.{reloc_type}
+use Rattle.oc_elf.specs.Classes.{reloc_type, word_of}
 use Rattle.oc_elf.specs.Groups.{owner_among, member_count, group_word}
 use Rattle.oc_elf.specs.Sections.{is_type, is_carried, kind_of, relocated_by, table_among, symtab_among}
 use Rattle.oc_elf.specs.SectionRules.{has_bytes, is_left_out, form_conditions, is_good_shndx, is_good_symtab, is_good_table, table_conditions, is_alignment, size_counted, bytes_counted, sum_with, section_fault, limits_by, is_good_group, is_bad_member, group_conditions, carried_conditions, conditions_on, section_conditions, section_stage}
+use Rattle.oc_base.specs.declared.format.Word.{Word}
+use Rattle.oc_base.specs.declared.format.Word.TheVariants.{W32, W64}
 
 -- a carried section is aligned, and passes no limit
 pub record IsCounted (f : Framed) (k : ℕ) (s : Shdr) : Type 0 where
@@ -49,7 +49,7 @@ pub record IsSound (f : Framed) (k : ℕ) (s : Shdr) : Type 0 where
   pub group : is_type SHT_GROUP s ≡ true → IsSoundGroup f k s
   pub plain : is_left_out f s ≡ false
   pub symtab : is_type SHT_SYMTAB s ≡ true → is_good_symtab f k s ≡ true
-  pub table : is_type (reloc_type f.class) s ≡ true → is_good_table f k s ≡ true
+  pub table : is_type (reloc_type (word_of f.class)) s ≡ true → is_good_table f k s ≡ true
   pub shndx : is_type SHT_SYMTAB_SHNDX s ≡ true → is_good_shndx f k s ≡ true
   pub carried : is_carried s ≡ true → IsCounted f k s
 
@@ -147,11 +147,11 @@ pub null_first : (f : Framed) → IsFrame f → header_at f.headers 0 ≡ null_s
 unfolding framed headers_of header_of
 null_first f is = ap (λ (g : Framed). header_at g.headers 0) is.is ∙ by (shdr_count f.class f.file)
   where
-    by : (n : ℕ) → header_at (map (header_of f.class f.file) (range_with_len 0 n)) 0 ≡ null_shdr
+    by : (n : ℕ) → header_at (map (header_of (word_of f.class) f.file) (range_with_len 0 n)) 0 ≡ null_shdr
     by zero = refl
     by (suc n) = refl
 
-pub section_broken : (f : Framed) (k : ℕ) → eqb k 0 ≡ false → first_broken (section_conditions f k) ≡ first_broken (conditions_on f k (header_place f.class f.file k) (header_at f.headers k))
+pub section_broken : (f : Framed) (k : ℕ) → eqb k 0 ≡ false → first_broken (section_conditions f k) ≡ first_broken (conditions_on f k (header_place (word_of f.class) f.file k) (header_at f.headers k))
 unfolding section_conditions
 section_broken f k some = rw some refl
 
@@ -184,13 +184,13 @@ group_broken f k place s fault form e =
 pub sound_at : (f : Framed) (k : ℕ) → first_broken (section_conditions f k) ≡ None → (k ≡ 0) ⊎ IsSound f k (header_at f.headers k)
 sound_at f k clean = elim (eqb k 0) as (λ b. eqb k 0 ≡ b → (k ≡ 0) ⊎ IsSound f k (header_at f.headers k)) [
   | true ↦ λ e. inl (eqb-true k 0 e)
-  | false ↦ λ e. inr (sound f k (header_place f.class f.file k) (header_at f.headers k) (sym (section_broken f k e) ∙ clean))
+  | false ↦ λ e. inr (sound f k (header_place (word_of f.class) f.file k) (header_at f.headers k) (sym (section_broken f k e) ∙ clean))
 ] refl
 
 -- what the loop makes of a header without a fault
 pub record IsStep (f : Framed) (k : ℕ) : Type 0 where
-  pub inside : is_type (reloc_type f.class) (header_at f.headers k) ≡ true → (header_at f.headers k).sh_info < length f.headers
-  pub new : is_type (reloc_type f.class) (header_at f.headers k) ≡ true → table_among f k (header_at f.headers k).sh_info ≡ None
+  pub inside : is_type (reloc_type (word_of f.class)) (header_at f.headers k) ≡ true → (header_at f.headers k).sh_info < length f.headers
+  pub new : is_type (reloc_type (word_of f.class)) (header_at f.headers k) ≡ true → table_among f k (header_at f.headers k).sh_info ≡ None
   pub sizes : sum_upto (size_counted f) k ≤ 2147483648 → sum_with (size_counted f) k ≤ 2147483648
   pub bytes : sum_upto (bytes_counted f) k ≤ 67108864 → sum_with (bytes_counted f) k ≤ 67108864
 
@@ -198,16 +198,14 @@ none_is : {X : Type 0} (o : Option X) → not (is_some o) ≡ true → o ≡ Non
 none_is None e = refl
 none_is (Some x) e = absurd (true≢false (sym e))
 
-no_table : (w : ElfClass) → is_type (reloc_type w) null_shdr ≡ false
-no_table Class32 = refl
-no_table Class64 = refl
-no_table Big32 = refl
-no_table Big64 = refl
+no_table : (w : Word) → is_type (reloc_type w) null_shdr ≡ false
+no_table W32 = refl
+no_table W64 = refl
 
 step_first : (f : Framed) → header_at f.headers 0 ≡ null_shdr → IsStep f 0
 step_first f null = record {
-  inside = λ is. absurd (true≢false (sym is ∙ ap (is_type (reloc_type f.class)) null ∙ no_table f.class));
-  new = λ is. absurd (true≢false (sym is ∙ ap (is_type (reloc_type f.class)) null ∙ no_table f.class));
+  inside = λ is. absurd (true≢false (sym is ∙ ap (is_type (reloc_type (word_of f.class))) null ∙ no_table (word_of f.class)));
+  new = λ is. absurd (true≢false (sym is ∙ ap (is_type (reloc_type (word_of f.class))) null ∙ no_table (word_of f.class)));
   sizes = λ before. let none : size_counted f 0 ≡ 0 = ap (λ (s : Shdr). cond (is_carried s) s.sh_size 0) null in omega (arith, none);
   bytes = λ before. let none : bytes_counted f 0 ≡ 0 = ap (λ (s : Shdr). cond (is_carried s && not (is_zero (kind_of f s))) s.sh_size 0) null in omega (arith, none);
 }
@@ -240,14 +238,14 @@ step_at f k frame clean = elim (sound_at f k clean) as (λ _. IsStep f k) [
 pub checking_more : (f : Framed) (k : ℕ) (symtab symtab' : Option ℕ) (relocs relocs' owners owners' : List (Option ℕ)) (sizes sizes' bytes bytes' : ℕ) → IsChecking f k symtab relocs owners sizes bytes → IsStep f k
     → first_broken (section_conditions f k) ≡ None
     → symtab' ≡ or_else symtab (if is_type SHT_SYMTAB (header_at f.headers k) then Some k else None)
-    → relocs' ≡ (if is_type (reloc_type f.class) (header_at f.headers k) then set relocs (header_at f.headers k).sh_info (Some k) else relocs)
+    → relocs' ≡ (if is_type (reloc_type (word_of f.class)) (header_at f.headers k) then set relocs (header_at f.headers k).sh_info (Some k) else relocs)
     → AreSlots (owner_among f (k + 1)) (length f.headers) owners'
     → sizes' ≡ sizes + size_counted f k → bytes' ≡ bytes + bytes_counted f k
     → IsChecking f (k + 1) symtab' relocs' owners' sizes' bytes'
 checking_more f k symtab symtab' relocs relocs' owners owners' sizes sizes' bytes bytes' inv step clean symtab_new relocs_new owners_new sizes_new bytes_new = record {
   clean = clean_more (fault_of (section_stage f)) k inv.clean clean;
   symtab_is = symtab_new ∙ ap (λ (o : Option ℕ). or_else o (cond (is_type SHT_SYMTAB (here f k)) (Some k) None)) inv.symtab_is ∙ sym (first_more (λ j. cond (is_type SHT_SYMTAB (header_at f.headers j)) (Some j) None) k);
-  relocs_are = subst (AreSlots (table_among f (k + 1)) (length f.headers)) (sym relocs_new) (by (is_type (reloc_type f.class) (here f k)) refl);
+  relocs_are = subst (AreSlots (table_among f (k + 1)) (length f.headers)) (sym relocs_new) (by (is_type (reloc_type (word_of f.class)) (here f k)) refl);
   owners_are = owners_new;
   sizes_are = let e = sum_more (size_counted f) k in let b = inv.sizes_are in omega (arith, e, b, sizes_new);
   sizes_small = let b = inv.sizes_are in let l = inv.sizes_small in let most = step.sizes (rw (← inv.sizes_are) inv.sizes_small) in omega (arith, b, sizes_new, most);
@@ -255,7 +253,7 @@ checking_more f k symtab symtab' relocs relocs' owners owners' sizes sizes' byte
   bytes_small = let b = inv.bytes_are in let most = step.bytes (rw (← inv.bytes_are) inv.bytes_small) in omega (arith, b, bytes_new, most);
 }
   where
-    by : (b : Bool) → is_type (reloc_type f.class) (here f k) ≡ b → AreSlots (table_among f (k + 1)) (length f.headers) (cond b (set relocs (here f k).sh_info (Some k)) relocs)
+    by : (b : Bool) → is_type (reloc_type (word_of f.class)) (here f k) ≡ b → AreSlots (table_among f (k + 1)) (length f.headers) (cond b (set relocs (here f k).sh_info (Some k)) relocs)
     by true e = slots_filled (table_among f k) (table_among f (k + 1)) (length f.headers) (here f k).sh_info k relocs inv.relocs_are (step.inside e)
         (keyed_more (relocated_by f) k (here f k).sh_info (ap (λ b. cond b (Some (here f k).sh_info) None) e) (step.new e))
     by false e = slots_same (table_among f k) (table_among f (k + 1)) (length f.headers) relocs inv.relocs_are (keyed_none (relocated_by f) k (ap (λ b. cond b (Some (here f k).sh_info) None) e))

@@ -10,11 +10,9 @@ use Rattle.oc_linking.specs.FirstFault.{fault_of, stage_fault}
 use Rattle.oc_linking.proofs.Upto.{first_upto_from, first_upto_stop}
 use Rattle.oc_shelf.proofs.ReadingLaws.FirstsLemmas.{keyed_from}
 use Rattle.oc_shelf.proofs.ReadingLaws.StageLemmas.{both_hold, clean_at}
-use Rattle.oc_elf.specs.declared.class.ElfClass.{ElfClass}
-use Rattle.oc_elf.specs.declared.class.ElfClass.TheVariants.{Class32, Class64, Big32, Big64}
 use Rattle.oc_elf.specs.declared.constants.TheConstants.{SHT_SYMTAB, SHT_SYMTAB_SHNDX, SHT_GROUP}
 use Rattle.oc_elf.specs.declared.shdr.Shdr.{Shdr}
-use Rattle.oc_elf.specs.Classes.{reloc_type}
+use Rattle.oc_elf.specs.Classes.{reloc_type, word_of}
 use Rattle.oc_elf.specs.Frames.{Framed, header_at}
 use Rattle.oc_elf_judge.specs.Known.{IsSymtab, IsTable, AreSigned}
 use Rattle.oc_elf.specs.Laid.{IsFrame}
@@ -23,13 +21,13 @@ use Rattle.oc_elf.specs.SectionRules.{has_bytes, is_good_group, is_good_shndx, i
 use Rattle.oc_elf.specs.Shdr.{null_shdr}
 use Rattle.oc_elf.specs.Tables.{entry_count, shndx_of, symbol_count, symtab_of}
 use Rattle.oc_elf.specs.Sym.{sym_size}
+use Rattle.oc_base.specs.declared.format.Word.{Word}
+use Rattle.oc_base.specs.declared.format.Word.TheVariants.{W32, W64}
 use Rattle.oc_elf_judge.proofs.SectionLemmas.{IsSound, here, null_first, sound_at}
 
-table_bytes : (w : ElfClass) (s : Shdr) → is_type (reloc_type w) s ≡ true → has_bytes s ≡ true
-table_bytes Class32 s is = let e : s.sh_type ≡ 9 = eqb-true s.sh_type 9 is in rw e refl
-table_bytes Class64 s is = let e : s.sh_type ≡ 4 = eqb-true s.sh_type 4 is in rw e refl
-table_bytes Big32 s is = let e : s.sh_type ≡ 9 = eqb-true s.sh_type 9 is in rw e refl
-table_bytes Big64 s is = let e : s.sh_type ≡ 4 = eqb-true s.sh_type 4 is in rw e refl
+table_bytes : (w : Word) (s : Shdr) → is_type (reloc_type w) s ≡ true → has_bytes s ≡ true
+table_bytes W32 s is = let e : s.sh_type ≡ 9 = eqb-true s.sh_type 9 is in rw e refl
+table_bytes W64 s is = let e : s.sh_type ≡ 4 = eqb-true s.sh_type 4 is in rw e refl
 
 shndx_bytes : (s : Shdr) → is_type SHT_SYMTAB_SHNDX s ≡ true → has_bytes s ≡ true
 shndx_bytes s is = let e : s.sh_type ≡ 18 = eqb-true s.sh_type 18 is in rw e refl
@@ -41,7 +39,7 @@ at_least : (a b : ℕ) → nat_le a b ≡ true → a ≤ b
 at_least a b e = grind (arith, nat_tests)
 
 -- a good table of section numbers is that of a symbol table, and has enough
-shndx_enough : (f : Framed) (k : ℕ) (s : Shdr) → is_good_shndx f k s ≡ true → (is_type SHT_SYMTAB (here f s.sh_link) ≡ true) × ((here f s.sh_link).sh_size / sym_size f.class ≤ s.sh_size / 4)
+shndx_enough : (f : Framed) (k : ℕ) (s : Shdr) → is_good_shndx f k s ≡ true → (is_type SHT_SYMTAB (here f s.sh_link) ≡ true) × ((here f s.sh_link).sh_size / sym_size (word_of f.class) ≤ s.sh_size / 4)
 unfolding is_good_shndx
 shndx_enough f k s is =
     let a = both_hold _ _ is in
@@ -113,7 +111,7 @@ module _ (f : Framed) (frame : IsFrame f) (clean : stage_fault (section_stage f)
           let sound = (typed_sound k SHT_SYMTAB_SHNDX refl is).1 in
           let lies = sound.lies (shndx_bytes (here f k) is) in
           let enough = shndx_enough f k (here f k) (sound.shndx is) in
-          let same : (here f (here f k).sh_link).sh_size / sym_size f.class ≡ symbol_count f = ap (λ (s : Shdr). s.sh_size / sym_size f.class) (sym (only_symtab (here f k).sh_link enough.0)) in
+          let same : (here f (here f k).sh_link).sh_size / sym_size (word_of f.class) ≡ symbol_count f = ap (λ (s : Shdr). s.sh_size / sym_size (word_of f.class)) (sym (only_symtab (here f k).sh_link enough.0)) in
           let most = enough.1 in
           omega (arith, lies, same, most)
 
@@ -139,16 +137,14 @@ module _ (f : Framed) (frame : IsFrame f) (clean : stage_fault (section_stage f)
       by None is = null_lies (header_at f.headers 0) refl
       by (Some k) is =
           let m = keyed_from (relocated_by f) (length f.headers) i k (sym is) in
-          found (is_type (reloc_type f.class) (here f k)) refl m.is
+          found (is_type (reloc_type (word_of f.class)) (here f k)) refl m.is
         where
-          some_type : (w : ElfClass) → eqb (reloc_type w) 0 ≡ false
-          some_type Class32 = refl
-          some_type Class64 = refl
-          some_type Big32 = refl
-          some_type Big64 = refl
+          some_type : (w : Word) → eqb (reloc_type w) 0 ≡ false
+          some_type W32 = refl
+          some_type W64 = refl
 
-          found : (b : Bool) → is_type (reloc_type f.class) (here f k) ≡ b → cond b (Some (here f k).sh_info) None ≡ Some i → (here f k).sh_offset + (here f k).sh_size ≤ length f.file
-          found true e g = let sound = (typed_sound k (reloc_type f.class) (some_type f.class) e).1 in sound.lies (table_bytes f.class (here f k) e)
+          found : (b : Bool) → is_type (reloc_type (word_of f.class)) (here f k) ≡ b → cond b (Some (here f k).sh_info) None ≡ Some i → (here f k).sh_offset + (here f k).sh_size ≤ length f.file
+          found true e g = let sound = (typed_sound k (reloc_type (word_of f.class)) (some_type (word_of f.class)) e).1 in sound.lies (table_bytes (word_of f.class) (here f k) e)
           found false e g = absurd (none-some i g)
 
   -- ... groups

@@ -37,7 +37,7 @@ pub(crate) fn member_count(s: &Shdr) -> u64
 fn entry_count(frame: &Frame, table: &Shdr) -> u64
     ensures { result ≡ entry_count frame.now table.now }
 {
-    table.sh_size / sym_size(frame.class())
+    table.sh_size / sym_size(frame.word())
 }
 
 // whether a group has whole words, at least one, and a symbol of a symbol table for a signature

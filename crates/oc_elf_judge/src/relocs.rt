@@ -23,7 +23,7 @@ pub fn reloc_count(frame: &Frame, i: u32, table: &Shdr) -> u32
     requires { IsTable frame.now i table.now }
     ensures { result ≡ tables.reloc_count frame.now i }
 {
-    (table.sh_size / rel_size(frame.class())) as u32
+    (table.sh_size / rel_size(frame.word())) as u32
 }
 
 /// Where entry `k` of it stands, in bytes from the start of the file. Constant time.
@@ -32,7 +32,7 @@ pub(crate) fn reloc_place(frame: &Frame, i: u32, table: &Shdr, k: u32) -> u64
     requires there { k < tables.reloc_count frame.now i }
     ensures { result ≡ tables.reloc_place frame.now i k }
 {
-    table.sh_offset + rel_size(frame.class()) * u64::from(k)
+    table.sh_offset + rel_size(frame.word()) * u64::from(k)
 }
 
 /// Entry `k` of it. Constant time.
@@ -43,7 +43,7 @@ pub fn reloc_of(frame: &Frame, i: u32, table: &Shdr, k: u32) -> Rel
     ensures { result ≡ tables.reloc_of frame.now i k }
 {
     let place = reloc_place(frame, i, table, k);
-    rel_at(frame.class(), frame.file(), place as usize)
+    rel_at(frame.word(), frame.file(), place as usize)
 }
 
 /// Whether an entry says nothing. Constant time.

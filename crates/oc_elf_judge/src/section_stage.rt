@@ -15,7 +15,7 @@ ghost use Rattle.oc_elf.specs.SectionRules as rules;
 use crate::groups::group_fault;
 use crate::sections::{Sums, carried_fault, counted, form_fault, table_fault};
 use oc_base::{Fault, Stop};
-use oc_elf::{Frame, SHT_SYMTAB, first_of};
+use oc_elf::{Frame, SHT_SYMTAB, first_of, reloc_type};
 use oc_shelf::{Slots, earlier};
 use std::alloc::Global;
 
@@ -78,7 +78,7 @@ fn take_table(frame: &Frame, tables: &mut Slots, k: u32)
         then slice_set tables.old (header_at frame.now.headers k).sh_info (Some k) else tables.old) }
 {
     let s = frame.header(k);
-    if s.sh_type == frame.class().reloc_type() {
+    if s.sh_type == reloc_type(frame.word()) {
         tables.fill(s.sh_info, k);
     }
 }

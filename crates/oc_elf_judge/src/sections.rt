@@ -13,8 +13,8 @@ ghost use Rattle.oc_elf.specs.SectionRules as rules;
 use oc_base::{Code, Fault, MOST_CONTENTS, Phase};
 use oc_elf::{
     Frame, MOST_SIZE, MOST_SIZES, SHF_COMPRESSED, SHF_LINK_ORDER, SHF_TLS, SHNDX_SIZE, SHT_GROUP,
-    SHT_NULL, SHT_REL, SHT_RELA, SHT_STRTAB, SHT_SYMTAB, SHT_SYMTAB_SHNDX, Shdr, has,
-    is_carried_type, kind_by, name_in, rel_size, sym_size,
+    SHT_NULL, SHT_REL, SHT_RELA, SHT_STRTAB, SHT_SYMTAB, SHT_SYMTAB_SHNDX, Shdr, foreign_type, has,
+    is_carried_type, kind_by, name_in, rel_size, reloc_type, sym_size,
 };
 use oc_neutral::Kind;
 use oc_neutral::elf::{ALIGN_BITS, SHF_ALLOC, SHT_NOBITS};
@@ -78,7 +78,7 @@ fn is_left_out(frame: &Frame, s: &Shdr) -> bool
         || has(s.sh_flags, SHF_COMPRESSED)
         || has(s.sh_flags, SHF_LINK_ORDER)
         || s.sh_type == SHT_NOBITS && !has(s.sh_flags, SHF_ALLOC)
-        || s.sh_type == frame.class().foreign_type()
+        || s.sh_type == foreign_type(frame.word())
         || !is_known_type(s.sh_type) && has(s.sh_flags, SHF_ALLOC)
 }
 
@@ -128,7 +128,7 @@ fn is_good_symtab(frame: &Frame, first: Option<u32>, k: u32, s: &Shdr) -> bool
     requires { first ≡ sections.symtab_among frame.now k }
     ensures { result ≡ rules.is_good_symtab frame.now k s.now }
 {
-    has_entries(sym_size(frame.class()), s)
+    has_entries(sym_size(frame.word()), s)
         && frame.header(s.sh_link).sh_type == SHT_STRTAB
         && first.is_none()
 }
@@ -139,7 +139,7 @@ fn is_good_table(frame: &Frame, before: Option<u32>, k: u32, s: &Shdr) -> bool
     requires { s.now.sh_info < length frame.now.headers → before ≡ sections.table_among frame.now k s.now.sh_info }
     ensures { result ≡ rules.is_good_table frame.now k s.now }
 {
-    has_entries(rel_size(frame.class()), s)
+    has_entries(rel_size(frame.word()), s)
         && frame.header(s.sh_link).sh_type == SHT_SYMTAB
         && s.sh_info < frame.count()
         && before.is_none()
@@ -153,7 +153,7 @@ fn is_good_shndx(frame: &Frame, k: u32, s: &Shdr) -> bool
     let symtab = frame.header(s.sh_link);
     has_entries(SHNDX_SIZE, s)
         && symtab.sh_type == SHT_SYMTAB
-        && symtab.sh_size / sym_size(frame.class()) <= s.sh_size / SHNDX_SIZE
+        && symtab.sh_size / sym_size(frame.word()) <= s.sh_size / SHNDX_SIZE
         && is_number(frame.shndx_number(), k)
 }
 
@@ -188,7 +188,7 @@ pub(crate) fn table_fault(
     if s.sh_type == SHT_SYMTAB && !is_good_symtab(frame, first, k, s) {
         return Some(section_fault(Code::BadTable, k, place));
     }
-    if s.sh_type == frame.class().reloc_type() && !is_good_table(frame, before, k, s) {
+    if s.sh_type == reloc_type(frame.word()) && !is_good_table(frame, before, k, s) {
         return Some(section_fault(Code::BadTable, k, place));
     }
     if s.sh_type == SHT_SYMTAB_SHNDX && !is_good_shndx(frame, k, s) {

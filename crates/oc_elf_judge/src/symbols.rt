@@ -23,7 +23,7 @@ pub fn symbol_count(frame: &Frame, table: &Shdr) -> u32
     requires { IsSymtab frame.now table.now }
     ensures { result ≡ tables.symbol_count frame.now }
 {
-    (table.sh_size / sym_size(frame.class())) as u32
+    (table.sh_size / sym_size(frame.word())) as u32
 }
 
 /// Where symbol `k` stands, in bytes from the start of the file. Constant time.
@@ -32,7 +32,7 @@ pub(crate) fn symbol_place(frame: &Frame, table: &Shdr, k: u32) -> u64
     requires there { k < tables.symbol_count frame.now }
     ensures { result ≡ tables.symbol_place frame.now k }
 {
-    table.sh_offset + sym_size(frame.class()) * u64::from(k)
+    table.sh_offset + sym_size(frame.word()) * u64::from(k)
 }
 
 // a number that is told, where a header can have it
@@ -80,7 +80,7 @@ pub fn entry_of(frame: &Frame, table: &Shdr, k: u32) -> Sym
     ensures { result ≡ tables.entry_of frame.now k }
 {
     let place = symbol_place(frame, table, k);
-    let s = sym_at(frame.class(), frame.file(), place as usize);
+    let s = sym_at(frame.word(), frame.file(), place as usize);
     if frame.class().is_big() && s.st_shndx == INDEX_TOLD {
         return with_index(s, index_of(frame, table, k));
     }

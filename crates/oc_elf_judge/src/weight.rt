@@ -5,7 +5,7 @@ ghost use Rattle.oc_elf.specs.Tables as tables;
 
 use crate::symbols::{entry_of, is_section_symbol, symbol_count};
 use oc_base::NoMemory;
-use oc_elf::{Frame, SHT_GROUP, Shdr, name_cost, rel_size};
+use oc_elf::{Frame, SHT_GROUP, Shdr, name_cost, rel_size, reloc_type};
 use oc_weight::{with_entries, with_name};
 
 // whether the contents of a section end behind the file
@@ -17,10 +17,10 @@ fn passes_end(frame: &Frame, s: &Shdr) -> bool {
 // how many entries a section has as a relocation table; none where it is no such table, or does not lie
 // in the file, which is a fault
 fn entry_weight(frame: &Frame, s: &Shdr) -> u64 {
-    if s.sh_type != frame.class().reloc_type() || passes_end(frame, s) {
+    if s.sh_type != reloc_type(frame.word()) || passes_end(frame, s) {
         return 0;
     }
-    s.sh_size / rel_size(frame.class())
+    s.sh_size / rel_size(frame.word())
 }
 
 /// What the names of the section headers weigh.

@@ -1,6 +1,7 @@
 -- The relocation that is given to the Builder for each entry, and those that are given for a file (our profile).
 use Rattle.std.specs.Prelude.{ℕ, ◌&&◌, ◌||◌, Bool, nat_eq, nat_lt, true, List, slice_get, Option, Some, None, if◌then◌else◌}
 use Rattle.std.specs.Prelude.{ℤ, pos}
+use Rattle.oc_base.specs.declared.format.Word.{Word}
 use Rattle.oc_base.specs.declared.format.Word.TheVariants.{W32, W64}
 use Rattle.oc_base.specs.Numbers.{number_at}
 use Rattle.oc_linking.specs.declared.terms.Width.{Width}
@@ -8,8 +9,6 @@ use Rattle.oc_linking.specs.declared.terms.Width.TheVariants.{Eight}
 use Rattle.oc_linking.specs.Fits.{bytes_of}
 use Rattle.oc_algebra.specs.Fields.{from_field_of}
 use Rattle.oc_algebra.specs.Residues.{reduced_number}
-use Rattle.oc_elf.specs.declared.class.ElfClass.{ElfClass}
-use Rattle.oc_elf.specs.declared.class.ElfClass.TheVariants.{Class32, Class64, Big32, Big64}
 use Rattle.std.specs.List.{list_any}
 use Rattle.std.specs.Option.{option_map, option_map_or, option_and_then}
 use Rattle.oc_linking.specs.declared.terms.Keep.{Keep}
@@ -36,26 +35,24 @@ use Rattle.oc_elf.specs.Tables.{entry_of, reloc_of}
 abbrev pub reloc_with : Framed → List ℕ → Rel → Row → Option Reloc
 reloc_with f contents r row =
     if is_section_symbol (entry_of f r.r_sym)
-    then option_map (λ k. row_reloc (word_of f.class) row 0 (moved_addend row.base (addend_in f.class row contents r) (entry_of f r.r_sym).st_value) (target.Section k)) (home_of f (entry_of f r.r_sym))
-    else option_map (λ k. row_reloc (word_of f.class) row 0 (addend_in f.class row contents r) (target.Symbol k)) (symbol_position f r.r_sym)
+    then option_map (λ k. row_reloc (word_of f.class) row 0 (moved_addend row.base (addend_in (word_of f.class) row contents r) (entry_of f r.r_sym).st_value) (target.Section k)) (home_of f (entry_of f r.r_sym))
+    else option_map (λ k. row_reloc (word_of f.class) row 0 (addend_in (word_of f.class) row contents r) (target.Symbol k)) (symbol_position f r.r_sym)
 
 -- where its type has a row
 unfoldable pub reloc_by : Framed → List ℕ → Rel → Option Reloc
 reloc_by f contents r = option_and_then (reloc_with f contents r) (row_for f r)
 
 -- the number that is added, reduced, for a field of that width
-abbrev pub addend_by : ElfClass → Width → List ℕ → Rel → ℤ
-addend_by Class32 width contents r = from_field_of W32 width (pos 0) (number_at contents r.r_offset (bytes_of width))
-addend_by Class64 width contents r = from_field_of W64 Eight (pos 0) r.r_addend
-addend_by Big32 width contents r = from_field_of W32 width (pos 0) (number_at contents r.r_offset (bytes_of width))
-addend_by Big64 width contents r = from_field_of W64 Eight (pos 0) r.r_addend
+abbrev pub addend_by : Word → Width → List ℕ → Rel → ℤ
+addend_by W32 width contents r = from_field_of W32 width (pos 0) (number_at contents r.r_offset (bytes_of width))
+addend_by W64 width contents r = from_field_of W64 Eight (pos 0) r.r_addend
 
 -- the relocation of an entry with that meaning
 abbrev pub reloc_meant : Framed → List ℕ → Rel → Meaning → Option Reloc
 reloc_meant f contents r m =
     if is_section_symbol (entry_of f r.r_sym)
-    then option_map (λ k. record { target = target.Section k; form = m.form; addend = reduced_number (word_of f.class) (moved_addend m.form.base (addend_by f.class m.form.width contents r) (entry_of f r.r_sym).st_value); hint = m.hint }) (home_of f (entry_of f r.r_sym))
-    else option_map (λ k. record { target = target.Symbol k; form = m.form; addend = addend_by f.class m.form.width contents r; hint = m.hint }) (symbol_position f r.r_sym)
+    then option_map (λ k. record { target = target.Section k; form = m.form; addend = reduced_number (word_of f.class) (moved_addend m.form.base (addend_by (word_of f.class) m.form.width contents r) (entry_of f r.r_sym).st_value); hint = m.hint }) (home_of f (entry_of f r.r_sym))
+    else option_map (λ k. record { target = target.Symbol k; form = m.form; addend = addend_by (word_of f.class) m.form.width contents r; hint = m.hint }) (symbol_position f r.r_sym)
 
 -- entry k of the table of section i with the offset of its field, where it says something
 abbrev pub placed : Framed → ℕ → ℕ → Option Placed

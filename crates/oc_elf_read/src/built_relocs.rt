@@ -9,26 +9,24 @@ ghost use Rattle.oc_elf_judge.specs.Known.{IsAimed, IsTable};
 ghost use Rattle.oc_elf.specs.Tables as tables;
 
 use oc_algebra::{field_at, from_field, reduce};
-use oc_base::NoMemory;
-use oc_elf::{ElfClass, Frame, Meaning, Rel, Shdr, meaning_of};
+use oc_base::{NoMemory, Word};
+use oc_elf::{Frame, Meaning, Rel, Shdr, meaning_of};
 use oc_elf_judge::{Aims, entry_of, home_of, is_idle, is_section_symbol, reloc_count, reloc_of};
 use oc_neutral::{Reloc, Target, Width, moved_addend};
 use oc_shelf::{Placed, sort_by_place};
 use std::alloc::Global;
 
 // the number that is added, reduced: it stands in the field of these contents, or in the entry
-fn addend_of(class: ElfClass, contents: &[u8], width: Width, r: &Rel) -> i64
+fn addend_of(word: Word, contents: &[u8], width: Width, r: &Rel) -> i64
     requires { r.now.r_offset + bytes_of width ≤ length contents.now }
-    ensures { result ≡ given.addend_by class width contents.now r.now }
+    ensures { result ≡ given.addend_by word width contents.now r.now }
 {
-    match class {
-        ElfClass::Class32 | ElfClass::Big32 => {
+    match word {
+        Word::W32 => {
             let field = field_at(contents, r.r_offset as usize, width);
-            from_field(class.word(), width, 0, field)
+            from_field(word, width, 0, field)
         }
-        ElfClass::Class64 | ElfClass::Big64 => {
-            from_field(class.word(), Width::Eight, 0, r.r_addend)
-        }
+        Word::W64 => { from_field(word, Width::Eight, 0, r.r_addend) }
     }
 }
 
@@ -58,14 +56,14 @@ fn reloc_with(
     ensures { result ≡ given.reloc_meant frame.now contents.now r.now meaning }
 {
     let s = entry_of(frame, aims.table, r.r_sym);
-    let addend = addend_of(frame.class(), contents, meaning.form.width, r);
+    let word = frame.word();
+    let addend = addend_of(word, contents, meaning.form.width, r);
     if !is_section_symbol(&s) {
         return match aims.symbols.get(r.r_sym) {
             Some(k) => Some(reloc_by(meaning, Target::Symbol(k), addend)),
             None => None,
         };
     }
-    let word = frame.class().word();
     match home_of(frame, aims.sections, &s) {
         Some(k) => {
             let addend = reduce(word, moved_addend(meaning.form.base, addend, s.st_value));

@@ -30,11 +30,11 @@ pub(crate) fn field_number(reloc: Reloc) -> u64
 }
 
 /// The addend in the entry of a relocation: ELF32 has none. Constant time.
-pub(crate) fn addend_of(class: ElfClass, reloc: Reloc) -> u64
-    ensures { result ≡ bodies.addend_of class reloc }
+pub(crate) fn addend_of(word: Word, reloc: Reloc) -> u64
+    ensures { result ≡ bodies.addend_of word reloc }
 {
-    match class {
-        ElfClass::Class32 | ElfClass::Big32 => 0,
-        ElfClass::Class64 | ElfClass::Big64 => residue(Word::W64, i128::from(reloc.addend)),
+    match word {
+        Word::W32 => 0,
+        Word::W64 => residue(Word::W64, i128::from(reloc.addend)),
     }
 }

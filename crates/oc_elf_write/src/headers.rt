@@ -27,11 +27,11 @@ use crate::bodies::{Bodies, body_size};
 use crate::heads::{Head, section_number};
 use crate::names::{head_name, offset_in};
 use crate::numbers::Numbers;
-use oc_base::NoMemory;
+use oc_base::{NoMemory, Word};
 use oc_elf::{
     ELFDATA2LSB, ET_REL, EV_CURRENT, Ehdr, ElfClass, GRP_ENTRY_SIZE, SHF_GROUP, SHF_INFO_LINK,
     SHN_XINDEX, SHNDX_SIZE, SHT_GROUP, SHT_STRTAB, SHT_SYMTAB, SHT_SYMTAB_SHNDX, Shdr, ehdr_size,
-    has_room, null_shdr, rel_size, shdr_size, sym_size, word_bytes,
+    has_room, machine_of, null_shdr, rel_size, reloc_type, shdr_size, sym_size, word_bytes,
 };
 use oc_neutral::{Neutral, Section};
 use std::alloc::Global;
@@ -63,15 +63,16 @@ pub(crate) fn file_header(class: ElfClass, heads: u32, place: u64) -> Ehdr
     requires names { canonical.shown_names class (heads - 1) < 2 ^ 16 }
     ensures { (n : Object) → length (elf_heads.heads_of n) ≡ heads → place_where layout.is_head_table (layout.laid_parts class n) ≡ place → result ≡ canonical.file_header class n }
 {
+    let word = class.word();
     Ehdr {
         ei_data: ELFDATA2LSB,
         ei_version: EV_CURRENT,
         e_type: ET_REL,
-        e_machine: class.machine(),
+        e_machine: machine_of(word),
         e_version: u32::from(EV_CURRENT),
         e_shoff: place,
-        e_ehsize: ehdr_size(class),
-        e_shentsize: shdr_size(class),
+        e_ehsize: ehdr_size(word),
+        e_shentsize: shdr_size(word),
         e_shnum: shown_count(class, heads),
         e_shstrndx: shown_names(class, heads - 1),
     }
@@ -159,30 +160,30 @@ fn section_header(plain: Shdr, section: &Section) -> Shdr
 }
 
 // the header of the relocation table of a section, whose own header has that number
-fn table_header(plain: Shdr, class: ElfClass, link: u32, section: &Section, number: u32) -> Shdr
-    ensures { result ≡ record plain { sh_type = reloc_type class; sh_flags = SHF_INFO_LINK + groups.member_flag section.now; sh_link = link; sh_info = number; sh_addralign = structures.word_bytes class; sh_entsize = sizes.rel_size class } }
+fn table_header(plain: Shdr, word: Word, link: u32, section: &Section, number: u32) -> Shdr
+    ensures { result ≡ record plain { sh_type = reloc_type word; sh_flags = SHF_INFO_LINK + groups.member_flag section.now; sh_link = link; sh_info = number; sh_addralign = structures.word_bytes word; sh_entsize = sizes.rel_size word } }
 {
     Shdr {
-        sh_type: class.reloc_type(),
+        sh_type: reloc_type(word),
         sh_flags: SHF_INFO_LINK + member_flag(section),
         sh_link: link,
         sh_info: number,
-        sh_addralign: word_bytes(class),
-        sh_entsize: rel_size(class),
+        sh_addralign: word_bytes(word),
+        sh_entsize: rel_size(word),
         ..plain
     }
 }
 
 // the header of the symbol table, whose first entries are LOCAL
-fn symtab_header(plain: Shdr, class: ElfClass, link: u32, inner: u32) -> Shdr
-    ensures { result ≡ record plain { sh_type = SHT_SYMTAB; sh_link = link; sh_info = inner; sh_addralign = structures.word_bytes class; sh_entsize = sym_sizes.sym_size class } }
+fn symtab_header(plain: Shdr, word: Word, link: u32, inner: u32) -> Shdr
+    ensures { result ≡ record plain { sh_type = SHT_SYMTAB; sh_link = link; sh_info = inner; sh_addralign = structures.word_bytes word; sh_entsize = sym_sizes.sym_size word } }
 {
     Shdr {
         sh_type: SHT_SYMTAB,
         sh_link: link,
         sh_info: inner,
-        sh_addralign: word_bytes(class),
-        sh_entsize: sym_size(class),
+        sh_addralign: word_bytes(word),
+        sh_entsize: sym_size(word),
         ..plain
     }
 }
@@ -252,6 +253,7 @@ fn header_by(class: ElfClass, neutral: &Neutral, made: Made<'_>, head: Head, pla
     requires there { IsSome (head_in neutral.now head) }
     ensures { (is : elf_heads.Head) (at : ℕ) → head_in neutral.now head ≡ Some is → plain ≡ headers.plain_header class neutral.now at is → result ≡ headers.shdr_of class neutral.now at is }
 {
+    let word = class.word();
     match head {
         Head::Null => null_shdr(),
         Head::Group(g) => {
@@ -261,9 +263,9 @@ fn header_by(class: ElfClass, neutral: &Neutral, made: Made<'_>, head: Head, pla
         Head::Section(k) => section_header(plain, neutral.section(k)),
         Head::Relocs(k) => {
             let number = section_number(neutral, k);
-            table_header(plain, class, made.symtab, neutral.section(k), number)
+            table_header(plain, word, made.symtab, neutral.section(k), number)
         }
-        Head::Symtab => symtab_header(plain, class, made.heads - 2, made.inner),
+        Head::Symtab => symtab_header(plain, word, made.heads - 2, made.inner),
         Head::Shndx => shndx_header(plain, made.symtab),
         Head::Strtab => plain,
         Head::Shstrtab => plain,

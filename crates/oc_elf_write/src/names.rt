@@ -6,7 +6,7 @@ ghost use Rattle.oc_elf_write.specs.Heads.{head_in};
 ghost use Rattle.oc_elf_write.specs.Strings.{table_with};
 
 use crate::heads::Head;
-use oc_base::{Bytes, NoMemory};
+use oc_base::{Bytes, NoMemory, Word};
 use oc_elf::ElfClass;
 use oc_neutral::Neutral;
 use oc_strings::Table;
@@ -21,21 +21,21 @@ pub(crate) fn offset_in(names: &Table, near: usize, name: &[u8]) -> u32
 }
 
 // what stands before the name of a section in that of its relocation table
-fn reloc_prefix(class: ElfClass) -> &'static [u8]
-    ensures { result.now ≡ elf_heads.reloc_prefix class }
+fn reloc_prefix(word: Word) -> &'static [u8]
+    ensures { result.now ≡ elf_heads.reloc_prefix word }
 {
-    match class {
-        ElfClass::Class32 | ElfClass::Big32 => b".rel",
-        ElfClass::Class64 | ElfClass::Big64 => b".rela",
+    match word {
+        Word::W32 => b".rel",
+        Word::W64 => b".rela",
     }
 }
 
 // the name of the relocation table of a section
-fn table_name(alloc: Global, class: ElfClass, section: &[u8]) -> Result<Bytes, NoMemory>
-    ensures { IfOk result (λ name. name ≡ elf_heads.reloc_prefix class ++ section.now) }
+fn table_name(alloc: Global, word: Word, section: &[u8]) -> Result<Bytes, NoMemory>
+    ensures { IfOk result (λ name. name ≡ elf_heads.reloc_prefix word ++ section.now) }
 {
     let mut name = Vec::new(alloc);
-    name.extend_from_slice(reloc_prefix(class))?;
+    name.extend_from_slice(reloc_prefix(word))?;
     name.extend_from_slice(section)?;
     Ok(Bytes::from_vec(name))
 }
@@ -54,7 +54,7 @@ pub(crate) fn head_name(
         Head::Null => Bytes::from_slice(alloc, b""),
         Head::Group(_) => Bytes::from_slice(alloc, b".group"),
         Head::Section(k) => Bytes::from_slice(alloc, neutral.section(k).name.as_slice()),
-        Head::Relocs(k) => table_name(alloc, class, neutral.section(k).name.as_slice()),
+        Head::Relocs(k) => table_name(alloc, class.word(), neutral.section(k).name.as_slice()),
         Head::Symtab => Bytes::from_slice(alloc, b".symtab"),
         Head::Shndx => Bytes::from_slice(alloc, b".symtab_shndx"),
         Head::Strtab => Bytes::from_slice(alloc, b".strtab"),

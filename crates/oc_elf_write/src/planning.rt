@@ -14,18 +14,18 @@ use crate::lines::lines_of;
 use crate::numbers::Numbers;
 use crate::plan::Plan;
 use crate::raw::with_addends;
-use oc_base::NoMemory;
+use oc_base::{NoMemory, Word};
 use oc_elf::ElfClass;
 use oc_neutral::{Fitted, Neutral, Section};
 use std::alloc::Global;
 
 // the sections of an object, with the addends in their fields where the entries have none
-fn sections_of(class: ElfClass, neutral: Neutral) -> Vec<Section>
-    ensures { map (λ s. s.bytes) result.items ≡ all_raws class neutral }
+fn sections_of(word: Word, neutral: Neutral) -> Vec<Section>
+    ensures { map (λ s. s.bytes) result.items ≡ all_raws word neutral }
 {
     neutral.is_object();
     let (_groups, sections, _symbols, relocs) = neutral.into_parts();
-    with_addends(class, &relocs, sections)
+    with_addends(word, &relocs, sections)
 }
 
 /// The plan of the canonical ELF file of that class of an object that is ready to be written (gABI,
@@ -55,6 +55,6 @@ pub fn plan_object(alloc: Global, class: ElfClass, fitted: Fitted) -> Result<Pla
     };
     let shdrs = stored_shdrs(alloc, class, neutral, made, &heads, &extents.layout.places)?;
     let ehdr = file_header(class, count, extents.layout.places[1 + heads.len()]);
-    let sections = sections_of(class, fitted.into_neutral());
+    let sections = sections_of(class.word(), fitted.into_neutral());
     Ok(Plan::new(class, ehdr, heads, shdrs, sections, bodies, extents))
 }

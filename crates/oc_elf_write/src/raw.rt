@@ -4,7 +4,7 @@ ghost use Rattle.oc_neutral.specs.Constants.{LieWithin};
 ghost use Rattle.oc_elf_write.specs.Raws.{with_addends};
 
 use crate::forms::field_number;
-use oc_elf::ElfClass;
+use oc_base::Word;
 use oc_neutral::{Reloc, Relocs, Section};
 use oc_plans::{FieldNumbers, with_numbers};
 
@@ -24,14 +24,14 @@ impl FieldNumbers for Addends {
     }
 }
 
-/// The sections with the addends of relocations in their bytes, where the entries of the class have none.
+/// The sections with the addends of relocations in their bytes, where the entries have none.
 /// Linear in the sections and relocations, no memory.
-pub(crate) fn with_addends(class: ElfClass, relocs: &Relocs, sections: Vec<Section>) -> Vec<Section>
+pub(crate) fn with_addends(word: Word, relocs: &Relocs, sections: Vec<Section>) -> Vec<Section>
     requires { LieWithin sections.items relocs.now.lists }
-    ensures { result.items ≡ with_addends class relocs.now.lists sections.items }
+    ensures { result.items ≡ with_addends word relocs.now.lists sections.items }
 {
-    match class {
-        ElfClass::Class32 | ElfClass::Big32 => with_numbers(&Addends, relocs, sections),
-        ElfClass::Class64 | ElfClass::Big64 => sections,
+    match word {
+        Word::W32 => with_numbers(&Addends, relocs, sections),
+        Word::W64 => sections,
     }
 }

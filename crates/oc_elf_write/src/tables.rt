@@ -7,6 +7,7 @@ ghost use Rattle.oc_elf_file.specs.Groups.{group_bytes};
 ghost use Rattle.oc_elf_file.specs.Layout.{strings_of};
 ghost use Rattle.oc_elf.specs.Structures.{index_bytes, rel_bytes, shdr_bytes, sym_bytes};
 
+use oc_base::Word;
 use oc_elf::{
     ElfClass, GRP_ENTRY_SIZE, Rel, SHNDX_SIZE, Shdr, Sym, pack_index, pack_rel, pack_shdr,
     pack_sym, pack_word, rel_size, shdr_size, sym_size,
@@ -17,7 +18,7 @@ use oc_strings::Table;
 /// The section headers.
 #[derive(Drop)]
 struct ShdrRows<'a> {
-    class: ElfClass,
+    word: Word,
     shdrs: &'a [Shdr],
 }
 
@@ -25,28 +26,28 @@ impl WritesRows for ShdrRows<'_> {
     ghost use Rattle.std.specs.Prelude.{map};
     ghost use Rattle.oc_elf.specs.Structures.{shdr_bytes};
 
-    ghost rows = { λ t. map (shdr_bytes t.class) t.shdrs.now };
+    ghost rows = { λ t. map (shdr_bytes t.word) t.shdrs.now };
 
     fn count(&self) -> usize {
         self.shdrs.len()
     }
 
     fn size(&self) -> usize {
-        shdr_size(self.class) as usize
+        shdr_size(self.word) as usize
     }
 
     fn put_row(&self, k: usize, out: &mut [u8]) {
-        out.copy_from_slice(pack_shdr(self.class, &self.shdrs[k]).as_slice());
+        out.copy_from_slice(pack_shdr(self.word, &self.shdrs[k]).as_slice());
     }
 }
 
 /// A window of the section headers, as `copy_window` gives it. The time is that of the headers that
 /// meet the window.
-pub(crate) fn shdrs_window(class: ElfClass, shdrs: &[Shdr], from: u64, out: &mut [u8]) -> usize
-    requires { length (table_of (map (shdr_bytes class) shdrs.now)) < 2 ^ 64 }
-    ensures { IsFilled (table_of (map (shdr_bytes class) shdrs.now)) from out.old out.new result }
+pub(crate) fn shdrs_window(word: Word, shdrs: &[Shdr], from: u64, out: &mut [u8]) -> usize
+    requires { length (table_of (map (shdr_bytes word) shdrs.now)) < 2 ^ 64 }
+    ensures { IsFilled (table_of (map (shdr_bytes word) shdrs.now)) from out.old out.new result }
 {
-    rows_window(&ShdrRows { class, shdrs }, from, out)
+    rows_window(&ShdrRows { word, shdrs }, from, out)
 }
 
 /// The entries of the symbol table.
@@ -67,7 +68,7 @@ impl WritesRows for SymRows<'_> {
     }
 
     fn size(&self) -> usize {
-        sym_size(self.class) as usize
+        sym_size(self.class.word()) as usize
     }
 
     fn put_row(&self, k: usize, out: &mut [u8]) {
@@ -122,7 +123,7 @@ pub(crate) fn indexes_window(syms: &[Sym], from: u64, out: &mut [u8]) -> usize
 /// The relocation entries of a section.
 #[derive(Drop)]
 struct RelRows<'a> {
-    class: ElfClass,
+    word: Word,
     rels: &'a [Rel],
 }
 
@@ -130,28 +131,28 @@ impl WritesRows for RelRows<'_> {
     ghost use Rattle.std.specs.Prelude.{map};
     ghost use Rattle.oc_elf.specs.Structures.{rel_bytes};
 
-    ghost rows = { λ t. map (rel_bytes t.class) t.rels.now };
+    ghost rows = { λ t. map (rel_bytes t.word) t.rels.now };
 
     fn count(&self) -> usize {
         self.rels.len()
     }
 
     fn size(&self) -> usize {
-        rel_size(self.class) as usize
+        rel_size(self.word) as usize
     }
 
     fn put_row(&self, k: usize, out: &mut [u8]) {
-        out.copy_from_slice(pack_rel(self.class, self.rels[k]).as_slice());
+        out.copy_from_slice(pack_rel(self.word, self.rels[k]).as_slice());
     }
 }
 
 /// A window of the relocation entries of a section, as `copy_window` gives it. The time is that of
 /// the entries that meet the window.
-pub(crate) fn rels_window(class: ElfClass, rels: &[Rel], from: u64, out: &mut [u8]) -> usize
-    requires { length (table_of (map (rel_bytes class) rels.now)) < 2 ^ 64 }
-    ensures { IsFilled (table_of (map (rel_bytes class) rels.now)) from out.old out.new result }
+pub(crate) fn rels_window(word: Word, rels: &[Rel], from: u64, out: &mut [u8]) -> usize
+    requires { length (table_of (map (rel_bytes word) rels.now)) < 2 ^ 64 }
+    ensures { IsFilled (table_of (map (rel_bytes word) rels.now)) from out.old out.new result }
 {
-    rows_window(&RelRows { class, rels }, from, out)
+    rows_window(&RelRows { word, rels }, from, out)
 }
 
 /// The words of a group.

@@ -7,6 +7,7 @@ use Rattle.oc_elf.specs.declared.shdr.Shdr.{Shdr}
 use Rattle.oc_elf.specs.Frames.{header_at, header_place}
 use Rattle.oc_elf.specs.Sections.{is_type}
 use Rattle.oc_elf.specs.SectionRules.{form_conditions, group_conditions}
+use Rattle.oc_elf.specs.Classes.{word_of}
 use Rattle.oc_elf_judge.proofs.GroupLemmas.{taking_passed}
 use Rattle.oc_elf_judge.proofs.SectionLemmas.{form_broken, group_broken, null_first, rest_broken, section_broken}
 use Rattle.oc_elf_judge.proofs.section_stage.judge_section.Goals as goal
@@ -21,7 +22,7 @@ pub returns-in-Some-clause-verdict : goal.returns-in-Some-clause-verdict
 returns-in-Some-clause-verdict c =
     let f = c.args.frame.now in
     sym (section_broken f c.args.k (ne_eqb c.args.k 0 c.if-k-eq0.false)
-    ∙ form_broken f c.args.k (header_place f.class f.file c.args.k) (header_at f.headers c.args.k) c.in-Some.fault
+    ∙ form_broken f c.args.k (header_place (word_of f.class) f.file c.args.k) (header_at f.headers c.args.k) c.in-Some.fault
     (ap (λ (p : ℕ). first_broken (form_conditions f c.args.k p (header_at f.headers c.args.k))) (sym c.place-place.ensures)
     ∙ ap (λ (s : Shdr). first_broken (form_conditions f c.args.k c.place-place.result s)) (sym c.header-s.ensures) ∙ sym c.form_fault.ensures ∙ c.in-Some.is))
 
@@ -29,7 +30,7 @@ pub returns-in-Some-group_fault-clause-verdict : goal.returns-in-Some-group_faul
 returns-in-Some-group_fault-clause-verdict c =
     let f = c.args.frame.now in
     sym (section_broken f c.args.k (ne_eqb c.args.k 0 c.if-k-eq0.false)
-    ∙ group_broken f c.args.k (header_place f.class f.file c.args.k) (header_at f.headers c.args.k) c.in-Some-group_fault.fault
+    ∙ group_broken f c.args.k (header_place (word_of f.class) f.file c.args.k) (header_at f.headers c.args.k) c.in-Some-group_fault.fault
     (ap (λ (p : ℕ). first_broken (form_conditions f c.args.k p (header_at f.headers c.args.k))) (sym c.place-place.ensures)
     ∙ ap (λ (s : Shdr). first_broken (form_conditions f c.args.k c.place-place.result s)) (sym c.header-s.ensures) ∙ sym c.form_fault.ensures ∙ c.in-None.is)
     (ap (λ (p : ℕ). first_broken (group_conditions f c.args.k p (header_at f.headers c.args.k))) (sym c.place-place.ensures)
@@ -40,7 +41,7 @@ returns-clause-verdict c =
     let f = c.args.frame.now in
     rw (c.earlier.ensures, c.table_fault-table.ensures, c.carried_fault-carried.ensures, c.header-s.ensures, c.place-place.ensures)
     (sym (section_broken f c.args.k (ne_eqb c.args.k 0 c.if-k-eq0.false)
-    ∙ rest_broken f c.args.k (header_place f.class f.file c.args.k) (header_at f.headers c.args.k)
+    ∙ rest_broken f c.args.k (header_place (word_of f.class) f.file c.args.k) (header_at f.headers c.args.k)
     (ap (λ (p : ℕ). first_broken (form_conditions f c.args.k p (header_at f.headers c.args.k))) (sym c.place-place.ensures)
     ∙ ap (λ (s : Shdr). first_broken (form_conditions f c.args.k c.place-place.result s)) (sym c.header-s.ensures) ∙ sym c.form_fault.ensures ∙ c.in-None.is)
     (ap (λ (p : ℕ). first_broken (group_conditions f c.args.k p (header_at f.headers c.args.k))) (sym c.place-place.ensures)

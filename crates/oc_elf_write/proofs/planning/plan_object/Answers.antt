@@ -2,7 +2,7 @@
 use Rattle.std.proofs.Common.{◌≡◌, ℕ, ◌+◌, ◌-◌, ◌^◌, ◌<◌, cond, length, get_or, rules, sym, ◌∙◌, ap, subst, arith}
 use Rattle.oc_neutral.specs.Fitted.{IsFitted}
 use Rattle.oc_neutral.specs.Objects.{Object}
-use Rattle.oc_elf.specs.Classes.{format_of, is_big}
+use Rattle.oc_elf.specs.Classes.{format_of, is_big, word_of}
 use Rattle.oc_shelf.specs.Writing.Parts.{file_of, place_where}
 use Rattle.oc_elf_file.specs.Heads.{heads_of, head_where, is_shstrtab_head}
 use Rattle.oc_neutral.specs.Families.{is_many}
@@ -165,7 +165,7 @@ new-requires c =
     let m : Object = c.neutral-neutral.result.now in
     let same : m ≡ c.args.fitted = c.neutral-neutral.ensures in
     let fit : IsFitted (format_of class) m = subst (λ (x : Object). IsFitted (format_of class) x) (sym same) (subst (λ f. IsFitted f c.args.fitted) c.requires c.is_fitted.ensures) in
-    let raws = c.sections_of-sections.ensures ∙ ap (all_raws class) (c.into_neutral.ensures ∙ sym same) in
+    let raws = (rw c.word.ensures at c.sections_of-sections.ensures) ∙ ap (all_raws (word_of class)) (c.into_neutral.ensures ∙ sym same) in
     let heads = as_many_heads m c.in_ok-heads.heads.items c.in_ok-heads.ensures in
     let long : c.len-count.result ≡ length c.in_ok-heads.heads.items = search rules in
     let long-3 : c.len.result ≡ length c.in_ok-heads.heads.items = search rules in
@@ -183,7 +183,7 @@ returns c =
     let class = c.args.class in
     let m : Object = c.neutral-neutral.result.now in
     let same : m ≡ c.args.fitted = c.neutral-neutral.ensures in
-    let raws = c.sections_of-sections.ensures ∙ ap (all_raws class) (c.into_neutral.ensures ∙ sym same) in
+    let raws = (rw c.word.ensures at c.sections_of-sections.ensures) ∙ ap (all_raws (word_of class)) (c.into_neutral.ensures ∙ sym same) in
     let heads = as_many_heads m c.in_ok-heads.heads.items c.in_ok-heads.ensures in
     let long : c.len-count.result ≡ length c.in_ok-heads.heads.items = search rules in
     let long-3 : c.len.result ≡ length c.in_ok-heads.heads.items = search rules in
