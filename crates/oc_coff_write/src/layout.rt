@@ -25,7 +25,7 @@ use std::alloc::Global;
 // lays a part of so many bytes behind the last
 fn lay(layout: &mut Layout, size: usize) -> Result<(), NoMemory>
     requires { layout.old.end + size < 2 ^ 32 }
-    ensures { OnOk result ((w : Width) (n : Object) (xs : List Part) (x : Part) → AreLaid w n layout.old.places.items layout.old.end xs → part_size w n x ≡ size → AreLaid w n layout.new.places.items layout.new.end (xs ++ x ∷ [])) }
+    ensures { OnOk result ((w : Width) (n : Object) (xs : List Part) (x : Part) → AreLaid w n layout.old xs → part_size w n x ≡ size → AreLaid w n layout.new (xs ++ x ∷ [])) }
 {
     layout.lay(1, size as u64)?;
     Ok(())
@@ -40,8 +40,8 @@ fn lay_sections(
 ) -> Result<(), NoMemory>
     requires fitted { IsFitted (format_of form) neutral.now }
     requires relocs { map (λ v. v.items) relocs.now ≡ relocations_in form neutral.now }
-    requires before { AreLaid form neutral.now layout.old.places.items layout.old.end (FileHead ∷ SectionHeads ∷ []) }
-    ensures { OnOk result (AreLaid form neutral.now layout.new.places.items layout.new.end (FileHead ∷ SectionHeads ∷ flat_map section_parts (enumerate_from 0 neutral.now.sections))) }
+    requires before { AreLaid form neutral.now layout.old (FileHead ∷ SectionHeads ∷ []) }
+    ensures { OnOk result (AreLaid form neutral.now layout.new (FileHead ∷ SectionHeads ∷ flat_map section_parts (enumerate_from 0 neutral.now.sections))) }
 {
     for k in 0..neutral.section_count() {
         let count = entry_count(relocs[k as usize].len());
@@ -65,7 +65,7 @@ pub(crate) fn layout_of(
     requires relocs { map (λ v. v.items) relocs.now ≡ relocations_in form neutral.now }
     requires entries { entries ≡ entry_count form neutral.now }
     requires names { names.now ≡ table_for form neutral.now }
-    ensures { IfOk result (λ layout. AreLaid form neutral.now layout.places.items layout.end (parts_of neutral.now)) }
+    ensures { IfOk result (λ layout. AreLaid form neutral.now layout (parts_of neutral.now)) }
 {
     let mut layout = Layout::new(alloc);
     lay(&mut layout, header_size(shape_of(form)))?;

@@ -3,6 +3,9 @@ ghost use Rattle.std.specs.Prelude.{◌≡◌, IfOk, map};
 ghost use Rattle.oc_elf.specs.Classes.{format_of};
 ghost use Rattle.oc_shelf.specs.Writing.Parts.{file_of};
 ghost use Rattle.oc_elf_file.specs.Canonical.{elf_file};
+ghost use Rattle.oc_elf_file.specs.Layout.{parts_of};
+ghost use Rattle.oc_elf_write.specs.LaidParts.{AreLaid};
+ghost use Rattle.oc_elf_write.specs.Plans.{AreMade};
 ghost use Rattle.oc_elf_write.specs.Raws.{all_raws};
 
 use crate::bodies::bodies_of;
@@ -12,11 +15,12 @@ use crate::keys::keys_of;
 use crate::layout::layout_of;
 use crate::lines::lines_of;
 use crate::numbers::Numbers;
-use crate::plan::Plan;
+use crate::plan::{ElfParts, Plan};
 use crate::raw::with_addends;
 use oc_base::{NoMemory, Word};
 use oc_elf::ElfClass;
 use oc_neutral::{Fitted, Neutral, Section};
+use oc_shelf::Layout;
 use std::alloc::Global;
 
 // the sections of an object, with the addends in their fields where the entries have none
@@ -28,13 +32,11 @@ fn sections_of(word: Word, neutral: Neutral) -> Vec<Section>
     with_addends(word, &relocs, sections)
 }
 
-/// The plan of the canonical ELF file of that class of an object that is ready to be written (gABI,
-/// "Sections", "Symbol Table" and "Relocation"; our profile). `NoMemory` exactly where memory ran out.
-/// Linear in the object, but for looking up names in the string tables; what the plan does not need of
-/// the object is given back.
-pub fn plan_object(alloc: Global, class: ElfClass, fitted: Fitted) -> Result<Plan, NoMemory>
+// what the file of an object is made of, and where its parts stand
+fn made_of(alloc: Global, class: ElfClass, fitted: Fitted) -> Result<(ElfParts, Layout), NoMemory>
     requires { fitted.format ≡ format_of class }
-    ensures { IfOk result (λ plan. file_of plan ≡ elf_file class fitted) }
+    ensures made { IfOk result (λ made. AreMade class fitted made.0) }
+    ensures laid { IfOk result (λ made. AreLaid class fitted made.1 (parts_of fitted)) }
 {
     fitted.is_fitted();
     let neutral = fitted.neutral();
@@ -43,7 +45,7 @@ pub fn plan_object(alloc: Global, class: ElfClass, fitted: Fitted) -> Result<Pla
     let lines = lines_of(alloc, neutral, &keys)?;
     let numbers = Numbers::of(alloc, neutral, &lines.all)?;
     let bodies = bodies_of(alloc, class, neutral, &heads, &lines.all, &numbers)?;
-    let extents = layout_of(alloc, class, neutral, &bodies, &heads)?;
+    let layout = layout_of(alloc, class, neutral, &bodies, &heads)?;
     let count = heads.len() as u32;
     let made = Made {
         keys: &keys,
@@ -53,8 +55,29 @@ pub fn plan_object(alloc: Global, class: ElfClass, fitted: Fitted) -> Result<Pla
         heads: count,
         symtab: symtab_number(class, count),
     };
-    let shdrs = stored_shdrs(alloc, class, neutral, made, &heads, &extents.layout.places)?;
-    let ehdr = file_header(class, count, extents.layout.places[1 + heads.len()]);
+    let shdrs = stored_shdrs(alloc, class, neutral, made, &heads, &layout.places)?;
+    let ehdr = file_header(class, count, layout.places[1 + heads.len()]);
     let sections = sections_of(class.word(), fitted.into_neutral());
-    Ok(Plan::new(class, ehdr, heads, shdrs, sections, bodies, extents))
+    let parts = ElfParts {
+        class,
+        ehdr,
+        heads,
+        shdrs,
+        sections,
+        bodies,
+    };
+    Ok((parts, layout))
+}
+
+/// The plan of the canonical ELF file of that class of an object that is ready to be written (gABI,
+/// "Sections", "Symbol Table" and "Relocation"; our profile). `NoMemory` exactly where memory ran out.
+/// Linear in the object, but for looking up names in the string tables; what the plan does not need of
+/// the object is given back.
+pub fn plan_object(alloc: Global, class: ElfClass, fitted: Fitted) -> Result<Plan, NoMemory>
+    requires { fitted.format ≡ format_of class }
+    ensures { IfOk result (λ plan. file_of plan ≡ elf_file class fitted) }
+{
+    fitted.is_fitted();
+    let (parts, layout) = made_of(alloc, class, fitted)?;
+    Ok(Plan::new(parts, layout))
 }

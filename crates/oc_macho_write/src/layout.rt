@@ -1,10 +1,10 @@
-//! Where the parts of the file begin and end.
+//! Where the parts of the file begin.
 ghost use Rattle.std.specs.Prelude.{◌≡◌, ◌+◌, ◌*◌, ◌<◌, ◌≤◌, ◌^◌, ◌++◌, [], ◌∷◌, ℕ, IfOk, IsSome, Some, List, OnOk, length};
 ghost use Rattle.oc_base.specs.declared.format.Word.{Word as Width};
 ghost use Rattle.oc_neutral.specs.Fitted.{IsFitted};
 ghost use Rattle.oc_neutral.specs.Objects.{Object};
 ghost use Rattle.oc_macho.specs.MachHeader.{mach_format};
-ghost use Rattle.oc_macho_file.specs.Layout as layout;
+ghost use Rattle.oc_macho_file.specs.Layout as file;
 ghost use Rattle.oc_macho_write.specs.Bodies.{AreBodies};
 ghost use Rattle.oc_macho_write.specs.LaidParts.{AreLaid};
 ghost use Rattle.oc_macho_write.specs.Parts.{AreParts, part_in};
@@ -17,24 +17,13 @@ use oc_macho::{
     segment_command_size, word_bytes,
 };
 use oc_neutral::Neutral;
-use oc_shelf::aligned_place;
+use oc_shelf::{Layout, aligned_place};
 use std::alloc::Global;
-
-/// Where parts begin and end, offsets in a file.
-#[derive(Debug, Drop)]
-pub(crate) struct Extents {
-    /// Where each begins.
-    pub(crate) begins: Vec<u64>,
-    /// Where each ends.
-    pub(crate) ends: Vec<u64>,
-    /// Where the last ends.
-    pub(crate) end: u64,
-}
 
 /// The size of the command for the segment, with the section headers behind it. Constant time.
 pub(crate) fn segment_length(word: Word, sections: usize) -> u64
     requires { sections < 2 ^ 32 }
-    ensures length { (n : Object) → length n.sections ≡ sections → result ≡ layout.segment_length word n }
+    ensures length { (n : Object) → length n.sections ≡ sections → result ≡ file.segment_length word n }
     ensures low { result ≤ 80 * sections + 72 }
 {
     segment_command_size(word) + section_header_size(word) * sections as u64
@@ -43,7 +32,7 @@ pub(crate) fn segment_length(word: Word, sections: usize) -> u64
 /// The size of all commands. Constant time.
 pub(crate) fn commands_length(word: Word, sections: usize) -> u64
     requires { sections < 2 ^ 32 }
-    ensures length { (n : Object) → length n.sections ≡ sections → result ≡ layout.commands_length word n }
+    ensures length { (n : Object) → length n.sections ≡ sections → result ≡ file.commands_length word n }
     ensures low { result ≤ 80 * sections + 176 }
 {
     segment_length(word, sections) + SYMTAB_COMMAND_SIZE as u64 + u64::from(DYSYMTAB_COMMAND_SIZE)
@@ -52,7 +41,7 @@ pub(crate) fn commands_length(word: Word, sections: usize) -> u64
 /// Where the bytes of the sections begin: address 0 stands there. Constant time.
 pub(crate) fn contents_begin(word: Word, sections: usize) -> u64
     requires { sections < 2 ^ 32 }
-    ensures place { (n : Object) → length n.sections ≡ sections → result ≡ layout.contents_begin word n }
+    ensures place { (n : Object) → length n.sections ≡ sections → result ≡ file.contents_begin word n }
     ensures low { result ≤ 80 * sections + 208 }
 {
     mach_header_size(word) + commands_length(word, sections)
@@ -60,7 +49,7 @@ pub(crate) fn contents_begin(word: Word, sections: usize) -> u64
 
 // entries stand at a multiple of an address's bytes, where there are some
 fn entries_align(word: Word, count: usize) -> u64
-    ensures align { result ≡ layout.entries_align word count }
+    ensures align { result ≡ file.entries_align word count }
     ensures some { 1 ≤ result }
     ensures low { result ≤ 8 }
 {
@@ -73,7 +62,7 @@ fn part_begin(word: Word, neutral: &Neutral, bodies: &Bodies, at: u64, part: Par
     requires bodies { AreBodies word neutral.now bodies.now }
     requires there { IsSome (part_in neutral.now part) }
     requires near { at < 2 ^ 60 }
-    ensures { (is : layout.Part) → part_in neutral.now part ≡ Some is → result ≡ layout.part_begin word neutral.now at is }
+    ensures { (is : file.Part) → part_in neutral.now part ≡ Some is → result ≡ file.part_begin word neutral.now at is }
 {
     match part {
         Part::FileHead
@@ -96,13 +85,12 @@ fn part_begin(word: Word, neutral: &Neutral, bodies: &Bodies, at: u64, part: Par
 }
 
 // lays a part that begins there and has so many bytes
-fn lay(extents: &mut Extents, begin: u64, size: u64) -> Result<(), NoMemory>
+fn lay(layout: &mut Layout, begin: u64, size: u64) -> Result<(), NoMemory>
     requires { begin + size < 2 ^ 64 }
-    ensures { OnOk result ((w : Width) (n : Object) (xs : List layout.Part) (x : layout.Part) → AreLaid w n extents.old xs → layout.part_begin w n extents.old.end x ≡ begin → layout.part_size w n x ≡ size → AreLaid w n extents.new (xs ++ x ∷ [])) }
+    ensures { OnOk result ((w : Width) (n : Object) (xs : List file.Part) (x : file.Part) → AreLaid w n layout.old xs → file.part_begin w n layout.old.end x ≡ begin → file.part_size w n x ≡ size → AreLaid w n layout.new (xs ++ x ∷ [])) }
 {
-    extents.begins.push(begin)?;
-    extents.end = begin + size;
-    extents.ends.push(extents.end)?;
+    layout.places.push(begin)?;
+    layout.end = begin + size;
     Ok(())
 }
 
@@ -113,24 +101,20 @@ pub(crate) fn layout_of(
     neutral: &Neutral,
     bodies: &Bodies,
     parts: &[Part],
-) -> Result<Extents, NoMemory>
+) -> Result<Layout, NoMemory>
     requires fitted { IsFitted (mach_format word) neutral.now }
     requires bodies { AreBodies word neutral.now bodies.now }
     requires parts { AreParts neutral.now parts.now }
-    ensures { IfOk result (λ extents. AreLaid word neutral.now extents (layout.parts_of neutral.now)) }
+    ensures { IfOk result (λ layout. AreLaid word neutral.now layout (file.parts_of neutral.now)) }
 {
-    let mut extents = Extents {
-        begins: Vec::new(alloc),
-        ends: Vec::new(alloc),
-        end: 0,
-    };
+    let mut layout = Layout::new(alloc);
     for part in parts {
-        let begin = part_begin(word, neutral, bodies, extents.end, *part);
+        let begin = part_begin(word, neutral, bodies, layout.end, *part);
         lay(
-            &mut extents,
+            &mut layout,
             begin,
             part_size(word, neutral.sections(), bodies, *part),
         )?;
     }
-    Ok(extents)
+    Ok(layout)
 }

@@ -5,7 +5,9 @@ use Rattle.oc_neutral.specs.Objects.{Object}
 use Rattle.oc_omf_file.specs.Canonical.{output_bytes}
 use Rattle.oc_omf_file.specs.Names.{filled_from}
 use Rattle.oc_omf_file.specs.Outputs.{outputs_of}
-use Rattle.oc_plans.specs.Joined.{AreJoined}
+use Rattle.oc_plans.specs.Placed as placed
+use Rattle.oc_shelf.specs.declared.writing.layout.Layout.{Layout}
+use Rattle.oc_shelf.specs.Writing.Parts.{behind}
 use Rattle.oc_omf_write.specs.declared.entries.Entry.{Entry}
 use Rattle.oc_omf_write.specs.declared.entries.Entry.TheVariants as entry
 use Rattle.oc_omf_write.specs.declared.tables.Tables.{Tables}
@@ -28,11 +30,14 @@ pub record AreEntries (t : Tables) (symbols entries : List Entry) : Type 0 where
       ++ (data_entries (fixups_of t) t.sections.items
       ++ entry.End ∷ [])))
 
--- what holds of a planned file: the contents of its entries can be put, and it is laid as they are long
-pub record IsPlan (t : Tables) (entries : List Entry) (places : List ℕ) (end : ℕ) : Type 0 where
+-- the contents of these entries can be put
+pub record ArePut (t : Tables) (entries : List Entry) : Type 0 where
   pub sound : AreSound t
   pub fits : AllByRecursion (CanPut t) entries
-  pub laid : AreJoined places end (parts_by t entries)
+
+-- the layout is that of these entries
+abbrev pub AreLaid : Tables → Layout → List Entry → Type 0
+AreLaid t = placed.AreLaid behind (λ e. length (bytes_by t e))
 
 -- the entries of the canonical file of an object, as their bytes
 abbrev pub omf_parts : Object → List (List ℕ)

@@ -2,10 +2,12 @@
 ghost use Rattle.std.specs.Prelude.{◌≡◌, ◌^◌, ◌<◌, ◌++◌, IfOk, OnOk, length, map};
 ghost use Rattle.std.specs.List.{range_with_len};
 ghost use Rattle.oc_base.specs.declared.format.Format.TheVariants.{Omf};
+ghost use Rattle.oc_shelf.specs.Writing.Parts.{file_of};
+ghost use Rattle.oc_omf_file.specs.Canonical.{omf_file};
 ghost use Rattle.oc_omf_write.specs.declared.entries.Entry.TheVariants as entry;
 ghost use Rattle.oc_omf_write.specs.Made.{IsMadeWith};
 ghost use Rattle.oc_omf_write.specs.Pieces.{AreInSections};
-ghost use Rattle.oc_omf_write.specs.Plans.{AreEntries, omf_parts};
+ghost use Rattle.oc_omf_write.specs.Plans.{AreEntries};
 ghost use Rattle.oc_omf_write.specs.Raws.{sections_in};
 ghost use Rattle.oc_omf_write.specs.Tables.{AreSound, fixups_of};
 
@@ -15,7 +17,7 @@ use crate::layout::layout_of;
 use crate::names::{Names, add_names};
 use crate::numbers::numbers_of;
 use crate::pieces::add_data;
-use crate::plan::Plan;
+use crate::plan::{OmfParts, Plan};
 use crate::raw::Addends;
 use crate::segments::segments_of;
 use crate::symbols::symbol_entries;
@@ -94,11 +96,11 @@ fn tables_of(alloc: Global, fitted: Fitted) -> Result<(Tables, Vec<Entry>), NoMe
 /// Linear in the object, but for looking up names and the logarithm of a section's fixups.
 pub(crate) fn plan_object(alloc: Global, fitted: Fitted) -> Result<Plan, NoMemory>
     requires { fitted.format ≡ Omf }
-    ensures { IfOk result (λ plan. plan ≡ omf_parts fitted) }
+    ensures { IfOk result (λ plan. file_of plan ≡ omf_file fitted) }
 {
     fitted.is_fitted();
     let (tables, symbols) = tables_of(alloc, fitted)?;
     let entries = entries_of(alloc, &tables, &symbols)?;
     let layout = layout_of(alloc, &tables, &entries)?;
-    Ok(Plan::new(tables, entries, layout))
+    Ok(Plan::new(OmfParts { tables, entries }, layout))
 }

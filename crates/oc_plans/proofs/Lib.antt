@@ -1,5 +1,5 @@
 pub mod FieldBytes
-pub mod JoinedLemmas
 pub mod PlacedLemmas
 pub mod SectionAlone
 pub mod Turns
+pub mod WindowLemmas

@@ -1,8 +1,13 @@
 -- Parts at places of their own: which they are, and where they stand.
-use Rattle.std.proofs.Common.{◌≡◌, ℕ, zero, suc, ◌+◌, ◌-◌, ◌<◌, ◌≤◌, List, [], ◌∷◌, ◌++◌, length, map, get_or, replicate, Option, Some, refl, sym, ◌∙◌, ap, subst, arith}
+use Rattle.std.proofs.Common.{◌≡◌, ℕ, zero, suc, ◌+◌, ◌-◌, ◌<◌, ◌≤◌, List, [], ◌∷◌, ◌++◌, length, map, get_or, replicate, Option, Some, refl, sym, ◌∙◌, ap, subst, arith, length-append}
+use Rattle.std.specs.Prelude.{flat_map}
 use Rattle.std.specs.List.{AllByRecursion}
-use Rattle.oc_shelf.specs.Writing.Parts.{Laid, laid, joined, piece_at, end_of, AreInOrder}
-use Rattle.oc_plans.specs.Placed.{pieces_at}
+use Rattle.std.proofs.lemmas.List.{length-map}
+use Rattle.oc_shelf.specs.declared.writing.layout.Layout.{Layout}
+use Rattle.oc_shelf.specs.Writing.Parts.{Laid, laid, laid_end, behind, joined, aligned, table_of, file_of, piece_at, end_of, AreInOrder}
+use Rattle.oc_shelf.proofs.WritingLaws.PartLemmas.{length-joined, places_more, end_more}
+use Rattle.oc_plans.specs.Placed.{pieces_at, pieces_by, AreLaid, IsPlaced}
+use Rattle.oc_plans.proofs.Turns.{length-laid}
 
 -- ... parts that are laid
 
@@ -45,6 +50,12 @@ part_is (at ∷ places) [] k same = absurd (omega (arith, same))
 part_is (at ∷ places) (x ∷ parts) zero same = refl
 part_is (at ∷ places) (x ∷ parts) (suc k) same = part_is places parts k (omega (arith, same))
 
+pub place_is : (places : List ℕ) (parts : List (List ℕ)) (k : ℕ) → length places ≡ length parts → (piece_at (pieces_at places parts) k).at ≡ get_or places k 0
+place_is [] parts k same = refl
+place_is (at ∷ places) [] k same = absurd (omega (arith, same))
+place_is (at ∷ places) (x ∷ parts) zero same = refl
+place_is (at ∷ places) (x ∷ parts) (suc k) same = place_is places parts k (omega (arith, same))
+
 pub get_any : {X : Type 0} (xs : List X) (k : ℕ) (d e : X) → k < length xs → get_or xs k d ≡ get_or xs k e
 get_any [] k d e low = absurd (omega (arith, low))
 get_any (x ∷ xs) zero d e low = refl
@@ -79,3 +90,84 @@ pub all_get : {X : Type 0} (P : X → Type 0) (xs : List X) (k : ℕ) (d : X) �
 all_get P [] k d all low = absurd (omega (arith, low))
 all_get P (x ∷ xs) zero d all low = all.0
 all_get P (x ∷ xs) (suc k) d all low = all_get P xs k d all.1 (omega (arith, low))
+
+-- ... files that are laid
+
+part_within : (at : ℕ) (places : List ℕ) (parts : List (List ℕ)) → length places ≡ length parts → (k : ℕ) → length (get_or parts k []) ≤ length (joined (λ (x : List ℕ). x) at (pieces_at places parts))
+part_within at [] [] same k = omega arith
+part_within at [] (x ∷ parts) same k = absurd (omega (arith, same))
+part_within at (p ∷ places) [] same k = absurd (omega (arith, same))
+part_within at (p ∷ places) (x ∷ parts) same zero =
+    let rest : List ℕ = joined (λ (y : List ℕ). y) (p + length x) (pieces_at places parts) in
+    omega (arith, length-append (replicate {A = ℕ} (p - at) 0) (x ++ rest), length-append x rest)
+part_within at (p ∷ places) (x ∷ parts) same (suc k) =
+    let rest : List ℕ = joined (λ (y : List ℕ). y) (p + length x) (pieces_at places parts) in
+    omega (arith, part_within (p + length x) places parts (omega (arith, same)) k, length-append (replicate {A = ℕ} (p - at) 0) (x ++ rest), length-append x rest)
+
+-- no part is longer than the file
+pub part_low : (layout : Layout) (parts : List (List ℕ)) → IsPlaced layout parts → (k : ℕ) → length (get_or parts k []) ≤ layout.end
+part_low layout parts is k =
+    let low = part_within 0 layout.places.items parts is.counted k in
+    let ends = is.ends in
+    omega (arith, low, ends)
+
+-- each place is a multiple of 1
+pub aligned_one : (at : ℕ) → aligned 1 at ≡ at
+aligned_one at = omega arith
+
+module _ {X : Type 0} (begin : ℕ → X → ℕ) (size : X → ℕ) where
+  -- nothing is laid yet
+  pub none_laid : (layout : Layout) → layout.places.items ≡ [] → layout.end ≡ 0 → AreLaid begin size layout []
+  none_laid layout places end = record { begins = places; ends = end }
+
+  -- one thing more
+  pub laid_more : (xs : List X) (x : X) (old new : Layout) (at : ℕ) → AreLaid begin size old xs → at ≡ begin old.end x → new.places.items ≡ old.places.items ++ at ∷ [] → new.end ≡ at + size x → AreLaid begin size new (xs ++ x ∷ [])
+  laid_more xs x old new at before is_begin begins ends =
+      let here : at ≡ begin (laid_end begin size 0 xs) x = is_begin ∙ ap (λ p. begin p x) before.ends in
+      record {
+        begins = begins ∙ ap (λ ps. ps ++ at ∷ []) before.begins ∙ ap (λ p. map (λ (l : Laid X). l.at) (laid begin size 0 xs) ++ p ∷ []) here ∙ sym (places_more begin size 0 xs x);
+        ends = ends ∙ ap (λ p. p + size x) here ∙ sym (end_more begin size 0 xs x);
+      }
+
+  module _ (rises : (at : ℕ) (x : X) → at ≤ begin at x) where
+    end_from : (at : ℕ) (xs : List X) → at ≤ laid_end begin size at xs
+    end_from at [] = omega arith
+    end_from at (x ∷ xs) = omega (arith, rises at x, end_from (begin at x + size x) xs)
+
+    -- a thing ends where those behind it do, or before
+    pub end_low : (at : ℕ) (xs : List X) (x : X) (ys : List X) → begin (laid_end begin size at xs) x + size x ≤ laid_end begin size at (xs ++ x ∷ ys)
+    end_low at [] x ys = end_from (begin at x + size x) ys
+    end_low at (y ∷ xs) x ys = end_low (begin at y + size y) xs x ys
+
+  module _ (f : X → List ℕ) (xs : List X) (layout : Layout) (are : AreLaid begin size layout xs) where
+    pieces_are : pieces_by layout (map f xs) ≡ map (piece begin size f) (laid begin size 0 xs)
+    pieces_are = ap (λ ps. pieces_at ps (map f xs)) are.begins ∙ pieces_laid begin size f 0 xs
+
+    -- the file of the parts of things that are laid
+    pub file_laid : file_of (pieces_by layout (map f xs)) ≡ joined f 0 (laid begin size 0 xs)
+    file_laid = ap file_of pieces_are ∙ joined_pieces f 0 (laid begin size 0 xs)
+
+    -- the parts are placed
+    pub placed_laid : ((at : ℕ) (x : X) → at ≤ begin at x) → ((x : X) → length (f x) ≡ size x) → IsPlaced layout (map f xs)
+    placed_laid rises sized = record {
+      counted = ap length are.begins ∙ length-map (laid begin size 0 xs) (λ (l : Laid X). l.at) ∙ length-laid begin size 0 xs ∙ sym (length-map xs f);
+      order = subst (AreInOrder 0) (sym pieces_are) (order_laid begin size f sized rises 0 xs);
+      ends =
+          let whole = length-joined begin size rises f 0 xs (λ k x h. sized x) in
+          let same = ap length file_laid in
+          let ends = are.ends in
+          omega (arith, ends, whole, same);
+    }
+
+-- the bytes that are made of things, one behind another, are those of a table of them
+pub joined_rows : {X : Type 0} (f : X → List ℕ) (xs : List X) → flat_map f xs ≡ table_of (map f xs)
+joined_rows f [] = refl
+joined_rows f (x ∷ xs) = ap (λ zs. f x ++ zs) (joined_rows f xs)
+
+-- so are the bytes of a file of parts each of which begins where the one before ends
+pub joined_table : {X : Type 0} (f : X → List ℕ) (at : ℕ) (xs : List X) → joined f at (laid behind (λ x. length (f x)) at xs) ≡ table_of (map f xs)
+joined_table f at [] = refl
+joined_table f at (x ∷ xs) =
+    let none : at - at ≡ 0 = omega arith in
+    ap (λ m. replicate m 0 ++ (f x ++ joined f (at + length (f x)) (laid behind (λ y. length (f y)) (at + length (f x)) xs))) none
+    ∙ ap (λ ys. f x ++ ys) (joined_table f (at + length (f x)) xs)

@@ -1,4 +1,3 @@
 pub mod Alone
-pub mod Joined
 pub mod Numbered
 pub mod Placed

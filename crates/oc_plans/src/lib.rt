@@ -3,9 +3,11 @@
 #![tactic(auto)]
 
 mod alone;
-mod joined;
 mod numbered;
+mod plan;
+mod windows;
 
 pub use alone::object_of_data;
-pub use joined::end_at;
 pub use numbered::{FieldNumbers, with_numbers};
+pub use plan::Plan;
+pub use windows::{Parts, window_of};

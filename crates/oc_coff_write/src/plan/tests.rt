@@ -1,5 +1,5 @@
 //! What a plan holds of a file: the bytes of sections, and the numbers of its structures.
-use super::Plan;
+use super::CoffParts;
 use crate::writer::CoffWriter64;
 use oc_base::Format;
 use oc_express::fit;
@@ -19,7 +19,9 @@ fn a_plan_does_not_keep_the_file(rt: HostRuntime) -> Result<(), Fail> {
         Format::Coff64,
         object_of_data(rt.alloc(), Format::Coff64, SIZE)?,
     )?;
-    let Plan {
+    let plan = CoffWriter64.plan(rt.alloc(), fitted)?;
+    let (parts, layout) = plan.into_parts();
+    let CoffParts {
         shape: _,
         header: _,
         headers,
@@ -27,8 +29,8 @@ fn a_plan_does_not_keep_the_file(rt: HostRuntime) -> Result<(), Fail> {
         relocs,
         entries,
         names,
-        layout: Layout { places, end },
-    } = CoffWriter64.plan(rt.alloc(), fitted)?;
+    } = parts;
+    let Layout { places, end } = layout;
     let counts = (headers.len(), sections.len(), relocs.len(), entries.len());
     assert_eq!(rt; counts, (1, 1, 1, 2));
     assert_eq!(rt; (places.len(), end), (6, 100_100));

@@ -1,13 +1,13 @@
 //! What a plan holds of a file: the bytes of sections, and the numbers of its structures; and its windows.
-use super::Plan;
+use super::MachParts;
 use crate::bodies::Bodies;
 use crate::heads::Heads;
-use crate::layout::Extents;
 use crate::writer::MachWriter64;
 use oc_base::Format;
 use oc_express::fit;
 use oc_neutral::{Emits, Writes};
 use oc_plans::object_of_data;
+use oc_shelf::Layout;
 use std::test::Fail;
 
 /// The plan of 100,000 bytes of data has these, one section header, and a place for each part: the header
@@ -19,7 +19,8 @@ fn a_plan_does_not_keep_the_file(rt: HostRuntime) -> Result<(), Fail> {
         Format::Mac64,
         object_of_data(rt.alloc(), Format::Mac64, 100_000)?,
     )?;
-    let Plan {
+    let (parts, layout) = MachWriter64.plan(rt.alloc(), fitted)?.into_parts();
+    let MachParts {
         word: _,
         heads: Heads {
             file: _,
@@ -36,11 +37,11 @@ fn a_plan_does_not_keep_the_file(rt: HostRuntime) -> Result<(), Fail> {
             nlists,
             strings,
         },
-        extents: Extents { begins, ends, end },
-    } = MachWriter64.plan(rt.alloc(), fitted)?;
+    } = parts;
+    let Layout { places, end } = layout;
     let counts = (headers.len(), parts.len(), sections.len(), nlists.len());
     assert_eq!(rt; counts, (1, 9, 1, 0));
-    assert_eq!(rt; (begins.len(), ends.len(), end), (9, 9, 100_296));
+    assert_eq!(rt; (places.len(), end), (9, 100_296));
     for section in &sections {
         assert_eq!(rt; section.bytes.as_slice().len(), 100_000);
     }

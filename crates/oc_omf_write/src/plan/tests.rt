@@ -1,12 +1,12 @@
 //! What a plan holds of a file, where data are cut, and windows of a small file.
-use super::Plan;
+use super::OmfParts;
 use crate::tables::Tables;
 use crate::writer::OmfWriter;
 use oc_base::Format;
 use oc_express::fit;
 use oc_neutral::{Emits, Writes};
 use oc_plans::object_of_data;
-use oc_shelf::{Layout, Parts};
+use oc_shelf::Layout;
 use std::test::Fail;
 
 /// How many bytes the one section has.
@@ -21,7 +21,8 @@ fn a_plan_does_not_keep_the_file(rt: HostRuntime) -> Result<(), Fail> {
         Format::Omf,
         object_of_data(rt.alloc(), Format::Omf, SIZE)?,
     )?;
-    let Plan {
+    let (parts, layout) = OmfWriter.plan(rt.alloc(), fitted)?.into_parts();
+    let OmfParts {
         tables: Tables {
             sections,
             segments,
@@ -30,8 +31,8 @@ fn a_plan_does_not_keep_the_file(rt: HostRuntime) -> Result<(), Fail> {
             fixups,
         },
         entries,
-        layout: Layout { places, end },
-    } = OmfWriter.plan(rt.alloc(), fitted)?;
+    } = parts;
+    let Layout { places, end } = layout;
     let counts = (sections.len(), segments.len(), names.len(), symbols.len());
     assert_eq!(rt; counts, (1, 1, 4, 0));
     assert_eq!(rt; (entries.len(), places.len(), end), (103, 103, 100_937));
@@ -65,11 +66,9 @@ fn data_are_cut_at_1024_bytes(rt: HostRuntime) -> Result<(), Fail> {
             object_of_data(rt.alloc(), Format::Omf, *size)?,
         )?;
         let plan = OmfWriter.plan(rt.alloc(), fitted)?;
-        assert_eq!(rt;
-            (plan.count(), plan.len()),
-            (*entries, *long),
-            "{size} bytes"
-        );
+        assert_eq!(rt; plan.len(), *long, "{size} bytes");
+        let (_parts, layout) = plan.into_parts();
+        assert_eq!(rt; layout.places.len(), *entries, "{size} bytes");
     }
     Ok(())
 }

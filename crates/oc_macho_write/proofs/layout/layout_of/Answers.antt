@@ -31,7 +31,7 @@ part_begin-begin-requires-clause-near c =
     let x = part_listed n c.args.parts.now k _ c.requires.parts (slice_get-get_or c.args.parts.now k part.FileHead c.loop-part-test.true) in
     let room = part_room w n (for_mach w n c.requires.fitted) k x.0 x.1 in
     let up = rises w n (end_by w n (take k (parts_of n))) x.0 in
-    let end = c.loop-part.invariant.end in
+    let end = c.loop-part.invariant.ends in
     omega (arith, room, up, end)
 
 pub part_size-requires-clause-there : goal.part_size-requires-clause-there
@@ -61,7 +61,7 @@ lay-requires c =
     let p = get_or c.args.parts.now k part.FileHead in
     let x = part_listed n c.args.parts.now k _ c.requires.parts (slice_get-get_or c.args.parts.now k part.FileHead c.loop-part-test.true) in
     let room = part_room w n (for_mach w n c.requires.fitted) k x.0 x.1 in
-    let begin = c.part_begin-begin.ensures x.0 x.2 ∙ ap (λ at. layout.part_begin w n at x.0) c.loop-part.invariant.end in
+    let begin = c.part_begin-begin.ensures x.0 x.2 ∙ ap (λ at. layout.part_begin w n at x.0) c.loop-part.invariant.ends in
     let size = c.part_size.ensures ∙ ap (λ (ss : List Section). size_by w ss c.args.bodies.now p) c.sections.ensures ∙ size_is w n c.args.bodies.now c.requires.bodies p x.0 x.2 in
     omega (arith, room, begin, size)
 
@@ -73,7 +73,7 @@ loop-part-preserved c =
     let p = get_or c.args.parts.now k part.FileHead in
     let x = part_listed n c.args.parts.now k _ c.requires.parts (slice_get-get_or c.args.parts.now k part.FileHead c.loop-part-test.true) in
     let size = c.part_size.ensures ∙ ap (λ (ss : List Section). size_by w ss c.args.bodies.now p) c.sections.ensures ∙ size_is w n c.args.bodies.now c.requires.bodies p x.0 x.2 in
-    subst (λ (ps : List layout.Part). AreLaid w n c.lay.new.extents ps) (sym (take_next (parts_of n) k x.0 x.1))
+    subst (λ (ps : List layout.Part). AreLaid w n c.lay.new.layout ps) (sym (take_next (parts_of n) k x.0 x.1))
     (c.in_ok-lay.ensures w n (take k (parts_of n)) x.0 c.loop-part.invariant (sym (c.part_begin-begin.ensures x.0 x.2)) (sym size))
 
 pub returns : goal.returns
@@ -83,4 +83,4 @@ returns c =
     let k = c.loop-part.part-index in
     let many = as_many_parts n c.args.parts.now c.requires.parts in
     let done : length (parts_of n) ≤ k = omega (arith, many, c.loop-part-test.false) in
-    subst (λ (ps : List layout.Part). AreLaid w n c.loop-part.extents ps) (take_all k (parts_of n) done) c.loop-part.invariant
+    subst (λ (ps : List layout.Part). AreLaid w n c.loop-part.layout ps) (take_all k (parts_of n) done) c.loop-part.invariant

@@ -4,10 +4,11 @@ use Rattle.std.specs.List.{AllByRecursion}
 use Rattle.oc_neutral.specs.Fitted.{IsFitted}
 use Rattle.oc_omf_file.proofs.CodedLaws.{for_omf}
 use Rattle.oc_omf_write.specs.declared.entries.Entry.{Entry}
-use Rattle.oc_plans.specs.Joined.{AreJoined}
-use Rattle.oc_omf_write.specs.Plans.{AreEntries, parts_by}
+use Rattle.oc_shelf.specs.Writing.Parts.{file_of}
+use Rattle.oc_omf_write.specs.Plans.{AreEntries, AreLaid}
 use Rattle.oc_omf_write.specs.Tables.{CanPut}
 use Rattle.oc_omf_write.proofs.MadeLemmas.{made_sound, made_inside, few_sections, few_texts, made_few, made_put, made_same}
+use Rattle.oc_omf_write.proofs.PlanLemmas.{file_is, placed}
 use Rattle.oc_omf_write.proofs.planning.plan_object.Goals as goal
 
 pub entries_of-requires-clause-few : goal.entries_of-requires-clause-few
@@ -52,8 +53,8 @@ layout_of-requires-clause-fits c =
     subst (AllByRecursion (CanPut c.in_ok-tables.tables)) (sym c.deref-2.ensures.value)
     (made_put c.args.fitted (for_omf c.args.fitted fit) c.in_ok-tables.tables c.in_ok-tables.symbols.items c.in_ok-tables.ensures es are)
 
-pub new-requires : goal.new-requires
-new-requires c =
+pub new-requires-clause-sound : goal.new-requires-clause-sound
+new-requires-clause-sound c =
     let fit = subst (λ f. IsFitted f c.args.fitted) c.requires c.is_fitted.ensures in
     let t = c.in_ok-tables.tables in
     let es = c.in_ok-entries.entries.items in
@@ -61,8 +62,12 @@ new-requires c =
     record {
       sound = made_sound c.args.fitted (for_omf c.args.fitted fit) t c.in_ok-tables.symbols.items c.in_ok-tables.ensures;
       fits = made_put c.args.fitted (for_omf c.args.fitted fit) t c.in_ok-tables.symbols.items c.in_ok-tables.ensures es are;
-      laid = subst (λ (xs : List Entry). AreJoined c.in_ok-layout.layout.places.items c.in_ok-layout.layout.end (parts_by t xs)) c.deref-2.ensures.value c.in_ok-layout.ensures;
     }
+
+pub new-requires-clause-placed : goal.new-requires-clause-placed
+new-requires-clause-placed c =
+    let t = c.in_ok-tables.tables in
+    placed t c.in_ok-entries.entries.items c.in_ok-layout.layout (subst (AreLaid t c.in_ok-layout.layout) c.deref-2.ensures.value c.in_ok-layout.ensures)
 
 pub returns : goal.returns
 returns c =
@@ -70,4 +75,6 @@ returns c =
     let t = c.in_ok-tables.tables in
     let es = c.in_ok-entries.entries.items in
     let are : AreEntries t c.in_ok-tables.symbols.items es = subst (λ (ss : List Entry). AreEntries t ss es) c.deref.ensures.value c.in_ok-entries.ensures in
-    c.new.ensures ∙ made_same c.args.fitted (for_omf c.args.fitted fit) t c.in_ok-tables.symbols.items c.in_ok-tables.ensures es are
+    ap file_of c.new.ensures
+    ∙ file_is t es c.in_ok-layout.layout (subst (AreLaid t c.in_ok-layout.layout) c.deref-2.ensures.value c.in_ok-layout.ensures) c.args.fitted
+    (made_same c.args.fitted (for_omf c.args.fitted fit) t c.in_ok-tables.symbols.items c.in_ok-tables.ensures es are)

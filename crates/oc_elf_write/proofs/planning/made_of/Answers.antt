@@ -1,0 +1,187 @@
+-- What is made is that of the object.
+use Rattle.std.proofs.Common.{◌≡◌, ℕ, ◌+◌, ◌-◌, ◌^◌, ◌<◌, cond, length, get_or, refl, rules, sym, ◌∙◌, ap, subst, arith}
+use Rattle.oc_neutral.specs.Fitted.{IsFitted}
+use Rattle.oc_neutral.specs.Objects.{Object}
+use Rattle.oc_elf.specs.Classes.{format_of, is_big, word_of}
+use Rattle.oc_shelf.specs.Writing.Parts.{place_where}
+use Rattle.oc_elf_file.specs.Heads.{heads_of, head_where, is_shstrtab_head}
+use Rattle.oc_neutral.specs.Families.{is_many}
+use Rattle.oc_elf_file.specs.Canonical.{shown_count, shown_names}
+use Rattle.oc_elf_file.specs.Layout.{is_head_table, laid_parts, parts_of}
+use Rattle.oc_elf_file.proofs.CodedLaws.{for_elf, many_is}
+use Rattle.oc_elf_file.proofs.HeaderFits.{count_low, names_low}
+use Rattle.oc_elf_file.proofs.FileSize.{few_lines}
+use Rattle.oc_elf_file.proofs.HeadCounts.{few_heads, length-heads}
+use Rattle.oc_elf_write.specs.Keys.{AreKeys}
+use Rattle.oc_elf_write.specs.LaidParts.{AreLaid}
+use Rattle.oc_elf_write.specs.Plans.{AreMade}
+use Rattle.oc_elf_write.specs.Raws.{all_raws}
+use Rattle.oc_elf_write.proofs.HeadLemmas.{as_many_heads}
+use Rattle.oc_elf_write.proofs.HeaderLemmas.{symtab_number, shstrtab_number, many_heads}
+use Rattle.oc_elf_write.proofs.LaidLemmas.{places_many, table_place}
+use Rattle.oc_elf_write.proofs.LineLemmas.{as_many_lines, inner_low}
+use Rattle.oc_elf_write.proofs.planning.made_of.Goals as goal
+
+pub of-requires-clause-few : goal.of-requires-clause-few
+of-requires-clause-few c =
+    let class = c.args.class in
+    let m : Object = c.neutral-neutral.result.now in
+    let same : m ≡ c.args.fitted = c.neutral-neutral.ensures in
+    let fit : IsFitted (format_of class) m = subst (λ (x : Object). IsFitted (format_of class) x) (sym same) (subst (λ f. IsFitted f c.args.fitted) c.requires c.is_fitted.ensures) in
+    let is = for_elf class m fit in
+    let heads = as_many_heads m c.in_ok-heads.heads.items c.in_ok-heads.ensures in
+    let few = few_heads class m is in
+    let counted = length-heads class m is in
+    let lines = as_many_lines m c.in_ok-lines.lines.all.items c.in_ok-lines.ensures.all in
+    let all = few_lines class m is in
+    let symbols = is.meets.bounds.symbols in
+    let long = ap length c.deref-2.ensures.value in
+    omega (arith, heads, few, counted, lines, all, symbols, long)
+
+pub bodies_of-requires-clause-few : goal.bodies_of-requires-clause-few
+bodies_of-requires-clause-few c =
+    let class = c.args.class in
+    let m : Object = c.neutral-neutral.result.now in
+    let same : m ≡ c.args.fitted = c.neutral-neutral.ensures in
+    let fit : IsFitted (format_of class) m = subst (λ (x : Object). IsFitted (format_of class) x) (sym same) (subst (λ f. IsFitted f c.args.fitted) c.requires c.is_fitted.ensures) in
+    let is = for_elf class m fit in
+    let heads = as_many_heads m c.in_ok-heads.heads.items c.in_ok-heads.ensures in
+    let few = few_heads class m is in
+    let counted = length-heads class m is in
+    let long = ap length c.deref-3.ensures.value in
+    omega (arith, heads, few, long)
+
+pub overflow_cast-made : goal.overflow_cast-made
+overflow_cast-made c =
+    let class = c.args.class in
+    let m : Object = c.neutral-neutral.result.now in
+    let same : m ≡ c.args.fitted = c.neutral-neutral.ensures in
+    let fit : IsFitted (format_of class) m = subst (λ (x : Object). IsFitted (format_of class) x) (sym same) (subst (λ f. IsFitted f c.args.fitted) c.requires c.is_fitted.ensures) in
+    let is = for_elf class m fit in
+    let heads = as_many_heads m c.in_ok-heads.heads.items c.in_ok-heads.ensures in
+    let few = few_heads class m is in
+    let counted = length-heads class m is in
+    let lines = as_many_lines m c.in_ok-lines.lines.all.items c.in_ok-lines.ensures.all in
+    let all = few_lines class m is in
+    let symbols = is.meets.bounds.symbols in
+    let low = inner_low m in
+    let inner = c.in_ok-lines.ensures.inner in
+    omega (arith, few, counted, all, symbols, low, inner)
+
+pub overflow_cast-count : goal.overflow_cast-count
+overflow_cast-count c =
+    let class = c.args.class in
+    let m : Object = c.neutral-neutral.result.now in
+    let same : m ≡ c.args.fitted = c.neutral-neutral.ensures in
+    let fit : IsFitted (format_of class) m = subst (λ (x : Object). IsFitted (format_of class) x) (sym same) (subst (λ f. IsFitted f c.args.fitted) c.requires c.is_fitted.ensures) in
+    let is = for_elf class m fit in
+    let heads = as_many_heads m c.in_ok-heads.heads.items c.in_ok-heads.ensures in
+    let few = few_heads class m is in
+    let counted = length-heads class m is in
+    let long : c.len-count.result ≡ length c.in_ok-heads.heads.items = search rules in
+    omega (arith, heads, few, long)
+
+pub stored_shdrs-requires-clause-made : goal.stored_shdrs-requires-clause-made
+stored_shdrs-requires-clause-made c =
+    let class = c.args.class in
+    let m : Object = c.neutral-neutral.result.now in
+    let same : m ≡ c.args.fitted = c.neutral-neutral.ensures in
+    let fit : IsFitted (format_of class) m = subst (λ (x : Object). IsFitted (format_of class) x) (sym same) (subst (λ f. IsFitted f c.args.fitted) c.requires c.is_fitted.ensures) in
+    let is = for_elf class m fit in
+    let heads = as_many_heads m c.in_ok-heads.heads.items c.in_ok-heads.ensures in
+    let few = few_heads class m is in
+    let counted = length-heads class m is in
+    let long : c.len-count.result ≡ length c.in_ok-heads.heads.items = search rules in
+    let number = c.symtab_number.ensures in
+    let place = symtab_number m in
+    let same_tables : cond {A = ℕ} (is_many m.format) 4 3 ≡ cond {A = ℕ} (is_big class) 4 3 = ap (λ b. cond {A = ℕ} b 4 3) (many_is class m is) in
+    record {
+      keys = subst (AreKeys m) (sym c.deref-6.ensures.value) c.in_ok-keys.ensures;
+      numbers = c.in_ok-numbers.ensures;
+      inner = c.in_ok-lines.ensures.inner;
+      bodies = c.in_ok-bodies.ensures;
+      heads = long ∙ heads;
+      symtab = omega (arith, number, place, same_tables, long, heads);
+    }
+
+pub index-requires : goal.index-requires
+index-requires c =
+    let class = c.args.class in
+    let m : Object = c.neutral-neutral.result.now in
+    let heads = as_many_heads m c.in_ok-heads.heads.items c.in_ok-heads.ensures in
+    let long : c.len.result ≡ length c.in_ok-heads.heads.items = search rules in
+    let begins = ap length c.in_ok-layout.ensures.begins in
+    let many = places_many class m in
+    omega (arith, heads, long, begins, many)
+
+pub file_header-ehdr-requires-clause-some : goal.file_header-ehdr-requires-clause-some
+file_header-ehdr-requires-clause-some c =
+    let class = c.args.class in
+    let m : Object = c.neutral-neutral.result.now in
+    let same : m ≡ c.args.fitted = c.neutral-neutral.ensures in
+    let fit : IsFitted (format_of class) m = subst (λ (x : Object). IsFitted (format_of class) x) (sym same) (subst (λ f. IsFitted f c.args.fitted) c.requires c.is_fitted.ensures) in
+    let is = for_elf class m fit in
+    let heads = as_many_heads m c.in_ok-heads.heads.items c.in_ok-heads.ensures in
+    let few = few_heads class m is in
+    let counted = length-heads class m is in
+    let long : c.len-count.result ≡ length c.in_ok-heads.heads.items = search rules in
+    omega (arith, heads, counted, long)
+
+pub file_header-ehdr-requires-clause-count : goal.file_header-ehdr-requires-clause-count
+file_header-ehdr-requires-clause-count c =
+    let class = c.args.class in
+    let m : Object = c.neutral-neutral.result.now in
+    let same : m ≡ c.args.fitted = c.neutral-neutral.ensures in
+    let fit : IsFitted (format_of class) m = subst (λ (x : Object). IsFitted (format_of class) x) (sym same) (subst (λ f. IsFitted f c.args.fitted) c.requires c.is_fitted.ensures) in
+    let is = for_elf class m fit in
+    let heads = as_many_heads m c.in_ok-heads.heads.items c.in_ok-heads.ensures in
+    let long : c.len-count.result ≡ length c.in_ok-heads.heads.items = search rules in
+    subst (λ k. shown_count class k < 2 ^ 16) (sym (long ∙ heads)) (count_low class m is)
+
+pub file_header-ehdr-requires-clause-names : goal.file_header-ehdr-requires-clause-names
+file_header-ehdr-requires-clause-names c =
+    let class = c.args.class in
+    let m : Object = c.neutral-neutral.result.now in
+    let same : m ≡ c.args.fitted = c.neutral-neutral.ensures in
+    let fit : IsFitted (format_of class) m = subst (λ (x : Object). IsFitted (format_of class) x) (sym same) (subst (λ f. IsFitted f c.args.fitted) c.requires c.is_fitted.ensures) in
+    let is = for_elf class m fit in
+    let heads = as_many_heads m c.in_ok-heads.heads.items c.in_ok-heads.ensures in
+    let long : c.len-count.result ≡ length c.in_ok-heads.heads.items = search rules in
+    let place = shstrtab_number m in
+    let last : head_where m is_shstrtab_head ≡ c.len-count.result - 1 = omega (arith, place, heads, long) in
+    subst (λ k. shown_names class k < 2 ^ 16) last (names_low class m is)
+
+pub symtab_number-requires : goal.symtab_number-requires
+symtab_number-requires c =
+    let m : Object = c.neutral-neutral.result.now in
+    let heads = as_many_heads m c.in_ok-heads.heads.items c.in_ok-heads.ensures in
+    let long : c.len-count.result ≡ length c.in_ok-heads.heads.items = search rules in
+    let many = many_heads m in
+    omega (arith, heads, long, many)
+
+pub returns-clause-made : goal.returns-clause-made
+returns-clause-made c =
+    let class = c.args.class in
+    let m : Object = c.neutral-neutral.result.now in
+    let same : m ≡ c.args.fitted = c.neutral-neutral.ensures in
+    let raws = (rw c.word.ensures at c.sections_of-sections.ensures) ∙ ap (all_raws (word_of class)) (c.into_neutral.ensures ∙ sym same) in
+    let heads = as_many_heads m c.in_ok-heads.heads.items c.in_ok-heads.ensures in
+    let long : c.len-count.result ≡ length c.in_ok-heads.heads.items = search rules in
+    let long-3 : c.len.result ≡ length c.in_ok-heads.heads.items = search rules in
+    let many : length (heads_of m) ≡ c.len-count.result = sym (long ∙ heads) in
+    let index : 1 + c.len.result ≡ 1 + length (heads_of m) = ap (λ k. 1 + k) (long-3 ∙ heads) in
+    let place : place_where is_head_table (laid_parts class m) ≡ c.index.result.now = sym (c.index.ensures ∙ ap (λ ps. get_or ps (1 + c.len.result) c.index.result.now) c.in_ok-layout.ensures.begins ∙ table_place class m (1 + c.len.result) c.index.result.now index) in
+    let ehdr = c.file_header-ehdr.ensures m many place in
+    subst (λ (x : Object). AreMade class x _) same (record {
+      is = refl;
+      ehdr = ehdr;
+      heads = c.in_ok-heads.ensures;
+      shdrs = c.in_ok-shdrs.ensures;
+      raws = raws;
+      bodies = c.in_ok-bodies.ensures;
+    })
+
+pub returns-clause-laid : goal.returns-clause-laid
+returns-clause-laid c =
+    let same : c.neutral-neutral.result.now ≡ c.args.fitted = c.neutral-neutral.ensures in
+    subst (λ (x : Object). AreLaid c.args.class x c.in_ok-layout.layout (parts_of x)) same c.in_ok-layout.ensures

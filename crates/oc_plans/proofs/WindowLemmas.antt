@@ -1,0 +1,78 @@
+-- Zeros between parts, and the place from which a window is filled.
+use Rattle.std.proofs.Common.{◌≡◌, ℕ, zero, suc, ◌+◌, ◌-◌, ◌<◌, ◌≤◌, List, [], ◌∷◌, ◌++◌, length, take, drop, replicate, get_or, refl, sym, ◌∙◌, ap, subst, arith}
+use Rattle.std.proofs.lemmas.List.{length-replicate}
+use Rattle.oc_outside.specs.Windows.{IsFilled}
+use Rattle.oc_shelf.specs.declared.writing.layout.Layout.{Layout}
+use Rattle.oc_shelf.specs.Writing.Parts.{Pieces, piece_at, file_of}
+use Rattle.oc_shelf.proofs.WritingLaws.PieceLemmas.{bytes_from, cut_behind, file_more, front_end, front_low, gap_long}
+use Rattle.oc_shelf.proofs.WritingLaws.WindowLemmas.{filled_full}
+use Rattle.oc_plans.specs.Placed.{pieces_by, IsPlaced}
+use Rattle.oc_plans.proofs.PlacedLemmas.{length-pieces, part_is, place_is}
+
+-- zeros behind the first of them
+drop_zeros : (at n : ℕ) → drop at (replicate {A = ℕ} n 0) ≡ replicate (n - at) 0
+drop_zeros zero n = let e : n - 0 ≡ n = omega arith in ap (λ m. replicate m 0) (sym e)
+drop_zeros (suc at) zero = let e : 0 - suc at ≡ 0 = omega arith in ap (λ m. replicate m 0) (sym e)
+drop_zeros (suc at) (suc n) = let e : suc n - suc at ≡ n - at = omega arith in drop_zeros at n ∙ ap (λ m. replicate m 0) (sym e)
+
+pub zeros_filled : (at n left : ℕ) (old new : List ℕ) (m : ℕ) → left ≡ n - at → IsFilled (replicate left 0) 0 old new m → IsFilled (replicate n 0) at old new m
+zeros_filled at n left old new m e is =
+    let count = is.count in
+    record {
+      count = omega (arith, count, e, length-replicate {A = ℕ} left 0, length-replicate {A = ℕ} n 0);
+      bytes = is.bytes ∙ ap (λ zs. take m zs ++ drop m old) (ap (λ k. replicate k 0) e ∙ sym (drop_zeros at n));
+    }
+
+module _ (layout : Layout) (parts : List (List ℕ)) (is : IsPlaced layout parts) where
+  abbrev places : List ℕ
+  places = layout.places.items
+
+  abbrev pieces : Pieces
+  pieces = pieces_by layout parts
+
+  -- there are as many pieces as places
+  pub pieces_counted : length pieces ≡ length places
+  pieces_counted = length-pieces places parts is.counted
+
+  -- the parts before part k end where it begins, or before
+  pub front_ends : (k : ℕ) → k < length places → length (file_of (take k pieces)) ≤ get_or places k 0
+  front_ends k low =
+      let front = front_low 0 pieces k is.order (omega (arith, low, pieces_counted)) in
+      let place = place_is places parts k is.counted in
+      omega (arith, front, place)
+
+  -- those before the part from which a window is filled end where the window begins, or before
+  pub start_ends : (count start from : ℕ) → count ≤ length places → (0 < count → get_or places (count - 1) 0 ≤ from) → start ≡ count - 1 → length (file_of (take start pieces)) ≤ from
+  start_ends zero start from within before e =
+      let none : start ≡ 0 = omega (arith, e) in
+      subst (λ k. length (file_of (take k pieces)) ≤ from) (sym none) (omega arith)
+  start_ends (suc count) start from within before e =
+      let same : start ≡ count = omega (arith, e) in
+      let last : suc count - 1 ≡ count = omega arith in
+      let low : get_or places count 0 ≤ from = subst (λ k. get_or places k 0 ≤ from) last (before (omega arith)) in
+      let front = front_ends count (omega (arith, within)) in
+      subst (λ k. length (file_of (take k pieces)) ≤ from) (sym same) (omega (arith, low, front))
+
+  module _ (k : ℕ) (low : k < length places) where
+    here : k < length pieces
+    here = omega (arith, low, pieces_counted)
+
+    -- with the zeros before part k they end where it begins
+    pub gap_ends : length (file_of (take k pieces) ++ replicate {A = ℕ} (get_or places k 0 - length (file_of (take k pieces))) 0) ≡ get_or places k 0
+    gap_ends =
+        let place = place_is places parts k is.counted in
+        ap (λ p. length (file_of (take k pieces) ++ replicate {A = ℕ} (p - length (file_of (take k pieces))) 0)) (sym place)
+        ∙ gap_long pieces k (length (file_of (take k pieces))) is.order here refl ∙ place
+
+    -- and with part k they are one part more
+    pub part_more : (file_of (take k pieces) ++ replicate (get_or places k 0 - length (file_of (take k pieces))) 0) ++ get_or parts k [] ≡ file_of (take (k + 1) pieces)
+    part_more =
+        ap (λ p. (file_of (take k pieces) ++ replicate (p - length (file_of (take k pieces))) 0) ++ get_or parts k []) (sym (place_is places parts k is.counted))
+        ∙ ap (λ xs. (file_of (take k pieces) ++ replicate ((piece_at pieces k).at - length (file_of (take k pieces))) 0) ++ xs) (sym (part_is places parts k is.counted))
+        ∙ sym (file_more pieces k (length (file_of (take k pieces))) is.order here refl)
+
+  -- a full buffer takes nothing of the parts from k on
+  pub full : (k : ℕ) (old new : List ℕ) (from n : ℕ) → IsFilled (file_of (take k pieces)) from old new n → length old ≤ n → IsFilled (file_of pieces) from old new n
+  full k old new from n filled no_room =
+      subst (λ (zs : List ℕ). IsFilled zs from old new n) (sym (cut_behind 0 pieces k is.order))
+      (filled_full (file_of (take k pieces)) (bytes_from (front_end 0 pieces k) (drop k pieces)) old new from n filled no_room)
