@@ -83,10 +83,10 @@ use Rattle.oc_coff_file.proofs.CodedLaws.{IsForCoff}
 use Rattle.oc_coff_file.proofs.GroupLaws.{key_is, leader_of, first_passing}
 use Rattle.oc_coff_file.proofs.LineLaws.{IsLineOf, numbered_is_of}
 use Rattle.oc_coff_file.proofs.SeenLaws.{shown, again, again_is, are_shown}
-use Rattle.oc_elf_file.proofs.RelocLaws.{found_in}
 use Rattle.oc_canonical.proofs.MapLemmas.{enumerate_map, filter-append, filter-within, filter-apart, flat_map-mapped, lists_map, map_append, filter-flat_map, flat_map-none, flat_map-filter, map-flat_map, laid_as, laid_map, laid_end_map, place_map, place_map_in, joined_map}
 use Rattle.oc_canonical.proofs.SeenSymbols.{shown_ones, gathered, ones_gathered, gathered_append, gathered_silent, gathered_where, moved, all_moved, any_same, outer_tell, listed, listed_flat}
 use Rattle.oc_canonical.proofs.StaysLemmas.{sections_long, plain_row}
+use Rattle.oc_shows.proofs.FoundLaws.{found_in}
 
 is_not : (b : Bool) → not b ≡ true → b ≡ false
 is_not true e = absurd (true≢false (sym e))

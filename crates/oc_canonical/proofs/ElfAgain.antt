@@ -70,10 +70,10 @@ use Rattle.oc_elf_file.specs.Symbols.{offset_in, Stood, stood_at, stood_elsewher
 use Rattle.oc_elf_file.specs.Canonical.{shown_count, shown_names, file_header, body_bytes, part_bytes, elf_file}
 use Rattle.oc_elf_file.proofs.CodedLaws.{IsForElf}
 use Rattle.oc_elf_file.proofs.LineLaws.{IsLineAt, line_at, symbol_found, one_outer}
-use Rattle.oc_elf_file.proofs.RelocLaws.{found_in}
 use Rattle.oc_elf_file.proofs.SeenLaws.{shown, again, again_is, are_shown, seen_there}
 use Rattle.oc_canonical.proofs.MapLemmas.{enumerate_map, filter-append, filter-within, filter-apart, filter-same, flat_map-mapped, lists_map, map_append, laid_as, laid_map, place_map, joined_map}
 use Rattle.oc_canonical.proofs.SeenSymbols.{shown_ones, gathered, ones_gathered, gathered_append, gathered_replicate, gathered_silent, gathered_where, number_in, moved, all_moved, any_same}
+use Rattle.oc_shows.proofs.FoundLaws.{found_in}
 
 -- every Local is written
 written : (class : ElfClass) (name : List ℕ) (b : Binding) → (is_local b && is_written_as (format_of class) name b) ≡ is_local b

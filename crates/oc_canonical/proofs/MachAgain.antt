@@ -64,7 +64,7 @@ use Rattle.oc_neutral.proofs.SeenLines.{IsShown}
 use Rattle.oc_neutral.proofs.SeenReady.{IsReady, mach_ready}
 use Rattle.oc_shelf.specs.Writing.Packed.{packed}
 use Rattle.oc_shelf.specs.Writing.Parts.{Laid, laid, laid_end, behind, aligned, joined, place_where}
-use Rattle.oc_shelf.proofs.WritingLaws.MemberLemmas.{map-map, map-alike}
+use Rattle.oc_shelf.proofs.WritingLaws.MemberLemmas.{map-map, map-alike, of_enumerated}
 use Rattle.oc_shelf.proofs.WritingLaws.PartLemmas.{laid_part}
 use Rattle.oc_macho.specs.declared.constants.TheConstants.{MH_OBJECT, LC_DYSYMTAB, N_SECT, N_WEAK_REF, N_WEAK_DEF}
 use Rattle.oc_macho.specs.declared.load_command.TheConstants.{DYSYMTAB_COMMAND_SIZE}
@@ -92,13 +92,13 @@ use Rattle.oc_macho_file.specs.Symbols.{exponent_of, Stood, stood_at, stood_by, 
 use Rattle.oc_macho_file.specs.Canonical.{file_header, segment_numbers, pointer_to, section_header, section_headers, symtab_command, words, dysymtab_numbers, part_bytes, mach_file}
 use Rattle.oc_macho_file.proofs.CodedLaws.{IsForMach, IsPlaced, word_back, fallback_is}
 use Rattle.oc_macho_file.proofs.LineLaws.{IsLine, line_at}
-use Rattle.oc_macho_file.proofs.PartLaws.{of_enumerated}
 use Rattle.oc_macho_file.proofs.RowLaws.{IsKnown, KnownAlone, KnownPair}
-use Rattle.oc_macho_file.proofs.EntryLaws.{found_in, mach_reloc, meets, entry, row_is, known, standing, standing_is, pair_second}
+use Rattle.oc_macho_file.proofs.EntryLaws.{mach_reloc, meets, entry, row_is, known, standing, standing_is, pair_second}
 use Rattle.oc_macho_file.proofs.SeenLaws.{shown, again, again_is, are_shown}
 use Rattle.oc_canonical.proofs.MapLemmas.{enumerate_map, filter-append, filter-mapped, filter-within, filter-apart, filter-same, flat_map-mapped, lists_map, map_append, any_mapped, laid_as, laid_map, laid_end_map, place_map, place_map_in, joined_map}
 use Rattle.oc_canonical.proofs.SeenSymbols.{shown_ones, gathered, ones_gathered, gathered_append, gathered_silent, gathered_where, moved, all_moved, outer_tell}
 use Rattle.oc_canonical.proofs.StaysLemmas.{sections_long, plain_row}
+use Rattle.oc_shows.proofs.FoundLaws.{found_in}
 
 is_not : (b : Bool) → not b ≡ true → b ≡ false
 is_not true e = absurd (true≢false (sym e))

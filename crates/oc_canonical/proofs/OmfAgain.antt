@@ -41,7 +41,7 @@ use Rattle.oc_neutral.proofs.MeetsRelocs.{normal_of}
 use Rattle.oc_neutral.proofs.SeenAlike.{relocs_same, stands}
 use Rattle.oc_neutral.proofs.SeenLines.{IsShown}
 use Rattle.oc_neutral.proofs.SeenReady.{IsReady, omf_ready}
-use Rattle.oc_shelf.proofs.WritingLaws.MemberLemmas.{map-map, map-alike}
+use Rattle.oc_shelf.proofs.WritingLaws.MemberLemmas.{map-map, map-alike, of_filter}
 use Rattle.oc_omf.specs.declared.structures.Method.{Method}
 use Rattle.oc_omf.specs.declared.structures.Segment as read
 use Rattle.oc_omf.specs.declared.constants.TheConstants.{METHOD_EXTERNAL}
@@ -54,11 +54,10 @@ use Rattle.oc_omf_file.specs.Canonical.{attributes_of, size_by, public_at, outpu
 use Rattle.oc_omf_file.proofs.CodedLaws.{IsForOmf}
 use Rattle.oc_omf_file.proofs.LineLaws.{key_of, listed_at}
 use Rattle.oc_omf_file.proofs.SeenLaws.{shown, again, again_is, are_shown}
-use Rattle.oc_elf_file.proofs.RelocLaws.{found_in}
-use Rattle.oc_elf_file.proofs.LineLaws.{of_filter}
 use Rattle.oc_canonical.proofs.MapLemmas.{enumerate_map, filter-append, filter-within, filter-apart, filter-mapped, flat_map-mapped, lists_map, map_append, map-flat_map}
 use Rattle.oc_canonical.proofs.SeenSymbols.{shown_ones, gathered, ones_gathered, gathered_append, gathered_where, moved, all_moved, outer_tell}
 use Rattle.oc_canonical.proofs.StaysLemmas.{plain_row}
+use Rattle.oc_shows.proofs.FoundLaws.{found_in}
 
 fails : (b : Bool) → (b ≡ true → ⊥) → b ≡ false
 fails true never = absurd (never refl)

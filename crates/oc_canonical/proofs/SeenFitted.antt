@@ -42,8 +42,8 @@ use Rattle.oc_neutral.proofs.SeenLines.{IsShown}
 use Rattle.oc_neutral.proofs.SeenRelocs.{all_from, list_map}
 use Rattle.oc_shelf.proofs.ReadingLaws.StageLemmas.{Unbroken, unbroken_append, no_first_fault}
 use Rattle.oc_shelf.proofs.WritingLaws.MemberLemmas.{of_map, of_append}
-use Rattle.oc_elf_file.proofs.RelocLaws.{found_in}
 use Rattle.oc_canonical.proofs.SeenSums.{seen_sum, seen_few}
+use Rattle.oc_shows.proofs.FoundLaws.{found_in}
 
 -- what stands among the relocations of sections
 record IsFrom (s : ℕ) (lists : Lists Reloc) (z : Standing) : Type 0 where

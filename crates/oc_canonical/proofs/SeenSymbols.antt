@@ -12,8 +12,7 @@ use Rattle.oc_neutral.specs.Manners.{Manner}
 use Rattle.oc_neutral.specs.Seen.{shown_from, new_position, seen_symbol, seen_symbols}
 use Rattle.oc_neutral.specs.SymbolLines.{Line, silent, lines_where}
 use Rattle.oc_neutral.proofs.SeenLines.{IsShown}
-use Rattle.oc_shelf.proofs.WritingLaws.MemberLemmas.{position_first, filter_map-map, of_filter_map, map-map, map-alike}
-use Rattle.oc_elf_file.proofs.LineLaws.{of_filter}
+use Rattle.oc_shelf.proofs.WritingLaws.MemberLemmas.{position_first, filter_map-map, of_filter_map, map-map, map-alike, of_filter}
 use Rattle.oc_elf_file.proofs.HeadLaws.{of_enumerated}
 use Rattle.oc_canonical.proofs.MapLemmas.{filter-mapped, filter_map-all, filter_map-append, is_filled, filled_map, any_filled, filter_numbered, flat_map-mapped}
 

@@ -49,7 +49,7 @@ use Rattle.oc_coff_file.proofs.LineLaws.{section_found, default_found, outer_fou
 use Rattle.oc_coff_file.proofs.CodedLaws.{IsForCoff, IsCodedValue, IsCodedFallback, IsCodedBinding, coded_section, coded_line, outer_coded, IsCodedLine, fewest, number_room, other_room, counted_room}
 use Rattle.oc_coff_file.proofs.SectionLaws.{flags_say}
 use Rattle.oc_coff_file.proofs.GroupLaws.{leader_of}
-use Rattle.oc_coff_file.proofs.FieldLaws.{coff_reloc, meets, type_is, has_bytes, found_in, wide_enough, empty_past}
+use Rattle.oc_coff_file.proofs.FieldLaws.{coff_reloc, meets, type_is, has_bytes, wide_enough}
 use Rattle.oc_coff_file.proofs.SymbolLaws.{AreTagged}
 use Rattle.oc_coff_file.proofs.SizeLaws.{small_file, few_entries}
 use Rattle.oc_neutral.specs.Building.{is_zero}
@@ -58,6 +58,7 @@ use Rattle.oc_linking.specs.declared.terms.Value.TheVariants as value
 use Rattle.oc_linking.specs.declared.terms.Fallback.TheVariants as fallback
 use Rattle.oc_chains.specs.declared.field.Field as chains
 use Rattle.oc_neutral.specs.declared.reloc.Target.TheVariants as target
+use Rattle.oc_shows.proofs.FoundLaws.{empty_past, found_in}
 
 -- all numbers of a canonical file fit
 pub record HasNumbers (w : CoffForm) (n : Object) : Type 0 where

@@ -1,15 +1,12 @@
 -- The fields of a canonical file are the relocations of the object that is seen.
-use Rattle.oc_algebra.specs.Promises.{Holds}
-use Rattle.oc_chains.specs.Fields.{FollowFrom, end_of}
-use Rattle.std.proofs.Common.{◌≡◌, ℕ, zero, suc, ◌+◌, ◌%◌, ◌<◌, ◌≤◌, Bool, true, false, cond, not, ◌&&◌, eqb, ℤ, List, [], ◌∷◌, length, map, replicate, get_or, Option, Some, None, Ok, refl, sym, ◌∙◌, ap, subst, inl, inr, arith, MatchResult}
+use Rattle.std.proofs.Common.{◌≡◌, ℕ, ◌+◌, ◌%◌, ◌<◌, ◌≤◌, Bool, true, false, cond, not, ◌&&◌, eqb, ℤ, List, [], ◌∷◌, length, map, replicate, Option, Some, None, refl, sym, ◌∙◌, ap, subst, inl, inr, arith}
 use Rattle.std.specs.Prelude.{◌+ℤ◌, slice_get, find}
 use Rattle.std.specs.List.{enumerate_from, AllByRecursion}
 use Rattle.std.specs.Option.{option_map, option_map_or, option_and_then}
-use Rattle.std.proofs.lemmas.Bool.{true≢false, eqb-true, eq-eqb, ne_eqb, cases_lt}
-use Rattle.std.proofs.lemmas.Option.{none-some, same_Some}
+use Rattle.std.proofs.lemmas.Bool.{eqb-true, ne_eqb, cases_lt}
+use Rattle.std.proofs.lemmas.Option.{none-some, same_Some, slice_get_past}
 use Rattle.std.proofs.lemmas.List.{length-map}
 use Rattle.std.proofs.lemmas.List.FromFn.{length-enumerate_from}
-use Rattle.oc_base.specs.declared.format.Word.{Word}
 use Rattle.oc_coff.specs.declared.form.CoffForm.{CoffForm}
 use Rattle.oc_coff.specs.declared.form.CoffForm.TheVariants.{Usual32, Usual64, Big32, Big64}
 use Rattle.oc_base.specs.Formats.{word_for}
@@ -21,7 +18,6 @@ use Rattle.oc_linking.specs.declared.terms.Base.{Base}
 use Rattle.oc_linking.specs.declared.terms.Hint.{Hint}
 use Rattle.oc_linking.specs.declared.terms.Patch.{Patch}
 use Rattle.oc_linking.specs.declared.terms.Less.{Less}
-use Rattle.oc_linking.specs.declared.terms.Less.TheVariants as less
 use Rattle.oc_linking.specs.declared.terms.Kind.TheVariants.{Zero}
 use Rattle.oc_linking.specs.Fits.{bytes_of, span}
 use Rattle.oc_linking.specs.Shows.{Apart}
@@ -29,7 +25,6 @@ use Rattle.oc_linking.specs.Targets as file
 use Rattle.oc_linking.proofs.Storing.{field_holds}
 use Rattle.oc_algebra.specs.Residues.{reduced_number}
 use Rattle.oc_algebra.specs.Fields.{extended, to_field_of, from_field_of}
-use Rattle.oc_algebra.proofs.FieldLaws.{written_law}
 use Rattle.oc_chains.specs.declared.field.Field as chains
 use Rattle.oc_chains.specs.Lists.{list_of}
 use Rattle.oc_neutral.specs.declared.section.Section.{Section}
@@ -45,13 +40,13 @@ use Rattle.oc_neutral.specs.RelocTables.{rows_of, row_of}
 use Rattle.oc_neutral.specs.RowFields.{field_in_place, number_in}
 use Rattle.oc_neutral.specs.RowValues.{row_reloc}
 use Rattle.oc_neutral.specs.Rows as rows
-use Rattle.oc_neutral.specs.Rows.{Row, Taken, TakesZero, TakesPlace, TakesGotBase, TakesImageBase, TakesHome, TakesSection, same_taken, taken_of, shift_of}
+use Rattle.oc_neutral.specs.Rows.{Row, TakesZero, TakesPlace, TakesGotBase, TakesImageBase, TakesHome, TakesSection, same_taken, shift_of}
 use Rattle.oc_neutral.specs.Seen.{seen_reloc, seen_target}
 use Rattle.oc_neutral.proofs.FitLinks.{from_mapped}
 use Rattle.oc_neutral.proofs.Positions.{each_at, there_at}
 use Rattle.oc_neutral.proofs.Standing.{ends_by, wide_in}
 use Rattle.oc_shelf.specs.Writing.Parts.{Laid}
-use Rattle.oc_shelf.proofs.WritingLaws.MemberLemmas.{member_map, member_enumerated}
+use Rattle.oc_shelf.proofs.WritingLaws.MemberLemmas.{member_map, member_enumerated, all_members}
 use Rattle.oc_coff.specs.declared.relocation.Relocation.{Relocation}
 use Rattle.oc_coff.specs.Sections.{carried_in}
 use Rattle.oc_coff.specs.Targets.{target_in}
@@ -63,6 +58,7 @@ use Rattle.oc_coff_file.proofs.TableLaws.{made_tables}
 use Rattle.oc_coff_file.proofs.CodedLaws.{IsForCoff, coded_section, seen_kind}
 use Rattle.oc_coff_file.proofs.SectionLaws.{made_contents, made_carried}
 use Rattle.oc_coff_file.proofs.SeenLaws.{shown}
+use Rattle.oc_shows.proofs.FoundLaws.{empty_past, found_in, less_back, holds_addend}
 
 -- ... look-ups by offset
 
@@ -82,41 +78,11 @@ find_by_offset w lines (x ∷ xs) at says =
       | false ↦ λ e. find_by_offset w lines xs at says.1
     ] refl)
 
-pub no_member : {X : Type 0} (xs : List X) (k : ℕ) → length xs ≤ k → slice_get xs k ≡ None
-no_member [] k l = refl
-no_member (x ∷ xs) zero l = absurd (omega (arith, l))
-no_member (x ∷ xs) (suc k) l = no_member xs k (omega (arith, l))
-
-pub empty_past : {X : Type 0} (xs : List (List X)) (k : ℕ) → length xs ≤ k → get_or xs k [] ≡ []
-empty_past [] k l = refl
-empty_past (x ∷ xs) zero l = absurd (omega (arith, l))
-empty_past (x ∷ xs) (suc k) l = empty_past xs k (omega (arith, l))
-
 pub wide_enough : (width : Width) → 1 ≤ bytes_of width
 wide_enough One = omega arith
 wide_enough Two = omega arith
 wide_enough Four = omega arith
 wide_enough Eight = omega arith
-
-pub all_members : {X : Type 0} (P : X → Type 0) (xs : List X) → ((i : ℕ) (x : X) → slice_get xs i ≡ Some x → P x) → AllByRecursion P xs
-all_members P [] each = tt
-all_members P (x ∷ xs) each = (each 0 x refl, all_members P xs (λ i y h. each (suc i) y h))
-
--- a field of a list in order is found at its place
-pub found_in : (p : ℕ) (xs : List (chains.Field Reloc)) → FollowFrom p xs → (i : ℕ) (x : chains.Field Reloc) → slice_get xs i ≡ Some x → (p ≤ x.at) × (reloc_among xs x.at ≡ Some x.item)
-found_in p [] follow i x h = absurd (none-some x h)
-found_in p (y ∷ xs) follow zero x h =
-    let same : y ≡ x = same_Some y x h in
-    let l = follow.0 in (
-      subst (λ (z : chains.Field Reloc). p ≤ z.at) same l,
-      subst (λ (z : chains.Field Reloc). reloc_among (y ∷ xs) z.at ≡ Some z.item) same (ap (λ b. cond b (Some y.item) (reloc_among xs y.at)) (eq-eqb y.at y.at refl)),
-    )
-found_in p (y ∷ xs) follow (suc i) x h =
-    let rest = found_in (end_of y) xs follow.2 i x h in
-    let low = rest.0 in
-    let l = follow.0 in
-    let wide = follow.1 in
-    (omega (arith, low, l), ap (λ b. cond b (Some y.item) (reloc_among xs x.at)) (ne_eqb y.at x.at (omega (arith, low, wide))) ∙ rest.1)
 
 -- ... rows
 
@@ -127,32 +93,12 @@ no_sections Usual64 = (refl, (refl, (refl, (refl, (refl, (refl, (refl, (refl, (r
 no_sections Big32 = (refl, (refl, (refl, (refl, (refl, tt)))))
 no_sections Big64 = (refl, (refl, (refl, (refl, (refl, (refl, (refl, (refl, (refl, (refl, (refl, tt)))))))))))
 
-less_back : (l : Less) (t : Taken) (k : ℕ) → t ≡ taken_of l → same_taken t TakesSection ≡ false → rows.less_of t k ≡ l
-less_back less.Zero t k e lacks = ap (λ x. rows.less_of x k) e
-less_back less.Place t k e lacks = ap (λ x. rows.less_of x k) e
-less_back less.GotBase t k e lacks = ap (λ x. rows.less_of x k) e
-less_back less.ImageBase t k e lacks = ap (λ x. rows.less_of x k) e
-less_back less.Home t k e lacks = ap (λ x. rows.less_of x k) e
-less_back (less.Section j) t k e lacks = absurd (true≢false (ap (λ x. same_taken x TakesSection) (sym e) ∙ lacks))
-
 -- a word and a form have the same rows
 pub row_same : (w : CoffForm) (number : ℕ) → row_of (coff_format (word_of w)) number ≡ row_of (format_of w) number
 row_same Usual32 number = refl
 row_same Usual64 number = refl
 row_same Big32 number = refl
 row_same Big64 number = refl
-
--- what a field holds is the addend
-holds_addend : (w : Word) (k : Width) (shift a : ℤ) (F : ℕ) → to_field_of w k shift a ≡ Ok F → (F % span k ≡ F) × (from_field_of w k shift F ≡ reduced_number w a)
-holds_addend w k shift a F e =
-    let law = subst (λ o. MatchResult o (Holds w k shift a) (λ x. (g : ℕ) → Holds w k shift a g → ⊥)) e (written_law w k shift a) in
-    (small k F law.0, law.1)
-  where
-    small : (k : Width) (F : ℕ) → F < span k → F % span k ≡ F
-    small One F low = omega (arith, low)
-    small Two F low = omega (arith, low)
-    small Four F low = omega (arith, low)
-    small Eight F low = omega (arith, low)
 
 module _ (w : CoffForm) (n : Object) (is : IsForCoff w n) where
   abbrev lines : List (Laid Line)
@@ -320,4 +266,4 @@ module _ (w : CoffForm) (n : Object) (is : IsForCoff w n) where
     fields_past k at high =
         let past : length (map (made_carried w n) (enumerate_from 0 n.sections)) ≤ k = omega (arith, high, length-map (enumerate_from 0 n.sections) (made_carried w n), length-enumerate_from 0 n.sections) in
         ap (λ cs. option_and_then (field_in (word_of w) (target_in (word_of w) (made_tables w n)) k at) (slice_get cs k)) carried
-        ∙ ap (option_and_then (field_in (word_of w) (target_in (word_of w) (made_tables w n)) k at)) (no_member (map (made_carried w n) (enumerate_from 0 n.sections)) k past)
+        ∙ ap (option_and_then (field_in (word_of w) (target_in (word_of w) (made_tables w n)) k at)) (slice_get_past (map (made_carried w n) (enumerate_from 0 n.sections)) k past)

@@ -18,14 +18,14 @@ use Rattle.oc_neutral.specs.KeySymbols.{global_place, group_at, is_key_name, is_
 use Rattle.oc_neutral.specs.Meets.{HasKeySymbol}
 use Rattle.oc_neutral.specs.Normal.{Place}
 use Rattle.oc_shelf.specs.Writing.Parts.{laid, laid_end, behind}
-use Rattle.oc_shelf.proofs.WritingLaws.MemberLemmas.{each_map, each_enumerated, member_passes, member_enumerated, member_map}
+use Rattle.oc_shelf.proofs.WritingLaws.MemberLemmas.{each_map, each_enumerated, member_passes, member_enumerated, member_map, member_filter}
 use Rattle.oc_coff.specs.Entries.{Entry, is_in}
 use Rattle.oc_coff.specs.Comdat.{symbols_of}
 use Rattle.oc_coff_file.specs.Lines.{Line, SectionLine, OuterLine, placed_symbols, lines_where, section_lines, lines_of, line_size, numbered_lines}
 use Rattle.oc_coff.specs.Values.{numbers_by}
 use Rattle.oc_coff_file.specs.Canonical.{leader_number, leads}
 use Rattle.oc_coff_file.proofs.EntryLaws.{made_entry}
-use Rattle.oc_coff_file.proofs.LineLaws.{each_filter, member_filter}
+use Rattle.oc_coff_file.proofs.LineLaws.{each_filter}
 
 both : (x y : Bool) → (x && y) ≡ true → (x ≡ true) × (y ≡ true)
 both true y e = (refl, e)

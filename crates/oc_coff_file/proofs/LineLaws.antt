@@ -19,7 +19,7 @@ use Rattle.oc_neutral.proofs.SeenFamilies.{coff_table}
 use Rattle.oc_neutral.specs.WrittenSymbols.{is_written}
 use Rattle.oc_shelf.specs.Writing.Parts.{Laid, behind}
 use Rattle.oc_shelf.proofs.WritingLaws.PartLemmas.{IsFound, place_found, laid_part, laid_same}
-use Rattle.oc_shelf.proofs.WritingLaws.MemberLemmas.{member_first, member_second, member_map, member_enumerated, member_flat_map, each_append, each_map, each_flat_map, each_enumerated, of_append, of_map, map-map, map-alike, keyed_once}
+use Rattle.oc_shelf.proofs.WritingLaws.MemberLemmas.{member_first, member_second, member_map, member_enumerated, member_flat_map, each_append, each_map, each_flat_map, each_enumerated, of_append, of_map, map-map, map-alike, keyed_once, member_filter}
 use Rattle.oc_coff.specs.Forms.{format_of}
 use Rattle.oc_coff_file.specs.Lines.{Line, SectionLine, LocalLine, DefaultLine, OuterLine, placed_symbols, lines_where, section_lines, is_written_local, is_free, lines_of, line_size, numbered_lines, is_section_line, is_default_line, is_outer_line}
 use Rattle.oc_neutral.specs.SymbolLines as table
@@ -47,17 +47,6 @@ each_filter {X} P test (y ∷ xs) each k x here = by (test y) (each 0 y refl) (�
     by true own rest zero h = subst P (same_Some y x h) (own refl)
     by true own rest (suc k) h = rest k h
     by false own rest k h = rest k h
-
-pub member_filter : {X : Type 0} (test : X → Bool) (xs : List X) (k : ℕ) (x : X) → slice_get xs k ≡ Some x → test x ≡ true → (j : ℕ) × (slice_get (filter test xs) j ≡ Some x)
-member_filter test [] k x here passes = absurd (none-some x here)
-member_filter test (y ∷ xs) zero x here passes =
-    let own : test y ≡ true = ap test (same_Some y x here) ∙ passes in
-    (0, ap (λ b. slice_get (cond b (y ∷ filter test xs) (filter test xs)) 0) own ∙ here)
-member_filter {X} test (y ∷ xs) (suc k) x here passes = by (test y) (member_filter test xs k x here passes)
-  where
-    by : (b : Bool) → (j : ℕ) × (slice_get (filter test xs) j ≡ Some x) → (j : ℕ) × (slice_get (cond b (y ∷ filter test xs) (filter test xs)) j ≡ Some x)
-    by true m = (suc m.0, m.1)
-    by false m = m
 
 -- a line as seeing counts it
 abbrev pub counted_line : Line → table.Line

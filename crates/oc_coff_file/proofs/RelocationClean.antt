@@ -25,7 +25,7 @@ use Rattle.oc_neutral.specs.RelocTables.{row_of}
 use Rattle.oc_neutral.specs.TargetRelocations.{is_homeless, needs_home}
 use Rattle.oc_neutral.proofs.Positions.{there_at, each_at}
 use Rattle.oc_shelf.specs.Writing.Parts.{Laid}
-use Rattle.oc_shelf.proofs.WritingLaws.MemberLemmas.{each_flat_map, each_map, each_enumerated}
+use Rattle.oc_shelf.proofs.WritingLaws.MemberLemmas.{each_flat_map, each_map, each_enumerated, all_members}
 use Rattle.oc_shelf.proofs.ReadingLaws.StageLemmas.{Unbroken, IsUnbroken}
 use Rattle.oc_coff.specs.Entries.{entries_in}
 use Rattle.oc_coff.specs.Sections.{Carried, carried_in, sections_in}
@@ -40,11 +40,12 @@ use Rattle.oc_coff_file.proofs.CodedLaws.{IsForCoff, coded_section}
 use Rattle.oc_coff_file.proofs.SectionLaws.{made_carried, stored_read}
 use Rattle.oc_coff_file.proofs.SymbolLaws.{S, E}
 use Rattle.oc_coff_file.proofs.TargetLaws.{section_aim, symbol_aim}
-use Rattle.oc_coff_file.proofs.FieldLaws.{all_members, coff_reloc, found_in, has_bytes, inside, meets, row, row_found, says_something, wide_enough}
+use Rattle.oc_coff_file.proofs.FieldLaws.{coff_reloc, has_bytes, inside, meets, row, row_found, says_something, wide_enough}
 use Rattle.oc_coff_file.proofs.LineLaws.{each_filter}
 use Rattle.oc_coff_file.proofs.CodableLaws.{HasNumbers}
 use Rattle.oc_coff_file.proofs.HeaderClean.{within_file}
 use Rattle.oc_coff_file.proofs.SectionClean.{and_false}
+use Rattle.oc_shows.proofs.FoundLaws.{found_in}
 
 -- fields that have ended by a place
 abbrev EndBy : ℕ → List (chains.Field Reloc) → Type 0

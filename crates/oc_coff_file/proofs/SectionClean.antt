@@ -8,7 +8,7 @@ use Rattle.std.proofs.lemmas.Bool.{true≢false, ne_eqb, ltb-true, le-leb, cases
 use Rattle.std.proofs.lemmas.List.{length-map}
 use Rattle.std.proofs.lemmas.List.FromFn.{length-enumerate_from}
 use Rattle.std.proofs.lemmas.List.Sums.{sum_by-cons}
-use Rattle.std.proofs.lemmas.Option.{slice_get_within}
+use Rattle.std.proofs.lemmas.Option.{slice_get_within, slice_get_past}
 use Rattle.oc_coff.specs.declared.form.CoffForm.{CoffForm}
 use Rattle.oc_base.specs.Numbers.{number_at}
 use Rattle.oc_linking.specs.declared.terms.Kind.TheVariants.{Zero}
@@ -49,7 +49,6 @@ use Rattle.oc_coff.specs.Names.{section_name}
 use Rattle.oc_shelf.specs.Reading.Sums.{sum_upto}
 use Rattle.oc_neutral.specs.Building.{stored_size, is_zero}
 use Rattle.oc_linking.specs.declared.terms.Kind.{Kind}
-use Rattle.oc_coff_file.proofs.FieldLaws.{no_member}
 use Rattle.oc_neutral.proofs.Positions.{there_at}
 
 -- ... running sums
@@ -281,7 +280,7 @@ module _ (w : CoffForm) (n : Object) (is : IsForCoff w n) (numbers : HasNumbers 
   unfolding made_tables
   table_past k high =
       let count : length (map (made_table w n) (enumerate_from 0 n.sections)) ≡ length n.sections = length-map (enumerate_from 0 n.sections) (made_table w n) ∙ length-enumerate_from 0 n.sections in
-      no_member (map (made_table w n) (enumerate_from 0 n.sections)) k (omega (arith, high, count))
+      slice_get_past (map (made_table w n) (enumerate_from 0 n.sections)) k (omega (arith, high, count))
 
   worth_low : (worth : SectionTable → ℕ) (own : Section → ℕ) → ((k : ℕ) (s : Section) → slice_get n.sections k ≡ Some s → worth (made_table w n (k, s)) ≡ own s)
       → (k : ℕ) → worth_by worth (made_tables w n) k ≤ option_map_or own (slice_get n.sections k) 0

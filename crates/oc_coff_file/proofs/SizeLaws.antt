@@ -1,12 +1,11 @@
 -- The sizes of a canonical file are numbers of 32 bits.
 use Rattle.oc_coff_file.proofs.StructureLaws.{header_most, symbols_most}
-use Rattle.std.proofs.Common.{◌≡◌, ℕ, suc, ◌+◌, ◌*◌, ◌^◌, ◌<◌, ◌≤◌, Bool, true, false, cond, ◌&&◌, List, [], ◌∷◌, ◌++◌, length, map, get_or, refl, sym, ◌∙◌, ap, arith, length-append}
-use Rattle.std.specs.Prelude.{flat_map, not}
-use Rattle.std.specs.List.{sum_by, fold, enumerate_from, AllByRecursion}
-use Rattle.std.proofs.lemmas.List.Sums.{sum_by-cons, sum_by-append}
+use Rattle.std.proofs.Common.{◌≡◌, ℕ, suc, ◌+◌, ◌*◌, ◌^◌, ◌<◌, ◌≤◌, Bool, true, false, cond, List, [], ◌∷◌, length, map, get_or, refl, sym, ◌∙◌, ap, arith}
+use Rattle.std.specs.Prelude.{flat_map}
+use Rattle.std.specs.List.{sum_by, enumerate_from, AllByRecursion}
+use Rattle.std.proofs.lemmas.List.Sums.{sum_by-cons}
 use Rattle.std.proofs.lemmas.List.{length-map}
 use Rattle.oc_coff.specs.declared.form.CoffForm.{CoffForm}
-use Rattle.oc_base.specs.Strings.{is_maximal, is_given, with_top, tops_of, table_text}
 use Rattle.oc_chains.specs.Lists.{list_of}
 use Rattle.oc_neutral.specs.declared.reloc.Reloc.{Reloc}
 use Rattle.oc_neutral.specs.declared.section.Section.{Section}
@@ -27,10 +26,10 @@ use Rattle.oc_coff_file.specs.Canonical.{coff_file}
 use Rattle.oc_coff_file.proofs.CodedLaws.{IsForCoff, fewest}
 use Rattle.oc_coff_file.proofs.LineLaws.{counted_line, lines_counted}
 use Rattle.oc_coff_file.proofs.PartLaws.{length-coff_file, table_place, front_parts}
-use Rattle.oc_base.specs.Strings as strings
 use Rattle.oc_chains.specs.declared.field.Field as chains
 use Rattle.oc_neutral.specs.SymbolLines as table
 use Rattle.oc_neutral.proofs.SeenTables as counts
+use Rattle.oc_shelf.proofs.WritingLaws.SizeLemmas.{table_size}
 
 -- ... sums
 
@@ -38,36 +37,6 @@ use Rattle.oc_neutral.proofs.SeenTables as counts
 pub end_is : {X : Type 0} (size : X → ℕ) (at : ℕ) (xs : List X) → laid_end behind size at xs ≡ at + sum_by size xs
 end_is size at [] = omega arith
 end_is size at (x ∷ xs) = let a = sum_by-cons size x xs in let b = end_is size (at + size x) xs in omega (arith, a, b)
-
--- the texts of a string table are not longer than the names, each with its NUL
-abbrev pub ended_size : List ℕ → ℕ
-ended_size name = length name + 1
-
-text_size : (tops : List (List ℕ)) → length (strings.text_of tops) ≡ sum_by ended_size tops
-unfolding strings.text_of
-text_size [] = refl
-text_size (top ∷ tops) =
-    let all : length ((top ++ 0 ∷ []) ++ flat_map (λ (t : List ℕ). t ++ 0 ∷ []) tops) ≡ length (top ++ 0 ∷ []) + length (flat_map (λ (t : List ℕ). t ++ 0 ∷ []) tops) = length-append (top ++ 0 ∷ []) (flat_map (λ (t : List ℕ). t ++ 0 ∷ []) tops) in
-    let own : length (top ++ 0 ∷ []) ≡ length top + 1 = length-append top (0 ∷ []) in
-    let more = text_size tops in
-    let sum = sum_by-cons ended_size top tops in
-    omega (arith, all, own, more, sum)
-
-tops_size : (names acc rest : List (List ℕ)) → sum_by ended_size (fold (with_top names) acc rest) ≤ sum_by ended_size acc + sum_by ended_size rest
-tops_size names acc [] = omega arith
-tops_size names acc (name ∷ rest) =
-    let later = tops_size names (with_top names acc name) rest in
-    let sum = sum_by-cons ended_size name rest in
-    let step = by (is_maximal names name && not (is_given acc name)) in
-    omega (arith, later, sum, step)
-  where
-    by : (b : Bool) → sum_by ended_size (cond b (acc ++ name ∷ []) acc) ≤ sum_by ended_size acc + (length name + 1)
-    by true = let a = sum_by-append ended_size acc (name ∷ []) in let b = sum_by-cons ended_size name [] in omega (arith, a, b)
-    by false = omega arith
-
-pub table_size : (names : List (List ℕ)) → length (table_text names) ≤ sum_by ended_size names
-unfolding table_text tops_of
-table_size names = let a = text_size (fold (with_top names) [] names) in let b = tops_size names [] names in omega (arith, a, b)
 
 module _ (w : CoffForm) (n : Object) (is : IsForCoff w n) where
   -- ... the symbol table

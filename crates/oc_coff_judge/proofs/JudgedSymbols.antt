@@ -4,11 +4,10 @@ use Rattle.std.proofs.Common.{◌≡◌, ℕ, zero, suc, ◌+◌, ◌<◌, ◌�
 use Rattle.std.specs.Prelude.{nat_eq, slice_get, MatchOption}
 use Rattle.std.specs.List.{list_any}
 use Rattle.std.specs.Option.{is_some, option_and_then, option_copied, option_flatten, option_map, option_map_or}
-use Rattle.std.proofs.lemmas.Bool.{cases_eq, cases_lt, eq-eqb, ne_eqb, true≢false}
 use Rattle.std.proofs.lemmas.Cmp.{nat_list_eq_equiv}
 use Rattle.std.proofs.lemmas.List.{length-map, map-append, take_more}
 use Rattle.std.proofs.lemmas.List.Folds.{list_any_more}
-use Rattle.std.proofs.lemmas.Option.{none-some, same_Some, get_or_from_slice_get, slice_get-map, slice_get_cases, slice_get_within}
+use Rattle.std.proofs.lemmas.Option.{get_or_from_slice_get, slice_get-map, slice_get_cases, slice_get_within}
 use Rattle.std.proofs.lemmas.Slice.Eq.{bytes_eq-Decides}
 use denote.Ref.{Bor}
 use Rattle.oc_base.specs.declared.code.Code.TheVariants.{BadSymbol, SymbolKind}
@@ -32,6 +31,7 @@ use Rattle.oc_coff_judge.specs.Numbered.{AreNumbers, entry_by, entry_place}
 use Rattle.oc_coff_judge.proofs.EntryLemmas.{number_is}
 use Rattle.oc_coff_judge.proofs.SoundSymbols.{sound_by}
 use Rattle.oc_coff_judge.proofs.StartLemmas.{symbol_here}
+use Rattle.oc_shows.proofs.RepeatLaws as laws
 
 -- ... part by part
 
@@ -155,29 +155,6 @@ symbol_broken file numbers all i low =
 
 -- ... while no symbol has a fault
 
--- the first of several is that of an entry before which none has one
-record IsFirst {X : Type 0} (item : ℕ → Option X) (n : ℕ) (x : X) : Type 0 where
-  k : ℕ
-  low : k < n
-  is : item k ≡ Some x
-  first : (i : ℕ) → i < k → item i ≡ None
-
-found_first : {X : Type 0} (item : ℕ → Option X) (n : ℕ) (x : X) → first_upto item n ≡ Some x → IsFirst item n x
-found_first item zero x e = absurd (none-some x e)
-found_first {X} item (suc n) x e = by (first_upto item n) refl e (found_first item n x)
-  where
-    by : (o : Option X) → first_upto item n ≡ o → or_else o (item n) ≡ Some x → (first_upto item n ≡ Some x → IsFirst item n x) → IsFirst item (suc n) x
-    by None h e before = record { k = n; low = omega arith; is = e; first = λ i low. first_upto_none item n h i low }
-    by (Some y) h e before = let m = before (h ∙ e) in let l = m.low in record { k = m.k; low = omega (arith, l); is = m.is; first = m.first }
-
--- a repeat that is told of a position ends there
-repeat_later : (names : NameList) (k : ℕ) (r : Repeat) → repeat_at names k ≡ Some r → r.later ≡ k
-repeat_later names k r e = by (option_and_then (place_of names k) (name_at names k)) e
-  where
-    by : (o : Option ℕ) → option_map {U = Repeat} (λ place. record { earlier = place; later = k }) o ≡ Some r → r.later ≡ k
-    by None h = absurd (none-some r h)
-    by (Some place) h = ap (λ (x : Repeat). x.later) (sym (same_Some (record { earlier = place; later = k }) r h))
-
 -- a symbol without a fault has a name of its own
 no_repeat : (t : Tables) (k : ℕ) → k < length (entries_in t) → fault_of (symbol_stage t) k ≡ None → is_some (repeat_at (public_names t) k) ≡ false
 no_repeat t k low clean = elim (slice_get_cases (entries_in t) k).1 [
@@ -190,22 +167,9 @@ no_repeat t k low clean = elim (slice_get_cases (entries_in t) k).1 [
 -- the first repeat ends at a symbol exactly where its name stood before
 pub repeat_ends : (t : Tables) (found : Option Repeat) (i : ℕ) → found ≡ first_repeat (public_names t) → i < length (entries_in t) → first_upto (fault_of (symbol_stage t)) i ≡ None
     → ends_at found i ≡ is_some (repeat_at (public_names t) i)
-repeat_ends t None i is low clean =
-    sym (ap is_some (first_upto_none (repeat_at (public_names t)) (length (public_names t)) (sym is) i (omega (arith, low, length-map (entries_in t) (public_name t.strings)))))
-repeat_ends t (Some r) i is low clean = by (found_first (repeat_at (public_names t)) (length (public_names t)) r (sym is))
-  where
-    by : IsFirst (repeat_at (public_names t)) (length (public_names t)) r → nat_eq r.later i ≡ is_some (repeat_at (public_names t) i)
-    by m = elim (cases_eq m.k i) [
-      | inl same ↦ eq-eqb r.later i (repeat_later (public_names t) m.k r m.is ∙ same) ∙ sym (ap is_some (ap (repeat_at (public_names t)) (sym same) ∙ m.is))
-      | inr other ↦ elim (cases_lt i m.k) [
-        | inl before ↦
-            let ends = repeat_later (public_names t) m.k r m.is in
-            ne_eqb r.later i (λ same. other (sym ends ∙ same)) ∙ sym (ap is_some (m.first i before))
-        | inr past ↦
-            let behind : m.k < i = omega (arith, past, other) in
-            absurd (true≢false (sym (ap is_some m.is) ∙ no_repeat t m.k (omega (arith, behind, low)) (first_upto_none (fault_of (symbol_stage t)) i clean m.k behind)))
-      ]
-    ]
+repeat_ends t found i is low clean =
+    laws.repeat_ends (public_names t) found i is (omega (arith, low, length-map (entries_in t) (public_name t.strings)))
+    (λ j before. no_repeat t j (omega (arith, before, low)) (first_upto_none (fault_of (symbol_stage t)) i clean j before))
 
 -- ... lists of names
 

@@ -1,10 +1,8 @@
 -- No two carried symbols have one number, so each stands where its number says.
 use Rattle.oc_coff.specs.Files.{CoffFile, tables_in}
-use Rattle.std.proofs.Common.{◌≡◌, ℕ, zero, suc, ◌+◌, Bool, true, false, cond, List, [], ◌∷◌, length, Option, None, Some, refl, sym, ◌∙◌, ap, subst, arith}
-use Rattle.std.specs.Prelude.{not, nat_eq, slice_get}
-use Rattle.std.specs.List.{position_or_len}
+use Rattle.std.proofs.Common.{◌≡◌, ℕ, List, length, Option, None, Some, refl, sym, ◌∙◌, ap, arith}
+use Rattle.std.specs.Prelude.{slice_get}
 use Rattle.std.specs.Option.{option_and_then, option_map}
-use Rattle.std.proofs.lemmas.Bool.{eq-eqb, eqb-true, true≢false}
 use Rattle.std.proofs.lemmas.Option.{none-some, same_Some}
 use Rattle.oc_linking.specs.declared.terms.Binding.{Binding}
 use Rattle.oc_linking.specs.Parts as parts
@@ -20,6 +18,7 @@ use Rattle.oc_coff.specs.Head.{IsHeaded}
 use Rattle.oc_coff_judge.specs.Led.{symbol_at}
 use Rattle.oc_coff_judge.proofs.CollectLemmas.{symbols_are}
 use Rattle.oc_coff_judge.proofs.EntryLemmas.{entries_rise, rise_apart}
+use Rattle.oc_shelf.proofs.ReadingLaws.NumberedLemmas.{stands_numbered}
 
 -- what a carried symbol has of its entry
 pub record IsCarried (t : Tables) (e : Entry) (s : parts.Symbol) : Type 0 where
@@ -65,24 +64,6 @@ symbols_numbered file head i j s u less at_i at_j same =
     let first = number_of t a.k s m in
     let second = number_of t b.k u o in
     omega (arith, apart, first, second, same)
-
--- a symbol stands at the position of its number
-pub stands_numbered : (symbols : List parts.Symbol) → AreNumbered symbols → (j : ℕ) (x : parts.Symbol) → slice_get symbols j ≡ Some x → slice_get symbols (position_of symbols x.number) ≡ Some x
-stands_numbered [] apart j x here = absurd (none-some x here)
-stands_numbered (y ∷ ys) apart j x here =
-    by (nat_eq y.number x.number) refl j here (λ k there. stands_numbered ys (λ i j s u less at_i at_j. apart (suc i) (suc j) s u (omega (arith, less)) at_i at_j) k x there)
-  where
-    later : ℕ
-    later = position_or_len (λ (s : parts.Symbol). nat_eq s.number x.number) ys
-
-    by : (b : Bool) → nat_eq y.number x.number ≡ b → (j : ℕ) → slice_get (y ∷ ys) j ≡ Some x → ((k : ℕ) → slice_get ys k ≡ Some x → slice_get ys later ≡ Some x)
-        → slice_get (y ∷ ys) (cond (not b) (1 + later) 0) ≡ Some x
-    by true e zero here rest = here
-    by true e (suc k) here rest = absurd (apart 0 (suc k) y x (omega arith) refl here (eqb-true y.number x.number e))
-    by false e zero here rest = absurd (true≢false (sym (eq-eqb y.number x.number (ap (λ (s : parts.Symbol). s.number) (same_Some y x here))) ∙ e))
-    by false e (suc k) here rest =
-        let one : suc later ≡ 1 + later = omega arith in
-        subst (λ (p : ℕ). slice_get (y ∷ ys) p ≡ Some x) one (rest k here)
 
 -- a carried symbol of a file does
 pub symbol_stands : (file : CoffFile) → IsHeaded file → (k : ℕ) (e : Entry) (x : parts.Symbol) → slice_get (entries_in (tables_in file)) k ≡ Some e

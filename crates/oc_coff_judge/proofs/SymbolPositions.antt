@@ -4,15 +4,14 @@ use Rattle.oc_coff.specs.declared.form.Shape.TheVariants.{Usual, Big}
 use Rattle.oc_coff.specs.Forms.{symbol_size}
 use Rattle.oc_coff.specs.FileHeader.{file_header_of}
 use Rattle.oc_coff.specs.Files.{CoffFile, tables_in}
-use Rattle.std.proofs.Common.{◌≡◌, ℕ, zero, suc, ◌+◌, ◌<◌, ◌≤◌, inl, inr, Bool, true, false, cond, eqb, List, [], ◌∷◌, ◌++◌, length, take, set, get_or, Option, None, Some, refl, sym, ◌∙◌, ap, subst, arith, ◌*◌}
+use Rattle.std.proofs.Common.{◌≡◌, ℕ, zero, suc, ◌+◌, ◌<◌, ◌≤◌, Bool, true, false, cond, eqb, List, [], ◌∷◌, ◌++◌, length, take, set, get_or, Option, None, Some, refl, sym, ◌∙◌, ap, subst, arith, ◌*◌}
 use Rattle.std.specs.Prelude.{nat_eq, find, is_some, slice_get}
 use Rattle.std.specs.Option.{option_and_then, option_map}
-use Rattle.std.proofs.lemmas.Bool.{cases_eq, cases_lt, eqb-true, ne_eqb, true≢false}
+use Rattle.std.proofs.lemmas.Bool.{eqb-true, ne_eqb, true≢false}
 use Rattle.std.proofs.lemmas.Option.{none-some, same_Some, slice_get-map, slice_get-get_or, slice_get_within}
 use Rattle.oc_linking.specs.Numbers.{or_else}
 use Rattle.oc_linking.specs.Parts as parts
 use Rattle.oc_neutral.specs.Computed.{position_of}
-use Rattle.oc_neutral.specs.Shows.{AreNumbered}
 use Rattle.oc_shelf.specs.Reading.Collected.{collected}
 use Rattle.oc_shelf.specs.Reading.Slots.{AreSlots}
 use Rattle.oc_shelf.proofs.ReadingLaws.CollectedLemmas.{collected-at, collected-none, collected-some}
@@ -28,7 +27,8 @@ use Rattle.oc_coff_judge.specs.Led.{symbol_at}
 use Rattle.oc_coff_judge.proofs.CollectLemmas.{symbols_are}
 use Rattle.oc_coff_judge.proofs.EntryLemmas.{Rise, entries_rise, number_is, rise_apart}
 use Rattle.oc_coff.proofs.HeadLemmas.{headed, length-entries}
-use Rattle.oc_coff_judge.proofs.NumberedSymbols.{stands_numbered, symbols_numbered}
+use Rattle.oc_coff_judge.proofs.NumberedSymbols.{symbols_numbered}
+use Rattle.oc_shelf.proofs.ReadingLaws.NumberedLemmas.{one_position, stands_numbered}
 
 -- ... entries by number
 
@@ -78,16 +78,6 @@ position_upto t i j = option_and_then (carried_position t) (entry_numbered (take
 pub record AreStanding (file : CoffFile) (i position : ℕ) (slots : List (Option ℕ)) : Type 0 where
   pub slots_are : AreSlots (position_upto (tables_in file) i) (length (tables_in file).entries) slots
   pub next : position ≡ length (collected (symbol_at (tables_in file)) i)
-
--- two positions of one number are one
-one_position : (symbols : List parts.Symbol) → AreNumbered symbols → (p q : ℕ) (x : parts.Symbol) → slice_get symbols p ≡ Some x → slice_get symbols q ≡ Some x → p ≡ q
-one_position symbols apart p q x at_p at_q = elim (cases_eq p q) [
-  | inl same ↦ same
-  | inr other ↦ elim (cases_lt p q) [
-    | inl less ↦ absurd (apart p q x x less at_p at_q refl)
-    | inr past ↦ absurd (apart q p x x (omega (arith, past, other)) at_q at_p refl)
-  ]
-]
 
 module _ (file : CoffFile) (head : IsHeaded file) (i : ℕ) (e : Entry) (here : slice_get (entries_in (tables_in file)) i ≡ Some e) where
   abbrev t : Tables

@@ -1,9 +1,9 @@
 -- The relocations of a file without faults, added one after the other.
 use Rattle.oc_coff.specs.Files.{CoffFile, tables_in}
-use Rattle.std.proofs.Common.{◌≡◌, ℕ, ◌+◌, ◌≤◌, Bool, true, false, cond, List, length, Option, None, Some, Ok, refl, sym, ◌∙◌, ap, subst, arith}
-use Rattle.std.specs.Prelude.{◌&&◌, ◌||◌, not, nat_eq, slice_get}
+use Rattle.std.proofs.Common.{◌≡◌, ℕ, ◌+◌, ◌≤◌, Bool, true, false, cond, List, length, Option, None, Some, refl, sym, ◌∙◌, ap, subst, arith}
+use Rattle.std.specs.Prelude.{◌&&◌, not, nat_eq, slice_get}
 use Rattle.std.specs.Option.{option_map, option_and_then}
-use Rattle.std.proofs.lemmas.Bool.{eqb-true, true≢false}
+use Rattle.std.proofs.lemmas.Bool.{true≢false}
 use Rattle.std.proofs.lemmas.Option.{none-some, same_Some, slice_get-map, slice_get_within}
 use Rattle.oc_base.specs.declared.format.Word.{Word}
 use Rattle.oc_linking.specs.declared.terms.Binding.{Binding}
@@ -17,21 +17,17 @@ use Rattle.oc_linking.specs.declared.terms.Value.TheVariants as value
 use Rattle.oc_linking.specs.FirstFault.{stage_fault}
 use Rattle.oc_linking.specs.Fits.{bytes_of}
 use Rattle.oc_linking.specs.Parts as parts
-use Rattle.oc_linking.specs.Rules.{Field}
 use Rattle.oc_neutral.specs.declared.reloc.Reloc.{Reloc}
 use Rattle.oc_neutral.specs.declared.reloc.Target.{Target}
 use Rattle.oc_neutral.specs.declared.reloc.Target.TheVariants as target
 use Rattle.oc_neutral.specs.declared.symbol.Symbol.{Symbol}
-use Rattle.oc_neutral.specs.Building.{Draft, is_zero, reloc_added}
-use Rattle.oc_neutral.specs.Built.{AreOfFile, Given, HasAdded, IsField, IsStarted, and_one}
+use Rattle.oc_neutral.specs.Building.{Draft, is_zero}
+use Rattle.oc_neutral.specs.Built.{IsStarted}
 use Rattle.oc_neutral.specs.Computed.{computed_symbol, placed_binding, position_of as symbol_place}
-use Rattle.oc_neutral.specs.Dialects.{kept_fields}
 use Rattle.oc_neutral.specs.Invariants.{AreBytes, CanAdd, IsBinding, IsLessThere, IsTargetThere}
 use Rattle.oc_neutral.specs.KindRules.{same_kind}
 use Rattle.oc_neutral.specs.Normal.{Place, local_place, place_among}
 use Rattle.oc_neutral.specs.Started.{stored_section}
-use Rattle.oc_neutral.proofs.BuiltSteps.{added_more, added_same, can_still}
-use Rattle.oc_neutral.proofs.CleanLaws.{clean_is_added}
 use Rattle.oc_shelf.proofs.ReadingLaws.CollectedLemmas.{IsFrom, collected-from}
 use Rattle.oc_coff.specs.Tables.{SectionTable, Tables}
 use Rattle.oc_coff.specs.Entries.{entries_in}
@@ -49,6 +45,7 @@ use Rattle.oc_coff_judge.proofs.NumberedSymbols.{IsCarried, carried_symbol, symb
 use Rattle.oc_coff_read.proofs.RowLemmas.{is_row, takes_none}
 use Rattle.oc_coff_read.proofs.StandingFields.{IsStanding, are_apart, are_of_file, differences_fit, form_of, given_standing}
 use Rattle.oc_coff_read.proofs.WholeSymbols.{binding_there, symbols_same, value_there}
+use Rattle.oc_shows.proofs.AddedLaws.{AreAddable}
 
 -- ... sections
 
@@ -156,64 +153,15 @@ module _ (w : Word) (file : CoffFile) (head : IsHeaded file) (bytes : AreBytes f
       less = less_there r.form.less (λ k same. takes_none m.good.row s k (is_row w m.entry.Type m.good.row m.good.listed) (sym (form_of w file head keep base.object started.symbols clean s at r m).1 ∙ same));
     }
 
-    -- ... a step
-
-    -- what is given for some places alone
-    abbrev given_where : (ℕ → ℕ → Bool) → Given
-    given_where done s at = cond (done s at) (given_at w t keep s at) None
-
-    part_of_file : (done : ℕ → ℕ → Bool) → AreOfFile (dialect_by w file.shape) file.bytes keep base.object (given_where done)
-    part_of_file done s at r e = by (done s at) e
-      where
-        by : (b : Bool) → cond b (given_at w t keep s at) None ≡ Some r → (x : Field) × (kept_fields (dialect_by w file.shape) file.bytes keep s at ≡ Some x) × IsField (dialect_by w file.shape) file.bytes keep base.object s at r x
-        by true e = are_of_file w file head keep base.object started.symbols clean s at r e
-        by false e = absurd (none-some r e)
-
-    one_more : (done more : ℕ → ℕ → Bool) (s at : ℕ) (r : Reloc) → given_at w t keep s at ≡ Some r → ((u x : ℕ) → more u x ≡ (done u x || nat_eq u s && nat_eq at x))
-        → (u x : ℕ) → and_one (given_where done) s at r u x ≡ given_where more u x
-    one_more done more s at r there grown u x = by (nat_eq u s) (nat_eq at x) refl refl ∙ ap (λ b. cond b (given_at w t keep u x) None) (sym (grown u x))
-      where
-        by : (a b : Bool) → nat_eq u s ≡ a → nat_eq at x ≡ b → cond (a && b) (Some r) (cond (done u x) (given_at w t keep u x) None) ≡ cond (done u x || a && b) (given_at w t keep u x) None
-        by true true e g =
-            let given : given_at w t keep u x ≡ Some r = ap (λ (i : ℕ). given_at w t keep i x) (eqb-true u s e) ∙ ap (λ (i : ℕ). given_at w t keep s i) (sym (eqb-true at x g)) ∙ there in
-            of (done u x) given
-          where
-            of : (d : Bool) → given_at w t keep u x ≡ Some r → Some r ≡ cond (d || true) (given_at w t keep u x) None
-            of true given = sym given
-            of false given = sym given
-        by true false e g = of (done u x)
-          where
-            of : (d : Bool) → cond d (given_at w t keep u x) None ≡ cond (d || false) (given_at w t keep u x) None
-            of true = refl
-            of false = refl
-        by false b e g = of (done u x)
-          where
-            of : (d : Bool) → cond d (given_at w t keep u x) None ≡ cond (d || false) (given_at w t keep u x) None
-            of true = refl
-            of false = refl
-
-    -- a relocation at a place where none is yet is added
-    pub record IsTaken (d : Draft) (s at : ℕ) (r : Reloc) (more : ℕ → ℕ → Bool) : Type 0 where
-      pub can : CanAdd d.object s at r
-      pub next : Draft
-      pub ok : reloc_added d s at r ≡ Ok next
-      pub added : HasAdded base next (given_where more)
-
-    pub taken : (done more : ℕ → ℕ → Bool) (d : Draft) (s at : ℕ) (r : Reloc) → given_at w t keep s at ≡ Some r → HasAdded base d (given_where done) → done s at ≡ false
-        → ((u x : ℕ) → more u x ≡ (done u x || nat_eq u s && nat_eq at x)) → IsTaken d s at r more
-    taken done more d s at r given has new grown = record {
-      can = can;
-      next = step.0;
-      ok = step.1;
-      added = added_same base step.0 (and_one (given_where done) s at r) (given_where more) (added_more base d step.0 (given_where done) s at r has can step.1) (one_more done more s at r given grown);
+    -- so each that is given can
+    pub addable : AreAddable base (given_at w t keep)
+    addable = record {
+      dialect = dialect_by w file.shape;
+      file = file.bytes;
+      keep = keep;
+      start = started;
+      apart = are_apart w file head keep base.object started.symbols clean;
+      fit = differences_fit w file head keep base.object started.symbols clean;
+      of_file = are_of_file w file head keep base.object started.symbols clean;
+      can = λ s at r given. can_base s at r (given_standing w file head keep base.object started.symbols clean s at r given);
     }
-      where
-        can : CanAdd d.object s at r
-        can = can_still base d (given_where done) started.draft started.relocs started.folded has s at r (can_base s at r (given_standing w file head keep base.object started.symbols clean s at r given))
-
-        field : (x : Field) × (kept_fields (dialect_by w file.shape) file.bytes keep s at ≡ Some x) × IsField (dialect_by w file.shape) file.bytes keep base.object s at r x
-        field = are_of_file w file head keep base.object started.symbols clean s at r given
-
-        step : (e : Draft) × (reloc_added d s at r ≡ Ok e)
-        step = clean_is_added (dialect_by w file.shape) file.bytes keep base d (given_where done) started (are_apart w file head keep base.object started.symbols clean) (differences_fit w file head keep base.object started.symbols clean) has
-            (part_of_file done) s at r field.0 field.1 field.2 (ap (λ b. cond b (given_at w t keep s at) None) new)

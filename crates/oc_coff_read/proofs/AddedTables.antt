@@ -1,13 +1,10 @@
 -- What is given, table by table and entry by entry.
 use Rattle.oc_coff.specs.Files.{CoffFile, tables_in}
-use Rattle.std.proofs.Common.{◌≡◌, ℕ, ◌+◌, ◌<◌, ◌≤◌, inl, inr, Bool, true, false, cond, List, length, take, drop, replicate, Option, None, Some, Ok, refl, sym, ◌∙◌, ap, subst, arith, get_or, length-take, length-drop}
-use Rattle.std.specs.Prelude.{◌&&◌, ◌||◌, nat_eq, nat_lt, slice_get}
+use Rattle.std.proofs.Common.{◌≡◌, ℕ, ◌+◌, ◌<◌, ◌≤◌, inl, inr, true, false, cond, List, length, take, drop, replicate, Option, None, Some, sym, ◌∙◌, ap, subst, arith, get_or, length-take, length-drop}
+use Rattle.std.specs.Prelude.{nat_lt, slice_get}
 use Rattle.std.specs.List.Sorted.{IsPermutation}
 use Rattle.std.specs.Option.{option_and_then, option_map, option_map_or}
-use Rattle.std.proofs.Math.Seq.{take-length}
-use Rattle.std.proofs.lemmas.Bool.{cases_eq, cases_lt, eq-eqb, ne_eqb, true≢false}
-use Rattle.std.proofs.lemmas.Bool.Decides.{nat_tests}
-use Rattle.std.proofs.lemmas.List.Folds.{list_any_more}
+use Rattle.std.proofs.lemmas.Bool.{cases_eq, cases_lt}
 use Rattle.std.proofs.lemmas.Option.{same_Some, slice_get_past, slice_get_within}
 use Rattle.oc_base.specs.declared.format.Word.{Word}
 use Rattle.oc_linking.specs.declared.terms.Keep.{Keep}
@@ -16,9 +13,9 @@ use Rattle.oc_linking.specs.FirstFault.{stage_fault}
 use Rattle.oc_linking.specs.Fits.{bytes_of}
 use Rattle.oc_linking.specs.Keeping.{keeps}
 use Rattle.oc_neutral.specs.declared.reloc.Reloc.{Reloc}
-use Rattle.oc_neutral.specs.Building.{Draft, reloc_added}
+use Rattle.oc_neutral.specs.Building.{Draft}
 use Rattle.oc_neutral.specs.Built.{HasAdded}
-use Rattle.oc_neutral.specs.Invariants.{AreBytes, CanAdd}
+use Rattle.oc_neutral.specs.Invariants.{AreBytes}
 use Rattle.oc_neutral.specs.Rows.{Row}
 use Rattle.oc_shelf.specs.declared.reading.order.Placed.{Placed}
 use Rattle.oc_shelf.specs.Reading.Collected.{collected}
@@ -34,15 +31,18 @@ use Rattle.oc_coff.specs.Sections.{Carried, carried_in, carried_of, is_stored, k
 use Rattle.oc_coff_judge.specs.declared.relocs.Table.{Table}
 use Rattle.oc_coff_read.specs.Adding.{HasBefore, IsPlace, IsReady, started}
 use Rattle.oc_coff_judge.specs.Led.{carried_at}
-use Rattle.oc_coff_read.specs.Given.{IsAimed, entry_in, given_at, given_before, given_with, is_among, placed, placed_as, placed_at, reloc_by, reloc_in}
+use Rattle.oc_coff_read.specs.Given.{IsAimed, entry_in, given_at, given_before, given_with, placed, placed_as, placed_at, reloc_by, reloc_in}
 use Rattle.oc_coff.specs.Head.{IsHeaded}
 use Rattle.oc_coff_judge.specs.Relocs.{IsTable, reloc_of, width_of}
-use Rattle.oc_coff_read.proofs.AddedRelocs.{IsTaken, taken}
 use Rattle.oc_coff_read.proofs.BuildLemmas.{header_kind, header_lies, raw_is}
 use Rattle.oc_coff_judge.proofs.CollectLemmas.{carried_are}
 use Rattle.oc_coff_read.proofs.FoundEntries.{IsGood, differ_at, good_entry}
-use Rattle.oc_coff_read.proofs.PlacedEntries.{Differ, IsPlacedEntry, among_all, entry_at, entry_is, not_among, placed_at as entry_placed}
+use Rattle.oc_coff_read.proofs.PlacedEntries.{Differ, IsPlacedEntry, differ_placed, entry_at, entry_is, offset_among, placed_at as entry_placed}
 use Rattle.oc_coff_read.proofs.StandingFields.{IsStanding, entry_given, given_standing}
+use Rattle.oc_coff_read.proofs.AddedRelocs.{addable}
+use Rattle.oc_shows.proofs.AddedLaws.{IsTaken, entry_taken, given_all as all_given, given_passed, lt_next, lt_self, lt_stays, table_done as all_done}
+use Rattle.oc_shelf.proofs.ReadingLaws.PlacedLemmas.{not_among}
+use Rattle.oc_shelf.specs.Reading.Order.{is_among}
 
 -- ... sections
 
@@ -54,40 +54,14 @@ module _ (w : Word) (t : Tables) (keep : Keep) where
 
   -- for all sections all is given
   pub given_all : (p : ℕ) → length (carried_in t) ≤ p → (s at : ℕ) → given_before w t keep p s at ≡ given_at w t keep s at
-  given_all p all s at = by (nat_lt s p) refl
-    where
-      past : (s p : ℕ) → nat_lt s p ≡ false → p ≤ s
-      past s p e = grind (arith, nat_tests)
-
-      by : (b : Bool) → nat_lt s p ≡ b → cond b (given_at w t keep s at) None ≡ given_at w t keep s at
-      by true e = refl
-      by false e = let later = past s p e in sym (past_none s at (omega (arith, later, all)))
-
-  same_lt : (s p : ℕ) → (s ≡ p → ⊥) → nat_lt s (p + 1) ≡ nat_lt s p
-  same_lt s p other = by (nat_lt s p) refl
-    where
-      by : (b : Bool) → nat_lt s p ≡ b → nat_lt s (p + 1) ≡ b
-      by true e = grind (arith, nat_tests)
-      by false e = elim (cases_eq s p) [ inl same ↦ absurd (other same) | inr ne ↦ grind (arith, nat_tests) ]
+  given_all p all = all_given (given_at w t keep) p (λ s at past. past_none s at (omega (arith, past, all)))
 
   -- a section that is left out is given nothing
   pub given_left : (p : ℕ) (c : Carried) → slice_get (carried_in t) p ≡ Some c → keeps keep c.section.kind ≡ false → (s at : ℕ) → given_before w t keep p s at ≡ given_before w t keep (p + 1) s at
   unfolding given_at
-  given_left p c there left s at = elim (cases_eq s p) [
-    | inl same ↦ both (nat_lt s p) (nat_lt s (p + 1)) (none same)
-    | inr other ↦ ap (λ b. cond b (given_at w t keep s at) None) (sym (same_lt s p other))
-  ]
-    where
-      none : s ≡ p → given_at w t keep s at ≡ None
-      none same =
-          ap (option_and_then (λ (c : Carried). cond (keeps keep c.section.kind) (reloc_in w t s at c) None)) (ap (slice_get (carried_in t)) same ∙ there)
-          ∙ ap (λ b. cond b (reloc_in w t s at c) None) left
-
-      both : (a b : Bool) → given_at w t keep s at ≡ None → cond a (given_at w t keep s at) None ≡ cond b (given_at w t keep s at) None
-      both true true e = refl
-      both true false e = e
-      both false true e = sym e
-      both false false e = refl
+  given_left p c there left =
+      given_passed (given_at w t keep) (λ s. nat_lt s p) (λ s. nat_lt s (p + 1)) p (λ s other. lt_stays s p other)
+      (λ at. ap (option_and_then (λ (c : Carried). cond (keeps keep c.section.kind) (reloc_in w t p at c) None)) there ∙ ap (λ b. cond b (reloc_in w t p at c) None) left)
 
 -- ... entries of a table
 
@@ -190,9 +164,6 @@ module _ (w : Word) (file : CoffFile) (head : IsHeaded file) (bytes : AreBytes f
     listed : IsPermutation (collected (placed c.relocs) (length c.relocs)) entries
     listed = subst (λ (xs : List Placed). IsPermutation xs entries) (placed_same file i table place.table_is) are
 
-    abbrev done : ℕ → ℕ → ℕ → Bool
-    done j s at = nat_lt s p || nat_eq s p && is_among (take j entries) at
-
     -- entry j, as it is read
     pub record IsEntry (j : ℕ) (e : Placed) : Type 0 where
       pub low : (get_or entries j e).index < table.count
@@ -201,7 +172,7 @@ module _ (w : Word) (file : CoffFile) (head : IsHeaded file) (bytes : AreBytes f
       pub there : slice_get c.relocs (get_or entries j e).index ≡ Some (reloc_of file table (get_or entries j e).index)
 
     pub entry_of : (j : ℕ) (e : Placed) → j < length entries → IsEntry j e
-    entry_of j e below = by (entry_placed c.relocs differ entries listed j e below)
+    entry_of j e below = by (entry_placed c.relocs entries listed j e below)
       where
         by : IsPlacedEntry c.relocs (get_or entries j e) → IsEntry j e
         by m =
@@ -277,87 +248,26 @@ module _ (w : Word) (file : CoffFile) (head : IsHeaded file) (bytes : AreBytes f
                   ]
                 ]
 
-    -- nothing is given at the place of an entry before it is added
-    new_place : (j : ℕ) (e : Placed) → j < length entries → done j p (get_or entries j e).place ≡ false
-    new_place j e below = by (nat_lt p p) (nat_eq p p) (is_among (take j entries) (get_or entries j e).place) (self p) (not_among c.relocs differ entries listed j e below)
-      where
-        self : (n : ℕ) → nat_lt n n ≡ false
-        self n = grind (arith, nat_tests)
-
-        by : (a b d : Bool) → a ≡ false → d ≡ false → (a || b && d) ≡ false
-        by false true false e g = refl
-        by false false false e g = refl
-        by true b d e g = absurd (true≢false e)
-        by a b true e g = absurd (true≢false g)
-
-    -- with it one more place is given
-    one_place : (j : ℕ) (e : Placed) → j < length entries → (s at : ℕ) → done (j + 1) s at ≡ (done j s at || nat_eq s p && nat_eq (get_or entries j e).place at)
-    one_place j e below s at =
-        ap (λ b. nat_lt s p || nat_eq s p && b) (list_any_more (λ (x : Placed). nat_eq x.place at) entries j e below)
-        ∙ by (nat_lt s p) (nat_eq s p) (is_among (take j entries) at) (nat_eq (get_or entries j e).place at)
-      where
-        by : (a b d f : Bool) → (a || b && (d || f)) ≡ (a || b && d || b && f)
-        by true b d f = refl
-        by false true true f = refl
-        by false true false f = refl
-        by false false d f = refl
-
-    -- its relocation, as it was read, can be added
-    pub record IsTakenNext (d : Draft) (j : ℕ) (r : Relocation) (o : Reloc) : Type 0 where
-      pub can : CanAdd d.object p r.VirtualAddress o
-      pub next : Draft
-      pub ok : reloc_added d p r.VirtualAddress o ≡ Ok next
-      pub added : HasAdded (started w file) next (given_with w t keep p (take (j + 1) entries))
-
+    -- its relocation, as it was read, is added
     pub ready_next : (j : ℕ) (e : Placed) → j < length entries → (d : Draft) → HasAdded (started w file) d (given_with w t keep p (take j entries)) → (r : Relocation) → r ≡ reloc_of file table (get_or entries j e).index
-        → (o : Reloc) → reloc_by w t p contents r ≡ Some o → IsTakenNext d j r o
+        → (o : Reloc) → reloc_by w t p contents r ≡ Some o → IsTaken (started w file) d p r.VirtualAddress o (given_with w t keep p (take (j + 1) entries))
     ready_next j e below d has r read o made =
         let m = entry_of j e below in
         let n = next_of j e below in
         let same : n.reloc ≡ o = same_Some n.reloc o (sym n.made ∙ ap (reloc_by w t p contents) (sym read) ∙ made) in
-        let given : given_at w t keep p r.VirtualAddress ≡ Some o = ap (λ (x : Relocation). given_at w t keep p x.VirtualAddress) read ∙ n.given ∙ ap Some same in
-        let offset : r.VirtualAddress ≡ (get_or entries j e).place = ap (λ (x : Relocation). x.VirtualAddress) read ∙ m.offset in
-        let k : IsTaken w file head bytes keep ready.symbols_clean ready.relocs_clean ready.start d p r.VirtualAddress o (done (j + 1))
-        = taken w file head bytes keep ready.symbols_clean ready.relocs_clean ready.start (done j) (done (j + 1)) d p r.VirtualAddress o given has (ap (done j p) offset ∙ new_place j e below)
-        (λ s at. one_place j e below s at ∙ ap (λ (q : ℕ). done j s at || nat_eq s p && nat_eq q at) (sym offset)) in
-        record { can = k.can; next = k.next; ok = k.ok; added = k.added }
+        entry_taken (started w file) (given_at w t keep) (addable w file head bytes keep ready.symbols_clean ready.relocs_clean ready.start) (λ s. nat_lt s p) p (lt_self p) entries j e below
+        (not_among (placed c.relocs) (length c.relocs) entries listed (differ_placed c.relocs differ) j e below) d has r.VirtualAddress (ap (λ (x : Relocation). x.VirtualAddress) read ∙ m.offset) o
+        (ap (λ (x : Relocation). given_at w t keep p x.VirtualAddress) read ∙ n.given ∙ ap Some same)
 
     -- with all entries the section is done
     pub table_done : (s at : ℕ) → given_with w t keep p (take (length entries) entries) s at ≡ given_before w t keep (p + 1) s at
-    table_done s at = elim (cases_eq s p) [
-      | inl same ↦ of (is_among (take (length entries) entries) at) refl (nat_lt s p) (nat_lt s (p + 1)) (more s p same) (nat_eq s p) (eq-eqb s p same) same
-      | inr other ↦ apart (nat_lt s p) (nat_lt s (p + 1)) (nat_eq s p) (ne_eqb s p other) (same_lt w t keep s p other)
-    ]
+    table_done = all_done (given_at w t keep) (λ s. nat_lt s p) (λ s. nat_lt s (p + 1)) p (λ s other. lt_stays s p other) (lt_next p) entries among
       where
-        more : (n p : ℕ) → n ≡ p → nat_lt n (p + 1) ≡ true
-        more n p same = grind (arith, nat_tests)
-
-        apart : (a b q : Bool) → q ≡ false → b ≡ a → cond (a || q && is_among (take (length entries) entries) at) (given_at w t keep s at) None ≡ cond b (given_at w t keep s at) None
-        apart true true false h k = refl
-        apart false false false h k = refl
-        apart true false q h k = absurd (true≢false (sym k))
-        apart false true q h k = absurd (true≢false k)
-        apart a b true h k = absurd (true≢false h)
-
-        -- what is given in the section is among them
-        given_among : s ≡ p → is_among (take (length entries) entries) at ≡ false → given_at w t keep s at ≡ None
-        given_among same none = by (given_at w t keep s at) refl
+        among : (at : ℕ) (r : Reloc) → given_at w t keep p at ≡ Some r → is_among entries at ≡ true
+        among at r e = by (given_standing w file head keep (started w file).object ready.start.symbols ready.relocs_clean p at r e)
           where
-            by : (o : Option Reloc) → given_at w t keep s at ≡ o → o ≡ None
-            by None e = refl
-            by (Some r) e = found (given_standing w file head keep (started w file).object ready.start.symbols ready.relocs_clean s at r e)
-              where
-                found : IsStanding w file head keep (started w file).object ready.start.symbols ready.relocs_clean s at r → Some r ≡ None
-                found n =
-                    let one : n.c ≡ c = same_Some n.c c (sym n.there ∙ ap (slice_get (carried_in t)) same ∙ place.there) in
-                    let here : slice_get c.relocs n.k ≡ Some n.entry = subst (λ (x : Carried). slice_get x.relocs n.k ≡ Some n.entry) one n.here in
-                    let among = among_all c.relocs differ entries listed n.k n.entry here n.busy in
-                    absurd (true≢false (sym among ∙ ap (is_among entries) n.offset ∙ ap (λ (es : List Placed). is_among es at) (sym (take-length entries)) ∙ none))
-
-        of : (d : Bool) → is_among (take (length entries) entries) at ≡ d → (a b : Bool) → b ≡ true → (q : Bool) → q ≡ true → s ≡ p → cond (a || q && d) (given_at w t keep s at) None ≡ cond b (given_at w t keep s at) None
-        of true g true true h true k same = refl
-        of true g false true h true k same = refl
-        of false g true true h true k same = refl
-        of false g false true h true k same = sym (given_among same g)
-        of d g a false h q k same = absurd (true≢false (sym h))
-        of d g a b h false k same = absurd (true≢false (sym k))
+            by : IsStanding w file head keep (started w file).object ready.start.symbols ready.relocs_clean p at r → is_among entries at ≡ true
+            by n =
+                let one : n.c ≡ c = same_Some n.c c (sym n.there ∙ place.there) in
+                let here : slice_get c.relocs n.k ≡ Some n.entry = subst (λ (x : Carried). slice_get x.relocs n.k ≡ Some n.entry) one n.here in
+                sym (ap (is_among entries) n.offset) ∙ offset_among c.relocs entries listed n.k n.entry here n.busy

@@ -2,12 +2,11 @@
 use Rattle.oc_coff.specs.Files.{CoffFile}
 use Rattle.std.proofs.Common.{◌≡◌, ℕ, zero, suc, ◌+◌, ◌<◌, ◌≤◌, Bool, true, false, cond, eqb, List, [], ◌∷◌, ◌++◌, length, map, take, drop, replicate, Option, None, Some, Ok, refl, sym, ◌∙◌, ap, subst, arith, length-take, length-drop}
 use Rattle.std.specs.Prelude.{not, ◌&&◌, nat_eq, nat_lt, is_none, is_some, slice_get, bytes_eq}
-use Rattle.std.specs.List.{enumerate_from, sum_by, position_or_len}
+use Rattle.std.specs.List.{enumerate_from, position_or_len}
 use Rattle.std.specs.Option.{option_and_then, option_map, option_map_or}
 use Rattle.std.proofs.lemmas.Bool.{true≢false}
 use Rattle.std.proofs.lemmas.Bool.Decides.{nat_tests}
 use Rattle.std.proofs.lemmas.Option.{slice_get_within}
-use Rattle.std.proofs.lemmas.List.Sums.{sum_by-cons}
 use Rattle.std.proofs.lemmas.List.{length-map}
 use Rattle.oc_base.specs.declared.format.Word.{Word}
 use Rattle.oc_base.specs.declared.format.Word.TheVariants.{W32}
@@ -40,6 +39,7 @@ use Rattle.oc_coff_read.specs.Built.{keys_of, sectioned}
 use Rattle.oc_coff_read.proofs.BegunLemmas.{key_given, section_group}
 use Rattle.oc_coff_judge.proofs.CarriedLemmas.{section_is}
 use Rattle.oc_neutral.proofs.KeyListLemmas.{given_low}
+use Rattle.oc_neutral.proofs.MeetsCounts.{sum_map}
 
 numbered_at : {X : Type 0} (n : ℕ) (xs : List X) (i : ℕ) → slice_get (enumerate_from n xs) i ≡ option_map (λ x. (i + n, x)) (slice_get xs i)
 numbered_at n [] zero = refl
@@ -101,10 +101,6 @@ sound_section file t clean i x here =
     ∙ clean_at (fault_of (section_stage file.bytes t)) (length t.sections) i clean (slice_get_within t.sections i x here))
 
 -- ... sums
-
-sum_map : {X Y : Type 0} (f : Y → ℕ) (g : X → Y) (xs : List X) → sum_by f (map g xs) ≡ sum_by (λ x. f (g x)) xs
-sum_map f g [] = refl
-sum_map f g (x ∷ xs) = sum_by-cons f (g x) (map g xs) ∙ ap (λ (n : ℕ). f (g x) + n) (sum_map f g xs) ∙ sym (sum_by-cons (λ y. f (g y)) x xs)
 
 sum_same : (f g : ℕ → ℕ) (n : ℕ) → ((k : ℕ) → f k ≡ g k) → sum_upto f n ≡ sum_upto g n
 sum_same f g zero same = refl

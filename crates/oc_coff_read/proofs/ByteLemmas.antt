@@ -4,14 +4,14 @@ use Rattle.oc_coff.specs.declared.form.Shape.TheVariants.{Usual, Big}
 use Rattle.oc_coff.specs.SymbolEntry.{signed_number, symbol_at}
 use Rattle.oc_coff.specs.Files.{CoffFile, tables_in}
 use Rattle.oc_coff.specs.Forms.{header_size}
-use Rattle.std.proofs.Common.{◌≡◌, ℕ, zero, suc, ◌+◌, ◌*◌, ◌<◌, ◌^◌, Bool, true, false, cond, eqb, get_or, List, [], ◌∷◌, drop, take, Option, None, Some, refl, sym, ◌∙◌, subst, arith}
+use Rattle.std.proofs.Common.{◌≡◌, ℕ, ◌+◌, ◌*◌, ◌<◌, ◌^◌, Bool, true, false, cond, List, [], drop, take, Option, None, Some, refl, sym, ◌∙◌, subst, arith}
 use Rattle.std.specs.Prelude.{nat_eq, nat_le, nat_lt, slice_get}
 use Rattle.std.specs.List.{AllByRecursion, before_first, position_or_len}
-use Rattle.std.specs.Option.{option_map, unwrap_or}
-use Rattle.std.proofs.lemmas.Option.{none-some, same_Some, slice_get_within}
+use Rattle.std.specs.Option.{unwrap_or}
+use Rattle.std.proofs.lemmas.Option.{same_Some, slice_get_within}
 use Rattle.oc_base.specs.Numbers.{number_at}
 use Rattle.oc_neutral.specs.Invariants.{AreBytes}
-use Rattle.oc_shelf.specs.Reading.Texts.{text_at, text_within}
+use Rattle.oc_shelf.specs.Reading.Texts.{text_at}
 use Rattle.oc_coff.specs.declared.symbol.SymbolEntry.{SymbolEntry}
 use Rattle.oc_coff.specs.FileHeader.{file_header_of}
 use Rattle.oc_coff.specs.Names.{string_at, symbol_name}
@@ -20,34 +20,9 @@ use Rattle.oc_coff.specs.Tables.{SectionTable, has_strings, section_table, slot_
 use Rattle.oc_coff.specs.Entries.{name_of}
 use Rattle.oc_coff_judge.specs.Numbered.{entry_by, entry_place}
 use Rattle.oc_coff.proofs.HeadLemmas.{section_there}
+use Rattle.oc_shelf.proofs.ReadingLaws.ByteLemmas.{all_drop, all_take, all_text, number_small}
 
 -- ... numbers
-
--- what k bytes can count
-abbrev room : ℕ → ℕ
-room zero = 1
-room (suc k) = 256 * room k
-
-byte_at : (xs : List ℕ) → AreBytes xs → (i : ℕ) → get_or xs i 0 < 256
-byte_at [] all i = omega arith
-byte_at (x ∷ xs) all zero = let low = all.0 in omega (arith, low)
-byte_at (x ∷ xs) all (suc i) = byte_at xs all.1 i
-
-number_more : (file : List ℕ) (at k : ℕ) → number_at file at (suc k) ≡ get_or file at 0 + 256 * number_at file (suc at) k
-unfolding number_at
-number_more file at k = refl
-
-number_none : (file : List ℕ) (at : ℕ) → number_at file at 0 ≡ 0
-unfolding number_at
-number_none file at = refl
-
-number_small : (file : List ℕ) → AreBytes file → (at k : ℕ) → number_at file at k < room k
-number_small file bytes at zero = let none = number_none file at in omega (arith, none)
-number_small file bytes at (suc k) =
-    let low : get_or file at 0 < 256 = byte_at file bytes at in
-    let rest = number_small file bytes (suc at) k in
-    let more = number_more file at k in
-    omega (arith, low, rest, more)
 
 -- the numbers of a symbol are small
 pub record IsSmall (s : SymbolEntry) : Type 0 where
@@ -72,25 +47,6 @@ unfolding entry_by slot_at
 entry_small file bytes j = symbol_small file.shape file.bytes bytes (entry_place file j)
 
 -- ... names
-
-all_drop : (P : ℕ → Type 0) (n : ℕ) (xs : List ℕ) → AllByRecursion P xs → AllByRecursion P (drop n xs)
-all_drop P zero xs all = all
-all_drop P (suc n) [] all = tt
-all_drop P (suc n) (x ∷ xs) all = all_drop P n xs all.1
-
-all_take : (P : ℕ → Type 0) (n : ℕ) (xs : List ℕ) → AllByRecursion P xs → AllByRecursion P (take n xs)
-all_take P zero xs all = tt
-all_take P (suc n) [] all = tt
-all_take P (suc n) (x ∷ xs) all = (all.0, all_take P n xs all.1)
-
-all_text : (P : ℕ → Type 0) (xs text : List ℕ) → AllByRecursion P xs → text_within xs ≡ Some text → AllByRecursion P text
-all_text P [] text all e = absurd (none-some text e)
-all_text P (x ∷ xs) text all e = by (eqb x 0) (text_within xs) (λ rest. all_text P xs rest all.1) e
-  where
-    by : (b : Bool) (o : Option (List ℕ)) → ((rest : List ℕ) → o ≡ Some rest → AllByRecursion P rest) → cond b (Some []) (option_map (λ text. x ∷ text) o) ≡ Some text → AllByRecursion P text
-    by true o rest g = subst (AllByRecursion P) (same_Some [] text g) tt
-    by false None rest g = absurd (none-some text g)
-    by false (Some r) rest g = subst (AllByRecursion P) (same_Some (x ∷ r) text g) (all.0, rest r refl)
 
 all_before : (P : ℕ → Type 0) (xs : List ℕ) → AllByRecursion P xs → AllByRecursion P (before_first (λ c. nat_eq c 0) xs)
 all_before P xs all = all_take P (position_or_len (λ c. nat_eq c 0) xs) xs all

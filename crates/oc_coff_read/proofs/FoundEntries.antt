@@ -15,7 +15,7 @@ use Rattle.oc_linking.specs.FirstFault.{fault_of, first_broken, stage_fault}
 use Rattle.oc_neutral.specs.Rows.{Row}
 use Rattle.oc_neutral.specs.RelocTables.{row_of}
 use Rattle.oc_shelf.proofs.ReadingLaws.StageLemmas.{all_hold, both_hold, clean_at, not_false}
-use Rattle.oc_shelf.proofs.WritingLaws.MemberLemmas.{member_flat_map}
+use Rattle.oc_shelf.proofs.WritingLaws.MemberLemmas.{member_flat_map, member_filter}
 use Rattle.oc_coff.specs.declared.relocation.Relocation.{Relocation}
 use Rattle.oc_coff.specs.Tables.{Tables}
 use Rattle.oc_coff.specs.Sections.{Carried, carried_in}
@@ -25,22 +25,9 @@ use Rattle.oc_coff.specs.Fields.{relocates, says_nothing}
 use Rattle.oc_coff.specs.RelocationFaults.{Judged, is_wrong_aim, judged_from, judged_in, meets_field, relocation_conditions, relocation_fault, relocation_stage, row_conditions}
 use Rattle.oc_coff_judge.proofs.EntryLemmas.{find_from}
 use Rattle.oc_coff_read.proofs.RowLemmas.{wide}
+use Rattle.std.proofs.lemmas.List.{append-nil}
 
 -- ... the entries that are judged
-
-member_filter : {X : Type 0} (test : X → Bool) (xs : List X) (k : ℕ) (x : X) → slice_get xs k ≡ Some x → test x ≡ true → (q : ℕ) × (slice_get (filter test xs) q ≡ Some x)
-member_filter test [] k x here passes = absurd (none-some x here)
-member_filter {X} test (y ∷ ys) zero x here passes =
-    (0, ap (λ b. slice_get (cond b (y ∷ filter test ys) (filter test ys)) 0) (ap test (same_Some y x here) ∙ passes) ∙ here)
-member_filter {X} test (y ∷ ys) (suc k) x here passes = by (test y) (member_filter test ys k x here passes)
-  where
-    by : (b : Bool) → (q : ℕ) × (slice_get (filter test ys) q ≡ Some x) → (q : ℕ) × (slice_get (cond b (y ∷ filter test ys) (filter test ys)) q ≡ Some x)
-    by true m = (suc m.0, m.1)
-    by false m = m
-
-append_none : {X : Type 0} (xs : List X) → xs ++ [] ≡ xs
-append_none [] = refl
-append_none (x ∷ xs) = ap (λ ys. x ∷ ys) (append_none xs)
 
 append_more : {X : Type 0} (xs : List X) (y : X) (ys : List X) → (xs ++ y ∷ []) ++ ys ≡ xs ++ y ∷ ys
 append_more [] y ys = refl
@@ -54,7 +41,7 @@ judged_at : (c : Carried) (at : ℕ) (earlier relocs : List Relocation) (k : ℕ
     → (p : ℕ) × (slice_get (judged_from c at earlier relocs) k ≡ Some (judged c p (earlier ++ take k relocs) r))
 judged_at c at earlier [] k r here = absurd (none-some r here)
 judged_at c at earlier (x ∷ relocs) zero r here =
-    (at, ap (λ (y : Relocation). Some (judged c at earlier y)) (same_Some x r here) ∙ ap (λ (es : List Relocation). Some (judged c at es r)) (sym (append_none earlier)))
+    (at, ap (λ (y : Relocation). Some (judged c at earlier y)) (same_Some x r here) ∙ ap (λ (es : List Relocation). Some (judged c at es r)) (sym (append-nil earlier)))
 judged_at c at earlier (x ∷ relocs) (suc k) r here =
     let m = judged_at c (at + 10) (earlier ++ x ∷ []) relocs k r here in
     (m.0, m.1 ∙ ap (λ (es : List Relocation). Some (judged c m.0 es r)) (append_more earlier x (take k relocs)))

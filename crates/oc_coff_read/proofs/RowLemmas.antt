@@ -1,6 +1,6 @@
 -- The rows of COFF: none takes a section, and none has a hint.
-use Rattle.std.proofs.Common.{◌≡◌, ℕ, Bool, true, false, cond, ◌≤◌, List, [], ◌∷◌, Option, None, Some, refl, sym, ◌∙◌, ap, subst, arith}
-use Rattle.std.specs.Prelude.{not, ◌&&◌, nat_eq, find}
+use Rattle.std.proofs.Common.{◌≡◌, ℕ, Bool, true, false, ◌≤◌, Option, None, Some, refl, sym, ◌∙◌, ap, arith}
+use Rattle.std.specs.Prelude.{not, ◌&&◌, nat_eq}
 use Rattle.std.specs.Option.{option_map}
 use Rattle.std.proofs.lemmas.Bool.{true≢false}
 use Rattle.std.proofs.lemmas.Option.{none-some, same_Some}
@@ -17,28 +17,16 @@ use Rattle.oc_neutral.specs.RelocTables.{row_of, rows_of}
 use Rattle.oc_coff.specs.Forms.{coff_format}
 use Rattle.oc_coff.specs.declared.meaning.Meaning.{Meaning}
 use Rattle.oc_coff.specs.Meanings.{meaning_of, meant_by}
+use Rattle.oc_shelf.proofs.ReadingLaws.PassLemmas.{all_pass, found_passes}
 
 -- ... what holds of each row
 
 abbrev is_plain : Row → Bool
 is_plain row = not (same_taken row.taken TakesSection) && same_hint row.hint Plain
 
-abbrev all_pass : {X : Type 0} → (X → Bool) → List X → Bool
-all_pass test [] = true
-all_pass test (x ∷ xs) = test x && all_pass test xs
-
 all_plain : (w : Word) → all_pass is_plain (rows_of (coff_format w)) ≡ true
 all_plain W32 = refl
 all_plain W64 = refl
-
-found_passes : {X : Type 0} (test key : X → Bool) (xs : List X) (x : X) → all_pass test xs ≡ true → find key xs ≡ Some x → test x ≡ true
-found_passes test key [] x all e = absurd (none-some x e)
-found_passes {X} test key (y ∷ xs) x all e = by (test y) (key y) refl all e (found_passes test key xs x)
-  where
-    by : (a b : Bool) → test y ≡ a → (a && all_pass test xs) ≡ true → cond b (Some y) (find key xs) ≡ Some x → (all_pass test xs ≡ true → find key xs ≡ Some x → test x ≡ true) → test x ≡ true
-    by true true h all e rest = subst (λ (z : X). test z ≡ true) (same_Some y x e) h
-    by true false h all e rest = rest all e
-    by false b h all e rest = absurd (true≢false (sym all))
 
 -- a row of COFF
 pub record IsRow (row : Row) : Type 0 where
@@ -87,8 +75,6 @@ wide One = omega arith
 wide Two = omega arith
 wide Four = omega arith
 wide Eight = omega arith
-
--- ... addends
 
 -- ... meanings
 

@@ -1,16 +1,11 @@
 -- The fields of a file without faults, each with the relocation that is given for it.
 use Rattle.oc_coff.specs.Files.{CoffFile, tables_in}
-use Rattle.std.proofs.Common.{◌≡◌, ℕ, ◌+◌, ◌≤◌, ◌⊎◌, inl, inr, Bool, true, false, cond, ℤ, List, Option, None, Some, refl, sym, ◌∙◌, ap, subst, arith}
+use Rattle.std.proofs.Common.{◌≡◌, ℕ, ◌+◌, ◌≤◌, Bool, true, false, cond, ℤ, List, Option, None, Some, refl, sym, ◌∙◌, ap, subst, arith}
 use Rattle.std.specs.Prelude.{find, slice_get}
 use Rattle.std.specs.Option.{option_map, option_and_then}
-use Rattle.std.proofs.lemmas.Bool.{true≢false}
 use Rattle.std.proofs.lemmas.Option.{none-some, same_Some}
 use Rattle.oc_base.specs.declared.format.Word.{Word}
-use Rattle.oc_linking.specs.declared.terms.Base.{Base}
-use Rattle.oc_linking.specs.declared.terms.Base.TheVariants as base
 use Rattle.oc_linking.specs.declared.terms.Keep.{Keep}
-use Rattle.oc_linking.specs.declared.terms.Less.{Less}
-use Rattle.oc_linking.specs.declared.terms.Less.TheVariants as less
 use Rattle.oc_linking.specs.declared.terms.Value.{Value}
 use Rattle.oc_linking.specs.declared.terms.Value.TheVariants as value
 use Rattle.oc_linking.specs.FirstFault.{stage_fault}
@@ -23,11 +18,11 @@ use Rattle.oc_linking.specs.Targets.{symbol_target}
 use Rattle.oc_neutral.specs.declared.reloc.Reloc.{Reloc}
 use Rattle.oc_neutral.specs.declared.reloc.Target.{Target}
 use Rattle.oc_neutral.specs.declared.reloc.Target.TheVariants as target
-use Rattle.oc_neutral.specs.Built.{AreApart, AreOfFile, DifferencesFit, IsField, IsFree, IsGiven}
+use Rattle.oc_neutral.specs.Built.{AreApart, AreOfFile, DifferencesFit, IsField}
 use Rattle.oc_neutral.specs.Computed.{position_of}
-use Rattle.oc_neutral.specs.Dialects.{kept_fields, target_by}
+use Rattle.oc_neutral.specs.Dialects.{kept_fields}
 use Rattle.oc_neutral.specs.Faces.{shown_symbols}
-use Rattle.oc_neutral.specs.Normal.{cancels, moved_addend}
+use Rattle.oc_neutral.specs.Normal.{moved_addend}
 use Rattle.oc_neutral.specs.Objects.{Object}
 use Rattle.oc_neutral.specs.RelocTables.{row_of}
 use Rattle.oc_neutral.specs.RowFields.{field_in_place, number_in}
@@ -48,35 +43,7 @@ use Rattle.oc_coff_judge.proofs.EntryLemmas.{find_from}
 use Rattle.oc_coff_read.proofs.FoundEntries.{IsGood, apart_at, first_is, found_at, good_entry}
 use Rattle.oc_coff_read.proofs.GivenFields.{flag, free_or_given}
 use Rattle.oc_coff_read.proofs.RowLemmas.{is_row, takes_none}
-
--- no relocation of a row of COFF is a difference
-no_difference : (b : Base) (t : Target) (l : Less) → ((k : ℕ) → l ≡ less.Section k → ⊥) → cancels b t l ≡ true → ⊥
-no_difference b t (less.Section k) none e = none k refl
-no_difference base.Address (target.Section k) less.Zero none e = true≢false (sym e)
-no_difference base.Address (target.Symbol k) less.Zero none e = true≢false (sym e)
-no_difference base.Slot t less.Zero none e = true≢false (sym e)
-no_difference base.GotBase t less.Zero none e = true≢false (sym e)
-no_difference base.HomeNumber t less.Zero none e = true≢false (sym e)
-no_difference base.Address (target.Section k) less.Place none e = true≢false (sym e)
-no_difference base.Address (target.Symbol k) less.Place none e = true≢false (sym e)
-no_difference base.Slot t less.Place none e = true≢false (sym e)
-no_difference base.GotBase t less.Place none e = true≢false (sym e)
-no_difference base.HomeNumber t less.Place none e = true≢false (sym e)
-no_difference base.Address (target.Section k) less.GotBase none e = true≢false (sym e)
-no_difference base.Address (target.Symbol k) less.GotBase none e = true≢false (sym e)
-no_difference base.Slot t less.GotBase none e = true≢false (sym e)
-no_difference base.GotBase t less.GotBase none e = true≢false (sym e)
-no_difference base.HomeNumber t less.GotBase none e = true≢false (sym e)
-no_difference base.Address (target.Section k) less.ImageBase none e = true≢false (sym e)
-no_difference base.Address (target.Symbol k) less.ImageBase none e = true≢false (sym e)
-no_difference base.Slot t less.ImageBase none e = true≢false (sym e)
-no_difference base.GotBase t less.ImageBase none e = true≢false (sym e)
-no_difference base.HomeNumber t less.ImageBase none e = true≢false (sym e)
-no_difference base.Address (target.Section k) less.Home none e = true≢false (sym e)
-no_difference base.Address (target.Symbol k) less.Home none e = true≢false (sym e)
-no_difference base.Slot t less.Home none e = true≢false (sym e)
-no_difference base.GotBase t less.Home none e = true≢false (sym e)
-no_difference base.HomeNumber t less.Home none e = true≢false (sym e)
+use Rattle.oc_shows.proofs.GivenLaws as laws
 
 module _ (w : Word) (b : CoffFile) (head : IsHeaded b) (keep : Keep) (n : Object) (shown : shown_symbols n ≡ (dialect_by w b.shape).rules.symbols b.bytes keep) (clean : stage_fault (relocation_stage w (tables_in b) keep) ≡ None) where
   -- ... targets
@@ -191,21 +158,11 @@ module _ (w : Word) (b : CoffFile) (head : IsHeaded b) (keep : Keep) (n : Object
 
   -- what is given is a field
   pub are_of_file : AreOfFile (dialect_by w b.shape) b.bytes keep n (given_at w (tables_in b) keep)
-  are_of_file s at r e = by (free_or_given w b head keep n shown s at)
-    where
-      by : IsFree (dialect_by w b.shape) b.bytes keep (given_at w (tables_in b) keep) s at ⊎ IsGiven (dialect_by w b.shape) b.bytes keep n (given_at w (tables_in b) keep) s at
-          → (x : Field) × (kept_fields (dialect_by w b.shape) b.bytes keep s at ≡ Some x) × IsField (dialect_by w b.shape) b.bytes keep n s at r x
-      by (inl m) = absurd (none-some r (sym m.none ∙ e))
-      by (inr m) = (m.field, m.here, subst (λ (q : Reloc). IsField (dialect_by w b.shape) b.bytes keep n s at q m.field) (same_Some m.reloc r (sym m.there ∙ e)) m.is)
+  are_of_file = laws.are_of_file (dialect_by w b.shape) b.bytes keep n (given_at w (tables_in b) keep) (free_or_given w b head keep n shown)
 
   -- each field is given
-  pub field_given : (s at : ℕ) (x : Field) → kept_fields (dialect_by w b.shape) b.bytes keep s at ≡ Some x → (r : Reloc) × (given_at w (tables_in b) keep s at ≡ Some r) × IsField (dialect_by w b.shape) b.bytes keep n s at r x
-  field_given s at x e = by (free_or_given w b head keep n shown s at)
-    where
-      by : IsFree (dialect_by w b.shape) b.bytes keep (given_at w (tables_in b) keep) s at ⊎ IsGiven (dialect_by w b.shape) b.bytes keep n (given_at w (tables_in b) keep) s at
-          → (r : Reloc) × (given_at w (tables_in b) keep s at ≡ Some r) × IsField (dialect_by w b.shape) b.bytes keep n s at r x
-      by (inl m) = absurd (none-some x (sym m.field ∙ e))
-      by (inr m) = (m.reloc, m.there, subst (λ (y : Field). IsField (dialect_by w b.shape) b.bytes keep n s at m.reloc y) (same_Some m.field x (sym m.here ∙ e)) m.is)
+  field_given : (s at : ℕ) (x : Field) → kept_fields (dialect_by w b.shape) b.bytes keep s at ≡ Some x → (r : Reloc) × (given_at w (tables_in b) keep s at ≡ Some r) × IsField (dialect_by w b.shape) b.bytes keep n s at r x
+  field_given = laws.field_given (dialect_by w b.shape) b.bytes keep n (given_at w (tables_in b) keep) (free_or_given w b head keep n shown)
 
   -- an entry that says something has a field
   pub entry_given : (s : ℕ) (c : Carried) → slice_get (carried_in (tables_in b)) s ≡ Some c → keeps keep c.section.kind ≡ true → (k : ℕ) (entry : Relocation) → slice_get c.relocs k ≡ Some entry → says_nothing entry ≡ false
@@ -245,12 +202,6 @@ module _ (w : Word) (b : CoffFile) (head : IsHeaded b) (keep : Keep) (n : Object
 
   -- none is a difference
   pub differences_fit : DifferencesFit (dialect_by w b.shape) b.bytes keep
-  differences_fit s at x e difference = absurd (by (field_given s at x e))
-    where
-      by : (r : Reloc) × (given_at w (tables_in b) keep s at ≡ Some r) × IsField (dialect_by w b.shape) b.bytes keep n s at r x → ⊥
-      by p = of (given_standing s at p.0 p.1)
-        where
-          of : IsStanding s at p.0 → ⊥
-          of m =
-              let taken : x.less ≡ less_of m.good.row.taken s = sym p.2.less ∙ (form_of s at p.0 m).1 in
-              no_difference x.base (target_by x.target) x.less (λ k same. takes_none m.good.row s k (is_row w m.entry.Type m.good.row m.good.listed) (sym taken ∙ same)) difference
+  differences_fit =
+      laws.differences_fit (dialect_by w b.shape) b.bytes keep n (given_at w (tables_in b) keep) (free_or_given w b head keep n shown)
+      (λ s at r e k same. let m = given_standing s at r e in takes_none m.good.row s k (is_row w m.entry.Type m.good.row m.good.listed) (sym (form_of s at r m).1 ∙ same))

@@ -1,7 +1,6 @@
 -- What is built of a file, step by step (PE/COFF; our profile).
 use Rattle.oc_coff.specs.Files.{CoffFile, tables_in}
-use Rattle.std.specs.Prelude.{◌≡◌, ℕ, ◌+◌, false, List, [], ◌∷◌, ◌++◌, bytes_eq, length, map, if◌then◌else◌, slice_index_or, Option, Some, None}
-use Rattle.std.specs.List.{position_or_len}
+use Rattle.std.specs.Prelude.{◌≡◌, ℕ, ◌+◌, false, List, [], ◌∷◌, ◌++◌, length, map, slice_index_or, Option, Some, None}
 use Rattle.oc_base.specs.declared.format.Word.{Word}
 use Rattle.oc_base.specs.Strings.{is_given}
 use Rattle.oc_linking.specs.Parts as parts
@@ -17,6 +16,7 @@ use Rattle.oc_coff.specs.Symbols.{symbols_in}
 use Rattle.oc_coff.specs.Forms.{format_by}
 use Rattle.oc_coff_judge.specs.Led.{IsLed, leader_of, section_at, symbol_at}
 use Rattle.oc_coff_judge.specs.Numbered.{entry_by}
+use Rattle.oc_shelf.specs.Reading.Slots.{place_in}
 
 -- ... groups
 
@@ -27,10 +27,6 @@ keys_upto t k = keys_after [] (map (λ (s : parts.Section). s.group) (collected 
 -- those of all
 abbrev pub keys_of : Tables → List (List ℕ)
 keys_of t = keys_upto t (length t.sections)
-
--- the position of a key among those that are begun
-abbrev pub place_in : List (List ℕ) → List ℕ → Option ℕ
-place_in keys key = if is_given keys key then Some (position_or_len (bytes_eq key) keys) else None
 
 -- the slots have the position of the group of each section that leads one, by its number
 pub record AreBegunGroups (t : Tables) (keys : List (List ℕ)) (slots : List (Option ℕ)) : Type 0 where

@@ -1,7 +1,6 @@
 -- The relocation that is given to the Builder for each entry, and those that are given for a file (our profile).
 use Rattle.oc_coff.specs.Files.{CoffFile, tables_in}
-use Rattle.std.specs.Prelude.{◌≡◌, ℕ, Bool, ◌&&◌, ◌||◌, nat_eq, nat_lt, if◌then◌else◌, ℤ, pos, neg_ℤ, List, find, slice_get, slice_index_or, Option, Some, None}
-use Rattle.std.specs.List.{list_any}
+use Rattle.std.specs.Prelude.{◌≡◌, ℕ, ◌&&◌, ◌||◌, nat_eq, nat_lt, if◌then◌else◌, ℤ, pos, neg_ℤ, List, find, slice_get, slice_index_or, Option, Some, None}
 use Rattle.std.specs.Option.{option_map, option_and_then}
 use Rattle.oc_base.specs.declared.format.Word.{Word}
 use Rattle.oc_base.specs.Numbers.{number_at}
@@ -39,6 +38,7 @@ use Rattle.oc_coff_judge.specs.declared.relocs.Table.{Table}
 use Rattle.oc_coff_judge.specs.Numbered.{entry_by}
 use Rattle.oc_coff_judge.specs.Relocs.{reloc_of}
 use Rattle.oc_coff_judge.specs.Tagged.{symbol_position}
+use Rattle.oc_shelf.specs.Reading.Order.{is_among}
 
 -- the relocation of a row against a value: a place is a section's, with the offset added; a is the number that stands in the field, at position s
 abbrev pub reloc_at : Word → Row → ℕ → ℤ → Value → Option Reloc
@@ -118,10 +118,6 @@ placed relocs k = placed_as (entry_in relocs k) k
 -- the same, where the table stands in the file
 abbrev pub placed_at : CoffFile → Table → ℕ → Option Placed
 placed_at file table k = placed_as (reloc_of file table k) k
-
--- one of the entries is at an offset
-abbrev pub is_among : List Placed → ℕ → Bool
-is_among entries at = list_any (λ (e : Placed). nat_eq e.place at) entries
 
 -- what is given for the sections at the positions below p
 abbrev pub given_before : Word → Tables → Keep → ℕ → Given

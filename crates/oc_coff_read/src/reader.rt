@@ -97,10 +97,7 @@ pub fn read_object(
     ensures readable { IfOk result IsReadable }
     ensures fault { IfErr result (IsStop (fault_of form bytes.now keep.now)) }
 {
-    match read_file(alloc, word_of(form), shape_of(form), bytes, keep) {
-        Ok(object) => Ok(object),
-        Err(stop) => Err(stop),
-    }
+    read_file(alloc, word_of(form), shape_of(form), bytes, keep)
 }
 
 /// The reader of COFF objects of 32 bits, for i386. The time is that of `read_object`.

@@ -1,4 +1,4 @@
-//! The steps of a conversion, each with the answers of a conversion.
+//! The steps of a conversion.
 ghost use Rattle.std.specs.Prelude.{◌≡◌, ◌^◌, ◌≤◌, length, None, Ok, IfErr, IfOk, OnOk};
 ghost use Rattle.oc_base.specs.Formats.{word_for};
 ghost use Rattle.oc_base.specs.declared.limits.TheConstants.{MOST_INPUT};

@@ -35,30 +35,11 @@ use Rattle.oc_elf_file.specs.Canonical.{elf_file}
 use Rattle.oc_elf_file.proofs.CodedLaws.{IsForElf, few_sections}
 use Rattle.oc_elf_file.proofs.HeadCounts.{length-heads, counted_tables, most_tables, few_heads, few_reloc_heads}
 use Rattle.oc_elf_file.proofs.PartLaws.{length-elf_file}
-use Rattle.oc_elf_file.proofs.SizeLaws.{ended_size, strings_size, sum_map, end_low, gap_low, align_low, members_few}
+use Rattle.oc_elf_file.proofs.SizeLaws.{strings_size, end_low, gap_low, align_low, members_few}
+use Rattle.oc_shelf.proofs.WritingLaws.SizeLemmas.{sum_enumerated, sum_filter, sum_more, sum_same, ended_size}
+use Rattle.oc_neutral.proofs.MeetsCounts.{sum_map}
 
 -- ... sums over lists
-
-sum_enumerated : {X : Type 0} (size : X → ℕ) (i : ℕ) (xs : List X) → sum_by (λ (x : ℕ × X). size x.1) (enumerate_from i xs) ≡ sum_by size xs
-sum_enumerated size i [] = refl
-sum_enumerated {X} size i (x ∷ xs) = let a = sum_by-cons (λ (x : ℕ × X). size x.1) (i, x) (enumerate_from (i + 1) xs) in let b = sum_by-cons size x xs in let c = sum_enumerated size (i + 1) xs in omega (arith, a, b, c)
-
-sum_filter : {X : Type 0} (size : X → ℕ) (test : X → Bool) (xs : List X) → sum_by size (filter test xs) ≤ sum_by size xs
-sum_filter size test [] = omega arith
-sum_filter {X} size test (x ∷ xs) = by (test x) (sum_filter size test xs) (sum_by-cons size x xs) (sum_by-cons size x (filter test xs))
-  where
-    by : (b : Bool) → sum_by size (filter test xs) ≤ sum_by size xs → sum_by size (x ∷ xs) ≡ size x + sum_by size xs → sum_by size (x ∷ filter test xs) ≡ size x + sum_by size (filter test xs)
-        → sum_by size (cond b (x ∷ filter test xs) (filter test xs)) ≤ sum_by size (x ∷ xs)
-    by true rest a b = omega (arith, rest, a, b)
-    by false rest a b = omega (arith, rest, a)
-
-sum_more : {X : Type 0} (size : X → ℕ) (m : ℕ) (xs : List X) → sum_by (λ x. size x + m) xs ≡ sum_by size xs + m * length xs
-sum_more size m [] = omega arith
-sum_more size m (x ∷ xs) = let a = sum_by-cons (λ x. size x + m) x xs in let b = sum_by-cons size x xs in let c = sum_more size m xs in let d : m * suc (length xs) ≡ m + m * length xs = grind arith in omega (arith, a, b, c, d)
-
-sum_same : {X : Type 0} (m : ℕ) (xs : List X) → sum_by (λ (x : X). m) xs ≡ m * length xs
-sum_same m [] = omega arith
-sum_same {X} m (x ∷ xs) = let a = sum_by-cons (λ (x : X). m) x xs in let c = sum_same m xs in let d : m * suc (length xs) ≡ m + m * length xs = grind arith in omega (arith, a, c, d)
 
 length-laid : {X : Type 0} (begin : ℕ → X → ℕ) (size : X → ℕ) (at : ℕ) (xs : List X) → length (laid begin size at xs) ≡ length xs
 length-laid begin size at [] = refl

@@ -17,7 +17,8 @@ use Rattle.oc_elf.specs.declared.class.ElfClass.{ElfClass}
 use Rattle.oc_elf.specs.Classes.{format_of, is_big}
 use Rattle.oc_elf_file.specs.Heads.{RelocHead, placed_sections, group_head, section_head, reloc_head, group_heads, section_heads, reloc_heads, table_heads_by, table_heads, heads_of}
 use Rattle.oc_elf_file.proofs.CodedLaws.{IsForElf, most_low, most_plain}
-use Rattle.oc_elf_file.proofs.RelocLaws.{meets, found_in}
+use Rattle.oc_elf_file.proofs.RelocLaws.{meets}
+use Rattle.oc_shows.proofs.FoundLaws.{found_in}
 
 pub most_tables : (b : Bool) → cond {A = ℕ} b 5 4 ≤ 5
 most_tables true = omega arith

@@ -1,13 +1,13 @@
 -- Symbols, judged one after the other.
-use Rattle.std.proofs.Common.{◌≡◌, ℕ, zero, suc, ◌+◌, ◌<◌, inl, inr, true, false, cond, eqb, List, [], ◌∷◌, ◌++◌, length, map, Option, None, Some, refl, sym, ◌∙◌, ap, arith}
-use Rattle.std.specs.Prelude.{nat_eq, is_some, MatchOption}
+use Rattle.std.proofs.Common.{◌≡◌, ℕ, ◌+◌, ◌<◌, inl, inr, true, false, cond, eqb, List, [], ◌∷◌, ◌++◌, map, Option, None, Some, refl, sym, ◌∙◌, ap, arith}
+use Rattle.std.specs.Prelude.{is_some, MatchOption}
 use Rattle.std.specs.List.{range_with_len}
 use Rattle.std.specs.Option.{option_map, option_and_then, option_copied}
-use Rattle.std.proofs.lemmas.Bool.{eq-eqb, ne_eqb, true≢false}
-use Rattle.std.proofs.lemmas.Bool.{cases_eq, cases_lt}
+use Rattle.std.proofs.lemmas.Bool.{ne_eqb}
+use Rattle.std.proofs.lemmas.Bool.{cases_eq}
 use Rattle.std.proofs.lemmas.List.{map-append}
 use Rattle.std.proofs.lemmas.List.FromFn.{length-map-range_with_len, map-range_with_len_more}
-use Rattle.std.proofs.lemmas.Option.{none-some, same_Some}
+use Rattle.std.proofs.lemmas.Option.{none-some}
 use denote.Ref.{Bor}
 use Rattle.oc_base.specs.declared.fault.Fault.{Fault}
 use Rattle.oc_linking.specs.Numbers.{first_upto, or_else}
@@ -20,6 +20,7 @@ use Rattle.oc_elf.specs.Frames.{Framed}
 use Rattle.oc_elf.specs.Tables.{symbol_count, symbol_place, entry_of}
 use Rattle.oc_elf.specs.SymbolRules.{kind_conditions, value_conditions, entry_conditions, other_conditions, symbol_conditions, symbol_stage, public_names, public_name, ends_at}
 use Rattle.oc_elf.specs.declared.sym.Sym.{Sym}
+use Rattle.oc_shows.proofs.RepeatLaws as laws
 
 pub entry_broken : (f : Framed) (k place : ℕ) (s : Sym) → first_broken (entry_conditions f k place s) ≡ or_else (first_broken (kind_conditions f k place s)) (first_broken (value_conditions f k place s))
 unfolding entry_conditions
@@ -42,23 +43,6 @@ symbol_broken f k = elim (eqb k 0) as (λ b. first_broken (cond b [] (entry_cond
 
 -- ... repeats
 
--- the first of several is that of an entry before which none has one
-pub record IsFound {X : Type 0} (item : ℕ → Option X) (n : ℕ) (x : X) : Type 0 where
-  pub k : ℕ
-  pub below : k < n
-  pub is : item k ≡ Some x
-  pub first : (i : ℕ) → i < k → item i ≡ None
-
-pub found_first : {X : Type 0} (item : ℕ → Option X) (n : ℕ) (x : X) → first_upto item n ≡ Some x → IsFound item n x
-found_first item zero x e = absurd (none-some x e)
-found_first {X} item (suc n) x e = by (first_upto item n) refl e (found_first item n x)
-  where
-    by : (o : Option X) → first_upto item n ≡ o → or_else o (item n) ≡ Some x → (first_upto item n ≡ Some x → IsFound item n x) → IsFound item (suc n) x
-    by None h e before = record { k = n; below = omega arith; is = e; first = λ i low. first_upto_none item n h i low }
-    by (Some y) h e before =
-        let m = before (h ∙ e) in
-        record { k = m.k; below = let l = m.below in omega (arith, l); is = m.is; first = m.first }
-
 -- nothing repeats at the first position
 first_new : (names : NameList) → repeat_at names 0 ≡ None
 first_new names = by (name_at names 0)
@@ -66,14 +50,6 @@ first_new names = by (name_at names 0)
     by : (o : Option (List ℕ)) → option_map {U = Repeat} (λ place. record { earlier = place; later = 0 }) (option_and_then (place_of names 0) o) ≡ None
     by None = refl
     by (Some name) = refl
-
--- a repeat that is told of a position ends there
-repeat_later : (names : NameList) (k : ℕ) (r : Repeat) → repeat_at names k ≡ Some r → r.later ≡ k
-repeat_later names k r e = by (option_and_then (place_of names k) (name_at names k)) e
-  where
-    by : (o : Option ℕ) → option_map {U = Repeat} (λ place. record { earlier = place; later = k }) o ≡ Some r → r.later ≡ k
-    by None h = absurd (none-some r h)
-    by (Some place) h = ap (λ (x : Repeat). x.later) (sym (same_Some (record { earlier = place; later = k }) r h))
 
 -- a symbol without a fault has a name of its own
 pub no_repeat : (f : Framed) (k : ℕ) → eqb k 0 ≡ false → fault_of (symbol_stage f) k ≡ None → is_some (repeat_at (public_names f) k) ≡ false
@@ -88,30 +64,14 @@ no_repeat f k some clean =
 -- while no symbol has a fault, the first repeat ends at a symbol exactly where its name stood before
 pub repeat_ends : (f : Framed) (found : Option Repeat) (k : ℕ) → found ≡ first_repeat (public_names f) → k < symbol_count f → first_upto (fault_of (symbol_stage f)) k ≡ None
     → ends_at found k ≡ is_some (repeat_at (public_names f) k)
-repeat_ends f None k is low clean =
-    sym (ap is_some (first_upto_none (repeat_at (public_names f)) (length (public_names f)) (sym is) k (omega (arith, low, length-map-range_with_len (public_name f) 0 (symbol_count f)))))
-repeat_ends f (Some r) k is low clean = by (found_first (repeat_at (public_names f)) (length (public_names f)) r (sym is))
+repeat_ends f found k is low clean =
+    laws.repeat_ends (public_names f) found k is (omega (arith, low, length-map-range_with_len (public_name f) 0 (symbol_count f))) own
   where
-    by : IsFound (repeat_at (public_names f)) (length (public_names f)) r → nat_eq r.later k ≡ is_some (repeat_at (public_names f) k)
-    by m = elim (cases_eq m.k k) [
-      | inl same ↦
-          let ends : r.later ≡ k = repeat_later (public_names f) m.k r m.is ∙ same in
-          eq-eqb r.later k ends ∙ sym (ap is_some (ap (repeat_at (public_names f)) (sym same) ∙ m.is))
-      | inr other ↦ elim (cases_lt k m.k) [
-        | inl before ↦
-            let ends = repeat_later (public_names f) m.k r m.is in
-            ne_eqb r.later k (λ same. other (sym ends ∙ same)) ∙ sym (ap is_some (m.first k before))
-        | inr past ↦
-            let behind : m.k < k = omega (arith, past, other) in
-            absurd (true≢false (sym (ap is_some m.is) ∙ own m behind))
-      ]
+    own : (j : ℕ) → j < k → is_some (repeat_at (public_names f) j) ≡ false
+    own j before = elim (cases_eq j 0) [
+      | inl first ↦ ap (λ (i : ℕ). is_some (repeat_at (public_names f) i)) first ∙ ap is_some (first_new (public_names f))
+      | inr some ↦ no_repeat f j (ne_eqb j 0 some) (first_upto_none (fault_of (symbol_stage f)) k clean j before)
     ]
-      where
-        own : (m : IsFound (repeat_at (public_names f)) (length (public_names f)) r) → m.k < k → is_some (repeat_at (public_names f) m.k) ≡ false
-        own m behind = elim (cases_eq m.k 0) [
-          | inl first ↦ ap (λ (j : ℕ). is_some (repeat_at (public_names f) j)) first ∙ ap is_some (first_new (public_names f))
-          | inr some ↦ no_repeat f m.k (ne_eqb m.k 0 some) (first_upto_none (fault_of (symbol_stage f)) k clean m.k behind)
-        ]
 
 -- ... lists of names
 

@@ -1,9 +1,9 @@
 -- The relocations of a file without faults, added one after the other.
-use Rattle.std.proofs.Common.{◌≡◌, ℕ, ◌+◌, ◌<◌, ◌≤◌, Bool, true, false, cond, List, [], ◌∷◌, None, Some, Ok, refl, sym, ◌∙◌, ap, subst, arith}
+use Rattle.std.proofs.Common.{◌≡◌, ℕ, ◌+◌, ◌<◌, ◌≤◌, Bool, true, false, cond, List, [], ◌∷◌, Some, refl, sym, ◌∙◌, ap, subst, arith}
 use Rattle.std.specs.Prelude.{◌&&◌, ◌||◌, not, nat_eq}
 use Rattle.std.specs.List.{AllByRecursion}
 use Rattle.std.specs.Option.{option_map, option_and_then}
-use Rattle.std.proofs.lemmas.Bool.{eqb-true, true≢false}
+use Rattle.std.proofs.lemmas.Bool.{true≢false}
 use Rattle.std.proofs.lemmas.List.{length-map}
 use Rattle.std.proofs.lemmas.Option.{none-some, same_Some, slice_get-map, slice_get_within}
 use Rattle.oc_linking.specs.declared.terms.Binding.{Binding}
@@ -14,15 +14,12 @@ use Rattle.oc_linking.specs.declared.terms.Kind.TheVariants.{Code, ReadOnly, Dat
 use Rattle.oc_linking.specs.declared.terms.Value.TheVariants as value
 use Rattle.oc_linking.specs.Fits.{bytes_of}
 use Rattle.oc_linking.specs.Parts as parts
-use Rattle.oc_linking.specs.Rules.{Field}
 use Rattle.oc_neutral.specs.declared.elf.TheConstants.{SHT_NOTE, SHT_NOBITS, SHT_INIT_ARRAY, SHT_FINI_ARRAY, SHT_X86_64_UNWIND, SHF_WRITE, SHF_ALLOC, SHF_EXECINSTR}
-use Rattle.oc_neutral.specs.declared.reloc.Reloc.{Reloc}
 use Rattle.oc_neutral.specs.declared.reloc.Target.{Target}
 use Rattle.oc_neutral.specs.declared.reloc.Target.TheVariants as target
 use Rattle.oc_neutral.specs.declared.symbol.Symbol.{Symbol}
-use Rattle.oc_neutral.specs.Building.{Draft, is_zero, reloc_added}
-use Rattle.oc_neutral.specs.Built.{AreOfFile, Given, HasAdded, IsField, IsStarted, and_one}
-use Rattle.oc_neutral.specs.Dialects.{kept_fields}
+use Rattle.oc_neutral.specs.Building.{Draft, is_zero}
+use Rattle.oc_neutral.specs.Built.{IsStarted}
 use Rattle.oc_neutral.specs.Computed.{computed_symbol, placed_binding}
 use Rattle.oc_neutral.specs.Elf.Kinds.{elf_kind, is_debug_name, is_unwind_name}
 use Rattle.oc_neutral.specs.Invariants.{CanAdd, IsLessThere, IsTargetThere}
@@ -30,8 +27,6 @@ use Rattle.oc_neutral.specs.KindRules.{first_rule, has}
 use Rattle.oc_neutral.specs.Normal.{Place, local_place, place_among}
 use Rattle.oc_neutral.specs.Rows.{Row, Taken, TakesZero, TakesPlace, TakesGotBase, TakesImageBase, TakesHome, TakesSection, less_of, same_taken}
 use Rattle.oc_neutral.specs.Started.{stored_section}
-use Rattle.oc_neutral.proofs.BuiltSteps.{added_more, added_same, can_still}
-use Rattle.oc_neutral.proofs.CleanLaws.{clean_is_added}
 use Rattle.oc_elf_read.specs.Built.{keys_of, symboled}
 use Rattle.oc_elf.specs.CarriedSections.{section_with, sections_of}
 use Rattle.oc_elf.specs.CarriedSymbols.{symbols_of}
@@ -46,7 +41,8 @@ use Rattle.oc_elf_read.proofs.CarriedLemmas.{IsHere, kind_here, number_here, sec
 use Rattle.oc_elf_read.proofs.FoundFields.{IsClean}
 use Rattle.oc_elf_read.proofs.RowLemmas.{IsRow, is_row}
 use Rattle.oc_elf_judge.proofs.SectionLemmas.{here}
-use Rattle.oc_elf_read.proofs.StandingFields.{IsStanding, are_apart, are_of_file, differences_fit}
+use Rattle.oc_elf_read.proofs.StandingFields.{IsStanding, are_apart, are_of_file, differences_fit, given_standing}
+use Rattle.oc_shows.proofs.AddedLaws.{AreAddable}
 
 -- ... what can be added
 
@@ -87,10 +83,6 @@ stored_place all (Global v) place e = absurd (none-some place e)
 stored_place all Undefined place e = absurd (none-some place e)
 stored_place all (Common size align) place e = absurd (none-some place e)
 stored_place all (Weak g) place e = absurd (none-some place e)
-
--- what is given for some places alone
-abbrev given_where : Framed → Keep → (ℕ → ℕ → Bool) → Given
-given_where f keep done s at = cond (done s at) (given_at f keep s at) None
 
 module _ (f : Framed) (keep : Keep) (frame : IsFrame f) (clean : IsClean f keep) (started : IsStarted (elf_dialect f.class) f.file keep (symboled f (symbol_count f))) where
   abbrev base : Draft
@@ -153,62 +145,15 @@ module _ (f : Framed) (keep : Keep) (frame : IsFrame f) (clean : IsClean f keep)
           let size : m.x.size ≡ (header_at f.headers m.x.number).sh_size = size_here f frame s m.x h ∙ ap (λ (i : ℕ). (header_at f.headers i).sh_size) (sym (number_here f s m.x h)) in
           omega (arith, ends, offset, width, size)
 
-  -- ... a step
-
-  -- what was given so far are fields of the file
-  part_of_file : (done : ℕ → ℕ → Bool) → AreOfFile (elf_dialect f.class) f.file keep base.object (given_where f keep done)
-  part_of_file done s at r e = by (done s at) e
-    where
-      by : (b : Bool) → cond b (given_at f keep s at) None ≡ Some r → (x : Field) × (kept_fields (elf_dialect f.class) f.file keep s at ≡ Some x) × IsField (elf_dialect f.class) f.file keep base.object s at r x
-      by true e = are_of_file f keep frame clean base.object started.symbols s at r e
-      by false e = absurd (none-some r e)
-
-  -- one more place
-  one_more : (done more : ℕ → ℕ → Bool) (s at : ℕ) (r : Reloc) → given_at f keep s at ≡ Some r → ((t x : ℕ) → more t x ≡ (done t x || nat_eq t s && nat_eq at x))
-      → (t x : ℕ) → and_one (given_where f keep done) s at r t x ≡ given_where f keep more t x
-  one_more done more s at r there grown t x = by (nat_eq t s) (nat_eq at x) refl refl ∙ ap (λ b. cond b (given_at f keep t x) None) (sym (grown t x))
-    where
-      by : (a b : Bool) → nat_eq t s ≡ a → nat_eq at x ≡ b → cond (a && b) (Some r) (cond (done t x) (given_at f keep t x) None) ≡ cond (done t x || a && b) (given_at f keep t x) None
-      by true true e g =
-          let given : given_at f keep t x ≡ Some r = ap (λ (i : ℕ). given_at f keep i x) (eqb-true t s e) ∙ ap (λ (i : ℕ). given_at f keep s i) (sym (eqb-true at x g)) ∙ there in
-          of (done t x) given
-        where
-          of : (d : Bool) → given_at f keep t x ≡ Some r → Some r ≡ cond (d || true) (given_at f keep t x) None
-          of true given = sym given
-          of false given = sym given
-      by true false e g = of (done t x)
-        where
-          of : (d : Bool) → cond d (given_at f keep t x) None ≡ cond (d || false) (given_at f keep t x) None
-          of true = refl
-          of false = refl
-      by false b e g = of (done t x)
-        where
-          of : (d : Bool) → cond d (given_at f keep t x) None ≡ cond (d || false) (given_at f keep t x) None
-          of true = refl
-          of false = refl
-
-  -- a relocation at a place where none is yet is added
-  pub record IsTaken (d : Draft) (s at : ℕ) (r : Reloc) (more : ℕ → ℕ → Bool) : Type 0 where
-    pub can : CanAdd d.object s at r
-    pub next : Draft
-    pub ok : reloc_added d s at r ≡ Ok next
-    pub added : HasAdded base next (given_where f keep more)
-
-  pub taken : (done more : ℕ → ℕ → Bool) (d : Draft) (s at : ℕ) (m : Standing s at) → HasAdded base d (given_where f keep done) → done s at ≡ false → ((t x : ℕ) → more t x ≡ (done t x || nat_eq t s && nat_eq at x))
-      → IsTaken d s at m.meant.reloc more
-  taken done more d s at m has new grown = record {
-    can = can;
-    next = step.0;
-    ok = step.1;
-    added = added_same base step.0 (and_one (given_where f keep done) s at m.meant.reloc) (given_where f keep more) (added_more base d step.0 (given_where f keep done) s at m.meant.reloc has can step.1) (one_more done more s at m.meant.reloc m.given grown);
+  -- so each that is given can
+  pub addable : AreAddable base (given_at f keep)
+  addable = record {
+    dialect = elf_dialect f.class;
+    file = f.file;
+    keep = keep;
+    start = started;
+    apart = are_apart f keep frame clean base.object started.symbols;
+    fit = differences_fit f keep frame clean base.object started.symbols;
+    of_file = are_of_file f keep frame clean base.object started.symbols;
+    can = λ s at r e. let m = given_standing f keep frame clean base.object started.symbols s at r e in subst (CanAdd base.object s at) (same_Some m.meant.reloc r (sym m.given ∙ e)) (can_base s at m);
   }
-    where
-      can : CanAdd d.object s at m.meant.reloc
-      can = can_still base d (given_where f keep done) started.draft started.relocs started.folded has s at m.meant.reloc (can_base s at m)
-
-      is : IsField (elf_dialect f.class) f.file keep base.object s at m.meant.reloc m.meant.field
-      is = subst (λ (x : ℕ). IsField (elf_dialect f.class) f.file keep base.object s x m.meant.reloc m.meant.field) m.offset m.meant.is
-
-      step : (e : Draft) × (reloc_added d s at m.meant.reloc ≡ Ok e)
-      step = clean_is_added (elf_dialect f.class) f.file keep base d (given_where f keep done) started (are_apart f keep frame clean base.object started.symbols) (differences_fit f keep frame clean base.object started.symbols) has
-          (part_of_file done) s at m.meant.reloc m.meant.field m.field is (ap (λ b. cond b (given_at f keep s at) None) new)

@@ -1,12 +1,10 @@
 -- What is given, table by table and entry by entry.
-use Rattle.std.proofs.Common.{◌≡◌, ℕ, ◌+◌, ◌^◌, ◌<◌, ◌≤◌, ◌⊎◌, inl, inr, Bool, true, false, cond, List, length, take, Option, None, Some, Ok, refl, sym, ◌∙◌, ap, subst, arith, get_or}
-use Rattle.std.specs.Prelude.{◌&&◌, ◌||◌, nat_eq, nat_lt, slice_get, is_some}
+use Rattle.std.proofs.Common.{◌≡◌, ℕ, ◌+◌, ◌^◌, ◌<◌, ◌≤◌, inl, inr, Bool, true, false, cond, List, length, take, Option, None, Some, refl, sym, ◌∙◌, ap, subst, arith, get_or}
+use Rattle.std.specs.Prelude.{◌&&◌, nat_lt, slice_get, is_some}
 use Rattle.std.specs.List.Sorted.{IsPermutation}
 use Rattle.std.specs.Option.{option_map_or, option_and_then}
-use Rattle.std.proofs.lemmas.Bool.{cases_eq, cases_lt, eq-eqb, ne_eqb, true≢false}
+use Rattle.std.proofs.lemmas.Bool.{cases_eq, cases_lt, true≢false}
 use Rattle.std.proofs.lemmas.Bool.Decides.{nat_tests}
-use Rattle.std.proofs.Math.Seq.{take-length}
-use Rattle.std.proofs.lemmas.List.Folds.{list_any_more}
 use Rattle.std.proofs.lemmas.Option.{same_Some}
 use Rattle.oc_linking.specs.declared.terms.Keep.{Keep}
 use Rattle.oc_linking.specs.Keeping.{keeps}
@@ -14,9 +12,8 @@ use Rattle.oc_linking.specs.Numbers.{first_upto}
 use Rattle.oc_linking.specs.Parts as parts
 use Rattle.oc_neutral.specs.declared.reloc.Reloc.{Reloc}
 use Rattle.oc_neutral.specs.declared.elf.TheConstants.{SHT_NOBITS}
-use Rattle.oc_neutral.specs.Building.{Draft, reloc_added}
+use Rattle.oc_neutral.specs.Building.{Draft}
 use Rattle.oc_neutral.specs.Built.{HasAdded, IsStarted}
-use Rattle.oc_neutral.specs.Invariants.{CanAdd}
 use Rattle.oc_shelf.specs.declared.reading.order.Placed.{Placed}
 use Rattle.oc_shelf.specs.Reading.Collected.{collected}
 use Rattle.oc_shelf.proofs.ReadingLaws.CollectedLemmas.{collected-at}
@@ -27,21 +24,24 @@ use Rattle.oc_elf.specs.CarriedSections.{position_of, section_of, section_with, 
 use Rattle.oc_elf.specs.Elf.{elf_dialect}
 use Rattle.oc_elf.specs.Fields.{is_idle, rel_at, width_of}
 use Rattle.oc_elf.specs.Frames.{Framed}
-use Rattle.oc_elf_read.specs.Given.{given_at, given_before, given_with, is_among, is_before, placed, reloc_by}
+use Rattle.oc_elf_read.specs.Given.{given_at, given_before, given_with, is_before, placed, reloc_by}
 use Rattle.oc_elf.specs.Laid.{IsFrame}
 use Rattle.oc_elf.specs.RelocRules.{entry_fault, is_kept_section}
 use Rattle.oc_elf.specs.Sections.{contents_of, is_carried, is_type, kind_of}
 use Rattle.oc_elf.specs.Tables.{reloc_count, reloc_of, symbol_count}
-use Rattle.oc_elf_read.proofs.AddedRelocs.{IsTaken, Standing, taken}
+use Rattle.oc_elf_read.proofs.AddedRelocs.{Standing, addable}
 use Rattle.oc_elf_read.proofs.ApartEntries.{differ_at, fit_at}
 use Rattle.oc_elf_read.proofs.BuildLemmas.{length-contents, placed_at}
 use Rattle.oc_elf_read.proofs.CarriedLemmas.{IsHere, kind_here, number_here, section_here}
 use Rattle.oc_elf_read.proofs.FoundFields.{IsClean, IsEntry, entries_clean, entry_found, entry_there}
 use Rattle.oc_elf_judge.proofs.PlaceLemmas.{section_some}
-use Rattle.oc_elf_read.proofs.PlacedEntries.{IsPlacedEntry, among_all, not_among, placed_at as entry_placed}
+use Rattle.oc_elf_read.proofs.PlacedEntries.{IsPlacedEntry, differ, placed_at as entry_placed, placed_some}
 use Rattle.oc_elf_judge.proofs.RelocLemmas.{IsGood, field_inside, nameable_there}
 use Rattle.oc_elf_judge.proofs.SectionLemmas.{here}
 use Rattle.oc_elf_read.proofs.StandingFields.{given_standing, stands}
+use Rattle.oc_shows.proofs.AddedLaws.{IsTaken, entry_taken, lt_next, lt_self, lt_stays, table_done as all_done}
+use Rattle.oc_shelf.proofs.ReadingLaws.PlacedLemmas.{among_all, not_among}
+use Rattle.oc_shelf.specs.Reading.Order.{is_among}
 
 -- the first entry at the offset of an entry is that entry
 rel_is : (f : Framed) (i k : ℕ) → first_upto (entry_fault f i) (reloc_count f i) ≡ None → k < reloc_count f i → is_idle (reloc_of f i k) ≡ false → rel_at f i (reloc_of f i k).r_offset ≡ Some (reloc_of f i k)
@@ -125,14 +125,6 @@ module _ (f : Framed) (keep : Keep) (frame : IsFrame f) where
           below : (a b : ℕ) → a < b → nat_lt a b ≡ true
           below a b l = grind (arith, nat_tests)
 
-  -- sections with other numbers than i
-  passed : (n i : ℕ) → (n ≡ i → ⊥) → nat_lt n (i + 1) ≡ nat_lt n i
-  passed n i other = by (nat_lt n i) refl
-    where
-      by : (b : Bool) → nat_lt n i ≡ b → nat_lt n (i + 1) ≡ b
-      by true e = grind (arith, nat_tests)
-      by false e = elim (cases_eq n i) [ inl same ↦ absurd (other same) | inr ne ↦ grind (arith, nat_tests) ]
-
   -- a section that is left out is given nothing
   pub given_left : (i : ℕ) → is_kept_section f keep i ≡ false → (t x : ℕ) → given_before f keep i t x ≡ given_before f keep (i + 1) t x
   unfolding given_at
@@ -146,7 +138,7 @@ module _ (f : Framed) (keep : Keep) (frame : IsFrame f) where
       by None e = refl
       by (Some y) e = elim (cases_eq y.number i) [
         | inl same ↦ both (nat_lt y.number i) (nat_lt y.number (i + 1)) (keeps keep y.kind) (unkept same)
-        | inr other ↦ ap (λ b. cond b (cond (keeps keep y.kind) (option_and_then (reloc_by f y.contents) (rel_at f y.number x)) None) None) (sym (passed y.number i other))
+        | inr other ↦ ap (λ b. cond b (cond (keeps keep y.kind) (option_and_then (reloc_by f y.contents) (rel_at f y.number x)) None) None) (sym (lt_stays y.number i other))
       ]
         where
           m : IsHere f t y
@@ -177,10 +169,10 @@ module _ (f : Framed) (keep : Keep) (frame : IsFrame f) (clean : IsClean f keep)
   there = at_position f i p low (kept_parts f keep i kept).0 position
 
   number_at : is_before f i p ≡ false
-  number_at = ap (λ (o : Option parts.Section). option_map_or (λ (y : parts.Section). nat_lt y.number i) o true) there ∙ ap (λ (n : ℕ). nat_lt n i) (number_of f i) ∙ self i
-    where
-      self : (n : ℕ) → nat_lt n n ≡ false
-      self n = grind (arith, nat_tests)
+  number_at = ap (λ (o : Option parts.Section). option_map_or (λ (y : parts.Section). nat_lt y.number i) o true) there ∙ ap (λ (n : ℕ). nat_lt n i) (number_of f i) ∙ lt_self i
+
+  passed_at : is_before f (i + 1) p ≡ true
+  passed_at = ap (λ (o : Option parts.Section). option_map_or (λ (y : parts.Section). nat_lt y.number (i + 1)) o true) there ∙ ap (λ (n : ℕ). nat_lt n (i + 1)) (number_of f i) ∙ lt_next i
 
   -- another position has another number
   other_number : (t : ℕ) (y : parts.Section) → slice_get (sections_of f) t ≡ Some y → (t ≡ p → ⊥) → y.number ≡ i → ⊥
@@ -188,6 +180,13 @@ module _ (f : Framed) (keep : Keep) (frame : IsFrame f) (clean : IsClean f keep)
       let m : IsHere f t y = section_here f t y e in
       let k : m.k ≡ i = sym (number_here f t y m) ∙ same in
       other (same_Some t p (sym m.at ∙ ap (position_of f) k ∙ position))
+
+  others_stay : (t : ℕ) → (t ≡ p → ⊥) → is_before f (i + 1) t ≡ is_before f i t
+  others_stay t other = by (slice_get (sections_of f) t) refl
+    where
+      by : (o : Option parts.Section) → slice_get (sections_of f) t ≡ o → option_map_or (λ (y : parts.Section). nat_lt y.number (i + 1)) o true ≡ option_map_or (λ (y : parts.Section). nat_lt y.number i) o true
+      by None e = refl
+      by (Some y) e = lt_stays y.number i (other_number t y e other)
 
   -- an entry stands at its offset
   pub record IsNext (k : ℕ) : Type 0 where
@@ -245,110 +244,31 @@ module _ (f : Framed) (keep : Keep) (frame : IsFrame f) (clean : IsClean f keep)
           same_Some (reloc_of f i m.k) (reloc_of f i k) (sym (rel_is f i m.k entries_are lower busier) ∙ ap (rel_at f i) offset ∙ rel_is f i k entries_are below busy)
 
   module _ (entries : List Placed) (are : IsPermutation (collected (placed f i) (reloc_count f i)) entries) where
-    abbrev done : ℕ → ℕ → ℕ → Bool
-    done j t x = is_before f i t || nat_eq t p && is_among (take j entries) x
-
-    -- nothing is given at the place of an entry before it is added
-    pub new_place : (j : ℕ) (d : Placed) → j < length entries → done j p (get_or entries j d).place ≡ false
-    new_place j d below = by (is_before f i p) (is_among (take j entries) (get_or entries j d).place) number_at (not_among f i entries_are entries are j d below)
-      where
-        by : (a c : Bool) → a ≡ false → c ≡ false → (a || nat_eq p p && c) ≡ false
-        by false false e g = of (nat_eq p p)
-          where
-            of : (b : Bool) → (b && false) ≡ false
-            of true = refl
-            of false = refl
-        by true c e g = absurd (true≢false e)
-        by false true e g = absurd (true≢false g)
-
-    -- with it one more place is given
-    pub one_place : (j : ℕ) (d : Placed) → j < length entries → (t x : ℕ) → done (j + 1) t x ≡ (done j t x || nat_eq t p && nat_eq (get_or entries j d).place x)
-    one_place j d below t x =
-        ap (λ b. is_before f i t || nat_eq t p && b) (list_any_more (λ (e : Placed). nat_eq e.place x) entries j d below)
-        ∙ by (is_before f i t) (nat_eq t p) (is_among (take j entries) x) (nat_eq (get_or entries j d).place x)
-      where
-        by : (a b c e : Bool) → (a || b && (c || e)) ≡ (a || b && c || b && e)
-        by true b c e = refl
-        by false true true e = refl
-        by false true false e = refl
-        by false false c e = refl
-
-    -- entry j stands at its offset, and is added
+    -- entry j stands at its offset
     pub next_of : (j : ℕ) (e : Placed) → j < length entries → IsNext (get_or entries j e).index
-    next_of j e below =
-        let is : IsPlacedEntry f i (get_or entries j e) = entry_placed f i entries_are entries are j e below in
-        next_at (get_or entries j e).index is.low is.busy
+    next_of j e below = let is : IsPlacedEntry f i (get_or entries j e) = entry_placed f i entries are j e below in next_at (get_or entries j e).index is.low is.busy
 
-    pub added_next : (j : ℕ) (e : Placed) (below : j < length entries) (d : Draft) → HasAdded (symboled f (symbol_count f)) d (given_with f keep i p (take j entries))
-        → IsTaken f keep frame clean started d p (reloc_of f i (get_or entries j e).index).r_offset (next_of j e below).standing.meant.reloc (done (j + 1))
-    added_next j e below d has =
-        let is : IsPlacedEntry f i (get_or entries j e) = entry_placed f i entries_are entries are j e below in
-        taken f keep frame clean started (done j) (done (j + 1)) d p (reloc_of f i (get_or entries j e).index).r_offset (next_of j e below).standing has
-        (ap (done j p) is.place ∙ new_place j e below)
-        (λ t x. one_place j e below t x ∙ ap (λ (q : ℕ). done j t x || nat_eq t p && nat_eq q x) (sym is.place))
-
-    -- its relocation, as it was read, can be added
-    pub record IsReady (d : Draft) (j : ℕ) (r : Rel) (o : Reloc) : Type 0 where
-      pub can : CanAdd d.object p r.r_offset o
-      pub next : Draft
-      pub ok : reloc_added d p r.r_offset o ≡ Ok next
-      pub added : HasAdded (symboled f (symbol_count f)) next (given_with f keep i p (take (j + 1) entries))
-
+    -- its relocation, as it was read, is added
     pub ready : (j : ℕ) (e : Placed) → j < length entries → (d : Draft) → HasAdded (symboled f (symbol_count f)) d (given_with f keep i p (take j entries)) → (r : Rel) → r ≡ reloc_of f i (get_or entries j e).index
-        → (o : Reloc) → reloc_by f (contents_of f (here f i)) r ≡ Some o → IsReady d j r o
+        → (o : Reloc) → reloc_by f (contents_of f (here f i)) r ≡ Some o → IsTaken (symboled f (symbol_count f)) d p r.r_offset o (given_with f keep i p (take (j + 1) entries))
     ready j e below d has r read o made =
-        let t : IsTaken f keep frame clean started d p (reloc_of f i (get_or entries j e).index).r_offset (next_of j e below).standing.meant.reloc (done (j + 1)) = added_next j e below d has in
-        let same : (next_of j e below).standing.meant.reloc ≡ o = same_Some (next_of j e below).standing.meant.reloc o (sym (next_of j e below).is ∙ ap (reloc_by f (contents_of f (here f i))) (sym read) ∙ made) in
-        record {
-          can = subst (λ (q : Rel). CanAdd d.object p q.r_offset o) (sym read) (subst (CanAdd d.object p (reloc_of f i (get_or entries j e).index).r_offset) same t.can);
-          next = t.next;
-          ok = ap (λ (q : Rel). reloc_added d p q.r_offset o) read ∙ ap (reloc_added d p (reloc_of f i (get_or entries j e).index).r_offset) (sym same) ∙ t.ok;
-          added = t.added;
-        }
+        let is : IsPlacedEntry f i (get_or entries j e) = entry_placed f i entries are j e below in
+        let n : IsNext (get_or entries j e).index = next_of j e below in
+        let same : n.standing.meant.reloc ≡ o = same_Some n.standing.meant.reloc o (sym n.is ∙ ap (reloc_by f (contents_of f (here f i))) (sym read) ∙ made) in
+        entry_taken (symboled f (symbol_count f)) (given_at f keep) (addable f keep frame clean started) (is_before f i) p number_at entries j e below
+        (not_among (placed f i) (reloc_count f i) entries are (differ f i entries_are) j e below) d has r.r_offset (ap (λ (q : Rel). q.r_offset) read ∙ is.place) o
+        (ap (λ (q : Rel). given_at f keep p q.r_offset) read ∙ n.standing.given ∙ ap Some same)
 
     -- with all entries the section is done
     pub table_done : (t x : ℕ) → given_with f keep i p (take (length entries) entries) t x ≡ given_before f keep (i + 1) t x
-    table_done t x = by (slice_get (sections_of f) t) refl (cases_eq t p)
+    table_done = all_done (given_at f keep) (is_before f i) (is_before f (i + 1)) p others_stay passed_at entries among
       where
-        -- what is given in the section is among them
-        given_among : t ≡ p → is_among (take (length entries) entries) x ≡ false → given_at f keep t x ≡ None
-        given_among same none = of (given_at f keep t x) refl
-          where
-            of : (o : Option Reloc) → given_at f keep t x ≡ o → o ≡ None
-            of None e = refl
-            of (Some r) e =
-                let m : Standing f keep frame clean started t x = given_standing f keep frame clean (symboled f (symbol_count f)).object started.symbols t x r e in
-                let section : m.x ≡ section_with f i (here f i) = same_Some m.x (section_with f i (here f i)) (sym m.there ∙ ap (slice_get (sections_of f)) same ∙ there) in
-                let number : m.x.number ≡ i = ap (λ (y : parts.Section). y.number) section ∙ number_of f i in
-                let among : is_among entries (reloc_of f i m.k).r_offset ≡ true = among_all f i entries_are entries are m.k (subst (λ (q : ℕ). m.k < reloc_count f q) number m.below) (subst (λ (q : ℕ). is_idle (reloc_of f q m.k) ≡ false) number m.busy) in
-                let offset : (reloc_of f i m.k).r_offset ≡ x = subst (λ (q : ℕ). (reloc_of f q m.k).r_offset ≡ x) number m.offset in
-                absurd (true≢false (sym among ∙ ap (is_among entries) offset ∙ ap (λ (es : List Placed). is_among es x) (sym (take-length entries)) ∙ none))
-
-        by : (o : Option parts.Section) → slice_get (sections_of f) t ≡ o → (t ≡ p) ⊎ (t ≡ p → ⊥)
-            → cond (option_map_or (λ (y : parts.Section). nat_lt y.number i) o true || nat_eq t p && is_among (take (length entries) entries) x) (given_at f keep t x) None
-            ≡ cond (option_map_or (λ (y : parts.Section). nat_lt y.number (i + 1)) o true) (given_at f keep t x) None
-        by None e d = refl
-        by (Some y) e (inl same) =
-            let section : y ≡ section_with f i (here f i) = same_Some y (section_with f i (here f i)) (sym e ∙ ap (slice_get (sections_of f)) same ∙ there) in
-            let number : y.number ≡ i = ap (λ (z : parts.Section). z.number) section ∙ number_of f i in
-            of (is_among (take (length entries) entries) x) refl (nat_lt y.number i) (nat_lt y.number (i + 1)) (more y.number number) (nat_eq t p) (eq-eqb t p same)
-          where
-            more : (n : ℕ) → n ≡ i → nat_lt n (i + 1) ≡ true
-            more n same = grind (arith, nat_tests)
-
-            of : (c : Bool) → is_among (take (length entries) entries) x ≡ c → (a b : Bool) → b ≡ true → (q : Bool) → q ≡ true → cond (a || q && c) (given_at f keep t x) None ≡ cond b (given_at f keep t x) None
-            of true g true true h true k = refl
-            of true g false true h true k = refl
-            of false g true true h true k = refl
-            of false g false true h true k = sym (given_among same g)
-            of c g a false h q k = absurd (true≢false (sym h))
-            of c g a b h false k = absurd (true≢false (sym k))
-        by (Some y) e (inr other) =
-            of (nat_lt y.number i) (nat_lt y.number (i + 1)) (nat_eq t p) (ne_eqb t p other) (passed f keep frame y.number i (other_number t y e other))
-          where
-            of : (a b q : Bool) → q ≡ false → b ≡ a → cond (a || q && is_among (take (length entries) entries) x) (given_at f keep t x) None ≡ cond b (given_at f keep t x) None
-            of true true false h k = refl
-            of false false false h k = refl
-            of true false q h k = absurd (true≢false (sym k))
-            of false true q h k = absurd (true≢false k)
-            of a b true h k = absurd (true≢false h)
+        among : (x : ℕ) (r : Reloc) → given_at f keep p x ≡ Some r → is_among entries x ≡ true
+        among x r e =
+            let m : Standing f keep frame clean started p x = given_standing f keep frame clean (symboled f (symbol_count f)).object started.symbols p x r e in
+            let section : m.x ≡ section_with f i (here f i) = same_Some m.x (section_with f i (here f i)) (sym m.there ∙ there) in
+            let number : m.x.number ≡ i = ap (λ (y : parts.Section). y.number) section ∙ number_of f i in
+            let offset : (reloc_of f i m.k).r_offset ≡ x = subst (λ (q : ℕ). (reloc_of f q m.k).r_offset ≡ x) number m.offset in
+            sym (ap (is_among entries) offset)
+            ∙ among_all (placed f i) (reloc_count f i) entries are m.k (record { place = (reloc_of f i m.k).r_offset; index = m.k }) (subst (λ (q : ℕ). m.k < reloc_count f q) number m.below)
+            (placed_some f i m.k (subst (λ (q : ℕ). is_idle (reloc_of f q m.k) ≡ false) number m.busy))

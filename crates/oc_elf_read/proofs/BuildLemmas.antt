@@ -1,10 +1,8 @@
 -- The groups and sections of a file without faults, added one after the other.
 use Rattle.std.proofs.Common.{◌≡◌, ℕ, zero, suc, ◌+◌, ◌<◌, ◌≤◌, inl, inr, true, false, cond, List, [], ◌∷◌, ◌++◌, length, map, take, drop, replicate, Option, None, Some, Ok, refl, sym, ◌∙◌, ap, subst, arith, length-take, length-drop}
 use Rattle.std.specs.Prelude.{not, ◌&&◌, ◌||◌}
-use Rattle.std.specs.List.{sum_by}
 use Rattle.std.specs.Option.{option_map_or}
 use Rattle.std.proofs.lemmas.Bool.{eqb-true, true≢false}
-use Rattle.std.proofs.lemmas.List.Sums.{sum_by-cons}
 use Rattle.std.proofs.lemmas.List.{length-map}
 use Rattle.oc_linking.specs.FirstFault.{fault_of, stage_fault}
 use Rattle.oc_linking.specs.Parts as parts
@@ -30,6 +28,7 @@ use Rattle.oc_elf.specs.Sections.{is_type, is_carried, kind_of, contents_of}
 use Rattle.oc_elf.specs.SectionRules.{has_bytes, size_counted, bytes_counted, section_stage}
 use Rattle.oc_elf_judge.proofs.SectionLemmas.{IsSound, here, null_first, sound_at}
 use Rattle.oc_elf_judge.proofs.PlaceLemmas.{section_some, section_none}
+use Rattle.oc_neutral.proofs.MeetsCounts.{sum_map}
 
 -- a carried section takes bytes of the file, where it is not NOBITS
 carried_bytes : (s : Shdr) → is_carried s ≡ true → is_type SHT_NOBITS s ≡ false → has_bytes s ≡ true
@@ -38,10 +37,6 @@ carried_bytes s is other =
       | true ↦ λ e. let null : s.sh_type ≡ 0 = eqb-true s.sh_type 0 e in absurd (true≢false (sym is ∙ rw null refl))
       | false ↦ λ e. ap not other
     ] refl
-
-sum_map : {X Y : Type 0} (f : Y → ℕ) (g : X → Y) (xs : List X) → sum_by f (map g xs) ≡ sum_by (λ x. f (g x)) xs
-sum_map f g [] = refl
-sum_map f g (x ∷ xs) = sum_by-cons f (g x) (map g xs) ∙ ap (λ (n : ℕ). f (g x) + n) (sum_map f g xs) ∙ sym (sum_by-cons (λ y. f (g y)) x xs)
 
 sum_same : (f g : ℕ → ℕ) (n : ℕ) → ((k : ℕ) → f k ≡ g k) → sum_upto f n ≡ sum_upto g n
 sum_same f g zero same = refl

@@ -4,10 +4,7 @@ use Rattle.std.specs.Prelude.{◌&&◌, slice_get}
 use Rattle.std.specs.Option.{option_map_or, option_and_then}
 use Rattle.std.proofs.lemmas.Bool.{true≢false}
 use Rattle.std.proofs.lemmas.Option.{none-some, same_Some}
-use Rattle.oc_linking.specs.declared.terms.Base.{Base}
-use Rattle.oc_linking.specs.declared.terms.Base.TheVariants as base
 use Rattle.oc_linking.specs.declared.terms.Keep.{Keep}
-use Rattle.oc_linking.specs.declared.terms.Less.{Less}
 use Rattle.oc_linking.specs.declared.terms.Less.TheVariants as less
 use Rattle.oc_linking.specs.declared.terms.Width.{Width}
 use Rattle.oc_linking.specs.Fits.{bytes_of}
@@ -16,12 +13,9 @@ use Rattle.oc_linking.specs.Numbers.{first_upto}
 use Rattle.oc_linking.specs.Parts as parts
 use Rattle.oc_linking.specs.Rules.{Field}
 use Rattle.oc_neutral.specs.declared.reloc.Reloc.{Reloc}
-use Rattle.oc_neutral.specs.declared.reloc.Target.{Target}
-use Rattle.oc_neutral.specs.declared.reloc.Target.TheVariants as target
 use Rattle.oc_neutral.specs.Built.{AreApart, AreOfFile, DifferencesFit, IsField, IsFree, IsGiven}
-use Rattle.oc_neutral.specs.Dialects.{kept_fields, target_by}
+use Rattle.oc_neutral.specs.Dialects.{kept_fields}
 use Rattle.oc_neutral.specs.Faces.{shown_symbols}
-use Rattle.oc_neutral.specs.Normal.{cancels}
 use Rattle.oc_neutral.specs.Objects.{Object}
 use Rattle.oc_neutral.specs.Rows.{Row, Taken, TakesZero, TakesPlace, TakesGotBase, TakesImageBase, TakesHome, TakesSection, less_of, same_taken}
 use Rattle.oc_elf.specs.declared.rel.Rel.{Rel}
@@ -41,6 +35,7 @@ use Rattle.oc_elf_read.proofs.GivenFields.{IsMeant, meant}
 use Rattle.oc_elf_judge.proofs.RelocLemmas.{IsGood}
 use Rattle.oc_elf_read.proofs.RowLemmas.{IsRow, is_row}
 use Rattle.oc_elf_judge.proofs.SectionLemmas.{here}
+use Rattle.oc_shows.proofs.GivenLaws as laws
 
 -- a row of ELF takes no section
 no_section : (row : Row) (k : ℕ) → IsRow row → less_of row.taken 0 ≡ less.Section k → ⊥
@@ -53,38 +48,6 @@ no_section row k is e = by row.taken is.alone e
     by TakesImageBase n e = absurd (cc)
     by TakesHome n e = absurd (cc)
     by TakesSection n e = true≢false n
-
--- so no relocation of one is a difference
-no_difference : (row : Row) (b : Base) (t : Target) → ((k : ℕ) → less_of row.taken 0 ≡ less.Section k → ⊥) → cancels b t (less_of row.taken 0) ≡ true → ⊥
-no_difference row b t none e = by (less_of row.taken 0) refl b t e
-  where
-    by : (l : Less) → less_of row.taken 0 ≡ l → (b : Base) (t : Target) → cancels b t l ≡ true → ⊥
-    by (less.Section k) is b t e = none k is
-    by less.Zero is base.Address (target.Section k) e = true≢false (sym e)
-    by less.Zero is base.Address (target.Symbol k) e = true≢false (sym e)
-    by less.Zero is base.Slot t e = true≢false (sym e)
-    by less.Zero is base.GotBase t e = true≢false (sym e)
-    by less.Zero is base.HomeNumber t e = true≢false (sym e)
-    by less.Place is base.Address (target.Section k) e = true≢false (sym e)
-    by less.Place is base.Address (target.Symbol k) e = true≢false (sym e)
-    by less.Place is base.Slot t e = true≢false (sym e)
-    by less.Place is base.GotBase t e = true≢false (sym e)
-    by less.Place is base.HomeNumber t e = true≢false (sym e)
-    by less.GotBase is base.Address (target.Section k) e = true≢false (sym e)
-    by less.GotBase is base.Address (target.Symbol k) e = true≢false (sym e)
-    by less.GotBase is base.Slot t e = true≢false (sym e)
-    by less.GotBase is base.GotBase t e = true≢false (sym e)
-    by less.GotBase is base.HomeNumber t e = true≢false (sym e)
-    by less.ImageBase is base.Address (target.Section k) e = true≢false (sym e)
-    by less.ImageBase is base.Address (target.Symbol k) e = true≢false (sym e)
-    by less.ImageBase is base.Slot t e = true≢false (sym e)
-    by less.ImageBase is base.GotBase t e = true≢false (sym e)
-    by less.ImageBase is base.HomeNumber t e = true≢false (sym e)
-    by less.Home is base.Address (target.Section k) e = true≢false (sym e)
-    by less.Home is base.Address (target.Symbol k) e = true≢false (sym e)
-    by less.Home is base.Slot t e = true≢false (sym e)
-    by less.Home is base.GotBase t e = true≢false (sym e)
-    by less.Home is base.HomeNumber t e = true≢false (sym e)
 
 -- the width of a field is that of its row
 row_width : (f : Framed) (r : Rel) (row : Row) → row_for f r ≡ Some row → width_of f r ≡ bytes_of row.width
@@ -188,9 +151,7 @@ module _ (f : Framed) (keep : Keep) (frame : IsFrame f) (clean : IsClean f keep)
 
   -- what is given are fields of the file
   pub are_of_file : AreOfFile (elf_dialect f.class) f.file keep n (given_at f keep)
-  are_of_file s at r e =
-      let m : IsGiven (elf_dialect f.class) f.file keep n (given_at f keep) s at = standing_given s at (given_standing s at r e) in
-      (m.field, m.here, subst (λ (q : Reloc). IsField (elf_dialect f.class) f.file keep n s at q m.field) (same_Some m.reloc r (sym m.there ∙ e)) m.is)
+  are_of_file = laws.are_of_file (elf_dialect f.class) f.file keep n (given_at f keep) free_or_given
 
   -- its width
   field_width : (s at : ℕ) (x : Field) → kept_fields (elf_dialect f.class) f.file keep s at ≡ Some x → (m : IsStanding s at) → bytes_of x.width ≡ width_of f (reloc_of f m.x.number m.k)
@@ -217,11 +178,8 @@ module _ (f : Framed) (keep : Keep) (frame : IsFrame f) (clean : IsClean f keep)
 
   -- none is a difference
   pub differences_fit : DifferencesFit (elf_dialect f.class) f.file keep
-  differences_fit s at x e difference = absurd (by (field_standing s at x e))
-    where
-      by : IsStanding s at → ⊥
-      by m =
-          let same : x ≡ m.meant.field = same_Some x m.meant.field (sym e ∙ m.field) in
-          let taken : x.less ≡ less_of m.good.row.taken 0 = ap (λ (y : Field). y.less) same ∙ sym m.meant.is.less ∙ ap (λ g. g.less) m.meant.form in
-          no_difference m.good.row x.base (target_by x.target) (λ k. no_section m.good.row k (is_row f (reloc_of f m.x.number m.k) m.good.row m.good.listed))
-          (sym (ap (λ (l : Less). cancels x.base (target_by x.target) l) taken) ∙ difference)
+  differences_fit =
+      laws.differences_fit (elf_dialect f.class) f.file keep n (given_at f keep) free_or_given (λ s at r e k same.
+      let m = given_standing s at r e in
+      let form = sym (ap (λ g. g.less) m.meant.form) ∙ ap (λ (q : Reloc). q.form.less) (same_Some m.meant.reloc r (sym m.given ∙ e)) in
+      no_section m.good.row k (is_row f (reloc_of f m.x.number m.k) m.good.row m.good.listed) (form ∙ same))

@@ -1,5 +1,5 @@
 -- What is built of a file, step by step (our profile).
-use Rattle.std.specs.Prelude.{◌≡◌, ℕ, ◌+◌, ◌^◌, ◌<◌, ◌≤◌, false, List, [], ◌∷◌, ◌++◌, bytes_eq, length, map, if◌then◌else◌, slice_index_or, Option, Some, None}
+use Rattle.std.specs.Prelude.{◌≡◌, ℕ, ◌+◌, ◌^◌, ◌<◌, ◌≤◌, false, List, [], ◌∷◌, ◌++◌, length, map, if◌then◌else◌, slice_index_or, Option, Some, None}
 use Rattle.oc_base.specs.Strings.{is_given}
 use Rattle.oc_linking.specs.Parts as parts
 use Rattle.oc_neutral.specs.declared.elf.TheConstants.{SHT_NOBITS, ALIGN_BITS}
@@ -7,7 +7,6 @@ use Rattle.oc_elf.specs.declared.constants.TheConstants.{MOST_SIZE}
 use Rattle.oc_neutral.specs.declared.symbol.Symbol.{Symbol}
 use Rattle.oc_neutral.specs.Building.{Draft}
 use Rattle.oc_neutral.specs.Computed.{computed_symbol, keys_after}
-use Rattle.std.specs.List.{position_or_len}
 use Rattle.std.specs.Option.{option_and_then}
 use Rattle.oc_neutral.specs.Started.{groups_by, plain_draft, stored_section}
 use Rattle.oc_shelf.specs.Reading.Collected.{collected}
@@ -18,6 +17,7 @@ use Rattle.oc_elf.specs.Groups.{comdat_key, is_comdat, owner_among}
 use Rattle.oc_elf.specs.Sections.{is_type}
 use Rattle.oc_elf.specs.CarriedSections.{section_of, sections_of}
 use Rattle.oc_elf.specs.CarriedSymbols.{symbol_of, symbols_of}
+use Rattle.oc_shelf.specs.Reading.Slots.{place_in}
 
 -- a carried section lies in the file, where it takes bytes of it, and its numbers are small
 pub record IsPlaced (f : Framed) (s : Shdr) : Type 0 where
@@ -37,10 +37,6 @@ keys_upto f k = keys_after [] (map (λ (s : parts.Section). s.group) (collected 
 -- those of all
 abbrev pub keys_of : Framed → List (List ℕ)
 keys_of f = keys_upto f (length f.headers)
-
--- the position of a key among those that are begun
-abbrev pub place_in : List (List ℕ) → List ℕ → Option ℕ
-place_in keys key = if is_given keys key then Some (position_or_len (bytes_eq key) keys) else None
 
 -- the slots have the position of the group of each header that is a one-definition group
 pub record AreBegunGroups (f : Framed) (keys : List (List ℕ)) (slots : List (Option ℕ)) : Type 0 where

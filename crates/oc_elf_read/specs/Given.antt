@@ -9,7 +9,6 @@ use Rattle.oc_linking.specs.declared.terms.Width.TheVariants.{Eight}
 use Rattle.oc_linking.specs.Fits.{bytes_of}
 use Rattle.oc_algebra.specs.Fields.{from_field_of}
 use Rattle.oc_algebra.specs.Residues.{reduced_number}
-use Rattle.std.specs.List.{list_any}
 use Rattle.std.specs.Option.{option_map, option_map_or, option_and_then}
 use Rattle.oc_linking.specs.declared.terms.Keep.{Keep}
 use Rattle.oc_linking.specs.Keeping.{keeps}
@@ -30,6 +29,7 @@ use Rattle.oc_elf.specs.CarriedSections.{sections_of}
 use Rattle.oc_elf.specs.Fields.{addend_in, is_idle, rel_at, row_for}
 use Rattle.oc_elf.specs.Frames.{Framed}
 use Rattle.oc_elf.specs.Tables.{entry_of, reloc_of}
+use Rattle.oc_shelf.specs.Reading.Order.{is_among}
 
 -- the relocation of an entry with that row: against the section for its own symbol, with the offset added, else against the symbol
 abbrev pub reloc_with : Framed → List ℕ → Rel → Row → Option Reloc
@@ -66,10 +66,6 @@ given_at f keep s at =
 -- the section at a position has a number below i; so has one that is not there
 abbrev pub is_before : Framed → ℕ → ℕ → Bool
 is_before f i s = option_map_or (λ (x : parts.Section). nat_lt x.number i) (slice_get (sections_of f) s) true
-
--- one of the entries is at an offset
-abbrev pub is_among : List Placed → ℕ → Bool
-is_among entries at = list_any (λ (e : Placed). nat_eq e.place at) entries
 
 -- what is given for the sections with numbers below i
 abbrev pub given_before : Framed → Keep → ℕ → Given

@@ -6,30 +6,8 @@ use Rattle.std.proofs.lemmas.Bool.{eq-eqb, ne_eqb, true≢false}
 use Rattle.std.proofs.lemmas.List.{get_or-drop}
 use Rattle.std.proofs.lemmas.Slice.Eq.{bytes_eq-Decides}
 use Rattle.std.proofs.lemmas.Bool.Decides.{nat_tests}
-use Rattle.std.proofs.lemmas.Option.{none-some, same_Some}
+use Rattle.std.proofs.lemmas.Option.{none-some}
 use Rattle.oc_shelf.specs.Reading.Texts.{text_within, text_at, short}
-
-text_length : (xs text : List ℕ) → text_within xs ≡ Some text → length text ≤ length xs
-text_length [] text e = absurd (none-some text e)
-text_length (x ∷ xs) text e = by (eqb x 0) (text_within xs) (text_length xs) e
-  where
-    by : (b : Bool) (o : Option (List ℕ)) → ((rest : List ℕ) → o ≡ Some rest → length rest ≤ length xs) → cond b (Some []) (option_map (λ text. x ∷ text) o) ≡ Some text
-        → length text ≤ suc (length xs)
-    by true o rest f = let long : 0 ≡ length text = ap length (same_Some [] text f) in omega (arith, long)
-    by false None rest f = absurd (none-some text f)
-    by false (Some r) rest f = let long : suc (length r) ≡ length text = ap length (same_Some (x ∷ r) text f) in omega (arith, long, rest r refl)
-
--- no text is too long for the bytes in which it stands
-pub whole_text : (bytes : List ℕ) (at : ℕ) → short (length bytes) (text_at bytes at) ≡ text_at bytes at
-whole_text bytes at = by (text_at bytes at) refl
-  where
-    by : (o : Option (List ℕ)) → text_at bytes at ≡ o → short (length bytes) o ≡ o
-    by None e = refl
-    by (Some text) e =
-        let low = text_length (drop at bytes) text e in
-        let long : length text ≤ length bytes = omega (arith, low, length-drop at bytes) in
-        let le : nat_le (length text) (length bytes) ≡ true = grind (arith, nat_tests) in
-        ap (λ b. cond b (Some text) None) le
 
 -- a text of at most so many bytes is that text
 pub short_is : (most : ℕ) (o : Option (List ℕ)) (text : List ℕ) → short most o ≡ Some text → o ≡ Some text

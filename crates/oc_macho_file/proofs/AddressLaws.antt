@@ -11,10 +11,9 @@ use Rattle.oc_base.specs.declared.format.Word.{Word}
 use Rattle.oc_neutral.specs.declared.section.Section.{Section}
 use Rattle.oc_neutral.specs.Objects.{Object}
 use Rattle.oc_shelf.specs.Writing.Parts.{Laid, laid, laid_end, aligned}
-use Rattle.oc_shelf.proofs.WritingLaws.MemberLemmas.{member_first, member_second, member_enumerated, of_append}
+use Rattle.oc_shelf.proofs.WritingLaws.MemberLemmas.{member_first, member_second, member_enumerated, of_append, of_enumerated, of_filter, member_filter}
 use Rattle.oc_shelf.proofs.WritingLaws.PartLemmas.{IsFound, place_found, laid_after}
 use Rattle.oc_macho_file.specs.Addresses.{Numbered, is_blank, stored_sections, blank_sections, section_begin, size_of, mapped, is_at, address_of, memory_end}
-use Rattle.oc_macho_file.proofs.PartLaws.{of_enumerated, of_filter, member_filter}
 use Rattle.oc_macho_file.proofs.CodedLaws.{IsForMach, meets_section, power_low, align_some}
 
 pub section_rises : (at : ℕ) (x : Numbered) → at ≤ section_begin at x

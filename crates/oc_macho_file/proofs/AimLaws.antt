@@ -12,7 +12,7 @@ use Rattle.oc_linking.specs.Numbers.{or_else}
 use Rattle.oc_neutral.specs.declared.section.Section.{Section}
 use Rattle.oc_neutral.specs.Mach.SectionSymbols.{section_symbol_name}
 use Rattle.oc_neutral.specs.Objects.{Object}
-use Rattle.oc_shelf.proofs.WritingLaws.MemberLemmas.{member_map, member_enumerated, of_map, find_first}
+use Rattle.oc_shelf.proofs.WritingLaws.MemberLemmas.{member_map, member_enumerated, of_map, find_first, of_enumerated}
 use Rattle.oc_macho.specs.declared.section_header.SectionHeader.{SectionHeader}
 use Rattle.oc_macho.specs.declared.relocation_info.Reference.TheVariants as reference
 use Rattle.oc_macho.specs.Tables.{SectionTable, Tables}
@@ -24,7 +24,6 @@ use Rattle.oc_macho_file.specs.Addresses.{address_of}
 use Rattle.oc_macho_file.specs.Lines.{Line, OwnLine, lines_of, numbered_lines, own_number}
 use Rattle.oc_macho_file.specs.Symbols.{line_entry, own_entry}
 use Rattle.oc_macho_file.specs.Canonical.{section_header}
-use Rattle.oc_macho_file.proofs.PartLaws.{of_enumerated}
 use Rattle.oc_macho_file.proofs.TableLaws.{made_table, made_sections, made_tables}
 use Rattle.oc_macho_file.proofs.CodedLaws.{IsForMach}
 use Rattle.oc_macho_file.proofs.LineLaws.{own_found}

@@ -3,17 +3,15 @@ use Rattle.std.proofs.Common.{◌≡◌, ℕ, zero, suc, ◌+◌, ◌*◌, ◌^�
 use Rattle.std.specs.Prelude.{◌≢◌, slice_get}
 use Rattle.std.specs.Option.{option_map_or, option_and_then, unwrap_or}
 use Rattle.std.proofs.lemmas.Bool.{true≢false, eqb-true, eq-eqb}
-use Rattle.std.proofs.lemmas.Option.{none-some, same_Some}
+use Rattle.std.proofs.lemmas.Option.{none-some}
 use Rattle.oc_base.specs.declared.format.Word.{Word}
 use Rattle.oc_base.specs.declared.format.Word.TheVariants.{W32, W64}
 use Rattle.oc_base.specs.Formats.{word_for}
 use Rattle.oc_linking.specs.declared.terms.Kind.{Kind}
 use Rattle.oc_linking.specs.declared.terms.Kind.TheVariants.{Code, ReadOnly, Data, Zero, Init, Fini, Debug, Exception, Note}
-use Rattle.oc_linking.specs.declared.terms.Value.TheVariants as value
 use Rattle.oc_linking.specs.declared.terms.Fallback.{Fallback}
 use Rattle.oc_linking.specs.declared.terms.Fallback.TheVariants as fallback
-use Rattle.oc_linking.specs.declared.terms.Binding.{Binding}
-use Rattle.oc_linking.specs.declared.terms.Binding.TheVariants.{Local, Global, Undefined, Common, Weak}
+use Rattle.oc_linking.specs.declared.terms.Binding.TheVariants.{Weak}
 use Rattle.oc_linking.specs.Numbers.{first_from}
 use Rattle.oc_neutral.specs.declared.section.Section.{Section}
 use Rattle.oc_neutral.specs.declared.symbol.Symbol.{Symbol}
@@ -37,6 +35,7 @@ use Rattle.oc_neutral.proofs.Positions.{each_at}
 use Rattle.oc_macho.specs.MachHeader.{mach_format}
 use Rattle.oc_macho_file.specs.Addresses.{is_blank}
 use Rattle.oc_macho_file.specs.Symbols.{exponent_of, stood_at, stood_elsewhere, stood_for}
+use Rattle.oc_shows.proofs.FoundLaws.{place_of_global}
 
 -- an object that is ready for Mach-O, and what it meets
 pub record IsForMach (w : Word) (n : Object) : Type 0 where
@@ -170,21 +169,12 @@ module _ (w : Word) (n : Object) (is : IsForMach w n) where
       by [] some = absurd (some refl)
       by (c ∷ name) some = omega arith
 
-  -- where the Global at a position is
-  place_of_global : (b : Binding) (place : Place) → global_place b ≡ Some place → IsBinding n b → HasOffset n.sections place.0 place.1
-  place_of_global (Local v) place e own = absurd (none-some place e)
-  place_of_global (Global (value.Place k offset)) place e own = subst (λ (p : Place). HasOffset n.sections p.0 p.1) (same_Some (k, offset) place e) own
-  place_of_global (Global (value.Absolute a)) place e own = absurd (none-some place e)
-  place_of_global Undefined place e own = absurd (none-some place e)
-  place_of_global (Common size align) place e own = absurd (none-some place e)
-  place_of_global (Weak f) place e own = absurd (none-some place e)
-
   pub placed_there : (j : ℕ) (place : Place) → place_at n j ≡ Some place → HasOffset n.sections place.0 place.1
   placed_there j place e = by (slice_get n.symbols j) refl e
     where
       by : (o : Option Symbol) → slice_get n.symbols j ≡ o → option_and_then (λ (s : Symbol). global_place s.binding) o ≡ Some place → HasOffset n.sections place.0 place.1
       by None h e = absurd (none-some place e)
-      by (Some s) h e = place_of_global s.binding place e (symbol_is j s h).binding
+      by (Some s) h e = place_of_global n s.binding place e (symbol_is j s h).binding
 
   -- a fallback is 0, or is written as a place
   pub fallback_is : (k : ℕ) (s : Symbol) → slice_get n.symbols k ≡ Some s → (f : Fallback) → s.binding ≡ Weak f → (f ≡ fallback.Zero) ⊎ IsPlaced w n f
@@ -196,7 +186,7 @@ module _ (w : Word) (n : Object) (is : IsForMach w n) where
       let at : place_at n j ≡ Some t.place = ap (option_and_then (λ (s : Symbol). global_place s.binding)) t.there ∙ t.placed in
       inr (record {
         place = t.place;
-        there = place_of_global t.symbol.binding t.place t.placed (symbol_is j t.symbol t.there).binding;
+        there = place_of_global n t.symbol.binding t.place t.placed (symbol_is j t.symbol t.there).binding;
         stood = ap (λ o. option_map_or (λ (place : Place). stood_at n place.0 place.1) o (stood_elsewhere 0)) at;
         seen = λ shown. ap (λ o. option_map_or (λ (place : Place). fallback.Place place.0 place.1) o (fallback.Name (new_position shown j))) at;
         strong = refl;

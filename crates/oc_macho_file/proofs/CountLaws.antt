@@ -1,6 +1,6 @@
 -- A canonical file has as many symbols as are counted.
 use Rattle.std.proofs.Common.{◌≡◌, ℕ, ◌+◌, ◌^◌, ◌<◌, Bool, true, false, ◌&&◌, cond, List, [], ◌∷◌, ◌++◌, length, refl, sym, ◌∙◌, ap, subst, arith, length-append}
-use Rattle.std.specs.List.{count_by, sum_by, enumerate_from, filter}
+use Rattle.std.specs.List.{count_by, enumerate_from, filter}
 use Rattle.std.proofs.lemmas.Bool.{true≢false}
 use Rattle.std.proofs.lemmas.List.{length-map}
 use Rattle.std.proofs.lemmas.List.Sums.{sum_by-cons, length-filter}
@@ -21,10 +21,7 @@ use Rattle.oc_neutral.specs.WrittenSymbols.{is_written}
 use Rattle.oc_macho.specs.MachHeader.{mach_format}
 use Rattle.oc_macho_file.specs.Lines.{Line, OwnLine, LocalLine, OuterLine, lines_of, lines_where, own_lines, local_lines, inner_lines, defined_lines, undefined_lines}
 use Rattle.oc_macho_file.proofs.CodedLaws.{IsForMach}
-
-pub sum_enumerated : {X : Type 0} (size : X → ℕ) (i : ℕ) (xs : List X) → sum_by (λ (x : ℕ × X). size x.1) (enumerate_from i xs) ≡ sum_by size xs
-sum_enumerated size i [] = refl
-sum_enumerated {X} size i (x ∷ xs) = let a = sum_by-cons (λ (x : ℕ × X). size x.1) (i, x) (enumerate_from (i + 1) xs) in let b = sum_by-cons size x xs in let c = sum_enumerated size (i + 1) xs in omega (arith, a, b, c)
+use Rattle.oc_shelf.proofs.WritingLaws.SizeLemmas.{sum_enumerated}
 
 -- a symbol is counted once
 five_tests : (writes : Bool) (b : Binding) (written : Bool) → (is_local b ≡ true → writes ≡ written) → (is_local b ≡ false → written ≡ true)

@@ -1,9 +1,9 @@
 -- The relocations of an object that is ready for Mach-O: their rows, and that the entries of a canonical file are items, one for each relocation.
-use Rattle.std.proofs.Common.{◌≡◌, ℕ, zero, suc, ◌+◌, ◌<◌, ◌≤◌, Bool, true, false, cond, eqb, List, [], ◌∷◌, ◌++◌, length, map, get_or, Option, Some, None, refl, sym, ◌∙◌, ap, subst, inl, inr, arith}
+use Rattle.std.proofs.Common.{◌≡◌, ℕ, zero, suc, ◌+◌, ◌<◌, ◌≤◌, Bool, true, false, cond, eqb, List, [], ◌∷◌, ◌++◌, length, map, Option, Some, None, refl, sym, ◌∙◌, ap, subst, inl, inr, arith}
 use Rattle.std.specs.Prelude.{slice_get, nat_eq, flat_map}
 use Rattle.std.specs.List.{AllByRecursion}
 use Rattle.std.specs.Option.{option_map, option_map_or, option_and_then}
-use Rattle.std.proofs.lemmas.Bool.{eqb-true, eq-eqb, ne_eqb, cases_lt}
+use Rattle.std.proofs.lemmas.Bool.{eqb-true, eq-eqb, cases_lt}
 use Rattle.std.proofs.lemmas.Option.{none-some, same_Some, slice_get_within}
 use Rattle.oc_base.specs.declared.format.Word.{Word}
 use Rattle.oc_base.specs.declared.format.Word.TheVariants.{W32, W64}
@@ -30,7 +30,7 @@ use Rattle.oc_neutral.proofs.FitLinks.{from_mapped}
 use Rattle.oc_neutral.proofs.Positions.{there_at}
 use Rattle.oc_neutral.proofs.Standing.{ends_by, wide_in}
 use Rattle.oc_shelf.specs.Writing.Parts.{Laid}
-use Rattle.oc_shelf.proofs.WritingLaws.MemberLemmas.{of_map, member_map}
+use Rattle.oc_shelf.proofs.WritingLaws.MemberLemmas.{of_map, member_map, all_members}
 use Rattle.oc_macho.specs.declared.relocation_info.Reference.{Reference}
 use Rattle.oc_macho.specs.declared.relocation_info.Reference.TheVariants as reference
 use Rattle.oc_macho.specs.declared.relocation_info.RelocationInfo.{RelocationInfo}
@@ -43,38 +43,9 @@ use Rattle.oc_macho_file.specs.Bodies.{Standing, taken_section, end_section_addr
 use Rattle.oc_macho_file.proofs.CodedLaws.{IsForMach, word_back, stored_all}
 use Rattle.oc_macho_file.proofs.ItemLaws.{Written, Alone, Pair, written_entries, item_of, IsTold, begin_of, item_there, item_only, item_inside}
 use Rattle.oc_macho_file.proofs.RowLaws.{IsMachRow, IsAloneRow, IsPairRow, IsKnown, KnownAlone, KnownPair, known_entry}
+use Rattle.oc_shows.proofs.FoundLaws.{empty_past, found_in}
 
 -- ... lists
-
-pub no_member : {X : Type 0} (xs : List X) (k : ℕ) → length xs ≤ k → slice_get xs k ≡ None
-no_member [] k l = refl
-no_member (x ∷ xs) zero l = absurd (omega (arith, l))
-no_member (x ∷ xs) (suc k) l = no_member xs k (omega (arith, l))
-
-pub empty_past : {X : Type 0} (xs : List (List X)) (k : ℕ) → length xs ≤ k → get_or xs k [] ≡ []
-empty_past [] k l = refl
-empty_past (x ∷ xs) zero l = absurd (omega (arith, l))
-empty_past (x ∷ xs) (suc k) l = empty_past xs k (omega (arith, l))
-
-pub all_members : {X : Type 0} (P : X → Type 0) (xs : List X) → ((i : ℕ) (x : X) → slice_get xs i ≡ Some x → P x) → AllByRecursion P xs
-all_members P [] each = tt
-all_members P (x ∷ xs) each = (each 0 x refl, all_members P xs (λ i y h. each (suc i) y h))
-
--- a field of a list in order is found at its place
-pub found_in : (p : ℕ) (xs : List (Field Reloc)) → FollowFrom p xs → (i : ℕ) (x : Field Reloc) → slice_get xs i ≡ Some x → (p ≤ x.at) × (reloc_among xs x.at ≡ Some x.item)
-found_in p [] follow i x h = absurd (none-some x h)
-found_in p (y ∷ xs) follow zero x h =
-    let same : y ≡ x = same_Some y x h in
-    let l = follow.0 in (
-      subst (λ (z : Field Reloc). p ≤ z.at) same l,
-      subst (λ (z : Field Reloc). reloc_among (y ∷ xs) z.at ≡ Some z.item) same (ap (λ b. cond b (Some y.item) (reloc_among xs y.at)) (eq-eqb y.at y.at refl)),
-    )
-found_in p (y ∷ xs) follow (suc i) x h =
-    let rest = found_in (end_of y) xs follow.2 i x h in
-    let low = rest.0 in
-    let l = follow.0 in
-    let wide = follow.1 in
-    (omega (arith, low, l), ap (λ b. cond b (Some y.item) (reloc_among xs x.at)) (ne_eqb y.at x.at (omega (arith, low, wide))) ∙ rest.1)
 
 -- a relocation that is found is one of the list
 pub member_of : (xs : List (Field Reloc)) (at : ℕ) (r : Reloc) → reloc_among xs at ≡ Some r → (i : ℕ) × (x : Field Reloc) × (slice_get xs i ≡ Some x) × (x.at ≡ at) × (x.item ≡ r)

@@ -1,18 +1,14 @@
 -- The fields of a canonical file: what numbers stand in them, and which entries they are read by.
-use Rattle.std.proofs.Common.{◌≡◌, ℕ, ◌%◌, ◌<◌, ◌≤◌, cond, ℤ, List, length, replicate, Option, Some, None, Ok, refl, sym, ◌∙◌, ap, subst, arith, MatchResult}
+use Rattle.std.proofs.Common.{◌≡◌, ℕ, ◌%◌, ◌≤◌, cond, ℤ, List, length, replicate, Option, Some, None, Ok, refl, sym, ◌∙◌, ap, subst, arith}
 use Rattle.std.specs.Prelude.{◌+ℤ◌, slice_get}
 use Rattle.std.specs.Option.{option_map, option_map_or, option_and_then}
 use Rattle.oc_base.specs.declared.format.Word.{Word}
 use Rattle.oc_base.specs.declared.format.Word.TheVariants.{W32, W64}
 use Rattle.oc_base.specs.Numbers.{number_at}
-use Rattle.oc_linking.specs.declared.terms.Width.{Width}
-use Rattle.oc_linking.specs.declared.terms.Width.TheVariants.{One, Two, Four, Eight}
 use Rattle.oc_linking.specs.Fits.{bytes_of, span}
 use Rattle.oc_linking.proofs.Storing.{field_holds}
-use Rattle.oc_algebra.specs.Promises.{Holds}
 use Rattle.oc_algebra.specs.Residues.{reduced_number}
 use Rattle.oc_algebra.specs.Fields.{extended, to_field_of, from_field_of}
-use Rattle.oc_algebra.proofs.FieldLaws.{written_law}
 use Rattle.oc_neutral.specs.declared.section.Section.{Section}
 use Rattle.oc_neutral.specs.declared.reloc.Reloc.{Reloc}
 use Rattle.oc_neutral.specs.Mach.Relocs.{MachRow}
@@ -33,20 +29,10 @@ use Rattle.oc_macho_file.specs.Bodies.{Standing, taken_section, end_section_addr
 use Rattle.oc_macho_file.proofs.TableLaws.{made_table, made_sections, made_tables}
 use Rattle.oc_macho_file.proofs.CodedLaws.{IsForMach, word_back}
 use Rattle.oc_macho_file.proofs.ItemLaws.{item_of}
-use Rattle.oc_macho_file.proofs.EntryLaws.{written_pair, written_by, written_standing, mach_reloc, meets, row, entry, row_is, standing, standing_is, first_row, inside, is_stored, apart_patches, item_found, none_found, no_member}
+use Rattle.oc_macho_file.proofs.EntryLaws.{written_pair, written_by, written_standing, mach_reloc, meets, row, entry, row_is, standing, standing_is, first_row, inside, is_stored, apart_patches, item_found, none_found}
 use Rattle.oc_macho_file.proofs.SectionLaws.{made_contents, table_at, length-tables}
-
--- what a field holds is the addend
-holds_addend : (w : Word) (k : Width) (shift a : ℤ) (F : ℕ) → to_field_of w k shift a ≡ Ok F → (F % span k ≡ F) × (from_field_of w k shift F ≡ reduced_number w a)
-holds_addend w k shift a F e =
-    let law = subst (λ o. MatchResult o (Holds w k shift a) (λ x. (g : ℕ) → Holds w k shift a g → ⊥)) e (written_law w k shift a) in
-    (small k F law.0, law.1)
-  where
-    small : (k : Width) (F : ℕ) → F < span k → F % span k ≡ F
-    small One F low = omega (arith, low)
-    small Two F low = omega (arith, low)
-    small Four F low = omega (arith, low)
-    small Eight F low = omega (arith, low)
+use Rattle.std.proofs.lemmas.Option.{slice_get_past}
+use Rattle.oc_shows.proofs.FoundLaws.{holds_addend}
 
 module _ (w : Word) (n : Object) (is : IsForMach w n) where
   abbrev t : Tables
@@ -174,4 +160,4 @@ module _ (w : Word) (n : Object) (is : IsForMach w n) where
   unfolding fields_in made_tables
   fields_past k at high =
       let long = length-tables w n in
-      ap (option_and_then (λ c. option_map (field_of t k at c) (found_in t c at))) (no_member (made_sections w n) k (omega (arith, high, long)))
+      ap (option_and_then (λ c. option_map (field_of t k at c) (found_in t c at))) (slice_get_past (made_sections w n) k (omega (arith, high, long)))

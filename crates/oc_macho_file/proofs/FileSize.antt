@@ -2,14 +2,12 @@
 use Rattle.std.proofs.Common.{◌≡◌, ℕ, zero, suc, ◌+◌, ◌-◌, ◌*◌, ◌^◌, ◌<◌, ◌≤◌, Bool, true, false, not, ◌&&◌, cond, eqb, List, [], ◌∷◌, ◌++◌, length, map, get_or, replicate, Some, refl, ◌∙◌, ap, arith, length-append}
 use Rattle.std.specs.Prelude.{slice_get, flat_map, codes, decimal}
 use Rattle.std.proofs.lemmas.Fmt.{length-decimal-le}
-use Rattle.std.specs.List.{sum_by, fold, enumerate_from, filter, AllByRecursion}
+use Rattle.std.specs.List.{sum_by, enumerate_from, filter, AllByRecursion}
 use Rattle.std.proofs.lemmas.List.{length-map}
 use Rattle.std.proofs.lemmas.List.FromFn.{length-enumerate_from}
 use Rattle.std.proofs.lemmas.List.Sums.{sum_by-cons, sum_by-append}
 use Rattle.oc_base.specs.declared.format.Word.{Word}
 use Rattle.oc_base.specs.declared.format.Word.TheVariants.{W32, W64}
-use Rattle.oc_base.specs.Strings.{is_maximal, is_given, with_top, tops_of, table_text}
-use Rattle.oc_base.specs.Strings as strings
 use Rattle.oc_chains.specs.declared.field.Field as chains
 use Rattle.oc_chains.specs.Lists.{list_of}
 use Rattle.oc_linking.specs.Parts.{is_local}
@@ -37,51 +35,11 @@ use Rattle.oc_macho_file.proofs.NameLaws.{needed_low}
 use Rattle.oc_macho_file.proofs.ItemLaws.{Written, Alone, Pair, written_entries}
 use Rattle.oc_macho_file.proofs.EntryLaws.{written_field, written_all, entries_are}
 use Rattle.oc_macho_file.proofs.AddressLaws.{laid_low, gap_low}
-use Rattle.oc_macho_file.proofs.CountLaws.{sum_enumerated, few_lines}
-
-abbrev ended_size : List ℕ → ℕ
-ended_size name = length name + 1
-
-text_size : (tops : List (List ℕ)) → length (strings.text_of tops) ≡ sum_by ended_size tops
-unfolding strings.text_of
-text_size [] = refl
-text_size (top ∷ tops) =
-    let all : length ((top ++ 0 ∷ []) ++ flat_map (λ (t : List ℕ). t ++ 0 ∷ []) tops) ≡ length (top ++ 0 ∷ []) + length (flat_map (λ (t : List ℕ). t ++ 0 ∷ []) tops) = length-append (top ++ 0 ∷ []) (flat_map (λ (t : List ℕ). t ++ 0 ∷ []) tops) in
-    let own : length (top ++ 0 ∷ []) ≡ length top + 1 = length-append top (0 ∷ []) in
-    let more = text_size tops in
-    let sum = sum_by-cons ended_size top tops in
-    omega (arith, all, own, more, sum)
-
-tops_size : (names acc rest : List (List ℕ)) → sum_by ended_size (fold (with_top names) acc rest) ≤ sum_by ended_size acc + sum_by ended_size rest
-tops_size names acc [] = omega arith
-tops_size names acc (name ∷ rest) =
-    let later = tops_size names (with_top names acc name) rest in
-    let sum = sum_by-cons ended_size name rest in
-    let step = by (is_maximal names name && not (is_given acc name)) in
-    omega (arith, later, sum, step)
-  where
-    by : (b : Bool) → sum_by ended_size (cond b (acc ++ name ∷ []) acc) ≤ sum_by ended_size acc + (length name + 1)
-    by true = let a = sum_by-append ended_size acc (name ∷ []) in let b = sum_by-cons ended_size name [] in omega (arith, a, b)
-    by false = omega arith
-
-table_size : (names : List (List ℕ)) → length (table_text names) ≤ sum_by ended_size names
-unfolding table_text tops_of
-table_size names = let a = text_size (fold (with_top names) [] names) in let b = tops_size names [] names in omega (arith, a, b)
+use Rattle.oc_macho_file.proofs.CountLaws.{few_lines}
+use Rattle.oc_shelf.proofs.WritingLaws.SizeLemmas.{ended_size, table_size, sum_filter, sum_more, sum_enumerated}
+use Rattle.oc_neutral.proofs.MeetsCounts.{sum_map}
 
 -- ... sums
-
-sum_map : {X Y : Type 0} (size : Y → ℕ) (g : X → Y) (xs : List X) → sum_by size (map g xs) ≡ sum_by (λ x. size (g x)) xs
-sum_map size g [] = refl
-sum_map size g (x ∷ xs) = let a = sum_by-cons size (g x) (map g xs) in let b = sum_by-cons (λ x. size (g x)) x xs in let c = sum_map size g xs in omega (arith, a, b, c)
-
-sum_filter : {X : Type 0} (size : X → ℕ) (test : X → Bool) (xs : List X) → sum_by size (filter test xs) ≤ sum_by size xs
-sum_filter size test [] = omega arith
-sum_filter {X} size test (x ∷ xs) = by (test x) (sum_filter size test xs) (sum_by-cons size x xs) (sum_by-cons size x (filter test xs))
-  where
-    by : (b : Bool) → sum_by size (filter test xs) ≤ sum_by size xs → sum_by size (x ∷ xs) ≡ size x + sum_by size xs → sum_by size (x ∷ filter test xs) ≡ size x + sum_by size (filter test xs)
-        → sum_by size (cond b (x ∷ filter test xs) (filter test xs)) ≤ sum_by size (x ∷ xs)
-    by true rest a b = omega (arith, rest, a, b)
-    by false rest a b = omega (arith, rest, a)
 
 length_filter : {X : Type 0} (test : X → Bool) (xs : List X) → length (filter test xs) ≤ length xs
 length_filter test [] = omega arith
@@ -90,10 +48,6 @@ length_filter {X} test (x ∷ xs) = by (test x) (length_filter test xs)
     by : (b : Bool) → length (filter test xs) ≤ length xs → length (cond b (x ∷ filter test xs) (filter test xs)) ≤ length (x ∷ xs)
     by true rest = omega (arith, rest)
     by false rest = omega (arith, rest)
-
-sum_more : {X : Type 0} (size : X → ℕ) (m : ℕ) (xs : List X) → sum_by (λ x. size x + m) xs ≡ sum_by size xs + m * length xs
-sum_more size m [] = omega arith
-sum_more size m (x ∷ xs) = let a = sum_by-cons (λ x. size x + m) x xs in let b = sum_by-cons size x xs in let c = sum_more size m xs in let d : m * suc (length xs) ≡ m + m * length xs = grind arith in omega (arith, a, b, c, d)
 
 sum_most : {X : Type 0} (size : X → ℕ) (m : ℕ) (xs : List X) → ((i : ℕ) (x : X) → slice_get xs i ≡ Some x → size x ≤ m) → sum_by size xs ≤ m * length xs
 sum_most size m [] each = omega arith

@@ -17,7 +17,6 @@ pub mod PairLaws
 pub mod PartLaws
 pub mod PinLaws
 pub mod RelocationClean
-pub mod RepeatLemmas
 pub mod RowLaws
 pub mod Rows
 pub mod SectionClean

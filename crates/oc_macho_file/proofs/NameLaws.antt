@@ -15,7 +15,7 @@ use Rattle.oc_neutral.specs.Objects.{Object}
 use Rattle.oc_neutral.proofs.MeetsNames.{section_symbol_uncut}
 use Rattle.oc_shelf.specs.Reading.Texts.{text_at}
 use Rattle.oc_shelf.specs.Writing.Parts.{Stands}
-use Rattle.oc_shelf.proofs.WritingLaws.MemberLemmas.{member_map}
+use Rattle.oc_shelf.proofs.WritingLaws.MemberLemmas.{member_map, of_filter}
 use Rattle.oc_shelf.proofs.WritingLaws.StandingLemmas.{stands_whole, stands_first, stands_second, stands_in}
 use Rattle.oc_shelf.proofs.WritingLaws.StringLemmas.{member_given, name_in_table, text_read}
 use Rattle.oc_macho.specs.Sections.{until_nul}
@@ -24,7 +24,6 @@ use Rattle.oc_macho.specs.Structures.{padded}
 use Rattle.oc_macho_file.specs.Lines.{Line, OwnLine, LocalLine, OuterLine, lines_of, line_name}
 use Rattle.oc_macho_file.specs.Layout.{line_names, offset_in, strings_of, string_table}
 use Rattle.oc_macho_file.specs.Symbols.{line_entry}
-use Rattle.oc_macho_file.proofs.PartLaws.{of_filter}
 use Rattle.oc_macho_file.proofs.TableLaws.{made_tables}
 use Rattle.oc_macho_file.proofs.CodedLaws.{IsForMach, meets_section}
 use Rattle.oc_macho_file.proofs.LineLaws.{IsLine, line_at}

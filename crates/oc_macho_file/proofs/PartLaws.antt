@@ -1,7 +1,7 @@
 -- The parts of a canonical file: their sizes, and that they stand at their places.
-use Rattle.std.proofs.Common.{◌≡◌, ℕ, zero, suc, ◌+◌, ◌-◌, ◌*◌, ◌%◌, ◌≤◌, Bool, true, false, cond, not, List, [], ◌∷◌, ◌++◌, length, map, Some, refl, sym, ◌∙◌, ap, subst, inl, inr, arith}
+use Rattle.std.proofs.Common.{◌≡◌, ℕ, zero, suc, ◌+◌, ◌-◌, ◌*◌, ◌%◌, ◌≤◌, Bool, true, false, not, List, ◌++◌, length, map, Some, refl, sym, ◌∙◌, ap, subst, inl, inr, arith}
 use Rattle.std.specs.Prelude.{slice_get, flat_map}
-use Rattle.std.specs.List.{enumerate_from, filter}
+use Rattle.std.specs.List.{enumerate_from}
 use Rattle.std.proofs.lemmas.List.{length-map}
 use Rattle.std.proofs.lemmas.List.FromFn.{length-enumerate_from}
 use Rattle.std.proofs.lemmas.Bool.{true≢false, eqb-true, eq-eqb}
@@ -17,7 +17,7 @@ use Rattle.oc_shelf.specs.Writing.Parts.{Stands, Laid, laid_end, aligned}
 use Rattle.oc_shelf.proofs.WritingLaws.PackedLemmas.{length-packed}
 use Rattle.oc_shelf.proofs.WritingLaws.PartLemmas.{stands_where, stands_laid, length-joined}
 use Rattle.oc_shelf.proofs.WritingLaws.StandingLemmas.{stands_at, length-entries}
-use Rattle.oc_shelf.proofs.WritingLaws.MemberLemmas.{member_first, member_second, member_enumerated, member_map, of_map, of_append}
+use Rattle.oc_shelf.proofs.WritingLaws.MemberLemmas.{member_first, member_second, member_enumerated, member_map, of_map, of_append, of_enumerated, of_filter, member_filter}
 use Rattle.oc_macho.specs.declared.section_header.SectionHeader.{SectionHeader}
 use Rattle.oc_macho.specs.MachHeader.{mach_header_size}
 use Rattle.oc_macho.specs.SegmentCommand.{segment_command_size}
@@ -31,36 +31,6 @@ use Rattle.oc_macho_file.specs.Layout.{Part, FileHead, SegmentHead, SectionHeads
 use Rattle.oc_macho_file.specs.Symbols.{line_entry}
 use Rattle.oc_macho_file.specs.Canonical.{file_header, segment_numbers, section_header, section_headers, symtab_command, dysymtab_numbers, part_bytes, mach_file}
 use Rattle.oc_macho_file.proofs.StructureLaws.{length-padded, length-mach_header_bytes, length-symtab_bytes, length-section_bytes, length-nlist_bytes, length-relocation_bytes}
-
--- ... lists
-
--- where a member of an enumerated list comes from
-pub of_enumerated : {X : Type 0} (i : ℕ) (xs : List X) (k : ℕ) (y : ℕ × X) → slice_get (enumerate_from i xs) k ≡ Some y → (y.0 ≡ i + k) × (slice_get xs k ≡ Some y.1)
-of_enumerated i [] k y here = absurd (none-some y here)
-of_enumerated {X} i (x ∷ xs) zero y here = (ap (λ (z : ℕ × X). z.0) (sym (same_Some (i, x) y here)) ∙ omega arith, ap (λ (z : ℕ × X). Some z.1) (same_Some (i, x) y here))
-of_enumerated i (x ∷ xs) (suc k) y here = let r = of_enumerated (i + 1) xs k y here in (r.0 ∙ omega arith, r.1)
-
--- members of a filtered list
-pub of_filter : {X : Type 0} (test : X → Bool) (xs : List X) (k : ℕ) (x : X) → slice_get (filter test xs) k ≡ Some x → (j : ℕ) × (slice_get xs j ≡ Some x) × (test x ≡ true)
-of_filter test [] k x here = absurd (none-some x here)
-of_filter {X} test (y ∷ xs) k x here = by (test y) refl (λ j h. of_filter test xs j x h) k here
-  where
-    by : (b : Bool) → test y ≡ b → ((j : ℕ) → slice_get (filter test xs) j ≡ Some x → (i : ℕ) × (slice_get xs i ≡ Some x) × (test x ≡ true))
-        → (k : ℕ) → slice_get (cond b (y ∷ filter test xs) (filter test xs)) k ≡ Some x → (i : ℕ) × (slice_get (y ∷ xs) i ≡ Some x) × (test x ≡ true)
-    by true e rest zero h = (0, h, ap test (sym (same_Some y x h)) ∙ e)
-    by true e rest (suc k) h = let r = rest k h in (suc r.0, r.1, r.2)
-    by false e rest k h = let r = rest k h in (suc r.0, r.1, r.2)
-
-pub member_filter : {X : Type 0} (test : X → Bool) (xs : List X) (k : ℕ) (x : X) → slice_get xs k ≡ Some x → test x ≡ true → (j : ℕ) × (slice_get (filter test xs) j ≡ Some x)
-member_filter test [] k x here passes = absurd (none-some x here)
-member_filter test (y ∷ xs) zero x here passes =
-    let own : test y ≡ true = ap test (same_Some y x here) ∙ passes in
-    (0, ap (λ b. slice_get (cond b (y ∷ filter test xs) (filter test xs)) 0) own ∙ here)
-member_filter {X} test (y ∷ xs) (suc k) x here passes = by (test y) (member_filter test xs k x here passes)
-  where
-    by : (b : Bool) → (j : ℕ) × (slice_get (filter test xs) j ≡ Some x) → (j : ℕ) × (slice_get (cond b (y ∷ filter test xs) (filter test xs)) j ≡ Some x)
-    by true m = (suc m.0, m.1)
-    by false m = m
 
 -- ... sizes
 

@@ -23,14 +23,13 @@ use Rattle.oc_neutral.specs.Rows.{TakesZero, TakesPlace, TakesGotBase, TakesImag
 use Rattle.oc_neutral.specs.Spelling.{written_row}
 use Rattle.oc_neutral.specs.TargetRelocations.{section_taken}
 use Rattle.oc_shelf.proofs.ReadingLaws.FirstsLemmas.{any_none}
-use Rattle.oc_shelf.proofs.WritingLaws.MemberLemmas.{none_passes, of_map}
+use Rattle.oc_shelf.proofs.WritingLaws.MemberLemmas.{none_passes, of_map, of_filter}
 use Rattle.oc_macho.specs.declared.entries.Item.{Item}
 use Rattle.oc_macho.specs.MachHeader.{mach_format}
 use Rattle.oc_macho.specs.Sections.{is_kept}
 use Rattle.oc_macho.specs.Entries.{item_at, takes_symbol, is_taken_in, is_pinned}
 use Rattle.oc_macho_file.specs.Lines.{Line, OwnLine, LocalLine, OuterLine, lines_of, numbered_lines, own_number}
 use Rattle.oc_macho_file.specs.Bodies.{Standing, taken_section, entries_of}
-use Rattle.oc_macho_file.proofs.PartLaws.{of_filter}
 use Rattle.oc_macho_file.proofs.TableLaws.{made_table, made_sections, made_tables}
 use Rattle.oc_macho_file.proofs.CodedLaws.{IsForMach, word_back}
 use Rattle.oc_macho_file.proofs.LineLaws.{own_found}

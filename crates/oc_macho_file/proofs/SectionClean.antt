@@ -4,7 +4,6 @@ use Rattle.std.specs.Prelude.{slice_get, nat_lt, flat_map}
 use Rattle.std.specs.List.{list_any, sum_by, before_first, position_or_len}
 use Rattle.std.specs.Option.{option_map_or}
 use Rattle.std.proofs.lemmas.Bool.{ne_eqb}
-use Rattle.std.proofs.lemmas.List.Sums.{sum_by-cons}
 use Rattle.std.proofs.lemmas.Option.{slice_get_within}
 use Rattle.oc_base.specs.declared.format.Word.{Word}
 use Rattle.oc_base.specs.declared.format.Word.TheVariants.{W32, W64}
@@ -40,6 +39,7 @@ use Rattle.oc_macho_file.proofs.NameLaws.{segment_read, section_read}
 use Rattle.oc_macho_file.proofs.SectionLaws.{table_at, length-tables}
 use Rattle.oc_macho_file.proofs.AddressLaws.{memory_low, address_low}
 use Rattle.oc_macho_file.proofs.HeaderClean.{within_file}
+use Rattle.oc_shelf.proofs.WritingLaws.SizeLemmas.{sum_list, sum_rises}
 
 -- no comma stands before the first
 no_comma : (name : List ℕ) → list_any is_comma (before_first is_comma name) ≡ false
@@ -56,24 +56,6 @@ no_comma (c ∷ name) = by (is_comma c) refl (no_comma name)
         ap (λ (k : ℕ). list_any is_comma (take k (c ∷ name))) one ∙ ap (λ b. b || list_any is_comma (take m name)) e ∙ rest
 
 -- ... running sums
-
-sum_list : {X : Type 0} (worth : ℕ → ℕ) (size : X → ℕ) (lo : ℕ) (xs : List X) → ((k : ℕ) (x : X) → slice_get xs k ≡ Some x → worth (lo + k) ≤ size x)
-    → sum_upto worth (lo + length xs) ≤ sum_upto worth lo + sum_by size xs
-sum_list worth size lo [] each = let e : sum_upto worth (lo + 0) ≡ sum_upto worth lo = (let z : lo + 0 ≡ lo = omega arith in ap (sum_upto worth) z) in omega (arith, e)
-sum_list worth size lo (x ∷ xs) each =
-    let e : sum_upto worth (lo + suc (length xs)) ≡ sum_upto worth (suc lo + length xs) = (let z : lo + suc (length xs) ≡ suc lo + length xs = omega arith in ap (sum_upto worth) z) in
-    let rest = sum_list worth size (suc lo) xs (λ k y h. let next : worth (suc lo + k) ≡ worth (lo + suc k) = (let z : suc lo + k ≡ lo + suc k = omega arith in ap worth z) in let l = each (suc k) y h in omega (arith, next, l)) in
-    let own : worth lo ≡ worth (lo + 0) = (let z : lo ≡ lo + 0 = omega arith in ap worth z) in
-    let low = each 0 x refl in
-    let sum = sum_by-cons size x xs in
-    omega (arith, e, rest, own, low, sum)
-
-sum_rises : (worth : ℕ → ℕ) (i m : ℕ) → sum_upto worth i ≤ sum_upto worth (i + m)
-sum_rises worth i zero = let e : sum_upto worth (i + 0) ≡ sum_upto worth i = (let z : i + 0 ≡ i = omega arith in ap (sum_upto worth) z) in omega (arith, e)
-sum_rises worth i (suc m) =
-    let e : sum_upto worth (i + suc m) ≡ sum_upto worth (suc (i + m)) = (let z : i + suc m ≡ suc (i + m) = omega arith in ap (sum_upto worth) z) in
-    let rest = sum_rises worth i m in
-    omega (arith, e, rest)
 
 -- what is counted up to and with a position
 counted_low : {X : Type 0} (worth : ℕ → ℕ) (size : X → ℕ) (xs : List X) → ((k : ℕ) (x : X) → slice_get xs k ≡ Some x → worth k ≤ size x)

@@ -31,7 +31,7 @@ use Rattle.oc_macho_file.proofs.LineLaws.{IsLine, line_at, one_outer}
 use Rattle.oc_macho_file.proofs.NameLaws.{line_named, needed_low}
 use Rattle.oc_macho_file.proofs.SectionLaws.{header_made}
 use Rattle.oc_macho_file.proofs.SymbolLaws.{some_name, entry_read}
-use Rattle.oc_macho_file.proofs.RepeatLemmas.{no_repeat}
+use Rattle.oc_shows.proofs.FoundLaws.{no_repeat}
 
 mapped_get : {X Y : Type 0} (f : X → Y) (xs : List X) (i : ℕ) → slice_get (map f xs) i ≡ option_map f (slice_get xs i)
 mapped_get f [] i = refl

@@ -13,7 +13,7 @@ use Rattle.oc_neutral.specs.Objects.{Object}
 use Rattle.oc_shelf.specs.Reading.Rows.{rows}
 use Rattle.oc_shelf.specs.Writing.Packed.{packed}
 use Rattle.oc_shelf.specs.Writing.Parts.{Stands}
-use Rattle.oc_shelf.proofs.WritingLaws.MemberLemmas.{map-map, map-alike, of_map}
+use Rattle.oc_shelf.proofs.WritingLaws.MemberLemmas.{map-map, map-alike, of_map, of_enumerated}
 use Rattle.oc_shelf.proofs.WritingLaws.PackedLemmas.{Fit, number_in}
 use Rattle.oc_shelf.proofs.WritingLaws.StandingLemmas.{stands_take, rows_read}
 use Rattle.oc_macho.specs.declared.mach_header.MachHeader.{MachHeader}
@@ -38,7 +38,7 @@ use Rattle.oc_macho_file.specs.Layout.{segment_length, relocs_of, string_table, 
 use Rattle.oc_macho_file.specs.Symbols.{line_entry}
 use Rattle.oc_macho_file.specs.Canonical.{file_header, segment_numbers, pointer_to, section_header, section_headers, symtab_command, dysymtab_numbers, mach_file}
 use Rattle.oc_macho_file.proofs.StructureLaws.{FitsInfo, length-nlist_bytes, length-relocation_bytes, mach_header_stands, symtab_stands, section_stands, nlist_stands, relocation_stands}
-use Rattle.oc_macho_file.proofs.PartLaws.{of_enumerated, header_is_padded, header_sized, length-headers, length-raw, symtab_at, stands_file_header, stands_segment, stands_headers, stands_symtab, stands_dysymtab, stands_raw, stands_relocs, stands_symbols, stands_strings}
+use Rattle.oc_macho_file.proofs.PartLaws.{header_is_padded, header_sized, length-headers, length-raw, symtab_at, stands_file_header, stands_segment, stands_headers, stands_symtab, stands_dysymtab, stands_raw, stands_relocs, stands_symbols, stands_strings}
 
 -- the numbers of the structures fit their widths
 pub record IsCodable (w : Word) (n : Object) : Type 0 where

@@ -1,53 +1,28 @@
 -- Symbols, judged one after the other.
-use Rattle.std.proofs.Common.{◌≡◌, ℕ, zero, suc, ◌+◌, ◌<◌, inl, inr, Bool, true, false, cond, List, [], ◌∷◌, ◌++◌, length, map, take, Option, None, Some, refl, sym, ◌∙◌, ap, arith}
-use Rattle.std.specs.Prelude.{nat_eq, is_some, slice_get, MatchOption}
-use Rattle.std.specs.Option.{option_map, option_map_or, option_and_then, option_copied, option_flatten}
-use Rattle.std.proofs.lemmas.Bool.{cases_eq, cases_lt, eq-eqb, ne_eqb, true≢false}
+use Rattle.std.proofs.Common.{◌≡◌, ℕ, zero, suc, ◌+◌, ◌<◌, Bool, true, false, cond, List, [], ◌∷◌, ◌++◌, length, map, take, Option, None, Some, refl, sym, ◌∙◌, ap, arith}
+use Rattle.std.specs.Prelude.{is_some, slice_get, MatchOption}
+use Rattle.std.specs.Option.{option_map, option_map_or, option_copied, option_flatten}
 use Rattle.std.proofs.lemmas.List.{length-map, map-append}
 use Rattle.std.proofs.lemmas.Option.{none-some, same_Some, slice_get-map}
 use denote.Ref.{Bor}
-use Rattle.oc_linking.specs.Numbers.{first_upto, or_else}
+use Rattle.oc_linking.specs.Numbers.{first_upto}
 use Rattle.oc_linking.specs.FirstFault.{first_broken, fault_of}
 use Rattle.oc_linking.proofs.FirstFaultLaws.{first_upto_none}
 use Rattle.oc_neutral.specs.declared.repeats.Repeat.{Repeat}
-use Rattle.oc_neutral.specs.Repeats.{NameList, name_at, names_of, place_of, repeat_at, first_repeat}
+use Rattle.oc_neutral.specs.Repeats.{NameList, name_at, names_of, repeat_at, first_repeat}
 use Rattle.oc_shelf.proofs.ReadingLaws.StageLemmas.{all_hold, clean_both}
 use Rattle.oc_macho.specs.declared.nlist.Nlist.{Nlist}
 use Rattle.oc_macho.specs.Tables.{Tables}
 use Rattle.oc_macho.specs.Symbols.{is_stab}
 use Rattle.oc_macho_judge.specs.Judged.{ends_at}
 use Rattle.oc_macho.specs.SymbolFaults.{kind_conditions, home_conditions, name_conditions, symbol_conditions, symbol_stage, public_names, public_name}
+use Rattle.oc_shows.proofs.RepeatLaws as laws
 
 -- ... repeats
-
--- the first of several is that of an entry before which none has one
-pub record IsFound {X : Type 0} (item : ℕ → Option X) (n : ℕ) (x : X) : Type 0 where
-  pub k : ℕ
-  pub below : k < n
-  pub is : item k ≡ Some x
-  pub first : (i : ℕ) → i < k → item i ≡ None
-
-found_first : {X : Type 0} (item : ℕ → Option X) (n : ℕ) (x : X) → first_upto item n ≡ Some x → IsFound item n x
-found_first item zero x e = absurd (none-some x e)
-found_first {X} item (suc n) x e = by (first_upto item n) refl e (found_first item n x)
-  where
-    by : (o : Option X) → first_upto item n ≡ o → or_else o (item n) ≡ Some x → (first_upto item n ≡ Some x → IsFound item n x) → IsFound item (suc n) x
-    by None h e before = record { k = n; below = omega arith; is = e; first = λ i low. first_upto_none item n h i low }
-    by (Some y) h e before =
-        let m = before (h ∙ e) in
-        record { k = m.k; below = let l = m.below in omega (arith, l); is = m.is; first = m.first }
 
 -- nothing repeats at a position without a name
 unnamed : (names : NameList) (k : ℕ) → name_at names k ≡ None → repeat_at names k ≡ None
 unnamed names k none = rw none refl
-
--- a repeat that is told of a position ends there
-repeat_later : (names : NameList) (k : ℕ) (r : Repeat) → repeat_at names k ≡ Some r → r.later ≡ k
-repeat_later names k r e = by (option_and_then (place_of names k) (name_at names k)) e
-  where
-    by : (o : Option ℕ) → option_map {U = Repeat} (λ place. record { earlier = place; later = k }) o ≡ Some r → r.later ≡ k
-    by None h = absurd (none-some r h)
-    by (Some place) h = ap (λ (x : Repeat). x.later) (sym (same_Some (record { earlier = place; later = k }) r h))
 
 -- the name at a position is that of the symbol
 named_at : (t : Tables) (k : ℕ) (s : Nlist) → slice_get t.symbols k ≡ Some s → name_at (public_names t) k ≡ public_name t s
@@ -79,24 +54,8 @@ no_repeat_at t k clean = by (slice_get t.symbols k) refl
 -- while no symbol has a fault, the first repeat ends at a symbol exactly where its name stood before
 pub repeat_ends : (t : Tables) (found : Option Repeat) (k : ℕ) → found ≡ first_repeat (public_names t) → k < length t.symbols → first_upto (fault_of (symbol_stage t)) k ≡ None
     → ends_at found k ≡ is_some (repeat_at (public_names t) k)
-repeat_ends t None k is low clean =
-    sym (ap is_some (first_upto_none (repeat_at (public_names t)) (length (public_names t)) (sym is) k (omega (arith, low, length-map t.symbols (public_name t)))))
-repeat_ends t (Some r) k is low clean = by (found_first (repeat_at (public_names t)) (length (public_names t)) r (sym is))
-  where
-    by : IsFound (repeat_at (public_names t)) (length (public_names t)) r → nat_eq r.later k ≡ is_some (repeat_at (public_names t) k)
-    by m = elim (cases_eq m.k k) [
-      | inl same ↦
-          let ends : r.later ≡ k = repeat_later (public_names t) m.k r m.is ∙ same in
-          eq-eqb r.later k ends ∙ sym (ap is_some (ap (repeat_at (public_names t)) (sym same) ∙ m.is))
-      | inr other ↦ elim (cases_lt k m.k) [
-        | inl before ↦
-            let ends = repeat_later (public_names t) m.k r m.is in
-            ne_eqb r.later k (λ same. other (sym ends ∙ same)) ∙ sym (ap is_some (m.first k before))
-        | inr past ↦
-            let behind : m.k < k = omega (arith, past, other) in
-            absurd (true≢false (sym (ap is_some m.is) ∙ no_repeat_at t m.k (first_upto_none (fault_of (symbol_stage t)) k clean m.k behind)))
-      ]
-    ]
+repeat_ends t found k is low clean =
+    laws.repeat_ends (public_names t) found k is (omega (arith, low, length-map t.symbols (public_name t))) (λ j before. no_repeat_at t j (first_upto_none (fault_of (symbol_stage t)) k clean j before))
 
 -- the fault of a symbol, where it is told whether a repeat ends there
 pub symbol_broken : (t : Tables) (found : Option Repeat) (k : ℕ) (s : Nlist) (again : Bool) → found ≡ first_repeat (public_names t) → k < length t.symbols → first_upto (fault_of (symbol_stage t)) k ≡ None

@@ -1,13 +1,11 @@
 -- The relocations of a file without faults, added one after the other.
-use Rattle.std.proofs.Common.{Bool, List, None, Ok, Option, Some, [], ap, arith, cond, false, length, map, nat_eq, nat_lt, refl, slice_get, subst, sym, true, true≢false, ℕ, ◌&&◌, ◌+◌, ◌-◌, ◌<◌, ◌^◌, ◌||◌, ◌∙◌, ◌≡◌, ◌≤◌}
-use Rattle.std.proofs.lemmas.Bool.{eqb-true}
+use Rattle.std.proofs.Common.{Bool, List, None, Option, Some, [], ap, arith, cond, false, length, map, nat_lt, refl, slice_get, subst, sym, true, true≢false, ℕ, ◌+◌, ◌-◌, ◌<◌, ◌^◌, ◌||◌, ◌∙◌, ◌≡◌, ◌≤◌}
 use Rattle.std.proofs.lemmas.List.{length-map}
 use Rattle.std.proofs.lemmas.Option.{none-some, same_Some, slice_get-map, slice_get_within}
 use Rattle.std.specs.Option.{option_and_then, option_map, option_map_or, unwrap_or}
 use Rattle.oc_base.specs.declared.format.Word.{Word}
 use Rattle.oc_linking.specs.FirstFault.{stage_fault}
 use Rattle.oc_linking.specs.Fits.{bytes_of}
-use Rattle.oc_linking.specs.Rules.{Field}
 use Rattle.oc_linking.specs.declared.terms.Binding.TheVariants.{Common, Global, Local, Undefined, Weak}
 use Rattle.oc_linking.specs.declared.terms.Binding.{Binding}
 use Rattle.oc_linking.specs.declared.terms.Keep.{Keep}
@@ -34,12 +32,9 @@ use Rattle.oc_macho_read.proofs.SymbolLemmas.{IsSoundSymbol, as_computed, as_par
 use Rattle.oc_macho_read.specs.Adding.{IsClean}
 use Rattle.oc_macho_read.specs.Built.{started, symbol_as}
 use Rattle.oc_macho_read.specs.Given.{IsTakeable, given_at, target_for}
-use Rattle.oc_neutral.proofs.BuiltSteps.{added_more, added_same, can_still}
-use Rattle.oc_neutral.proofs.CleanLaws.{clean_is_added}
-use Rattle.oc_neutral.specs.Building.{Draft, is_zero, reloc_added}
-use Rattle.oc_neutral.specs.Built.{AreOfFile, Given, HasAdded, IsField, IsStarted, and_one}
+use Rattle.oc_neutral.specs.Building.{Draft, is_zero}
+use Rattle.oc_neutral.specs.Built.{IsStarted}
 use Rattle.oc_neutral.specs.Computed.{computed_symbol, position_of}
-use Rattle.oc_neutral.specs.Dialects.{kept_fields}
 use Rattle.oc_neutral.specs.Invariants.{CanAdd, IsLessThere, IsTargetThere}
 use Rattle.oc_neutral.specs.Normal.{Place, local_place, place_among, place_of}
 use Rattle.oc_neutral.specs.Rows.{Taken, TakesGotBase, TakesHome, TakesImageBase, TakesPlace, TakesSection, TakesZero}
@@ -54,6 +49,7 @@ use Rattle.oc_macho.specs.Aims as aims
 use Rattle.oc_macho.specs.RelocationFaults as faults
 use Rattle.oc_macho.specs.declared.relocation_info.Reference.TheVariants as reference
 use Rattle.oc_macho_read.specs.Given as given
+use Rattle.oc_shows.proofs.AddedLaws.{AreAddable}
 
 -- ... places of symbols
 
@@ -221,65 +217,15 @@ module _ (w : Word) (file : List ℕ) (keep : Keep) (clean : IsClean (tables_of 
             of false g = refl
             of true g = absurd (true≢false (sym (zero_kind m.c.header g) ∙ bytes.0))
 
-    -- ... a step
-
-    -- what is given for some places alone
-    abbrev given_where : (ℕ → ℕ → Bool) → Given
-    given_where done s at = cond (done s at) (given_at t keep s at) None
-
-    part_of_file : (done : ℕ → ℕ → Bool) → AreOfFile (mach_dialect w) file keep base.object (given_where done)
-    part_of_file done s at r e = by (done s at) e
-      where
-        by : (b : Bool) → cond b (given_at t keep s at) None ≡ Some r → (x : Field) × (kept_fields (mach_dialect w) file keep s at ≡ Some x) × IsField (mach_dialect w) file keep base.object s at r x
-        by true e = are_of_file w file keep base.object start.symbols clean.relocs s at r e
-        by false e = absurd (none-some r e)
-
-    one_more : (done more : ℕ → ℕ → Bool) (s at : ℕ) (r : Reloc) → given_at t keep s at ≡ Some r → ((u x : ℕ) → more u x ≡ (done u x || nat_eq u s && nat_eq at x))
-        → (u x : ℕ) → and_one (given_where done) s at r u x ≡ given_where more u x
-    one_more done more s at r is grown u x = by (nat_eq u s) (nat_eq at x) refl refl ∙ ap (λ b. cond b (given_at t keep u x) None) (sym (grown u x))
-      where
-        by : (a b : Bool) → nat_eq u s ≡ a → nat_eq at x ≡ b → cond (a && b) (Some r) (cond (done u x) (given_at t keep u x) None) ≡ cond (done u x || a && b) (given_at t keep u x) None
-        by true true e g =
-            let is_given : given_at t keep u x ≡ Some r = ap (λ (i : ℕ). given_at t keep i x) (eqb-true u s e) ∙ ap (λ (i : ℕ). given_at t keep s i) (sym (eqb-true at x g)) ∙ is in
-            of (done u x) is_given
-          where
-            of : (d : Bool) → given_at t keep u x ≡ Some r → Some r ≡ cond (d || true) (given_at t keep u x) None
-            of true is_given = sym is_given
-            of false is_given = sym is_given
-        by true false e g = of (done u x)
-          where
-            of : (d : Bool) → cond d (given_at t keep u x) None ≡ cond (d || false) (given_at t keep u x) None
-            of true = refl
-            of false = refl
-        by false b e g = of (done u x)
-          where
-            of : (d : Bool) → cond d (given_at t keep u x) None ≡ cond (d || false) (given_at t keep u x) None
-            of true = refl
-            of false = refl
-
-    -- a relocation at a place where none is yet is added
-    pub record IsTakenUp (d : Draft) (s at : ℕ) (r : Reloc) (more : ℕ → ℕ → Bool) : Type 0 where
-      pub can : CanAdd d.object s at r
-      pub next : Draft
-      pub ok : reloc_added d s at r ≡ Ok next
-      pub added : HasAdded base next (given_where more)
-
-    pub taken_up : (done more : ℕ → ℕ → Bool) (d : Draft) (s at : ℕ) (r : Reloc) → given_at t keep s at ≡ Some r → HasAdded base d (given_where done) → done s at ≡ false
-        → ((u x : ℕ) → more u x ≡ (done u x || nat_eq u s && nat_eq at x)) → IsTakenUp d s at r more
-    taken_up done more d s at r is added new grown = record {
-      can = can;
-      next = step.0;
-      ok = step.1;
-      added = added_same base step.0 (and_one (given_where done) s at r) (given_where more) (added_more base d step.0 (given_where done) s at r added can step.1) (one_more done more s at r is grown);
+    -- so each that is given can
+    pub addable : AreAddable base (given_at t keep)
+    addable = record {
+      dialect = mach_dialect w;
+      file = file;
+      keep = keep;
+      start = start;
+      apart = are_apart w file keep base.object start.symbols clean.relocs;
+      fit = differences_fit w file keep base.object start.symbols clean.relocs;
+      of_file = are_of_file w file keep base.object start.symbols clean.relocs;
+      can = can_base;
     }
-      where
-        can : CanAdd d.object s at r
-        can = can_still base d (given_where done) start.draft start.relocs start.folded added s at r (can_base s at r is)
-
-        field : (x : Field) × (kept_fields (mach_dialect w) file keep s at ≡ Some x) × IsField (mach_dialect w) file keep base.object s at r x
-        field = are_of_file w file keep base.object start.symbols clean.relocs s at r is
-
-        step : (e : Draft) × (reloc_added d s at r ≡ Ok e)
-        step = clean_is_added (mach_dialect w) file keep base d (given_where done) start (are_apart w file keep base.object start.symbols clean.relocs)
-            (differences_fit w file keep base.object start.symbols clean.relocs) added
-            (part_of_file done) s at r field.0 field.1 field.2 (ap (λ b. cond b (given_at t keep s at) None) new)

@@ -21,7 +21,7 @@ use Rattle.oc_macho.specs.declared.nlist.Nlist.{Nlist}
 use Rattle.oc_macho.specs.declared.section_header.SectionHeader.{SectionHeader}
 use Rattle.oc_macho.specs.declared.symtab_command.SymtabCommand.{SymtabCommand}
 use Rattle.oc_macho_read.proofs.AddedLemmas.{inside_by}
-use Rattle.oc_macho_read.proofs.ListLemmas.{all_drop, all_mapped, all_take, number_small}
+use Rattle.oc_shelf.proofs.ReadingLaws.ByteLemmas.{all_drop, all_take, number_small}
 use Rattle.oc_macho_read.proofs.SectionedLemmas.{section_from, section_there, sound_section}
 use Rattle.oc_macho_read.proofs.StandingLemmas.{given_standing}
 use Rattle.oc_macho_read.specs.Adding.{IsClean}
@@ -47,6 +47,7 @@ use Rattle.oc_shelf.proofs.ReadingLaws.RowLemmas.{length-rows, row_at}
 use Rattle.oc_shelf.specs.Reading.Rows.{rows}
 use Rattle.oc_linking.specs.Parts as parts
 use Rattle.oc_neutral.specs.Mach.Kinds as kinds
+use Rattle.oc_shelf.proofs.ReadingLaws.CollectedLemmas.{all_mapped}
 
 -- ... what is read is small
 

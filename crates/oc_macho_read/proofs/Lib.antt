@@ -5,7 +5,6 @@ pub mod CompleteLemmas
 pub mod FieldLemmas
 pub mod FitLemmas
 pub mod ItemLemmas
-pub mod ListLemmas
 pub mod MeantLemmas
 pub mod PinLemmas
 pub mod PlacedLemmas

@@ -1,9 +1,7 @@
 -- What is given, section by section and field by field.
-use Rattle.std.proofs.Common.{Bool, List, None, Ok, Option, Some, [], ap, arith, cond, eq-eqb, false, get_or, inl, inr, length, nat_eq, nat_lt, refl, slice_get, subst, suc, sym, take, true, true≢false, zero, ℕ, ◌&&◌, ◌+◌, ◌<◌, ◌^◌, ◌||◌, ◌∙◌, ◌≡◌, ◌≤◌}
-use Rattle.std.proofs.Math.Seq.{take-length}
+use Rattle.std.proofs.Common.{Bool, List, None, Option, Some, [], ap, arith, cond, false, get_or, inl, inr, length, nat_eq, nat_lt, refl, slice_get, subst, suc, sym, take, true, true≢false, zero, ℕ, ◌&&◌, ◌+◌, ◌<◌, ◌^◌, ◌||◌, ◌∙◌, ◌≡◌, ◌≤◌}
 use Rattle.std.proofs.lemmas.Bool.Decides.{nat_tests}
-use Rattle.std.proofs.lemmas.Bool.{cases_eq, cases_lt, ne_eqb}
-use Rattle.std.proofs.lemmas.List.Folds.{list_any_more}
+use Rattle.std.proofs.lemmas.Bool.{cases_eq, cases_lt}
 use Rattle.std.proofs.lemmas.Option.{none-some, same_Some, slice_get_past}
 use Rattle.std.specs.List.Sorted.{IsPermutation}
 use Rattle.std.specs.Option.{option_and_then, option_map}
@@ -20,20 +18,22 @@ use Rattle.oc_macho.specs.Sections.{is_kept}
 use Rattle.oc_macho.specs.Tables.{SectionTable, Tables, tables_of}
 use Rattle.oc_macho.specs.declared.entries.Item.{Item}
 use Rattle.oc_macho.specs.declared.section_header.SectionHeader.{SectionHeader}
-use Rattle.oc_macho_read.proofs.AddedLemmas.{taken_up}
 use Rattle.oc_macho_read.proofs.ItemLemmas.{IsGoodItem, are_aimed, found_as, found_is, good_item, items_apart}
-use Rattle.oc_macho_read.proofs.PlacedLemmas.{Differ, IsPlacedItem, among_all, entry_placed, item_begins, not_among}
+use Rattle.oc_macho_read.proofs.PlacedLemmas.{Differ, IsPlacedItem, differ_placed, entry_placed, item_begins, offset_among}
 use Rattle.oc_macho_read.proofs.StandingLemmas.{IsItemAt, item_found, item_none}
 use Rattle.oc_macho_read.specs.Adding.{IsClean, IsReady}
 use Rattle.oc_macho_read.specs.Built.{started}
-use Rattle.oc_macho_read.specs.Given.{AreAimed, given_at, given_before, given_with, is_among, placed, reloc_as, reloc_by, reloc_in}
-use Rattle.oc_neutral.specs.Building.{Draft, reloc_added}
+use Rattle.oc_macho_read.specs.Given.{AreAimed, given_at, given_before, given_with, placed, reloc_as, reloc_by, reloc_in}
+use Rattle.oc_neutral.specs.Building.{Draft}
 use Rattle.oc_neutral.specs.Built.{HasAdded, IsStarted}
-use Rattle.oc_neutral.specs.Invariants.{CanAdd}
 use Rattle.oc_neutral.specs.declared.reloc.Reloc.{Reloc}
 use Rattle.oc_shelf.specs.Reading.Collected.{collected}
 use Rattle.oc_shelf.specs.declared.reading.order.Placed.{Placed}
 use Rattle.oc_macho.specs.RelocationFaults as faults
+use Rattle.oc_macho_read.proofs.AddedLemmas.{addable}
+use Rattle.oc_shows.proofs.AddedLaws.{IsTaken, entry_taken, given_all as all_given, given_passed, lt_next, lt_self, lt_stays, table_done as section_done}
+use Rattle.oc_shelf.proofs.ReadingLaws.PlacedLemmas.{not_among}
+use Rattle.oc_shelf.specs.Reading.Order.{is_among}
 
 -- ... sections
 
@@ -52,40 +52,14 @@ module _ (t : Tables) (keep : Keep) where
 
   -- for all sections all is given
   pub given_all : (p : ℕ) → length t.sections ≤ p → (s at : ℕ) → given_before t keep p s at ≡ given_at t keep s at
-  given_all p all s at = by (nat_lt s p) refl
-    where
-      past : (s p : ℕ) → nat_lt s p ≡ false → p ≤ s
-      past s p e = grind (arith, nat_tests)
-
-      by : (b : Bool) → nat_lt s p ≡ b → cond b (given_at t keep s at) None ≡ given_at t keep s at
-      by true e = refl
-      by false e = let later = past s p e in sym (past_none s at (omega (arith, later, all)))
-
-  pub same_lt : (s p : ℕ) → (s ≡ p → ⊥) → nat_lt s (p + 1) ≡ nat_lt s p
-  same_lt s p other = by (nat_lt s p) refl
-    where
-      by : (b : Bool) → nat_lt s p ≡ b → nat_lt s (p + 1) ≡ b
-      by true e = grind (arith, nat_tests)
-      by false e = elim (cases_eq s p) [ inl same ↦ absurd (other same) | inr ne ↦ grind (arith, nat_tests) ]
+  given_all p all = all_given (given_at t keep) p (λ s at past. past_none s at (omega (arith, past, all)))
 
   -- a section that is left out is given nothing
   pub given_left : (p : ℕ) (c : SectionTable) → slice_get t.sections p ≡ Some c → is_kept keep c ≡ false → (s at : ℕ) → given_before t keep p s at ≡ given_before t keep (p + 1) s at
   unfolding given_at
-  given_left p c here left s at = elim (cases_eq s p) [
-    | inl same ↦ both (nat_lt s p) (nat_lt s (p + 1)) (none same)
-    | inr other ↦ ap (λ b. cond b (given_at t keep s at) None) (sym (same_lt s p other))
-  ]
-    where
-      none : s ≡ p → given_at t keep s at ≡ None
-      none same =
-          ap (option_and_then (λ (c : SectionTable). cond (is_kept keep c) (reloc_in t keep s at c) None)) (ap (slice_get t.sections) same ∙ here)
-          ∙ ap (λ b. cond b (reloc_in t keep s at c) None) left
-
-      both : (a b : Bool) → given_at t keep s at ≡ None → cond a (given_at t keep s at) None ≡ cond b (given_at t keep s at) None
-      both true true e = refl
-      both true false e = e
-      both false true e = sym e
-      both false false e = refl
+  given_left p c here left =
+      given_passed (given_at t keep) (λ s. nat_lt s p) (λ s. nat_lt s (p + 1)) p (λ s other. lt_stays s p other)
+      (λ at. ap (option_and_then (λ (c : SectionTable). cond (is_kept keep c) (reloc_in t keep p at c) None)) here ∙ ap (λ b. cond b (reloc_in t keep p at c) None) left)
 
   -- before the first field
   pub given_first : (p s at : ℕ) → given_before t keep p s at ≡ given_with t keep p [] s at
@@ -167,98 +141,33 @@ module _ (t : Tables) (keep : Keep) (clean : first_fault (faults.relocation_stag
       by (Some item) g h = (item, item_found t c at item g)
 
   module _ (entries : List Placed) (are : IsPermutation (collected (placed t c) (length c.relocs)) entries) where
-    abbrev pub done : ℕ → ℕ → ℕ → Bool
-    done j s at = nat_lt s p || nat_eq s p && is_among (take j entries) at
-
-    -- nothing is given at the place of a field before it is added
-    pub new_place : (j : ℕ) (e : Placed) → j < length entries → done j p (get_or entries j e).place ≡ false
-    new_place j e below = by (nat_lt p p) (nat_eq p p) (is_among (take j entries) (get_or entries j e).place) (self p) (not_among t c differ entries are j e below)
-      where
-        self : (n : ℕ) → nat_lt n n ≡ false
-        self n = grind (arith, nat_tests)
-
-        by : (a b d : Bool) → a ≡ false → d ≡ false → (a || b && d) ≡ false
-        by false true false e g = refl
-        by false false false e g = refl
-        by true b d e g = absurd (true≢false e)
-        by a b true e g = absurd (true≢false g)
-
-    -- with it one more place is given
-    pub one_place : (j : ℕ) (e : Placed) → j < length entries → (s at : ℕ) → done (j + 1) s at ≡ (done j s at || nat_eq s p && nat_eq (get_or entries j e).place at)
-    one_place j e below s at =
-        ap (λ b. nat_lt s p || nat_eq s p && b) (list_any_more (λ (x : Placed). nat_eq x.place at) entries j e below)
-        ∙ by (nat_lt s p) (nat_eq s p) (is_among (take j entries) at) (nat_eq (get_or entries j e).place at)
-      where
-        by : (a b d f : Bool) → (a || b && (d || f)) ≡ (a || b && d || b && f)
-        by true b d f = refl
-        by false true true f = refl
-        by false true false f = refl
-        by false false d f = refl
-
     -- with all fields the section is done
     pub table_done : (s at : ℕ) → given_with t keep p (take (length entries) entries) s at ≡ given_before t keep (p + 1) s at
-    table_done s at = elim (cases_eq s p) [
-      | inl same ↦ of (is_among (take (length entries) entries) at) refl (nat_lt s p) (nat_lt s (p + 1)) (more s p same) (nat_eq s p) (eq-eqb s p same) same
-      | inr other ↦ apart (nat_lt s p) (nat_lt s (p + 1)) (nat_eq s p) (ne_eqb s p other) (same_lt t keep s p other)
-    ]
+    table_done = section_done (given_at t keep) (λ s. nat_lt s p) (λ s. nat_lt s (p + 1)) p (λ s other. lt_stays s p other) (lt_next p) entries among
       where
-        more : (n p : ℕ) → n ≡ p → nat_lt n (p + 1) ≡ true
-        more n p same = grind (arith, nat_tests)
-
-        apart : (a b q : Bool) → q ≡ false → b ≡ a → cond (a || q && is_among (take (length entries) entries) at) (given_at t keep s at) None ≡ cond b (given_at t keep s at) None
-        apart true true false h k = refl
-        apart false false false h k = refl
-        apart true false q h k = absurd (true≢false (sym k))
-        apart false true q h k = absurd (true≢false k)
-        apart a b true h k = absurd (true≢false h)
-
-        -- what is given in the section is among them
-        given_among : s ≡ p → is_among (take (length entries) entries) at ≡ false → given_at t keep s at ≡ None
-        given_among same none = by (given_at t keep s at) refl
+        among : (at : ℕ) (r : Reloc) → given_at t keep p at ≡ Some r → is_among entries at ≡ true
+        among at r e = by (item_of_given at r e)
           where
-            by : (o : Option Reloc) → given_at t keep s at ≡ o → o ≡ None
-            by None e = refl
-            by (Some r) e = found (item_of_given at r (ap (λ (q : ℕ). given_at t keep q at) (sym same) ∙ e))
-              where
-                found : (item : Item) × IsItemAt t c at item → Some r ≡ None
-                found n =
-                    let among = among_all t c differ entries are n.1.k n.0 n.1.low n.1.is in
-                    absurd (true≢false (sym among ∙ ap (is_among entries) n.1.offset ∙ ap (λ (es : List Placed). is_among es at) (sym (take-length entries)) ∙ none))
-
-        of : (d : Bool) → is_among (take (length entries) entries) at ≡ d → (a b : Bool) → b ≡ true → (q : Bool) → q ≡ true → s ≡ p → cond (a || q && d) (given_at t keep s at) None ≡ cond b (given_at t keep s at) None
-        of true g true true h true k same = refl
-        of true g false true h true k same = refl
-        of false g true true h true k same = refl
-        of false g false true h true k same = sym (given_among same g)
-        of d g a false h q k same = absurd (true≢false (sym h))
-        of d g a b h false k same = absurd (true≢false (sym k))
+            by : (item : Item) × IsItemAt t c at item → is_among entries at ≡ true
+            by n = sym (ap (is_among entries) n.1.offset) ∙ offset_among t c entries are n.1.k n.0 n.1.low n.1.is
 
 -- ... a field more
 
--- its relocation can be added
-pub record IsTakenNext (u : Tables) (keep : Keep) (d : Draft) (p : ℕ) (at : ℕ) (r : Reloc) (j : ℕ) (entries : List Placed) : Type 0 where
-  pub can : CanAdd d.object p at r
-  pub next : Draft
-  pub ok : reloc_added d p at r ≡ Ok next
-  pub added : HasAdded (started u keep) next (given_with u keep p (take (j + 1) entries))
-
+-- its relocation is added
 abbrev Next : Keep → Tables → Type 0
 Next keep u =
     (p : ℕ) (c : SectionTable) → slice_get u.sections p ≡ Some c → is_kept keep c ≡ true → (entries : List Placed) → IsPermutation (collected (placed u c) (length c.relocs)) entries
     → (j : ℕ) (e : Placed) → j < length entries → (d : Draft) → HasAdded (started u keep) d (given_with u keep p (take j entries))
-    → (item : Item) → item_at u.word c.relocs (get_or entries j e).index ≡ Some item → (r : Reloc) → reloc_by u keep p c item ≡ Some r → IsTakenNext u keep d p item.first.r_address r j entries
+    → (item : Item) → item_at u.word c.relocs (get_or entries j e).index ≡ Some item → (r : Reloc) → reloc_by u keep p c item ≡ Some r → IsTaken (started u keep) d p item.first.r_address r (given_with u keep p (take (j + 1) entries))
 
 next_in : (w : Word) (file : List ℕ) (keep : Keep) (clean : IsClean (tables_of w file) keep) → IsStarted (mach_dialect w) file keep (started (tables_of w file) keep) → Next keep (tables_of w file)
 next_in w file keep clean start p c here kept entries are j e below d added item is r made =
     let t = tables_of w file in
-    let m = entry_placed t c (differ t keep clean.relocs p c here kept) entries are j e below in
+    let m = entry_placed t c entries are j e below in
     let same : m.item ≡ item = same_Some m.item item (sym m.is ∙ is) in
-    let place : item.first.r_address ≡ (get_or entries j e).place = sym (ap (λ (i : Item). i.first.r_address) same) ∙ m.place in
-    let is_given = item_given t keep clean.relocs p c here kept (get_or entries j e).index item r m.low is made in
-    let k = taken_up w file keep clean start (done t keep clean.relocs p c here kept entries are j) (done t keep clean.relocs p c here kept entries are (j + 1)) d p item.first.r_address r is_given added
-    (ap (done t keep clean.relocs p c here kept entries are j p) place ∙ new_place t keep clean.relocs p c here kept entries are j e below)
-    (λ s at. one_place t keep clean.relocs p c here kept entries are j e below s at ∙ ap (λ (q : ℕ). done t keep clean.relocs p c here kept entries are j s at || nat_eq s p && nat_eq q at) (sym place)) in
-    record { can = k.can; next = k.next; ok = k.ok; added = k.added }
+    entry_taken (started t keep) (given_at t keep) (addable w file keep clean start) (λ s. nat_lt s p) p (lt_self p) entries j e below
+    (not_among (placed t c) (length c.relocs) entries are (differ_placed t c (differ t keep clean.relocs p c here kept)) j e below) d added
+    item.first.r_address (sym (ap (λ (i : Item). i.first.r_address) same) ∙ m.place) r (item_given t keep clean.relocs p c here kept (get_or entries j e).index item r m.low is made)
 
 pub ready_next : (t : Tables) (keep : Keep) (positions : List (Option ℕ)) → IsReady t keep positions → Next keep t
 ready_next t keep positions ready =
@@ -284,7 +193,7 @@ module _ (t : Tables) (keep : Keep) (positions : List (Option ℕ)) (ready : IsR
 
   module _ (j : ℕ) (e : Placed) (below : j < length entries) where
     placed_here : IsPlacedItem t c (get_or entries j e)
-    placed_here = entry_placed t c (differ t keep ready.clean.relocs i c here kept) entries listed j e below
+    placed_here = entry_placed t c entries listed j e below
 
     pub index_low : (get_or entries j e).index < h.nreloc
     index_low = let low = placed_here.low in let long = table.long in omega (arith, low, long)
@@ -307,5 +216,5 @@ module _ (t : Tables) (keep : Keep) (positions : List (Option ℕ)) (ready : IsR
           let m = item_made t keep ready.clean.relocs i c here kept (get_or entries j e).index item placed_here.low is in
           subst (λ (x : Option Reloc). IsSome x) (sym (same ∙ m.1)) refl
 
-      pub item_next : (d : Draft) → HasAdded (started t keep) d (given_with t keep i (take j entries)) → (r : Reloc) → reloc_by t keep i c item ≡ Some r → IsTakenNext t keep d i item.first.r_address r j entries
+      pub item_next : (d : Draft) → HasAdded (started t keep) d (given_with t keep i (take j entries)) → (r : Reloc) → reloc_by t keep i c item ≡ Some r → IsTaken (started t keep) d i item.first.r_address r (given_with t keep i (take (j + 1) entries))
       item_next d added r made = ready_next t keep positions ready i c here kept entries listed j e below d added item is r made

@@ -17,13 +17,13 @@ use Rattle.oc_macho.specs.Tables.{SectionTable, Tables}
 use Rattle.oc_macho.specs.declared.constants.TheConstants.{N_ABS, N_PEXT, N_SECT, N_UNDF, N_WEAK_DEF, N_WEAK_REF}
 use Rattle.oc_macho.specs.declared.nlist.Nlist.{Nlist}
 use Rattle.oc_macho.specs.declared.section_header.SectionHeader.{SectionHeader}
-use Rattle.oc_macho_read.proofs.ListLemmas.{numbered, one_position, stands_numbered}
+use Rattle.oc_shelf.proofs.ReadingLaws.NumberedLemmas.{one_position, stands_numbered}
 use Rattle.oc_macho_read.proofs.SectionedLemmas.{at_most, sound_section}
 use Rattle.oc_macho_read.specs.Built.{IsSound, symbol_as, symbol_at}
 use Rattle.oc_neutral.specs.Computed.{computed_symbol, placed_binding, position_of}
 use Rattle.oc_neutral.specs.KindRules.{has}
 use Rattle.oc_neutral.specs.Shows.{AreNumbered}
-use Rattle.oc_shelf.proofs.ReadingLaws.CollectedLemmas.{IsFrom, collected-at, collected-from, collected-ordered, collected-same}
+use Rattle.oc_shelf.proofs.ReadingLaws.CollectedLemmas.{IsFrom, collected-at, collected-from, collected-ordered, collected-same, numbered}
 use Rattle.oc_shelf.proofs.ReadingLaws.StageLemmas.{all_hold, clean_at, clean_both}
 use Rattle.oc_shelf.specs.Reading.Collected.{collected}
 use Rattle.oc_linking.specs.Parts as parts

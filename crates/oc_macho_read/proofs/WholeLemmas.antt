@@ -24,7 +24,7 @@ use Rattle.oc_macho_read.proofs.AddedLemmas.{symbols_same}
 use Rattle.oc_macho_read.proofs.AimLemmas.{Carried, IsAim, IsNamed, Own, ToAddress, ToSection, ToSymbol, aim_is}
 use Rattle.oc_macho_read.proofs.CompleteLemmas.{leaves_blanks, readable, strings_bytes, symbol_small}
 use Rattle.oc_macho_read.proofs.ItemLemmas.{call_row, found_as}
-use Rattle.oc_macho_read.proofs.ListLemmas.{all_drop, all_mapped, all_text}
+use Rattle.oc_shelf.proofs.ReadingLaws.ByteLemmas.{all_drop, all_text}
 use Rattle.oc_macho_read.proofs.SectionedLemmas.{section_from, section_there, sound_section}
 use Rattle.oc_macho_read.proofs.ShownLemmas.{built_is_shown, is_started}
 use Rattle.oc_macho_read.proofs.StandingLemmas.{given_same, given_standing}
@@ -55,6 +55,7 @@ use Rattle.oc_neutral.specs.Rows as rows
 use Rattle.oc_macho.specs.Aims as aims
 use Rattle.oc_macho.specs.declared.relocation_info.Reference.TheVariants as reference
 use Rattle.oc_macho_read.specs.Given as given
+use Rattle.oc_shelf.proofs.ReadingLaws.CollectedLemmas.{all_mapped}
 
 groups_none : (xs : List (ℕ × SectionTable)) → AreBegun 0 0 (groups_of (map (stored_section []) (map section_of xs)))
 unfolding section_of

@@ -1,6 +1,5 @@
 -- The relocation that is given to the Builder for each field, and those that are given for a file (our profile).
-use Rattle.std.specs.Prelude.{◌≡◌, ℕ, ◌+◌, ◌-◌, Bool, ◌&&◌, ◌||◌, nat_eq, nat_lt, if◌then◌else◌, ℤ, pos, ◌+ℤ◌, ◌-ℤ◌, List, slice_get, Option, Some, None}
-use Rattle.std.specs.List.{list_any}
+use Rattle.std.specs.Prelude.{◌≡◌, ℕ, ◌+◌, ◌-◌, ◌&&◌, ◌||◌, nat_eq, nat_lt, if◌then◌else◌, ℤ, pos, ◌+ℤ◌, ◌-ℤ◌, List, slice_get, Option, Some, None}
 use Rattle.std.specs.Option.{option_map, option_map_or, option_and_then, is_some, unwrap_or}
 use Rattle.oc_base.specs.declared.format.Word.{Word}
 use Rattle.oc_base.specs.Numbers.{number_at}
@@ -32,6 +31,7 @@ use Rattle.oc_macho.specs.RelocationFaults.{beyond}
 use Rattle.oc_macho.specs.Fields.{Found, added_by, found_by, item_for, number_of, taken_section}
 use Rattle.oc_macho_read.specs.declared.aims.Aim.{Aim}
 use Rattle.oc_macho_read.specs.Built.{symbol_position}
+use Rattle.oc_shelf.specs.Reading.Order.{is_among}
 
 -- ... targets
 
@@ -77,10 +77,6 @@ given_at t keep s at = option_and_then (λ (c : SectionTable). if is_kept keep c
 -- the field that begins with entry k of a section, by its offset and that number
 abbrev pub placed : Tables → SectionTable → ℕ → Option Placed
 placed t c k = option_map (λ (i : Item). record { place = i.first.r_address; index = k }) (item_at t.word c.relocs k)
-
--- one of the fields is at an offset
-abbrev pub is_among : List Placed → ℕ → Bool
-is_among entries at = list_any (λ (e : Placed). nat_eq e.place at) entries
 
 -- what is given for the sections before section p
 abbrev pub given_before : Tables → Keep → ℕ → Given

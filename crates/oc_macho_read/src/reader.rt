@@ -75,14 +75,8 @@ fn read_bytes(alloc: Global, word: Word, bytes: &[u8], keep: &Keep) -> Result<Ne
     ensures readable { IfOk result IsReadable }
     ensures fault { IfErr result (IsStop (fault_of word bytes.now keep.now)) }
 {
-    let found = match judged(alloc, word, bytes, keep) {
-        Err(fault) => return Err(fault),
-        Ok(found) => found,
-    };
-    match object_of(alloc, word, bytes, &found, keep) {
-        Err(NoMemory) => Err(Stop::NoMemory),
-        Ok(object) => Ok(object),
-    }
+    let found = judged(alloc, word, bytes, keep)?;
+    Ok(object_of(alloc, word, bytes, &found, keep)?)
 }
 
 /// The reader of Mach-O objects of 32 bits, for i386.

@@ -16,9 +16,9 @@ use Rattle.oc_shelf.specs.Writing.Parts.{Laid, laid, laid_end, aligned}
 use Rattle.oc_macho_file.specs.Addresses.{Numbered, address_of, blank_sections, is_at, is_blank, memory_end, section_begin, size_of, stored_end, stored_sections}
 use Rattle.oc_macho_file.proofs.AddressLaws.{address_low, memory_low, section_rises}
 use Rattle.oc_macho_file.proofs.CodedLaws.{IsForMach}
-use Rattle.oc_macho_file.proofs.PartLaws.{of_enumerated, of_filter}
 use Rattle.oc_macho_write.specs.Addresses.{is_of, place_or, those, those_end, those_laid}
 use Rattle.oc_macho_write.specs.Values.{AreAddresses}
+use Rattle.oc_shelf.proofs.WritingLaws.MemberLemmas.{of_enumerated, of_filter}
 
 -- ... the place of what passes a test
 

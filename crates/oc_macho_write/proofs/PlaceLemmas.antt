@@ -11,12 +11,12 @@ use Rattle.oc_neutral.specs.declared.section.Section.{Section}
 use Rattle.oc_neutral.specs.Objects.{Object}
 use Rattle.oc_neutral.proofs.Positions.{each_at}
 use Rattle.oc_shelf.specs.Writing.Parts.{Laid, laid}
-use Rattle.oc_shelf.proofs.WritingLaws.MemberLemmas.{each_append, member_map, of_append, of_map}
+use Rattle.oc_shelf.proofs.WritingLaws.MemberLemmas.{each_append, member_map, of_append, of_map, of_enumerated}
 use Rattle.oc_shelf.proofs.WritingLaws.PartLemmas.{laid_part, laid_there}
 use Rattle.oc_macho_file.specs.Addresses.{Numbered, is_blank, stored_sections}
 use Rattle.oc_macho_file.specs.Layout as layout
 use Rattle.oc_macho_file.specs.Layout.{FileHead, SegmentHead, SectionHeads, SymtabHead, DysymtabHead, Raw, Relocs, SymbolTable, StringTable, head_parts, table_parts, raw_part, relocs_part, is_raw, is_relocs, is_symbol_table, is_string_table, laid_parts, part_begin, part_size, parts_of}
-use Rattle.oc_macho_file.proofs.PartLaws.{of_enumerated, rises}
+use Rattle.oc_macho_file.proofs.PartLaws.{rises}
 use Rattle.oc_macho_write.specs.declared.parts.Part.{Part}
 use Rattle.oc_macho_write.specs.declared.parts.Part.TheVariants as part
 use Rattle.oc_macho_write.specs.declared.places.Places.{Places}

@@ -1,7 +1,7 @@
 -- What OMF can say of an object that is ready for it: its sections, and the rows and the fields of its relocations.
-use Rattle.std.proofs.Common.{◌≡◌, ℕ, zero, suc, ◌+◌, ◌<◌, ◌≤◌, Bool, true, false, cond, eqb, List, [], ◌∷◌, length, get_or, Some, None, refl, sym, ◌∙◌, ap, subst, inl, inr, arith}
+use Rattle.std.proofs.Common.{◌≡◌, ℕ, suc, ◌+◌, ◌<◌, ◌≤◌, Bool, true, false, cond, eqb, List, [], ◌∷◌, length, Some, None, refl, sym, ◌∙◌, ap, subst, inl, inr, arith}
 use Rattle.std.specs.Prelude.{slice_get}
-use Rattle.std.proofs.lemmas.Bool.{eqb-true, eq-eqb, ne_eqb, cases_lt}
+use Rattle.std.proofs.lemmas.Bool.{eqb-true, cases_lt}
 use Rattle.std.proofs.lemmas.Option.{none-some, same_Some}
 use Rattle.oc_base.specs.declared.format.Format.TheVariants.{Omf}
 use Rattle.oc_linking.specs.declared.terms.Patch.{Patch}
@@ -9,7 +9,6 @@ use Rattle.oc_linking.specs.declared.terms.Less.{Less}
 use Rattle.oc_linking.specs.declared.terms.Less.TheVariants as less
 use Rattle.oc_linking.specs.Fits.{bytes_of}
 use Rattle.oc_linking.specs.Shows.{Apart}
-use Rattle.oc_chains.specs.Fields.{FollowFrom, end_of}
 use Rattle.oc_chains.specs.declared.field.Field.{Field}
 use Rattle.oc_chains.specs.Lists.{list_of}
 use Rattle.oc_neutral.specs.declared.section.Section.{Section}
@@ -32,6 +31,7 @@ use Rattle.oc_omf_file.specs.Pieces.{offsets_of}
 use Rattle.oc_omf_file.specs.Fixups.{row_by, field_patch, field_patches}
 use Rattle.oc_omf_file.proofs.NameLaws.{IsClassed, IsShort, names_bounded, names_short}
 use Rattle.oc_omf_file.proofs.PieceLaws.{AreApart}
+use Rattle.oc_shows.proofs.FoundLaws.{found_in, empty_past}
 
 -- an object that is ready for OMF, and what it meets
 pub record IsForOmf (n : Object) : Type 0 where
@@ -42,22 +42,6 @@ pub record IsForOmf (n : Object) : Type 0 where
 pub for_omf : (n : Object) → IsFitted Omf n → IsForOmf n
 for_omf n fits = record { object = fits.object; format = fits.format; meets = meets_omf n fits }
 
--- a field of a list in order is found at its place
-found_in : (p : ℕ) (xs : List (Field Reloc)) → FollowFrom p xs → (i : ℕ) (x : Field Reloc) → slice_get xs i ≡ Some x → (p ≤ x.at) × (reloc_among xs x.at ≡ Some x.item)
-found_in p [] follow i x h = absurd (none-some x h)
-found_in p (y ∷ xs) follow zero x h =
-    let same : y ≡ x = same_Some y x h in
-    let l = follow.0 in (
-      subst (λ (z : Field Reloc). p ≤ z.at) same l,
-      subst (λ (z : Field Reloc). reloc_among (y ∷ xs) z.at ≡ Some z.item) same (ap (λ b. cond b (Some y.item) (reloc_among xs y.at)) (eq-eqb y.at y.at refl)),
-    )
-found_in p (y ∷ xs) follow (suc i) x h =
-    let rest = found_in (end_of y) xs follow.2 i x h in
-    let low = rest.0 in
-    let l = follow.0 in
-    let wide = follow.1 in
-    (omega (arith, low, l), ap (λ b. cond b (Some y.item) (reloc_among xs x.at)) (ne_eqb y.at x.at (omega (arith, low, wide))) ∙ rest.1)
-
 -- what is found is among the fields
 pub field_there : (xs : List (Field Reloc)) (at : ℕ) (r : Reloc) → reloc_among xs at ≡ Some r → (i : ℕ) × (x : Field Reloc) × (slice_get xs i ≡ Some x) × (x.at ≡ at) × (x.item ≡ r)
 field_there [] at r h = absurd (none-some r h)
@@ -67,11 +51,6 @@ field_there (y ∷ xs) at r h = by (λ g. field_there xs at r g) (eqb y.at at) r
         → (b : Bool) → eqb y.at at ≡ b → cond b (Some y.item) (reloc_among xs at) ≡ Some r → (i : ℕ) × (x : Field Reloc) × (slice_get (y ∷ xs) i ≡ Some x) × (x.at ≡ at) × (x.item ≡ r)
     by later true e h = (0, y, refl, eqb-true y.at at e, same_Some y.item r h)
     by later false e h = let m = later h in (suc m.0, m.1, m.2, m.3, m.4)
-
-empty_past : {X : Type 0} (xs : List (List X)) (k : ℕ) → length xs ≤ k → get_or xs k [] ≡ []
-empty_past [] k l = refl
-empty_past (x ∷ xs) zero l = absurd (omega (arith, l))
-empty_past (x ∷ xs) (suc k) l = empty_past xs k (omega (arith, l))
 
 -- what a fixup's row takes is what is taken
 less_back : (framed : Framed) (l : Less) → (fixup_row framed).taken ≡ taken_of l → (k : ℕ) → rows.less_of (fixup_row framed).taken k ≡ l

@@ -1,5 +1,5 @@
 -- The fields of the canonical file are the relocations of the object that is seen.
-use Rattle.std.proofs.Common.{◌≡◌, ℕ, ◌+◌, ◌%◌, ◌<◌, Bool, true, false, ◌&&◌, ◌||◌, cond, nat_eq, ℤ, List, [], ◌∷◌, length, replicate, Option, Some, None, Ok, refl, sym, ◌∙◌, ap, subst, arith, MatchResult}
+use Rattle.std.proofs.Common.{◌≡◌, ℕ, ◌+◌, ◌%◌, Bool, true, false, ◌&&◌, ◌||◌, cond, nat_eq, ℤ, List, [], ◌∷◌, length, replicate, Option, Some, None, Ok, refl, sym, ◌∙◌, ap, arith}
 use Rattle.std.specs.Prelude.{◌+ℤ◌, slice_get, pos, find}
 use Rattle.std.specs.List.{list_any}
 use Rattle.std.specs.Option.{option_map, option_map_or, option_and_then}
@@ -18,10 +18,8 @@ use Rattle.oc_linking.specs.declared.terms.Hint.TheVariants.{Plain}
 use Rattle.oc_linking.specs.declared.terms.Less.{Less}
 use Rattle.oc_linking.specs.Fits.{bytes_of, span}
 use Rattle.oc_linking.proofs.Storing.{field_holds}
-use Rattle.oc_algebra.specs.Promises.{Holds}
 use Rattle.oc_algebra.specs.Residues.{reduced_number}
 use Rattle.oc_algebra.specs.Fields.{extended, to_field_of, from_field_of}
-use Rattle.oc_algebra.proofs.FieldLaws.{written_law}
 use Rattle.oc_algebra.proofs.Laws.{reduced_reduced}
 use Rattle.oc_neutral.specs.declared.section.Section.{Section}
 use Rattle.oc_neutral.specs.declared.reloc.Reloc.{Reloc}
@@ -51,17 +49,11 @@ use Rattle.oc_omf_file.proofs.SectionLaws.{made_contents, has_bytes, contents_to
 use Rattle.oc_omf_file.proofs.SeenLaws.{shown}
 use Rattle.oc_omf_file.proofs.FixedLaws.{entries, IsFixed, has_field as field_is, reloc_of, fixups_are, fixup_there}
 use Rattle.oc_omf_file.proofs.TargetLaws.{meant, row_read, IsAimed}
+use Rattle.oc_shows.proofs.FoundLaws.{holds_addend}
 
 -- a number of four bytes is held
 held_by : (shift a : ℤ) → (F : ℕ) × (to_field_of W32 Four shift a ≡ Ok F)
 held_by shift a = no_error (to_field_of W32 Four shift a) (four_bytes_hold shift a)
-
--- what a field holds is the addend
-holds_addend : (shift a : ℤ) (F : ℕ) → to_field_of W32 Four shift a ≡ Ok F → (F % span Four ≡ F) × (from_field_of W32 Four shift F ≡ reduced_number W32 a)
-holds_addend shift a F e =
-    let law = subst (λ o. MatchResult o (Holds W32 Four shift a) (λ x. (g : ℕ) → Holds W32 Four shift a g → ⊥)) e (written_law W32 Four shift a) in
-    let low : F < span Four = law.0 in
-    (omega (arith, low), law.1)
 
 -- a row of OMF has four bytes, and no hint
 row_width : (f : Framed) → (fixup_row f).width ≡ Four
@@ -108,7 +100,7 @@ module _ (n : Object) (is : IsForOmf n) where
         let q : Reloc = written_reloc n r in
         let holds = held_by (shift_of x) q.addend in
         let F : ℕ = holds.0 in
-        let held = holds_addend (shift_of x) q.addend F holds.1 in
+        let held = holds_addend W32 Four (shift_of x) q.addend F holds.1 in
         let four : q.form.width ≡ Four = ap (λ f. f.width) (form_kept r (section_place omf_manner n r)) ∙ (omf_reloc n is k at r there).width in
         let number : field_number n r ≡ F
         = ap (λ o. option_map_or (number_by q) o 0) (row_is n is k at r there)

@@ -13,7 +13,7 @@ use Rattle.oc_neutral.specs.declared.reloc.Reloc.{Reloc}
 use Rattle.oc_neutral.specs.Objects.{Object, reloc_at}
 use Rattle.oc_neutral.specs.Omf.Relocs.{ByTarget}
 use Rattle.oc_omf_records.specs.Blocks.{found, in_each}
-use Rattle.oc_shelf.proofs.WritingLaws.MemberLemmas.{each_flat_map, member_enumerated, member_flat_map, member_map, of_map}
+use Rattle.oc_shelf.proofs.WritingLaws.MemberLemmas.{each_flat_map, member_enumerated, member_flat_map, member_map, of_map, of_enumerated, member_filter}
 use Rattle.oc_omf.specs.declared.structures.Subrecord.{Subrecord}
 use Rattle.oc_omf.specs.declared.structures.Subrecord.TheVariants as subrecord
 use Rattle.oc_omf.specs.Cursor.{Read}
@@ -24,7 +24,7 @@ use Rattle.oc_omf_file.specs.Pieces.{offsets_of, pieces_of, fields_between}
 use Rattle.oc_omf_file.specs.Outputs.{Output, symbol_outputs, piece_outputs, data_outputs, segment_output, outputs_of}
 use Rattle.oc_omf_file.specs.Outputs as output
 use Rattle.oc_omf_file.specs.Fixups.{written_reloc, raw_of, target_method, field_fixup}
-use Rattle.oc_omf_file.proofs.ListLemmas.{of_enumerated, of_take, filter_member, member_take}
+use Rattle.oc_omf_file.proofs.ListLemmas.{of_take, member_take}
 use Rattle.oc_omf_file.proofs.FixupLaws.{frame_by}
 use Rattle.oc_omf_file.proofs.MadeLaw.{is_row_of, made_fixup, made, made_from}
 use Rattle.oc_omf_file.proofs.GivenLaws.{window_piece, pieces_by, given, tables_before, entry_made}
@@ -217,7 +217,7 @@ module _ (n : Object) (is : IsForOmf n) where
       let high = p.high in
       let place : x.1.at ≡ at = x.3 in
       let passes : (nat_le p.piece.0 x.1.at && nat_lt x.1.at p.piece.1) ≡ true = grind (arith, nat_tests) in
-      let f = filter_member (λ (y : Field Reloc). nat_le p.piece.0 y.at && nat_lt y.at p.piece.1) (list_of n.relocs k) x.0 x.1 x.2 passes in
+      let f = member_filter (λ (y : Field Reloc). nat_le p.piece.0 y.at && nat_lt y.at p.piece.1) (list_of n.relocs k) x.0 x.1 x.2 passes in
       let some = slice_get_within (fields_between n k p.piece.0 p.piece.1) f.0 x.1 f.1 in
       let full : nat_eq (length (fields_between n k p.piece.0 p.piece.1)) 0 ≡ false = grind (arith, nat_tests) in
       let o : Output = output.Fixups k s p.piece.0 p.piece.1 in

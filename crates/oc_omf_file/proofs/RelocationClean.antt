@@ -17,7 +17,7 @@ use Rattle.oc_neutral.specs.Objects.{Object, reloc_at}
 use Rattle.oc_neutral.specs.Omf.Relocs.{ByTarget}
 use Rattle.oc_neutral.proofs.Positions.{there_at}
 use Rattle.oc_shelf.proofs.ReadingLaws.StageLemmas.{Unbroken, IsUnbroken}
-use Rattle.oc_shelf.proofs.WritingLaws.MemberLemmas.{each_append, none_passes, of_map}
+use Rattle.oc_shelf.proofs.WritingLaws.MemberLemmas.{each_append, none_passes, of_map, of_enumerated, all_members}
 use Rattle.oc_omf.specs.declared.cut.Cut.{Cut}
 use Rattle.oc_omf.specs.declared.structures.Subrecord.{Subrecord}
 use Rattle.oc_omf.specs.Structures.{Piece}
@@ -31,7 +31,7 @@ use Rattle.oc_omf_file.specs.Pieces.{fields_between}
 use Rattle.oc_omf_file.specs.Outputs.{Output, outputs_of}
 use Rattle.oc_omf_file.specs.Outputs as output
 use Rattle.oc_omf_file.specs.Fixups.{written_reloc, target_method}
-use Rattle.oc_omf_file.proofs.ListLemmas.{of_take, member_take, of_enumerated, all_members}
+use Rattle.oc_omf_file.proofs.ListLemmas.{of_take, member_take}
 use Rattle.oc_omf_file.proofs.FixupLaws.{frame_by}
 use Rattle.oc_omf_file.proofs.MadeLaw.{is_row_of}
 use Rattle.oc_omf_file.proofs.GivenLaws.{segments_by, groups_by, externals_by, given}

@@ -17,7 +17,7 @@ use Rattle.oc_neutral.specs.KindRules.{same_kind}
 use Rattle.oc_neutral.specs.Normal.{Place}
 use Rattle.oc_neutral.specs.Objects.{Object}
 use Rattle.oc_shelf.proofs.ReadingLaws.StageLemmas.{Unbroken, IsUnbroken, unbroken_append}
-use Rattle.oc_shelf.proofs.WritingLaws.MemberLemmas.{each_flat_map, member_enumerated, member_first, none_passes}
+use Rattle.oc_shelf.proofs.WritingLaws.MemberLemmas.{each_flat_map, member_enumerated, member_first, none_passes, of_filter}
 use Rattle.oc_neutral.proofs.Positions.{there_at}
 use Rattle.oc_omf.specs.Structures.{Piece}
 use Rattle.oc_omf.specs.Entries.{Entry, says_nothing, in_file}
@@ -31,7 +31,6 @@ use Rattle.oc_omf_file.specs.Outputs.{Output, outputs_of}
 use Rattle.oc_omf_file.specs.Outputs as output
 use Rattle.oc_omf_file.specs.Fixups.{raw_of}
 use Rattle.oc_omf_file.specs.Canonical.{segment_of}
-use Rattle.oc_omf_file.proofs.ListLemmas.{filtered}
 use Rattle.oc_omf_file.proofs.CursorLaws.{placed}
 use Rattle.oc_omf_file.proofs.MadeLaw.{made, made_public}
 use Rattle.oc_omf_file.proofs.GivenLaws.{window_piece, names_by, pieces_by, given, tables_before, entry_made}
@@ -191,7 +190,7 @@ module _ (n : Object) (is : IsForOmf n) where
       apart : list_any (pieces_meet (window_piece k (raw_of n k s) (from, to))) (read.pieces_of (given n front) (k + 1)) ≡ false
       apart =
           none_passes (pieces_meet (window_piece k (raw_of n k s) (from, to))) (read.pieces_of (given n front) (k + 1)) (λ j y h.
-          let f = filtered (λ (z : Piece). nat_eq z.segment (k + 1)) (given n front).pieces j y h in
+          let f = of_filter (λ (z : Piece). nat_eq z.segment (k + 1)) (given n front).pieces j y h in
           let e = earlier f.0 y f.1 (eqb-true y.segment (k + 1) f.2) in
           misses y e.0 e.1 e.2 e.3 e.4)
         where

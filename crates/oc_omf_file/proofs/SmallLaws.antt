@@ -30,7 +30,6 @@ use Rattle.oc_omf_file.specs.Outputs.{Output, outputs_of}
 use Rattle.oc_omf_file.specs.Outputs as output
 use Rattle.oc_omf_file.specs.Fixups.{raw_of, field_patches, field_fixup, fixup_by, written_reloc, target_method, is_row}
 use Rattle.oc_omf_file.specs.Canonical.{size_by, public_at, output_contents}
-use Rattle.oc_omf_file.proofs.ListLemmas.{filtered}
 use Rattle.oc_omf_file.proofs.MadeLaw.{IsSmall}
 use Rattle.oc_omf_file.proofs.NameLaws.{name_within, section_named, section_classed, length-names}
 use Rattle.oc_omf_file.proofs.PieceLaws.{length-window}
@@ -38,6 +37,7 @@ use Rattle.oc_omf_file.proofs.BehindLaws.{IsDataAt, IsSegmentAt, Behind}
 use Rattle.oc_omf_file.proofs.OutputLaws.{each_behind}
 use Rattle.oc_omf_file.proofs.CodedLaws.{IsForOmf, few_names, short_names, size_low, field_is, framed, row_is, fields_apart}
 use Rattle.oc_omf_file.proofs.AimLaws.{symbol_is, index_low}
+use Rattle.oc_shelf.proofs.WritingLaws.MemberLemmas.{of_filter}
 
 -- ... sizes
 
@@ -71,7 +71,7 @@ pub record IsBetween (n : Object) (k from to : ℕ) (x : Field Reloc) : Type 0 w
 
 pub between : (n : Object) (k from to j : ℕ) (x : Field Reloc) → slice_get (fields_between n k from to) j ≡ Some x → IsBetween n k from to x
 between n k from to j x h =
-    let m = filtered (λ (y : Field Reloc). nat_le from y.at && nat_lt y.at to) (list_of n.relocs k) j x h in
+    let m = of_filter (λ (y : Field Reloc). nat_le from y.at && nat_lt y.at to) (list_of n.relocs k) j x h in
     let t : (nat_le from x.at && nat_lt x.at to) ≡ true = m.2 in
     record { index = m.0; here = m.1; low = grind (arith, nat_tests); high = grind (arith, nat_tests) }
 

@@ -17,7 +17,7 @@ use Rattle.oc_neutral.specs.KeySymbols.{global_place}
 use Rattle.oc_neutral.specs.Normal.{Place}
 use Rattle.oc_neutral.specs.Objects.{Object}
 use Rattle.oc_shelf.proofs.ReadingLaws.StageLemmas.{Unbroken, IsUnbroken}
-use Rattle.oc_shelf.proofs.WritingLaws.MemberLemmas.{each_flat_map, member_first, none_passes, of_map}
+use Rattle.oc_shelf.proofs.WritingLaws.MemberLemmas.{each_flat_map, member_first, none_passes, of_map, of_enumerated, all_members}
 use Rattle.oc_omf.specs.declared.structures.Communal.{Communal}
 use Rattle.oc_omf.specs.Structures.{Public, External, communal_width}
 use Rattle.oc_omf.specs.Entries.{Entry, says_nothing}
@@ -28,7 +28,6 @@ use Rattle.oc_omf.specs.SymbolFaults.{Told, is_empty, base_conditions, same_publ
 use Rattle.oc_omf_file.specs.Outputs.{Output, symbol_outputs, outputs_of}
 use Rattle.oc_omf_file.specs.Outputs as output
 use Rattle.oc_omf_file.specs.Canonical.{segment_of, size_by}
-use Rattle.oc_omf_file.proofs.ListLemmas.{of_enumerated, all_members}
 use Rattle.oc_omf_file.proofs.SaidLaws.{communal_form}
 use Rattle.oc_omf_file.proofs.MadeLaw.{made, made_public}
 use Rattle.oc_omf_file.proofs.GivenLaws.{mention_of, publics_by, externals_by, public_of as publics_at, given, tables_made, tables_before, entry_made}

@@ -1,10 +1,10 @@
 -- The relocations of fields, added one after the other.
-use Rattle.std.proofs.Common.{◌≡◌, ℕ, zero, suc, ◌+◌, ◌-◌, ◌<◌, ◌≤◌, Bool, true, false, cond, List, [], ◌∷◌, get_or, length, map, take, Option, None, Some, Ok, refl, sym, ◌∙◌, ap, subst, arith}
+use Rattle.std.proofs.Common.{◌≡◌, ℕ, zero, suc, ◌+◌, ◌-◌, ◌<◌, ◌≤◌, Bool, true, false, cond, List, [], ◌∷◌, get_or, length, map, take, Option, None, Some, refl, sym, ◌∙◌, ap, subst, arith}
 use Rattle.std.specs.Prelude.{◌&&◌, ◌||◌, nat_eq, nat_le, slice_get}
 use Rattle.std.specs.List.Sorted.{IsPermutation}
 use Rattle.std.specs.Option.{option_and_then, option_map, option_map_or}
 use Rattle.std.proofs.Math.Seq.{take-length}
-use Rattle.std.proofs.lemmas.Bool.{eqb-true, true≢false}
+use Rattle.std.proofs.lemmas.Bool.{true≢false}
 use Rattle.std.proofs.lemmas.Bool.Decides.{nat_tests}
 use Rattle.std.proofs.lemmas.List.{length-map}
 use Rattle.std.proofs.lemmas.List.Folds.{list_any_more}
@@ -19,23 +19,19 @@ use Rattle.oc_linking.specs.FirstFault.{first_fault, stage_fault}
 use Rattle.oc_linking.specs.Fits.{bytes_of}
 use Rattle.oc_linking.specs.Parts as parts
 use Rattle.oc_linking.specs.Rules as rules
-use Rattle.oc_linking.specs.Rules.{Field as RulesField}
 use Rattle.oc_linking.specs.Targets as file_targets
 use Rattle.oc_linking.specs.Values.{numbered}
 use Rattle.oc_neutral.specs.declared.reloc.Reloc.{Reloc}
 use Rattle.oc_neutral.specs.declared.reloc.Target.{Target}
 use Rattle.oc_neutral.specs.declared.reloc.Target.TheVariants as target
 use Rattle.oc_neutral.specs.declared.symbol.Symbol.{Symbol}
-use Rattle.oc_neutral.specs.Building.{Draft, is_zero, reloc_added}
-use Rattle.oc_neutral.specs.Built.{AreOfFile, Given, HasAdded, IsField, IsStarted, and_one}
+use Rattle.oc_neutral.specs.Building.{Draft, is_zero}
+use Rattle.oc_neutral.specs.Built.{HasAdded, IsStarted}
 use Rattle.oc_neutral.specs.Computed.{computed_symbol, position_of}
-use Rattle.oc_neutral.specs.Dialects.{kept_fields}
 use Rattle.oc_neutral.specs.Faces.{number_of}
 use Rattle.oc_neutral.specs.Invariants.{AreBytes, CanAdd, IsBinding, IsLessThere, IsTargetThere, NamesOriginal}
 use Rattle.oc_neutral.specs.Normal.{Place, local_place, place_among}
 use Rattle.oc_neutral.specs.Started.{stored_section}
-use Rattle.oc_neutral.proofs.BuiltSteps.{added_more, added_same, can_still}
-use Rattle.oc_neutral.proofs.CleanLaws.{clean_is_added}
 use Rattle.oc_omf.specs.declared.structures.Fixup.{Fixup}
 use Rattle.oc_omf.specs.declared.structures.Method.{Method}
 use Rattle.oc_omf.specs.declared.structures.Segment.{Segment}
@@ -68,6 +64,7 @@ use Rattle.oc_omf_read.proofs.PlacedFixups.{IsAt, at_inside, good, sound}
 use Rattle.oc_omf_read.proofs.StandingFields.{are_apart, are_of_file, differences_fit, standing_less, standing_target, standing_width}
 use Rattle.oc_omf_read.proofs.StartLemmas.{symbol_number, zero_uncovered}
 use Rattle.oc_omf_read.proofs.WholeSymbols.{symbol_whole}
+use Rattle.oc_shows.proofs.AddedLaws.{AreAddable, IsTaken, taken}
 
 -- a symbol of an external, by what is made of it
 against_of : (m : Meaning) (segment : ℕ) (f : Fixup) (frame o : Option Method) (fix : Fix) → fix_by m segment f frame o ≡ Some fix → (method : Method) × (o ≡ Some method) × (against m method ≡ Some fix.target)
@@ -254,67 +251,18 @@ module _ (file : List ℕ) (bytes : AreBytes file) (keep : Keep) (sections : sta
       }
 
   module _ (start : IsStarted omf_dialect file keep base) where
-    -- ... a step
-
-    -- what is given for some places alone
-    abbrev given_where : (ℕ → ℕ → Bool) → Given
-    given_where done s at = cond (done s at) (given_at es keep s at) None
-
-    part_of_file : (done : ℕ → ℕ → Bool) → AreOfFile omf_dialect file keep base.object (given_where done)
-    part_of_file done s at r e = by (done s at) e
-      where
-        by : (b : Bool) → cond b (given_at es keep s at) None ≡ Some r → (x : RulesField) × (kept_fields omf_dialect file keep s at ≡ Some x) × IsField omf_dialect file keep base.object s at r x
-        by true e = are_of_file file keep sections relocs base.object start.symbols s at r e
-        by false e = absurd (none-some r e)
-
-    one_more : (done more : ℕ → ℕ → Bool) (s at : ℕ) (r : Reloc) → given_at es keep s at ≡ Some r → ((u x : ℕ) → more u x ≡ (done u x || nat_eq u s && nat_eq at x))
-        → (u x : ℕ) → and_one (given_where done) s at r u x ≡ given_where more u x
-    one_more done more s at r there grown u x = by (nat_eq u s) (nat_eq at x) refl refl ∙ ap (λ b. cond b (given_at es keep u x) None) (sym (grown u x))
-      where
-        by : (a b : Bool) → nat_eq u s ≡ a → nat_eq at x ≡ b → cond (a && b) (Some r) (cond (done u x) (given_at es keep u x) None) ≡ cond (done u x || a && b) (given_at es keep u x) None
-        by true true e g =
-            let given : given_at es keep u x ≡ Some r = ap (λ (i : ℕ). given_at es keep i x) (eqb-true u s e) ∙ ap (λ (i : ℕ). given_at es keep s i) (sym (eqb-true at x g)) ∙ there in
-            of (done u x) given
-          where
-            of : (d : Bool) → given_at es keep u x ≡ Some r → Some r ≡ cond (d || true) (given_at es keep u x) None
-            of true given = sym given
-            of false given = sym given
-        by true false e g = of (done u x)
-          where
-            of : (d : Bool) → cond d (given_at es keep u x) None ≡ cond (d || false) (given_at es keep u x) None
-            of true = refl
-            of false = refl
-        by false b e g = of (done u x)
-          where
-            of : (d : Bool) → cond d (given_at es keep u x) None ≡ cond (d || false) (given_at es keep u x) None
-            of true = refl
-            of false = refl
-
-    -- a relocation at a place where none is yet is added
-    pub record IsTaken (d : Draft) (s at : ℕ) (r : Reloc) (more : ℕ → ℕ → Bool) : Type 0 where
-      pub can : CanAdd d.object s at r
-      pub next : Draft
-      pub ok : reloc_added d s at r ≡ Ok next
-      pub added : HasAdded base next (given_where more)
-
-    taken : (done more : ℕ → ℕ → Bool) (d : Draft) (s at : ℕ) (r : Reloc) → given_at es keep s at ≡ Some r → HasAdded base d (given_where done) → done s at ≡ false
-        → ((u x : ℕ) → more u x ≡ (done u x || nat_eq u s && nat_eq at x)) → IsTaken d s at r more
-    taken done more d s at r given has new grown = record {
-      can = can;
-      next = step.0;
-      ok = step.1;
-      added = added_same base step.0 (and_one (given_where done) s at r) (given_where more) (added_more base d step.0 (given_where done) s at r has can step.1) (one_more done more s at r given grown);
+    -- so each that is given can
+    addable : AreAddable base (given_at es keep)
+    addable = record {
+      dialect = omf_dialect;
+      file = file;
+      keep = keep;
+      start = start;
+      apart = are_apart file keep sections relocs base.object start.symbols;
+      fit = differences_fit file keep sections relocs base.object start.symbols;
+      of_file = are_of_file file keep sections relocs base.object start.symbols;
+      can = λ s at r given. can_base s at r (given_standing file keep sections relocs s at r given);
     }
-      where
-        can : CanAdd d.object s at r
-        can = can_still base d (given_where done) start.draft start.relocs start.folded has s at r (can_base s at r (given_standing file keep sections relocs s at r given))
-
-        field : (x : RulesField) × (kept_fields omf_dialect file keep s at ≡ Some x) × IsField omf_dialect file keep base.object s at r x
-        field = are_of_file file keep sections relocs base.object start.symbols s at r given
-
-        step : (e : Draft) × (reloc_added d s at r ≡ Ok e)
-        step = clean_is_added omf_dialect file keep base d (given_where done) start (are_apart file keep sections relocs base.object start.symbols) (differences_fit file keep sections relocs base.object start.symbols) has
-            (part_of_file done) s at r field.0 field.1 field.2 (ap (λ b. cond b (given_at es keep s at) None) new)
 
     -- ... a field
 
@@ -331,9 +279,9 @@ module _ (file : List ℕ) (bytes : AreBytes file) (keep : Keep) (sections : sta
       one_place : (s at : ℕ) → is_among (take (j + 1) fields) s at ≡ (is_among (take j fields) s at || nat_eq s here.section && nat_eq here.at at)
       one_place s at = list_any_more (λ (f : Field). nat_eq f.section s && nat_eq f.at at) fields j e below ∙ ap (λ b. is_among (take j fields) s at || b && nat_eq here.at at) (eq_flips here.section s)
 
-      pub field_taken : (d : Draft) → HasAdded base d (given_with es keep (take j fields)) → IsTaken d here.section here.at (reloc_as m here.section here.at here.fix) (is_among (take (j + 1) fields))
+      pub field_taken : (d : Draft) → HasAdded base d (given_with es keep (take j fields)) → IsTaken base d here.section here.at (reloc_as m here.section here.at here.fix) (given_with es keep (take (j + 1) fields))
       field_taken d has =
-          taken (is_among (take j fields)) (is_among (take (j + 1) fields)) d here.section here.at (reloc_as m here.section here.at here.fix) (let l = listed in field_given file keep sections relocs l.p here l.is) has
+          taken base (given_at es keep) addable (is_among (take j fields)) (is_among (take (j + 1) fields)) d here.section here.at (reloc_as m here.section here.at here.fix) (let l = listed in field_given file keep sections relocs l.p here l.is) has
           (not_among file keep sections relocs fields are j e below) one_place
 
     -- with all fields all is given

@@ -36,6 +36,7 @@ use Rattle.oc_omf_judge.specs.Defined.{IsDefined}
 use Rattle.oc_omf_read.specs.Sections.{kind_in}
 use Rattle.oc_omf_read.proofs.ContentLemmas.{good_segment, known_kind, known_name}
 use Rattle.oc_omf_read.proofs.SumLemmas.{bytes_few, sizes_few}
+use Rattle.oc_neutral.proofs.MeetsCounts.{sum_map}
 
 numbered_at : {X : Type 0} (n : ℕ) (xs : List X) (i : ℕ) → slice_get (enumerate_from n xs) i ≡ option_map (λ x. (i + n, x)) (slice_get xs i)
 numbered_at n [] zero = refl
@@ -64,10 +65,6 @@ section_known t known knows k s there bytes are =
     ∙ ap (λ (bytes : List ℕ). Some (record (stored_section [] (section_of t (k + 1, s))) { bytes = bytes })) (are s there)
 
 -- ... sums
-
-sum_map : {X Y : Type 0} (f : Y → ℕ) (g : X → Y) (xs : List X) → sum_by f (map g xs) ≡ sum_by (λ x. f (g x)) xs
-sum_map f g [] = refl
-sum_map f g (x ∷ xs) = sum_by-cons f (g x) (map g xs) ∙ ap (λ (n : ℕ). f (g x) + n) (sum_map f g xs) ∙ sym (sum_by-cons (λ y. f (g y)) x xs)
 
 sum_numbered : (n : ℕ) (xs : List Segment) → sum_by (λ (x : ℕ × Segment). segment_size x.1) (enumerate_from n xs) ≡ sum_by segment_size xs
 sum_numbered n [] = refl

@@ -1,5 +1,5 @@
 -- Fields whose relocations are ready to be added.
-use Rattle.std.proofs.Common.{◌≡◌, ℕ, ◌+◌, ◌<◌, ◌≤◌, false, cond, List, [], get_or, length, take, Option, None, Some, Ok, sym, ◌∙◌, ap, subst, arith}
+use Rattle.std.proofs.Common.{◌≡◌, ℕ, ◌+◌, ◌<◌, ◌≤◌, false, cond, List, [], get_or, length, take, Option, None, Some, sym, ◌∙◌, ap, subst, arith}
 use Rattle.std.specs.Prelude.{slice_get, Vec}
 use Rattle.std.specs.Global.{Global}
 use Rattle.std.specs.List.Sorted.{IsPermutation}
@@ -9,9 +9,8 @@ use Rattle.oc_base.specs.declared.format.Word.TheVariants.{W32}
 use Rattle.oc_base.specs.Numbers.{number_at}
 use Rattle.oc_linking.specs.FirstFault.{first_fault}
 use Rattle.oc_neutral.specs.declared.reloc.Reloc.{Reloc}
-use Rattle.oc_neutral.specs.Building.{Draft, is_zero, reloc_added}
+use Rattle.oc_neutral.specs.Building.{Draft, is_zero}
 use Rattle.oc_neutral.specs.Built.{HasAdded}
-use Rattle.oc_neutral.specs.Invariants.{CanAdd}
 use Rattle.oc_neutral.specs.Omf.Relocs.{fixup_row}
 use Rattle.oc_neutral.specs.RowValues.{row_reloc}
 use Rattle.oc_omf.specs.declared.structures.Segment.{Segment}
@@ -39,6 +38,7 @@ use Rattle.oc_omf_read.proofs.HearLemmas.{few_symbols}
 use Rattle.oc_omf_read.proofs.SymbolLemmas.{as_many as as_many_symbols}
 use Rattle.oc_omf_read.proofs.FixLemmas.{field_number, reloc_as}
 use Rattle.oc_omf_read.proofs.AddedFields.{IsInside, all_done, field_inside, field_taken}
+use Rattle.oc_shows.proofs.AddedLaws.{IsTaken}
 
 -- ... contents
 
@@ -81,27 +81,17 @@ module _ (s : Sight) (vectors : List (Vec ℕ Global)) (ready : IsReady s vector
       let long = long_enough (entries_in s.omf.now) vectors ready.contents (get_or fields j e).section there.segment there.there there.stored in
       omega (arith, inside, long)
 
-  -- its relocation can be added
-  pub record IsTakenNext (d : Draft) (r : Reloc) : Type 0 where
-    pub can : CanAdd d.object (get_or fields j e).section (get_or fields j e).at r
-    pub next : Draft
-    pub ok : reloc_added d (get_or fields j e).section (get_or fields j e).at r ≡ Ok next
-    pub added : HasAdded (started s.omf.now) next (given_with (entries_in s.omf.now) s.keep (take (j + 1) fields))
-
+  -- its relocation is added
   pub ready_taken : (d : Draft) → HasAdded (started s.omf.now) d (given_with (entries_in s.omf.now) s.keep (take j fields)) → (number : ℕ) (r : Reloc) → number ≡ number_at (items_at vectors (get_or fields j e).section) (get_or fields j e).at 4
-      → ((x : ℕ) → r ≡ row_reloc W32 (fixup_row (framed_as (get_or fields j e).fix.framed)) x (added_by (get_or fields j e).fix number) (get_or fields j e).fix.target) → IsTakenNext d r
+      → ((x : ℕ) → r ≡ row_reloc W32 (fixup_row (framed_as (get_or fields j e).fix.framed)) x (added_by (get_or fields j e).fix number) (get_or fields j e).fix.target)
+      → IsTaken (started s.omf.now) d (get_or fields j e).section (get_or fields j e).at r (given_with (entries_in s.omf.now) s.keep (take (j + 1) fields))
   ready_taken d has number r read made =
       let k = field_taken s.omf.now ready.bytes s.keep ready.sections ready.symbols ready.relocs (few_symbols_in s.omf.now ready.head ready.symbols) ready.start fields are j e below d has in
       let f : Field = get_or fields j e in
       let same : reloc_as (meaning_seen s) f.section f.at f.fix ≡ r =
       ap (λ (n : ℕ). row_reloc W32 (fixup_row (framed_as f.fix.framed)) f.section (added_by f.fix n) f.fix.target) (sym (read ∙ number_is (entries_in s.omf.now) vectors ready.contents f.section f.at there.segment there.there there.stored))
       ∙ sym (made f.section) in
-      record {
-        can = subst (CanAdd d.object f.section f.at) same k.can;
-        next = k.next;
-        ok = ap (reloc_added d f.section f.at) (sym same) ∙ k.ok;
-        added = k.added;
-      }
+      subst (λ (q : Reloc). IsTaken (started s.omf.now) d f.section f.at q (given_with (entries_in s.omf.now) s.keep (take (j + 1) fields))) same k
 
 pub ready_done : (s : Sight) (vectors : List (Vec ℕ Global)) (ready : IsReady s vectors) (fields : List Field) → IsPermutation (fields_of (meaning_seen s) s.keep (fixups_in (entries_in s.omf.now))) fields → (n : ℕ) → n ≡ length fields → (x at : ℕ)
     → given_with (entries_in s.omf.now) s.keep (take n fields) x at ≡ given_at (entries_in s.omf.now) s.keep x at

@@ -48,14 +48,11 @@ use Rattle.oc_omf_read.proofs.LocalLemmas.{none_of}
 use Rattle.oc_omf_read.proofs.ReadableLemmas.{readable}
 use Rattle.oc_omf_read.proofs.StandingFields.{standing_hint}
 use Rattle.oc_omf_read.proofs.WholeSymbols.{symbol_whole}
+use Rattle.oc_shelf.proofs.ReadingLaws.CollectedLemmas.{all_mapped}
 
 groups_none : (t : all.Tables) (xs : List (ℕ × Segment)) → AreBegun 0 0 (groups_of (map (stored_section []) (map (section_of t) xs)))
 groups_none t [] = refl
 groups_none t (x ∷ xs) = (tt, groups_none t xs)
-
-all_mapped : {X Y : Type 0} (P : Y → Type 0) (g : X → Y) (xs : List X) → ((k : ℕ) (x : X) → slice_get xs k ≡ Some x → P (g x)) → AllByRecursion P (map g xs)
-all_mapped P g [] each = tt
-all_mapped P g (x ∷ xs) each = (each 0 x refl, all_mapped P g xs (λ k. each (suc k)))
 
 -- the codes of alignments
 aligned_by : (code : ℕ) → 1 ≤ code → code ≤ 5 → IsAlign (get_or (0 ∷ 1 ∷ 2 ∷ 16 ∷ 256 ∷ 4 ∷ []) code 0)

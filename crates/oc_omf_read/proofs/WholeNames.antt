@@ -1,5 +1,5 @@
 -- Names that are mentioned are bytes, and lengths of communals are small.
-use Rattle.std.proofs.Common.{◌≡◌, ℕ, zero, suc, ◌+◌, ◌*◌, ◌-◌, ◌^◌, ◌<◌, ◌≤◌, Bool, true, false, cond, List, [], ◌∷◌, drop, get_or, length, map, take, Option, None, Some, Ok, Err, refl, sym, ◌∙◌, ap, subst, arith}
+use Rattle.std.proofs.Common.{◌≡◌, ℕ, zero, suc, ◌+◌, ◌-◌, ◌^◌, ◌<◌, ◌≤◌, Bool, true, false, cond, List, [], ◌∷◌, drop, length, map, Option, None, Some, Ok, Err, refl, sym, ◌∙◌, ap, subst, arith}
 use Rattle.std.specs.Prelude.{nat_eq, nat_le, nat_lt, slice_range}
 use Rattle.std.specs.List.{AllByRecursion}
 use Rattle.oc_base.specs.Numbers.{number_at}
@@ -25,44 +25,9 @@ use Rattle.oc_omf_read.proofs.HeardLemmas.{communals_are, externals_are, local_e
 use Rattle.oc_omf_read.proofs.SumLemmas.{said_here}
 use Rattle.oc_omf.specs.declared.cut.Cut.TheVariants as cut
 use Rattle.std.proofs.lemmas.Option.{none-some, same_Some}
+use Rattle.oc_shelf.proofs.ReadingLaws.ByteLemmas.{room, number_small, all_drop, all_take}
 
 -- ... bytes
-
-byte_at : (xs : List ℕ) → AreBytes xs → (i : ℕ) → get_or xs i 0 < 256
-byte_at [] all i = omega arith
-byte_at (x ∷ xs) all zero = let low = all.0 in omega (arith, low)
-byte_at (x ∷ xs) all (suc i) = byte_at xs all.1 i
-
--- what k bytes can count
-abbrev room : ℕ → ℕ
-room zero = 1
-room (suc k) = 256 * room k
-
-number_more : (b : List ℕ) (at k : ℕ) → number_at b at (suc k) ≡ get_or b at 0 + 256 * number_at b (suc at) k
-unfolding number_at
-number_more b at k = refl
-
-number_none : (b : List ℕ) (at : ℕ) → number_at b at 0 ≡ 0
-unfolding number_at
-number_none b at = refl
-
-number_small : (b : List ℕ) → AreBytes b → (at k : ℕ) → number_at b at k < room k
-number_small b bytes at zero = let none = number_none b at in omega (arith, none)
-number_small b bytes at (suc k) =
-    let low : get_or b at 0 < 256 = byte_at b bytes at in
-    let rest = number_small b bytes (suc at) k in
-    let more = number_more b at k in
-    omega (arith, low, rest, more)
-
-all_drop : (P : ℕ → Type 0) (n : ℕ) (xs : List ℕ) → AllByRecursion P xs → AllByRecursion P (drop n xs)
-all_drop P zero xs all = all
-all_drop P (suc n) [] all = tt
-all_drop P (suc n) (x ∷ xs) all = all_drop P n xs all.1
-
-all_take : (P : ℕ → Type 0) (n : ℕ) (xs : List ℕ) → AllByRecursion P xs → AllByRecursion P (take n xs)
-all_take P zero xs all = tt
-all_take P (suc n) [] all = tt
-all_take P (suc n) (x ∷ xs) all = (all.0, all_take P n xs all.1)
 
 range_bytes : (b : List ℕ) (from to : ℕ) → AreBytes b → AreBytes (slice_range b from to)
 range_bytes b from to bytes = all_take (λ x. x < 2 ^ 8) (to - from) (drop from b) (all_drop (λ x. x < 2 ^ 8) from b bytes)

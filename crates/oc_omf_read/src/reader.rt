@@ -70,14 +70,8 @@ fn read_bytes(alloc: Global, bytes: &[u8], keep: &Keep) -> Result<Neutral, Stop>
     ensures readable { IfOk result IsReadable }
     ensures fault { IfErr result (IsStop (fault_of bytes.now keep.now)) }
 {
-    let found = match judged(alloc, bytes, keep) {
-        Err(fault) => return Err(fault),
-        Ok(found) => found,
-    };
-    match object_of(alloc, bytes, &found.omf, &found.defined, keep) {
-        Err(NoMemory) => Err(Stop::NoMemory),
-        Ok(object) => Ok(object),
-    }
+    let found = judged(alloc, bytes, keep)?;
+    Ok(object_of(alloc, bytes, &found.omf, &found.defined, keep)?)
 }
 
 /// The reader of OMF object modules, for i386.

@@ -13,10 +13,10 @@ use Rattle.oc_omf_file.specs.Fixups.{written_reloc}
 use Rattle.oc_omf_file.proofs.AimLaws.{aimed}
 use Rattle.oc_omf_file.proofs.CodedLaws.{IsForOmf, field_is}
 use Rattle.oc_omf_file.proofs.LineLaws.{number_low}
-use Rattle.oc_omf_file.proofs.ListLemmas.{all_members}
 use Rattle.oc_omf_write.specs.declared.fixups.Fixup.{Fixup}
 use Rattle.oc_omf_write.specs.Numbers.{AreNumbers}
 use Rattle.oc_omf_write.specs.Written.{HasIndex, fixup_with, fixups_of}
+use Rattle.oc_shelf.proofs.WritingLaws.MemberLemmas.{all_members}
 
 -- what is made of an item and of those behind it
 pub enumerate_step : {X Y : Type 0} (f : ℕ × X → Y) (xs : List X) (k : ℕ) (x : X) → slice_get xs k ≡ Some x → map f (enumerate_from k (drop k xs)) ≡ f (k, x) ∷ map f (enumerate_from (k + 1) (drop (k + 1) xs))

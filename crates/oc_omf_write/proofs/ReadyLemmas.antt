@@ -19,7 +19,6 @@ use Rattle.oc_omf_file.specs.Outputs as output
 use Rattle.oc_omf_file.specs.Pieces.{pieces_upto, piece_end}
 use Rattle.oc_omf_file.proofs.BehindLaws.{OfSymbol, symbols_are}
 use Rattle.oc_omf_file.proofs.CodedLaws.{IsForOmf, short_names, few_names, size_low}
-use Rattle.oc_omf_file.proofs.ListLemmas.{all_members}
 use Rattle.oc_omf_file.proofs.SmallLaws.{length-raw}
 use Rattle.oc_omf_write.specs.declared.entries.Entry.{Entry}
 use Rattle.oc_omf_write.specs.declared.entries.Entry.TheVariants as entry
@@ -38,6 +37,7 @@ use Rattle.oc_omf_write.specs.Written as written
 use Rattle.oc_omf_write.proofs.EntryLemmas.{section_there, fixups_here, fixups_follow}
 use Rattle.oc_omf_write.proofs.PieceLemmas.{follow_from}
 use Rattle.oc_omf_write.proofs.PlannedLemmas.{fixups_counted, names_same}
+use Rattle.oc_shelf.proofs.WritingLaws.MemberLemmas.{all_members}
 
 -- ... the entries of symbols
 

@@ -8,3 +8,7 @@ pub mod TextLemmas
 pub mod OrderLemmas
 pub mod RowLemmas
 pub mod BitmapLemmas
+pub mod ByteLemmas
+pub mod PlacedLemmas
+pub mod NumberedLemmas
+pub mod PassLemmas

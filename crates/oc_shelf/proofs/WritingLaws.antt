@@ -7,3 +7,4 @@ pub mod StandingLemmas
 pub mod StringLemmas
 pub mod TableLemmas
 pub mod WindowLemmas
+pub mod SizeLemmas

@@ -1,14 +1,17 @@
 -- The numbers of names' last bytes decide as the names do.
 use Rattle.std.proofs.Common.{◌≡◌, ℕ, zero, suc, ◌+◌, ◌-◌, ◌*◌, ◌^◌, ◌<◌, ◌≤◌, List, [], ◌∷◌, length, reverse, get_or, drop, Ordering, refl, sym, ◌∙◌, ap, arith, ⊎_elim}
-use Rattle.std.proofs.lemmas.List.{get_or-reverse, get_or_past, length-reverse}
+use Rattle.std.proofs.lemmas.List.{get_or-reverse, get_or-drop, get_or_past, length-drop, length-reverse}
 use Rattle.std.proofs.lemmas.Bool.{cases_lt, cases_order}
 use Rattle.std.proofs.lemmas.Cmp.{nat_cmp_total, nat_list_cmp_total, on_total, then_total}
+use Rattle.std.proofs.lemmas.Nat.{le_bytes_8}
 use Rattle.std.specs.Cmp.{IsTotalOrder, nat_cmp_is}
+use Rattle.std.specs.Int.{w64, from_le_bytes, to_le_bytes}
 use Rattle.std.specs.Ordering.{nat_cmp, ordering_then}
 use Rattle.std.specs.Cmp.Lexicographic.{slice_cmp}
 use Rattle.std.specs.declared.cmp.Ordering.TheVariants.{Less, Equal, Greater}
 use Rattle.oc_strings.specs.declared.order.Entry.{Entry}
 use Rattle.oc_strings.specs.Keys.{back_number, entry_order, IsKeyed}
+use Rattle.oc_strings.specs.Order.{SharesEnd}
 
 -- each number of the list is a byte
 abbrev pub AreBytes : List ℕ → Type 0
@@ -134,6 +137,55 @@ reversed_bytes name b k =
     (λ past. omega (arith, get_or_past (reverse name) k 0 (omega (arith, past, length-reverse name))))
     (cases_lt k (length name))
 
+-- byte i of a name, counted from the last one on, among its last eight
+turned : (name : List ℕ) (at i j : ℕ) → length name ≡ at + 8 → i + j ≡ 7 → get_or (reverse name) i 0 ≡ get_or (drop at name) j 0
+turned name at i j l e =
+    let same : length name - 1 - i ≡ at + j = omega (arith, l, e) in
+    get_or-reverse name i 0 (omega (arith, l, e)) ∙ ap (λ k. get_or name k 0) same ∙ sym (get_or-drop at name j 0)
+
+-- the number of a name is that of its last eight bytes, the first of them the lowest
+pub word_is : (name : List ℕ) (at : ℕ) → length name ≡ at + 8 → back_number name ≡ from_le_bytes w64 (drop at name)
+unfolding back_number
+word_is name at l =
+    omega (arith, turned name at 0 7 l refl, turned name at 1 6 l refl, turned name at 2 5 l refl, turned name at 3 4 l refl, turned name at 4 3 l refl, turned name at 5 2 l refl, turned name at 6 1 l refl, turned name at 7 0 l refl)
+
+-- the last eight bytes are those of the number
+word_bytes : (name : List ℕ) → AreBytes name → 8 ≤ length name → to_le_bytes w64 (back_number name) ≡ drop (length name - 8) name
+word_bytes name b l =
+    let at : ℕ = length name - 8 in
+    le_bytes_8 (drop at name) (back_number name) (omega (arith, l, length-drop at name))
+    (λ k. omega (arith, get_or-drop at name k 0, b (at + k))) (word_is name at (omega (arith, l)))
+
+-- names of eight bytes and more share the last eight where the numbers of these are the same
+pub shares_from : (a b : List ℕ) → AreBytes a → AreBytes b → 8 ≤ length a → 8 ≤ length b → back_number a ≡ back_number b → SharesEnd 8 a b
+shares_from a b x y l m same = (l, m, sym (word_bytes a x l) ∙ ap (to_le_bytes w64) same ∙ word_bytes b y m)
+
+pub shares_to : (a b : List ℕ) → SharesEnd 8 a b → back_number a ≡ back_number b
+shares_to a b s =
+    word_is a (length a - 8) (omega (arith, s.0)) ∙ ap (from_le_bytes w64) s.2 ∙ sym (word_is b (length b - 8) (omega (arith, s.1)))
+
+-- the numbers decide as the names do, read from their last bytes on
+pub numbers_decide : (a b : List ℕ) → AreBytes a → AreBytes b
+    → ordering_then (nat_cmp (back_number a) (back_number b)) (slice_cmp nat_cmp (reverse a) (reverse b)) ≡ slice_cmp nat_cmp (reverse a) (reverse b)
+numbers_decide a b x y =
+    let xs : List ℕ = reverse a in
+    let ys : List ℕ = reverse b in
+    ap (λ m. ordering_then (nat_cmp m (back_number b)) (slice_cmp nat_cmp xs ys)) (back_is a)
+    ∙ ap (λ m. ordering_then (nat_cmp (front 8 xs) m) (slice_cmp nat_cmp xs ys)) (back_is b)
+    ∙ front_decides 8 xs ys (reversed_bytes a x) (reversed_bytes b y)
+
+-- what was decided by the numbers is the order of the names
+pub numbers_decided : (a b : List ℕ) (o : Ordering) → AreBytes a → AreBytes b → o ≡ nat_cmp (back_number a) (back_number b) → (o ≡ Equal → ⊥)
+    → o ≡ slice_cmp nat_cmp (reverse a) (reverse b)
+numbers_decided a b o x y is apart =
+    let s : Ordering = slice_cmp nat_cmp (reverse a) (reverse b) in
+    stays o s apart ∙ ap (λ t. ordering_then t s) is ∙ numbers_decide a b x y
+  where
+    stays : (o s : Ordering) → (o ≡ Equal → ⊥) → o ≡ ordering_then o s
+    stays Less s apart = refl
+    stays Equal s apart = absurd (apart refl)
+    stays Greater s apart = refl
+
 -- the order of entries is a total one, whatever their numbers
 pub entry_order_total : IsTotalOrder entry_order
 entry_order_total = then_total (on_total (λ (e : Entry). e.back) nat_cmp_total) (on_total (λ (e : Entry). reverse e.name.now) nat_list_cmp_total)
@@ -141,8 +193,6 @@ entry_order_total = then_total (on_total (λ (e : Entry). e.back) nat_cmp_total)
 -- it is the order of their names, where the numbers are those of the names
 pub entry_order_is : (a b : Entry) → IsKeyed a → IsKeyed b → entry_order a b ≡ slice_cmp nat_cmp (reverse a.name.now) (reverse b.name.now)
 entry_order_is a b ka kb =
-    let xs : List ℕ = reverse a.name.now in
-    let ys : List ℕ = reverse b.name.now in
-    ap (λ m. ordering_then (nat_cmp m b.back) (slice_cmp nat_cmp xs ys)) (ka.back ∙ back_is a.name.now)
-    ∙ ap (λ m. ordering_then (nat_cmp (front 8 xs) m) (slice_cmp nat_cmp xs ys)) (kb.back ∙ back_is b.name.now)
-    ∙ front_decides 8 xs ys (reversed_bytes a.name.now ka.bytes) (reversed_bytes b.name.now kb.bytes)
+    let o : Ordering = slice_cmp nat_cmp (reverse a.name.now) (reverse b.name.now) in
+    ap (λ m. ordering_then (nat_cmp m b.back) o) ka.back
+    ∙ ap (λ m. ordering_then (nat_cmp (back_number a.name.now) m) o) kb.back ∙ numbers_decide a.name.now b.name.now ka.bytes kb.bytes

@@ -19,47 +19,10 @@ pub(crate) struct Entry<'a> {
 }
 
 /// How many bytes are compared at once, while they are the same.
-const BLOCK: usize = 32;
+const BLOCK: usize = 256;
 
-/// How many bytes are compared at once before that, while they are the same.
-const BIG_BLOCK: usize = 256;
-
-/// Whether both names have that many bytes, and their last ones are the same.
-fn shares_block(a: &[u8], b: &[u8], size: usize) -> bool
-    ensures { IsTrue result ↔ SharesEnd size a.now b.now }
-{
-    a.len() >= size && b.len() >= size && a[a.len() - size..] == b[b.len() - size..]
-}
-
-/// Two names without the blocks of that many bytes that are the same, from the last one on. They
-/// stay as they are where `size` is 0.
-fn without_shared<'a, 'b>(a: &'a [u8], b: &'b [u8], size: usize) -> (&'a [u8], &'b [u8])
-    ensures { slice_cmp nat_cmp (reverse result.0.now) (reverse result.1.now) ≡ slice_cmp nat_cmp (reverse a.now) (reverse b.now) }
-{
-    let mut a_left = a;
-    let mut b_left = b;
-    while size > 0 && shares_block(a_left, b_left, size) {
-        a_left = &a_left[..a_left.len() - size];
-        b_left = &b_left[..b_left.len() - size];
-    }
-    (a_left, b_left)
-}
-
-/// Compares two names byte by byte, from their last bytes on.
-fn compare_bytes(a: &[u8], b: &[u8]) -> Ordering
-    ensures { result ≡ slice_cmp nat_cmp (reverse a.now) (reverse b.now) }
-{
-    a.iter().rev().cmp(b.iter().rev())
-}
-
-/// Compares two names from their last bytes on. A name stands before those that it ends.
-pub(crate) fn compare_backward(a: &[u8], b: &[u8]) -> Ordering
-    ensures { result ≡ slice_cmp nat_cmp (reverse a.now) (reverse b.now) }
-{
-    let (a_left, b_left) = without_shared(a, b, BIG_BLOCK);
-    let (a_left, b_left) = without_shared(a_left, b_left, BLOCK);
-    compare_bytes(a_left, b_left)
-}
+/// How many bytes a number has, by which they are compared at once after that.
+const WORD: usize = 8;
 
 /// Byte `i` of a name, counted from the last one on; 0 where the name is shorter.
 fn byte_back(name: &[u8], i: usize) -> u8
@@ -72,9 +35,9 @@ fn byte_back(name: &[u8], i: usize) -> u8
     }
 }
 
-/// The number of a name's last eight bytes, the last one the highest.
+/// The number of the last eight bytes of a name that is shorter, the last one the highest.
 #[tactic(auto, unfolding(crate::specs::Keys::back_number))]
-fn back_number(name: &[u8]) -> u64
+fn short_number(name: &[u8]) -> u64
     ensures { result ≡ keys.back_number name.now }
 {
     u64::from_be_bytes([
@@ -87,6 +50,84 @@ fn back_number(name: &[u8]) -> u64
         byte_back(name, 6),
         byte_back(name, 7),
     ])
+}
+
+/// The number of a name's last eight bytes, the last one the highest.
+fn back_number(name: &[u8]) -> u64
+    ensures number { result ≡ keys.back_number name.now }
+    ensures bytes { (k : ℕ) → slice_index name.now k < 2 ^ 8 }
+{
+    match name.last_chunk() {
+        Some(last) => u64::from_le_bytes(*last),
+        None => short_number(name),
+    }
+}
+
+/// Whether both names have a block of bytes, and their last ones are the same.
+fn shares_block(a: &[u8], b: &[u8]) -> bool
+    ensures { IsTrue result ↔ SharesEnd 256 a.now b.now }
+{
+    a.len() >= BLOCK && b.len() >= BLOCK && a[a.len() - BLOCK..] == b[b.len() - BLOCK..]
+}
+
+/// Whether both names have eight bytes, and their last ones are the same.
+fn shares_word(a: &[u8], b: &[u8]) -> bool
+    ensures { IsTrue result ↔ SharesEnd 8 a.now b.now }
+{
+    a.len() >= WORD && b.len() >= WORD && back_number(a) == back_number(b)
+}
+
+/// Two names without the blocks that are the same, from the last one on.
+fn without_blocks<'a, 'b>(a: &'a [u8], b: &'b [u8]) -> (&'a [u8], &'b [u8])
+    ensures { slice_cmp nat_cmp (reverse result.0.now) (reverse result.1.now) ≡ slice_cmp nat_cmp (reverse a.now) (reverse b.now) }
+{
+    let mut a_left = a;
+    let mut b_left = b;
+    while shares_block(a_left, b_left) {
+        a_left = &a_left[..a_left.len() - BLOCK];
+        b_left = &b_left[..b_left.len() - BLOCK];
+    }
+    (a_left, b_left)
+}
+
+/// Two names without the words of eight bytes that are the same, from the last one on.
+fn without_words<'a, 'b>(a: &'a [u8], b: &'b [u8]) -> (&'a [u8], &'b [u8])
+    ensures { slice_cmp nat_cmp (reverse result.0.now) (reverse result.1.now) ≡ slice_cmp nat_cmp (reverse a.now) (reverse b.now) }
+{
+    let mut a_left = a;
+    let mut b_left = b;
+    while shares_word(a_left, b_left) {
+        a_left = &a_left[..a_left.len() - WORD];
+        b_left = &b_left[..b_left.len() - WORD];
+    }
+    (a_left, b_left)
+}
+
+/// Compares two names byte by byte, from their last bytes on.
+fn compare_bytes(a: &[u8], b: &[u8]) -> Ordering
+    ensures { result ≡ slice_cmp nat_cmp (reverse a.now) (reverse b.now) }
+{
+    a.iter().rev().cmp(b.iter().rev())
+}
+
+/// Compares two names by the numbers of their last eight bytes, and byte by byte only where these
+/// are the same.
+fn compare_ends(a: &[u8], b: &[u8]) -> Ordering
+    ensures { result ≡ slice_cmp nat_cmp (reverse a.now) (reverse b.now) }
+{
+    match back_number(a).cmp(&back_number(b)) {
+        Ordering::Equal => compare_bytes(a, b),
+        other => other,
+    }
+}
+
+/// Compares two names from their last bytes on. A name stands before those that it ends.
+pub(crate) fn compare_backward(a: &[u8], b: &[u8]) -> Ordering
+    ensures { result ≡ slice_cmp nat_cmp (reverse a.now) (reverse b.now) }
+{
+    let (a_left, b_left) = without_blocks(a, b);
+    let (a_left, b_left) = without_words(a_left, b_left);
+    compare_ends(a_left, b_left)
 }
 
 /// The entry of a name with this place among the given ones.

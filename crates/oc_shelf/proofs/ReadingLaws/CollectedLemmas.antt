@@ -1,8 +1,8 @@
 -- Lists that are gathered entry by entry.
-use Rattle.std.proofs.Common.{◌≡◌, ℕ, zero, suc, ◌+◌, ◌<◌, ◌≤◌, ◌⊎◌, inl, inr, List, [], ◌∷◌, ◌++◌, length, map, Option, Some, None, refl, ◌∙◌, ap, subst, arith, length-append}
-use Rattle.std.specs.Prelude.{slice_get}
-use Rattle.std.specs.List.{AllByRecursion, sum_by}
-use Rattle.std.specs.Option.{option_map, option_map_or}
+use Rattle.std.proofs.Common.{◌≡◌, ℕ, zero, suc, ◌+◌, ◌<◌, ◌≤◌, ◌⊎◌, inl, inr, List, [], ◌∷◌, ◌++◌, length, map, Option, Some, None, refl, ◌∙◌, ap, subst, arith, length-append, sym}
+use Rattle.std.specs.Prelude.{slice_get, filter_map}
+use Rattle.std.specs.List.{AllByRecursion, sum_by, cons_option, enumerate_from}
+use Rattle.std.specs.Option.{option_map, option_map_or, option_and_then}
 use Rattle.std.proofs.lemmas.Bool.{cases_eq, cases_lt}
 use Rattle.std.proofs.lemmas.Option.{none-some, same_Some}
 use Rattle.std.proofs.lemmas.List.Sums.{sum_by-append, sum_by-cons}
@@ -128,6 +128,11 @@ collected-map {X} {Y} f item (suc n) = with_map (collected item n) (item n) ∙ 
     with_map [] (Some y) = refl
     with_map (x ∷ xs) (Some y) = ap (λ ys. f x ∷ ys) (with_map xs (Some y))
 
+-- what is made of each item
+pub all_mapped : {X Y : Type 0} (P : Y → Type 0) (g : X → Y) (xs : List X) → ((k : ℕ) (x : X) → slice_get xs k ≡ Some x → P (g x)) → AllByRecursion P (map g xs)
+all_mapped P g [] each = tt
+all_mapped P g (x ∷ xs) each = (each 0 x refl, all_mapped P g xs (λ k. each (suc k)))
+
 -- equal items give equal lists
 pub collected-same : {X : Type 0} (f g : ℕ → Option X) (n : ℕ) → ((k : ℕ) → k < n → f k ≡ g k) → collected f n ≡ collected g n
 collected-same f g zero same = refl
@@ -143,3 +148,35 @@ collected-ordered item n i j x y a b l = elim (cases_lt a.k b.k) [
       let high = b.at in
       absurd (omega (arith, rises, low, high, l))
 ]
+
+-- ... lists that are filtered
+
+-- one more, before or behind
+front_back : {Y : Type 0} (o p : Option Y) (ys : List Y) → with_option (cons_option o ys) p ≡ cons_option o (with_option ys p)
+front_back None p ys = refl
+front_back (Some y) None ys = refl
+front_back (Some y) (Some z) ys = refl
+
+alone : {Y : Type 0} (o : Option Y) → with_option [] o ≡ cons_option o []
+alone None = refl
+alone (Some y) = refl
+
+collected_front : {Y : Type 0} (item : ℕ → Option Y) (n : ℕ) → collected item (suc n) ≡ cons_option (item 0) (collected (λ i. item (suc i)) n)
+collected_front item zero = alone (item 0)
+collected_front item (suc n) =
+    ap (λ ys. with_option ys (item (suc n))) (collected_front item n) ∙ front_back (item 0) (item (suc n)) (collected (λ i. item (suc i)) n)
+
+pub filtered : {X Y : Type 0} (f : X → Option Y) (xs : List X) → filter_map f xs ≡ collected (λ i. option_and_then f (slice_get xs i)) (length xs)
+filtered f [] = refl
+filtered f (x ∷ xs) = ap (cons_option (f x)) (filtered f xs) ∙ sym (collected_front (λ i. option_and_then f (slice_get (x ∷ xs) i)) (length xs))
+
+pub numbered : {X Y : Type 0} (f : ℕ × X → Option Y) (n : ℕ) (xs : List X)
+    → filter_map f (enumerate_from n xs) ≡ collected (λ i. option_and_then (λ x. f (i + n, x)) (slice_get xs i)) (length xs)
+numbered f n [] = refl
+numbered {X} f n (x ∷ xs) =
+    ap (cons_option (f (n, x)))
+    (numbered f (n + 1) xs
+    ∙ collected-same (λ i. option_and_then (λ x. f (i + (n + 1), x)) (slice_get xs i)) (λ i. option_and_then (λ x. f (suc i + n, x)) (slice_get xs i)) (length xs)
+    (λ i low. let one : i + (n + 1) ≡ suc i + n = omega arith in ap (λ (k : ℕ). option_and_then (λ (x : X). f (k, x)) (slice_get xs i)) one))
+    ∙ (let none : n ≡ 0 + n = omega arith in ap (λ (k : ℕ). cons_option (f (k, x)) (collected (λ i. option_and_then (λ x. f (suc i + n, x)) (slice_get xs i)) (length xs))) none)
+    ∙ sym (collected_front (λ i. option_and_then (λ x. f (i + n, x)) (slice_get (x ∷ xs) i)) (length xs))

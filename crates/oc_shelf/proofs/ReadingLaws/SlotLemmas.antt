@@ -11,12 +11,12 @@ get_or-set_other (y ∷ xs) zero (suc j) x d ne = refl
 get_or-set_other (y ∷ xs) (suc i) zero x d ne = refl
 get_or-set_other (y ∷ xs) (suc i) (suc j) x d ne = get_or-set_other xs i j x d (λ e. ne (ap (λ (k : ℕ). suc k) e))
 
-get_or-replicate : {X : Type 0} (n j : ℕ) (x : X) → get_or (replicate n x) j x ≡ x
+pub get_or-replicate : {X : Type 0} (n j : ℕ) (x : X) → get_or (replicate n x) j x ≡ x
 get_or-replicate zero j x = refl
 get_or-replicate (suc n) zero x = refl
 get_or-replicate (suc n) (suc j) x = get_or-replicate n j x
 
-length-replicate : {X : Type 0} (n : ℕ) (x : X) → length (replicate n x) ≡ n
+pub length-replicate : {X : Type 0} (n : ℕ) (x : X) → length (replicate n x) ≡ n
 length-replicate zero x = refl
 length-replicate (suc n) x = omega (arith, length-replicate n x)
 

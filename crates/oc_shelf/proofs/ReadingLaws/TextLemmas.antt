@@ -1,5 +1,5 @@
 -- The text that ends at the first NUL.
-use Rattle.std.proofs.Common.{◌≡◌, ℕ, zero, suc, ◌+◌, ◌-◌, ◌<◌, ◌≤◌, true, false, cond, eqb, List, [], ◌∷◌, length, get_or, take, drop, Option, Some, None, refl, sym, ◌∙◌, ap, arith, eq-eqb, min, length-take, length-drop}
+use Rattle.std.proofs.Common.{◌≡◌, ℕ, zero, suc, ◌+◌, ◌-◌, ◌<◌, ◌≤◌, true, false, cond, eqb, List, [], ◌∷◌, length, get_or, take, drop, Option, Some, None, refl, sym, ◌∙◌, ap, arith, eq-eqb, min, length-take, length-drop, Bool}
 use Rattle.std.specs.Option.{option_map}
 use Rattle.std.proofs.lemmas.Bool.{eqb-true, le-leb}
 use Rattle.std.proofs.lemmas.Bool.Decides.{nat_tests}
@@ -7,6 +7,8 @@ use Rattle.std.proofs.lemmas.List.{take-take, get_or-take, get_or-drop}
 use Rattle.memchr.specs.Find.{is_byte, NoneBefore, Passes}
 use Rattle.oc_base.specs.Texts.{HasNoTextAt}
 use Rattle.oc_shelf.specs.Reading.Texts.{text_within, text_at, short}
+use Rattle.std.specs.Prelude.{nat_le}
+use Rattle.std.proofs.lemmas.Option.{none-some, same_Some}
 
 other : (x : ℕ) → (x ≡ 0 → ⊥) → eqb x 0 ≡ false
 other x ne = elim (eqb x 0) as (λ b. eqb x 0 ≡ b → eqb x 0 ≡ false) [ true ↦ λ e. absurd (ne (eqb-true x 0 e)) | false ↦ λ e. e ] refl
@@ -71,3 +73,25 @@ view_none b at none = by (drop at b) (λ j low e. none (at + j) (omega arith) (l
     by (x ∷ xs) free =
         ap (λ b. cond b (Some []) (option_map (λ (text : List ℕ). x ∷ text) (text_within xs))) (other x (free 0 (omega arith)))
         ∙ ap (option_map (λ (text : List ℕ). x ∷ text)) (by xs (λ j low. free (suc j) (omega (arith, low))))
+
+text_length : (xs text : List ℕ) → text_within xs ≡ Some text → length text ≤ length xs
+text_length [] text e = absurd (none-some text e)
+text_length (x ∷ xs) text e = by (eqb x 0) (text_within xs) (text_length xs) e
+  where
+    by : (b : Bool) (o : Option (List ℕ)) → ((rest : List ℕ) → o ≡ Some rest → length rest ≤ length xs) → cond b (Some []) (option_map (λ text. x ∷ text) o) ≡ Some text
+        → length text ≤ suc (length xs)
+    by true o rest f = let long : 0 ≡ length text = ap length (same_Some [] text f) in omega (arith, long)
+    by false None rest f = absurd (none-some text f)
+    by false (Some r) rest f = let long : suc (length r) ≡ length text = ap length (same_Some (x ∷ r) text f) in omega (arith, long, rest r refl)
+
+-- no text is too long for the bytes in which it stands
+pub whole_text : (bytes : List ℕ) (at : ℕ) → short (length bytes) (text_at bytes at) ≡ text_at bytes at
+whole_text bytes at = by (text_at bytes at) refl
+  where
+    by : (o : Option (List ℕ)) → text_at bytes at ≡ o → short (length bytes) o ≡ o
+    by None e = refl
+    by (Some text) e =
+        let low = text_length (drop at bytes) text e in
+        let long : length text ≤ length bytes = omega (arith, low, length-drop at bytes) in
+        let le : nat_le (length text) (length bytes) ≡ true = grind (arith, nat_tests) in
+        ap (λ b. cond b (Some text) None) le

@@ -1,7 +1,7 @@
 -- Members of lists by their places.
-use Rattle.std.proofs.Common.{◌≡◌, ℕ, zero, suc, ◌+◌, ◌<◌, ◌≤◌, Bool, true, false, List, [], ◌∷◌, ◌++◌, length, map, Option, Some, None, refl, sym, ◌∙◌, ap, subst, inl, inr, arith}
+use Rattle.std.proofs.Common.{◌≡◌, ℕ, zero, suc, ◌+◌, ◌<◌, ◌≤◌, Bool, true, false, List, [], ◌∷◌, ◌++◌, length, map, Option, Some, None, refl, sym, ◌∙◌, ap, subst, inl, inr, arith, cond}
 use Rattle.std.specs.Prelude.{◌⊎◌, slice_get, flat_map, filter_map, find}
-use Rattle.std.specs.List.{enumerate_from, cons_option, list_any, position_or_len}
+use Rattle.std.specs.List.{enumerate_from, cons_option, list_any, position_or_len, filter, AllByRecursion}
 use Rattle.std.proofs.lemmas.Bool.{or_right, cases_lt}
 use Rattle.std.specs.Option.{option_map}
 use Rattle.std.proofs.lemmas.Option.{none-some, same_Some}
@@ -200,3 +200,36 @@ position_first test (y ∷ xs) (suc k) x here passes first =
     let later : position_or_len test xs ≡ k = position_first test xs k x here passes (λ j z l h. first (suc j) z (omega (arith, l)) h) in
     let e : 1 + k ≡ suc k = omega arith in
     rw (first 0 y (omega arith) refl, later) e
+
+-- where a member of an enumerated list comes from
+pub of_enumerated : {X : Type 0} (i : ℕ) (xs : List X) (k : ℕ) (y : ℕ × X) → slice_get (enumerate_from i xs) k ≡ Some y → (y.0 ≡ i + k) × (slice_get xs k ≡ Some y.1)
+of_enumerated i [] k y here = absurd (none-some y here)
+of_enumerated {X} i (x ∷ xs) zero y here = (ap (λ (z : ℕ × X). z.0) (sym (same_Some (i, x) y here)) ∙ omega arith, ap (λ (z : ℕ × X). Some z.1) (same_Some (i, x) y here))
+of_enumerated i (x ∷ xs) (suc k) y here = let r = of_enumerated (i + 1) xs k y here in (r.0 ∙ omega arith, r.1)
+
+-- members of a filtered list
+pub of_filter : {X : Type 0} (test : X → Bool) (xs : List X) (k : ℕ) (x : X) → slice_get (filter test xs) k ≡ Some x → (j : ℕ) × (slice_get xs j ≡ Some x) × (test x ≡ true)
+of_filter test [] k x here = absurd (none-some x here)
+of_filter {X} test (y ∷ xs) k x here = by (test y) refl (λ j h. of_filter test xs j x h) k here
+  where
+    by : (b : Bool) → test y ≡ b → ((j : ℕ) → slice_get (filter test xs) j ≡ Some x → (i : ℕ) × (slice_get xs i ≡ Some x) × (test x ≡ true))
+        → (k : ℕ) → slice_get (cond b (y ∷ filter test xs) (filter test xs)) k ≡ Some x → (i : ℕ) × (slice_get (y ∷ xs) i ≡ Some x) × (test x ≡ true)
+    by true e rest zero h = (0, h, ap test (sym (same_Some y x h)) ∙ e)
+    by true e rest (suc k) h = let r = rest k h in (suc r.0, r.1, r.2)
+    by false e rest k h = let r = rest k h in (suc r.0, r.1, r.2)
+
+pub member_filter : {X : Type 0} (test : X → Bool) (xs : List X) (k : ℕ) (x : X) → slice_get xs k ≡ Some x → test x ≡ true → (j : ℕ) × (slice_get (filter test xs) j ≡ Some x)
+member_filter test [] k x here passes = absurd (none-some x here)
+member_filter test (y ∷ xs) zero x here passes =
+    let own : test y ≡ true = ap test (same_Some y x here) ∙ passes in
+    (0, ap (λ b. slice_get (cond b (y ∷ filter test xs) (filter test xs)) 0) own ∙ here)
+member_filter {X} test (y ∷ xs) (suc k) x here passes = by (test y) (member_filter test xs k x here passes)
+  where
+    by : (b : Bool) → (j : ℕ) × (slice_get (filter test xs) j ≡ Some x) → (j : ℕ) × (slice_get (cond b (y ∷ filter test xs) (filter test xs)) j ≡ Some x)
+    by true m = (suc m.0, m.1)
+    by false m = m
+
+-- what holds of each member holds of all
+pub all_members : {X : Type 0} (P : X → Type 0) (xs : List X) → ((i : ℕ) (x : X) → slice_get xs i ≡ Some x → P x) → AllByRecursion P xs
+all_members P [] each = tt
+all_members P (x ∷ xs) each = (each 0 x refl, all_members P xs (λ i y h. each (suc i) y h))

@@ -5,8 +5,9 @@ use Rattle.oc_base.specs.Strings.{is_given}
 use Rattle.oc_coff.specs.Entries.{name_of}
 use Rattle.oc_coff_read.specs.Built.{keys_upto}
 use Rattle.oc_coff_judge.specs.Numbered.{entry_by}
-use Rattle.oc_coff_read.proofs.BegunLemmas.{keys_alone, keys_passed, none_new, one_new, placed_given}
+use Rattle.oc_coff_read.proofs.BegunLemmas.{keys_alone, keys_passed, none_new, one_new}
 use Rattle.oc_coff_read.proofs.built_groups.next_group.Goals as goal
+use Rattle.oc_shows.proofs.BegunLaws.{placed_given}
 
 pub returns-then-not-is_carried : goal.returns-then-not-is_carried
 returns-then-not-is_carried c = keys_passed (tables_in c.args.coff.now) c.args.i (sym c.is_carried.ensures ∙ c.if-not-is_carried.true)

@@ -3,7 +3,7 @@ use Rattle.std.proofs.Common.{◌≡◌, ℕ, List, ◌∙◌, Option, None, Som
 use Rattle.std.specs.Prelude.{MatchOption}
 use Rattle.oc_shelf.specs.Reading.Texts.{text_at}
 use Rattle.oc_elf.specs.Names.{name_in}
-use Rattle.oc_elf.proofs.NameLemmas.{whole_text}
+use Rattle.oc_shelf.proofs.ReadingLaws.TextLemmas.{whole_text}
 use Rattle.oc_elf.proofs.names.name_in.Goals as goal
 
 pub returns : goal.returns

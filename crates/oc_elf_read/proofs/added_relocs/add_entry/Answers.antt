@@ -15,15 +15,13 @@ use Rattle.oc_elf_read.specs.Given.{given_with, reloc_by}
 use Rattle.oc_elf.specs.Sections.{contents_of, is_type}
 use Rattle.oc_elf.specs.Tables.{symbol_count}
 use Rattle.oc_elf_read.proofs.AddedTables.{next_of, ready}
-use Rattle.oc_elf_read.proofs.FoundFields.{entries_clean, stages_clean}
+use Rattle.oc_elf_read.proofs.FoundFields.{stages_clean}
 use Rattle.oc_elf_read.proofs.PlacedEntries.{placed_at}
 use Rattle.oc_elf_read.proofs.added_relocs.add_entry.Goals as goal
 
 pub reloc_of-r-requires-clause-there : goal.reloc_of-r-requires-clause-there
 reloc_of-r-requires-clause-there c =
-    (placed_at c.args.frame.now c.args.place.now.number
-    (entries_clean c.args.frame.now c.args.keep.now c.args.place.now.number (stages_clean c.args.frame.now c.args.keep.now c.requires.clean).relocs c.requires.low c.requires.kept)
-    c.args.entries.now c.requires.entries c.args.j (record { place = 0; index = 0 }) c.requires.there).low
+    (placed_at c.args.frame.now c.args.place.now.number c.args.entries.now c.requires.entries c.args.j (record { place = 0; index = 0 }) c.requires.there).low
 
 pub contents_of-requires-clause-lies : goal.contents_of-requires-clause-lies
 contents_of-requires-clause-lies c = subst (λ (s : Shdr). s.sh_offset + s.sh_size ≤ length c.args.frame.now.file) (sym c.header-s.ensures)

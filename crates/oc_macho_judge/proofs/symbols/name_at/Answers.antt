@@ -3,7 +3,7 @@ use Rattle.std.proofs.Common.{◌≡◌, List, ℕ, Option, None, Some, Bor, ◌
 use Rattle.std.specs.Prelude.{MatchOption}
 use Rattle.oc_shelf.specs.Reading.Texts.{text_at}
 use Rattle.oc_macho.specs.Symbols.{name_at}
-use Rattle.oc_macho.proofs.NameLemmas.{whole_text}
+use Rattle.oc_shelf.proofs.ReadingLaws.TextLemmas.{whole_text}
 use Rattle.oc_macho_judge.proofs.symbols.name_at.Goals as goal
 
 pub returns : goal.returns

@@ -4,7 +4,7 @@ use Rattle.std.specs.Prelude.{MatchOption}
 use Rattle.std.proofs.lemmas.Bool.{le-leb}
 use Rattle.oc_shelf.specs.Reading.Texts.{text_at}
 use Rattle.oc_coff.specs.Names.{string_at}
-use Rattle.oc_coff.proofs.NameLemmas.{whole_text}
+use Rattle.oc_shelf.proofs.ReadingLaws.TextLemmas.{whole_text}
 use Rattle.oc_coff.proofs.strings.Strings.text.Goals as goal
 
 pub returns : goal.returns

@@ -1,6 +1,6 @@
 use Rattle.std.proofs.Common.{◌≡◌, length, reverse}
 use Rattle.oc_strings.proofs.OrderLemmas.{order}
-use Rattle.oc_strings.proofs.order.without_shared.Given as goal
+use Rattle.oc_strings.proofs.order.without_blocks.Given as goal
 
 abbrev pub invariant-loop-a_left : goal.invariant-loop-a_left
 invariant-loop-a_left l = order (reverse l.a) (reverse l.b) ≡ order (reverse l.a_left) (reverse l.b_left)
