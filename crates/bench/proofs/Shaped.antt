@@ -26,11 +26,11 @@ use Rattle.oc_neutral.specs.Building.{Draft, empty_draft, limit_passed, numbered
 use Rattle.oc_neutral.specs.Elf.Family.{elf_gives}
 use Rattle.oc_neutral.specs.Elf.Kinds.{elf_kind}
 use Rattle.oc_neutral.specs.Faces.{number_of}
-use Rattle.oc_neutral.specs.Fitted.{CanFit}
+use Rattle.oc_target.specs.Fitted.{CanFit}
 use Rattle.oc_neutral.specs.GivenTags.{can_have, is_blank_type}
 use Rattle.oc_neutral.specs.Invariants.{AreBegun, HaveKeys, IsAlign, IsBinding, IsBuilt, IsComplete, IsDraft, IsHeld, IsHinted, IsSymbol, IsThere, NamesOriginal, groups_of}
 use Rattle.oc_neutral.specs.Objects.{Object}
-use Rattle.oc_neutral.specs.Readable.{IsReadable}
+use Rattle.oc_shows.specs.Readable.{IsReadable}
 use Rattle.oc_neutral.proofs.DraftAdded.{IsOne, kept, constant, one}
 use Rattle.oc_neutral.proofs.MoreRelocs.{all_placed, by_list}
 use Rattle.oc_neutral.proofs.MoreSections.{sectioned}

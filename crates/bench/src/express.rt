@@ -5,17 +5,18 @@
 ghost use Rattle.std.specs.Prelude.{◌≤◌};
 ghost use Rattle.bench.specs.Shape.{IsElf};
 
+use anyhow::{Result, anyhow};
 use crate::MOST;
 use crate::objects::{object, timed_walk};
 use crate::timing::micros;
-use anyhow::{Result, anyhow};
 use oc_base::{Format, Stop, word_of};
 use oc_coff_write::CoffWriter64;
 use oc_elf_write::{ElfWriter32, ElfWriter64};
 use oc_express::fit;
 use oc_macho_write::{MachWriter32, MachWriter64};
-use oc_neutral::{Emits, Fitted, Neutral, Writes};
+use oc_neutral::Neutral;
 use oc_omf_write::OmfWriter;
+use oc_target::{Emits, Fitted, Writes};
 use std::alloc::Global;
 use std::rt::Clock;
 use std::time::Instant;

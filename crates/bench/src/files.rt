@@ -2,10 +2,11 @@
 ghost use Rattle.std.specs.Prelude.{◌<◌, ◌≤◌, length, IfOk};
 ghost use Rattle.oc_base.specs.declared.limits.TheConstants.{MOST_INPUT};
 
-use crate::timing::micros;
 use anyhow::{Result, anyhow};
+use crate::timing::micros;
 use oc_base::{MOST_INPUT, NoMemory};
-use oc_neutral::{Keep, Reads};
+use oc_neutral::Keep;
+use oc_shows::Reads;
 use std::alloc::Global;
 use std::rt::Clock;
 use std::time::Instant;

@@ -2,12 +2,13 @@
 //! a file of ELF for i386 (gABI, "Sections").
 ghost use Rattle.std.specs.Prelude.{◌+◌, ◌*◌, ◌≡◌, ◌≤◌};
 
+use anyhow::{Result, anyhow};
 use crate::elf::{Header, NONE, file_header, section_header, symbol};
 use crate::files::{KEEP_ALL, ask_size, word, zeros};
-use anyhow::{Result, anyhow};
 use oc_base::NoMemory;
 use oc_elf_read::ElfReader32;
-use oc_neutral::{Neutral, Reads};
+use oc_neutral::Neutral;
+use oc_shows::Reads;
 use std::alloc::Global;
 
 /// The most sections with relocations.

@@ -6,15 +6,13 @@
 //! lengths, and std's sort of the same names).
 ghost use Rattle.std.specs.Prelude.{◌≡◌, ◌<◌, ◌≤◌, ◌^◌};
 
+use anyhow::{Result, anyhow};
 use crate::MOST;
 use crate::objects::code;
 use crate::timing::micros;
-use anyhow::{Result, anyhow};
 use oc_base::{Bytes, Format, NoMemory};
-use oc_neutral::{
-    Base, Binding, Builder, Check, Form, Hint, Less, Mark, Reloc, Symbol, Target, Visibility,
-    Width, first_repeat,
-};
+use oc_neutral::{Base, Binding, Builder, Check, Form, Hint, Less, Mark, Reloc, Symbol, Target, Visibility, Width};
+use oc_strings::first_repeat;
 use std::alloc::Global;
 use std::rt::Clock;
 use std::time::Instant;

@@ -11,9 +11,9 @@ use crate::writing::write_output;
 use oc_base::{Format, Stop};
 use oc_dispatch::{AnyPlan, dispatch};
 use oc_names::Edits;
-use oc_neutral::Emits;
 use oc_outside::{Console, Files};
 use oc_runs::{InputFault, output_words, read_input, report, tell};
+use oc_target::Emits;
 use std::alloc::Global;
 
 // reads and converts the input

@@ -1,7 +1,7 @@
 //! Objects that are made, over files and a console in memory. The file is one that another program wrote.
 ghost use Rattle.std.specs.Prelude.{◌<◌};
 
-use crate::run;
+use crate::command::run;
 use crate::windows::bytes_of;
 use oc_base::NoMemory;
 use oc_outside::{MemConsole, MemFiles};

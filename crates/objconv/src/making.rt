@@ -11,9 +11,9 @@ use oc_base::{Bytes, Format, NoMemory, Stop, word_of};
 use oc_dispatch::{AnyPlan, dispatch};
 use oc_made::made_file;
 use oc_names::Edits;
-use oc_neutral::Emits;
 use oc_outside::{Console, Files, show_all};
 use oc_runs::{output_words, report_memory, tell};
+use oc_target::Emits;
 use std::alloc::Global;
 
 /// What is written and shown of an object that is made.

@@ -5,7 +5,7 @@ ghost use Rattle.std.specs.Prelude.{◌<◌};
 use oc_base::{Format, NoMemory};
 use oc_dispatch::{AnyPlan, dispatch};
 use oc_names::Edits;
-use oc_neutral::Emits;
+use oc_target::Emits;
 use std::alloc::Global;
 use std::test::Fail;
 

@@ -4,8 +4,8 @@ ghost use Rattle.std.specs.Option.{option_map};
 ghost use Rattle.oc_outside.specs.Causes.{Rose};
 ghost use Rattle.oc_outside.specs.Held.{with_file, HasPart};
 
-use oc_neutral::Emits;
 use oc_outside::{Failed, FileSink, Files};
+use oc_target::Emits;
 
 // writes the planned file
 fn write_plan<F: Files, P: Emits>(files: &mut F, name: &str, plan: &P) -> Result<(), Failed>

@@ -8,7 +8,8 @@ ghost use Rattle.oc_coff_read.specs.Shown.{coff_is_dialect};
 use oc_base::Stop;
 use oc_coff::CoffForm;
 use oc_coff_read::read_object;
-use oc_neutral::{Keep, Neutral, Reads};
+use oc_neutral::{Keep, Neutral};
+use oc_shows::Reads;
 use std::alloc::Global;
 
 /// The reader of COFF objects of many sections of 32 bits, for i386. The time is that of `read_object`.

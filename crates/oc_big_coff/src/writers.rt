@@ -7,7 +7,7 @@ ghost use Rattle.oc_coff_write.specs.Writing.{writes_coff};
 use oc_base::NoMemory;
 use oc_coff::CoffForm;
 use oc_coff_write::{Plan, plan_object};
-use oc_neutral::{Fitted, Writes};
+use oc_target::{Fitted, Writes};
 use std::alloc::Global;
 
 /// Writes COFF of many sections for i386: every object that is ready for it, as its canonical file. The time

@@ -5,7 +5,8 @@ ghost use Rattle.oc_elf.specs.declared.class.ElfClass.TheVariants.{Big32, Big64}
 use oc_base::Stop;
 use oc_elf::ElfClass;
 use oc_elf_read::read_elf;
-use oc_neutral::{Keep, Neutral, Reads};
+use oc_neutral::{Keep, Neutral};
+use oc_shows::Reads;
 use std::alloc::Global;
 
 /// The reader of ELF objects of 32 bits with many sections, for i386: the number of section headers and

@@ -7,7 +7,7 @@ ghost use Rattle.oc_elf_write.specs.Writing.{writes_elf};
 use oc_base::NoMemory;
 use oc_elf::ElfClass;
 use oc_elf_write::{Plan, plan_object};
-use oc_neutral::{Fitted, Writes};
+use oc_target::{Fitted, Writes};
 use std::alloc::Global;
 
 /// Writes ELF for i386 with many sections: every object that is ready for it, as its canonical file. The

@@ -33,26 +33,26 @@ use Rattle.oc_neutral.specs.declared.coff.TheConstants.{STRINGS_HEAD}
 use Rattle.oc_neutral.specs.Objects.{Object, reloc_at}
 use Rattle.oc_neutral.specs.Faces.{key_of}
 use Rattle.oc_neutral.specs.Coff.Strings.{is_long, is_tabled, has_default, default_name, defaults_of, names_where, symbol_names, key_strings, coff_strings, string_offset}
-use Rattle.oc_neutral.specs.CoffMeets.{strings_of, offset_of}
+use Rattle.oc_target.specs.CoffMeets.{strings_of, offset_of}
 use Rattle.oc_neutral.specs.Families.{family_of}
 use Rattle.oc_neutral.specs.HomeNames.{output_names}
 use Rattle.oc_neutral.specs.KeySymbols.{global_place, group_at, is_key_name, is_key_at, is_key}
-use Rattle.oc_neutral.specs.Manners.{coff_manner, coff_mark}
-use Rattle.oc_neutral.specs.Meets.{HasKeySymbol}
+use Rattle.oc_shows.specs.Manners.{coff_manner, coff_mark}
+use Rattle.oc_target.specs.Meets.{HasKeySymbol}
 use Rattle.oc_neutral.specs.Normal.{Place}
 use Rattle.oc_neutral.specs.Rows.{Row, shift_of, same_hint}
 use Rattle.oc_neutral.specs.RelocTables.{rows_of}
-use Rattle.oc_neutral.specs.Seen.{new_position, seen, seen_section, seen_symbol, seen_binding, seen_fallback, seen_field, seen_reloc, seen_target}
+use Rattle.oc_shows.specs.Seen.{new_position, seen, seen_section, seen_symbol, seen_binding, seen_fallback, seen_field, seen_reloc, seen_target}
 use Rattle.oc_neutral.specs.Spelling.{written_row}
-use Rattle.oc_neutral.specs.SymbolLines as table
-use Rattle.oc_neutral.specs.SymbolLines.{silent, one, coff_lines, coff_section_lines, coff_entries, needs_default, is_weak_with, is_outer, local_lines}
+use Rattle.oc_shows.specs.SymbolLines as table
+use Rattle.oc_shows.specs.SymbolLines.{silent, one, coff_lines, coff_section_lines, coff_entries, needs_default, is_weak_with, is_outer, local_lines}
 use Rattle.oc_neutral.specs.WrittenSymbols.{is_written}
 use Rattle.oc_neutral.specs.Bindings.{is_written_by}
-use Rattle.oc_neutral.proofs.MeetsConditions.{own_names}
-use Rattle.oc_neutral.proofs.MeetsRelocs.{normal_of}
-use Rattle.oc_neutral.proofs.SeenAlike.{relocs_same, seen_local, stands}
-use Rattle.oc_neutral.proofs.SeenLines.{IsShown}
-use Rattle.oc_neutral.proofs.SeenReady.{IsReady, coff_ready}
+use Rattle.oc_target.proofs.MeetsConditions.{own_names}
+use Rattle.oc_target.proofs.MeetsRelocs.{normal_of}
+use Rattle.oc_shows.proofs.SeenAlike.{relocs_same, seen_local, stands}
+use Rattle.oc_shows.proofs.SeenLines.{IsShown}
+use Rattle.oc_target.proofs.SeenReady.{IsReady, coff_ready}
 use Rattle.oc_shelf.specs.Writing.Parts.{Laid, laid, laid_end, behind, joined, place_where}
 use Rattle.oc_shelf.proofs.WritingLaws.MemberLemmas.{map-map, map-alike}
 use Rattle.oc_coff.specs.declared.constants.TheConstants.{IMAGE_SYM_CLASS_STATIC, IMAGE_COMDAT_SELECT_ANY, IMAGE_COMDAT_SELECT_ASSOCIATIVE, IMAGE_WEAK_EXTERN_SEARCH_ALIAS, OVERFLOWED_COUNT, IMAGE_REL_I386_ABSOLUTE}

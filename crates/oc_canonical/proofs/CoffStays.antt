@@ -20,18 +20,18 @@ use Rattle.oc_neutral.specs.Coff.Kinds.{coff_kind, coff_tag}
 use Rattle.oc_neutral.specs.Coff.Strings.{is_tabled, string_offset}
 use Rattle.oc_neutral.specs.Families.{family_of, section_range}
 use Rattle.oc_neutral.specs.Family.{Family}
-use Rattle.oc_neutral.specs.Fitted.{IsFitted}
+use Rattle.oc_target.specs.Fitted.{IsFitted}
 use Rattle.oc_neutral.specs.HomeNames.{output_names}
 use Rattle.oc_neutral.specs.Invariants.{IsObject}
 use Rattle.oc_neutral.specs.KeySymbols.{group_at, is_key_name, lies_in, has_key_symbol}
 use Rattle.oc_neutral.specs.KindRules.{same_kind}
 use Rattle.oc_neutral.specs.Mach.SelfReferences.{is_self_reference}
-use Rattle.oc_neutral.specs.Manners.{coff_manner}
-use Rattle.oc_neutral.specs.Meets.{HasKeySymbol}
+use Rattle.oc_shows.specs.Manners.{coff_manner}
+use Rattle.oc_target.specs.Meets.{HasKeySymbol}
 use Rattle.oc_neutral.specs.Normal.{Place}
 use Rattle.oc_neutral.specs.Relocated.{is_relocated}
 use Rattle.oc_neutral.specs.Rows.{Row}
-use Rattle.oc_neutral.specs.Seen.{seen, seen_section, seen_symbol, seen_fallback, seen_reloc}
+use Rattle.oc_shows.specs.Seen.{seen, seen_section, seen_symbol, seen_fallback, seen_reloc}
 use Rattle.oc_neutral.specs.Shifts.{field_shift, written_shift}
 use Rattle.oc_neutral.specs.Spelling.{numbers_in, spelling_of, written_row}
 use Rattle.oc_neutral.specs.TargetSections as sections_of_target
@@ -39,11 +39,11 @@ use Rattle.oc_neutral.specs.TargetSections.{section_count, section_conditions}
 use Rattle.oc_neutral.specs.TargetSymbols.{bounded}
 use Rattle.oc_neutral.specs.TargetRelocations.{reloc_conditions, is_too_wide, section_taken, taken_end, lacks_difference, fixed_end, has_empty_end}
 use Rattle.oc_neutral.specs.Tests.{is_cut}
-use Rattle.oc_neutral.proofs.MeetsConditions.{AreMet, section_met, reloc_met, neither}
-use Rattle.oc_neutral.proofs.MeetsRelocs.{normal_of}
-use Rattle.oc_neutral.proofs.SeenLaws.{seen_is_object_law}
-use Rattle.oc_neutral.proofs.SeenLines.{IsShown}
-use Rattle.oc_neutral.proofs.SeenReady.{IsReady, coff_ready}
+use Rattle.oc_target.proofs.MeetsConditions.{AreMet, section_met, reloc_met, neither}
+use Rattle.oc_target.proofs.MeetsRelocs.{normal_of}
+use Rattle.oc_target.proofs.SeenLaws.{seen_is_object_law}
+use Rattle.oc_shows.proofs.SeenLines.{IsShown}
+use Rattle.oc_target.proofs.SeenReady.{IsReady, coff_ready}
 use Rattle.oc_shelf.proofs.WritingLaws.MemberLemmas.{member_passes}
 use Rattle.oc_coff.specs.declared.form.CoffForm.{CoffForm}
 use Rattle.oc_coff.specs.declared.form.CoffForm.TheVariants.{Usual32, Usual64, Big32, Big64}

@@ -31,19 +31,19 @@ use Rattle.oc_neutral.specs.declared.reloc.Target.TheVariants as target
 use Rattle.oc_neutral.specs.Objects.{Object, reloc_at}
 use Rattle.oc_neutral.specs.Families.{is_many}
 use Rattle.oc_neutral.specs.KeySymbols.{global_place}
-use Rattle.oc_neutral.specs.Manners.{elf_manner, elf_mark, elf_size}
-use Rattle.oc_neutral.specs.Meets.{IsSteadyAt}
+use Rattle.oc_shows.specs.Manners.{elf_manner, elf_mark, elf_size}
+use Rattle.oc_target.specs.Meets.{IsSteadyAt}
 use Rattle.oc_neutral.specs.Normal.{Place}
 use Rattle.oc_neutral.specs.Rows.{Row, shift_of}
-use Rattle.oc_neutral.specs.Seen.{place_at, new_position, seen, seen_section, seen_symbol, seen_binding, seen_field, seen_reloc, seen_target}
+use Rattle.oc_shows.specs.Seen.{place_at, new_position, seen, seen_section, seen_symbol, seen_binding, seen_field, seen_reloc, seen_target}
 use Rattle.oc_neutral.specs.Spelling.{written_row}
-use Rattle.oc_neutral.specs.SymbolLines as table
-use Rattle.oc_neutral.specs.SymbolLines.{silent, one, elf_lines, local_lines, is_outer, needs_signature}
+use Rattle.oc_shows.specs.SymbolLines as table
+use Rattle.oc_shows.specs.SymbolLines.{silent, one, elf_lines, local_lines, is_outer, needs_signature}
 use Rattle.oc_neutral.specs.WrittenSymbols.{is_written, is_written_as}
-use Rattle.oc_neutral.proofs.MeetsRelocs.{normal_of}
-use Rattle.oc_neutral.proofs.SeenAlike.{relocs_same, seen_local}
-use Rattle.oc_neutral.proofs.SeenLines.{IsShown}
-use Rattle.oc_neutral.proofs.SeenReady.{IsReady, elf_ready}
+use Rattle.oc_target.proofs.MeetsRelocs.{normal_of}
+use Rattle.oc_shows.proofs.SeenAlike.{relocs_same, seen_local}
+use Rattle.oc_shows.proofs.SeenLines.{IsShown}
+use Rattle.oc_target.proofs.SeenReady.{IsReady, elf_ready}
 use Rattle.oc_shelf.specs.Writing.Parts.{Laid, laid, behind, aligned, joined, place_where}
 use Rattle.oc_shelf.proofs.WritingLaws.MemberLemmas.{map-map, map-alike, member_map, filter_map-map, filter_map-results}
 use Rattle.oc_elf.specs.declared.class.ElfClass.{ElfClass}

@@ -22,18 +22,18 @@ use Rattle.oc_neutral.specs.Elf.Family.{elf_gives, elf_family, header_count, sig
 use Rattle.oc_neutral.specs.Elf.Kinds.{elf_kind, elf_tag_type, elf_tag_flags, is_nobits_tag, is_carried_type}
 use Rattle.oc_neutral.specs.Families.{family_of, is_many, Range, section_range}
 use Rattle.oc_neutral.specs.Family.{Family}
-use Rattle.oc_neutral.specs.Fitted.{IsFitted}
+use Rattle.oc_target.specs.Fitted.{IsFitted}
 use Rattle.oc_neutral.specs.HomeNames.{output_names}
 use Rattle.oc_neutral.specs.Invariants.{IsObject}
 use Rattle.oc_neutral.specs.KeySymbols.{global_place}
 use Rattle.oc_neutral.specs.KindRules.{same_kind, has}
 use Rattle.oc_neutral.specs.Mach.SelfReferences.{is_self_reference}
 use Rattle.oc_neutral.specs.declared.elf.TheConstants.{SHF_ALLOC}
-use Rattle.oc_neutral.specs.Manners.{elf_manner}
-use Rattle.oc_neutral.specs.Meets.{IsSteadyAt}
+use Rattle.oc_shows.specs.Manners.{elf_manner}
+use Rattle.oc_target.specs.Meets.{IsSteadyAt}
 use Rattle.oc_neutral.specs.Normal.{Place}
 use Rattle.oc_neutral.specs.Relocated.{is_relocated}
-use Rattle.oc_neutral.specs.Seen.{place_at, new_position, seen, seen_section, seen_symbol, seen_fallback, seen_reloc}
+use Rattle.oc_shows.specs.Seen.{place_at, new_position, seen, seen_section, seen_symbol, seen_fallback, seen_reloc}
 use Rattle.oc_neutral.specs.Shifts.{field_shift}
 use Rattle.oc_neutral.specs.Stored.{is_stored}
 use Rattle.oc_neutral.specs.TargetSections as sections_of_target
@@ -41,11 +41,11 @@ use Rattle.oc_neutral.specs.TargetSections.{section_count, section_conditions}
 use Rattle.oc_neutral.specs.TargetSymbols.{bounded}
 use Rattle.oc_neutral.specs.TargetRelocations.{reloc_conditions, is_too_wide, section_taken, taken_end, lacks_difference, fixed_end, has_empty_end}
 use Rattle.oc_neutral.specs.Spelling.{spelling_of}
-use Rattle.oc_neutral.proofs.MeetsConditions.{AreMet, section_met, reloc_met, neither}
-use Rattle.oc_neutral.proofs.MeetsRelocs.{normal_of}
-use Rattle.oc_neutral.proofs.SeenLaws.{seen_is_object_law}
-use Rattle.oc_neutral.proofs.SeenLines.{IsShown}
-use Rattle.oc_neutral.proofs.SeenReady.{IsReady, elf_ready}
+use Rattle.oc_target.proofs.MeetsConditions.{AreMet, section_met, reloc_met, neither}
+use Rattle.oc_target.proofs.MeetsRelocs.{normal_of}
+use Rattle.oc_target.proofs.SeenLaws.{seen_is_object_law}
+use Rattle.oc_shows.proofs.SeenLines.{IsShown}
+use Rattle.oc_target.proofs.SeenReady.{IsReady, elf_ready}
 use Rattle.oc_elf.specs.declared.class.ElfClass.{ElfClass}
 use Rattle.oc_elf.specs.declared.class.ElfClass.TheVariants.{Class32, Class64, Big32, Big64}
 use Rattle.oc_elf.specs.Classes.{word_of, format_of}

@@ -46,22 +46,22 @@ use Rattle.oc_neutral.specs.Families.{family_of}
 use Rattle.oc_neutral.specs.KeySymbols.{global_place}
 use Rattle.oc_neutral.specs.Mach.SectionSymbols.{section_symbol_name, names_section, any_names, needs_section_symbol, needed_sections}
 use Rattle.oc_neutral.specs.Mach.SelfReferences.{is_section, is_long_distance, is_self_reference}
-use Rattle.oc_neutral.specs.Manners.{mach_manner, mach_vis, mach_hint, mach_by_section, hidden, is_of_section, Manner}
+use Rattle.oc_shows.specs.Manners.{mach_manner, mach_vis, mach_hint, mach_by_section, hidden, is_of_section, Manner}
 use Rattle.oc_neutral.specs.Normal.{Place, moved_addend, at_section, takes_section}
 use Rattle.oc_neutral.specs.Objects.{Object, reloc_at}
 use Rattle.oc_neutral.specs.RelocTables.{rows_of}
 use Rattle.oc_neutral.specs.Rows.{Row, TakesPlace, TakesSection, same_taken, taken_of, same_hint}
-use Rattle.oc_neutral.specs.Seen.{place_at, target_place, section_place, new_position, seen, seen_section, seen_symbol, seen_binding, seen_fallback, seen_field, seen_reloc, seen_target}
+use Rattle.oc_shows.specs.Seen.{place_at, target_place, section_place, new_position, seen, seen_section, seen_symbol, seen_binding, seen_fallback, seen_field, seen_reloc, seen_target}
 use Rattle.oc_neutral.specs.Shifts.{Sectional, said_shift, sectdiff_shift, written_shift}
 use Rattle.oc_neutral.specs.Spelling.{written_row}
-use Rattle.oc_neutral.specs.SymbolLines as table
-use Rattle.oc_neutral.specs.SymbolLines.{silent, one, is_defined, is_undefined, is_weak_with, mach_lines}
+use Rattle.oc_shows.specs.SymbolLines as table
+use Rattle.oc_shows.specs.SymbolLines.{silent, one, is_defined, is_undefined, is_weak_with, mach_lines}
 use Rattle.oc_neutral.specs.TargetRelocations.{section_taken}
 use Rattle.oc_neutral.specs.WrittenSymbols.{is_written}
-use Rattle.oc_neutral.proofs.MeetsRelocs.{normal_of}
-use Rattle.oc_neutral.proofs.SeenAlike.{relocs_same, seen_local, stands}
-use Rattle.oc_neutral.proofs.SeenLines.{IsShown}
-use Rattle.oc_neutral.proofs.SeenReady.{IsReady, mach_ready}
+use Rattle.oc_target.proofs.MeetsRelocs.{normal_of}
+use Rattle.oc_shows.proofs.SeenAlike.{relocs_same, seen_local, stands}
+use Rattle.oc_shows.proofs.SeenLines.{IsShown}
+use Rattle.oc_target.proofs.SeenReady.{IsReady, mach_ready}
 use Rattle.oc_shelf.specs.Writing.Packed.{packed}
 use Rattle.oc_shelf.specs.Writing.Parts.{Laid, laid, laid_end, behind, aligned, joined, place_where}
 use Rattle.oc_shelf.proofs.WritingLaws.MemberLemmas.{map-map, map-alike, of_enumerated}

@@ -29,7 +29,7 @@ use Rattle.oc_neutral.specs.Objects.{Object, reloc_at}
 use Rattle.oc_neutral.specs.Bindings.{is_written_by}
 use Rattle.oc_neutral.specs.Families.{family_of, Range, upto, section_range}
 use Rattle.oc_neutral.specs.Family.{Family}
-use Rattle.oc_neutral.specs.Fitted.{IsFitted}
+use Rattle.oc_target.specs.Fitted.{IsFitted}
 use Rattle.oc_neutral.specs.HomeNames.{output_names}
 use Rattle.oc_neutral.specs.Invariants.{IsObject}
 use Rattle.oc_neutral.specs.KeySymbols.{global_place}
@@ -37,11 +37,11 @@ use Rattle.oc_neutral.specs.KindRules.{same_kind}
 use Rattle.oc_neutral.specs.Mach.Family.{mach_family, mach_gives, mach_writes, mach_needed, mach_symbol_count}
 use Rattle.oc_neutral.specs.Mach.Kinds.{is_comma, segment_of, section_of, mach_kind, mach_tag, is_read_type}
 use Rattle.oc_neutral.specs.Mach.SelfReferences.{is_self_reference}
-use Rattle.oc_neutral.specs.Manners.{Manner, mach_manner}
+use Rattle.oc_shows.specs.Manners.{Manner, mach_manner}
 use Rattle.oc_neutral.specs.Normal.{Place, at_section}
 use Rattle.oc_neutral.specs.Relocated.{is_relocated}
 use Rattle.oc_neutral.specs.Rows.{Row}
-use Rattle.oc_neutral.specs.Seen.{place_at, section_place, seen, seen_section, seen_symbol, seen_binding, seen_fallback, seen_reloc, seen_target}
+use Rattle.oc_shows.specs.Seen.{place_at, section_place, seen, seen_section, seen_symbol, seen_binding, seen_fallback, seen_reloc, seen_target}
 use Rattle.oc_neutral.specs.Shifts.{field_shift, written_shift}
 use Rattle.oc_neutral.specs.Spelling.{numbers_in, spelling_of, written_row}
 use Rattle.oc_neutral.specs.Stored.{is_stored}
@@ -49,10 +49,10 @@ use Rattle.oc_neutral.specs.TargetSections as sections_of_target
 use Rattle.oc_neutral.specs.TargetSections.{section_count, section_conditions}
 use Rattle.oc_neutral.specs.TargetSymbols.{bounded}
 use Rattle.oc_neutral.specs.TargetRelocations.{reloc_conditions, is_too_wide, taken_end, lacks_difference, fixed_end, global_section, has_empty_end, is_empty, is_symbol}
-use Rattle.oc_neutral.proofs.MeetsConditions.{AreMet, section_met, reloc_met, neither}
-use Rattle.oc_neutral.proofs.SeenLaws.{seen_is_object_law}
-use Rattle.oc_neutral.proofs.SeenAlike.{stands}
-use Rattle.oc_neutral.proofs.SeenLines.{IsShown}
+use Rattle.oc_target.proofs.MeetsConditions.{AreMet, section_met, reloc_met, neither}
+use Rattle.oc_target.proofs.SeenLaws.{seen_is_object_law}
+use Rattle.oc_shows.proofs.SeenAlike.{stands}
+use Rattle.oc_shows.proofs.SeenLines.{IsShown}
 use Rattle.oc_macho.specs.MachHeader.{mach_format}
 use Rattle.oc_macho_file.proofs.CodedLaws.{IsForMach, IsPlaced, for_mach, fallback_is}
 use Rattle.oc_macho_file.proofs.SeenLaws.{shown, again, again_is, are_shown}

@@ -29,18 +29,18 @@ use Rattle.oc_neutral.specs.Objects.{Object, reloc_at}
 use Rattle.oc_neutral.specs.Dressing.{is_common}
 use Rattle.oc_neutral.specs.Invariants.{IsObject}
 use Rattle.oc_neutral.specs.KeySymbols.{global_place}
-use Rattle.oc_neutral.specs.Manners.{omf_manner}
+use Rattle.oc_shows.specs.Manners.{omf_manner}
 use Rattle.oc_neutral.specs.Normal.{Place, at_section, takes_section}
 use Rattle.oc_neutral.specs.Omf.Relocs.{BySelf}
 use Rattle.oc_neutral.specs.Rows.{Row, shift_of, same_hint}
 use Rattle.oc_neutral.specs.RelocTables.{rows_of}
-use Rattle.oc_neutral.specs.Seen.{place_at, target_place, section_place, new_position, seen, seen_section, seen_binding, seen_field, seen_reloc, seen_target}
+use Rattle.oc_shows.specs.Seen.{place_at, target_place, section_place, new_position, seen, seen_section, seen_binding, seen_field, seen_reloc, seen_target}
 use Rattle.oc_neutral.specs.Spelling.{written_row}
-use Rattle.oc_neutral.specs.SymbolLines.{omf_lines, lines_of, is_undefined, is_global, one}
-use Rattle.oc_neutral.proofs.MeetsRelocs.{normal_of}
-use Rattle.oc_neutral.proofs.SeenAlike.{relocs_same, stands}
-use Rattle.oc_neutral.proofs.SeenLines.{IsShown}
-use Rattle.oc_neutral.proofs.SeenReady.{IsReady, omf_ready}
+use Rattle.oc_shows.specs.SymbolLines.{omf_lines, lines_of, is_undefined, is_global, one}
+use Rattle.oc_target.proofs.MeetsRelocs.{normal_of}
+use Rattle.oc_shows.proofs.SeenAlike.{relocs_same, stands}
+use Rattle.oc_shows.proofs.SeenLines.{IsShown}
+use Rattle.oc_target.proofs.SeenReady.{IsReady, omf_ready}
 use Rattle.oc_shelf.proofs.WritingLaws.MemberLemmas.{map-map, map-alike, of_filter}
 use Rattle.oc_omf.specs.declared.structures.Method.{Method}
 use Rattle.oc_omf.specs.declared.structures.Segment as read

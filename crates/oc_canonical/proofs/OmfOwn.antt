@@ -20,19 +20,19 @@ use Rattle.oc_neutral.specs.declared.section.Section.{Section}
 use Rattle.oc_neutral.specs.declared.reloc.Reloc.{Reloc}
 use Rattle.oc_neutral.specs.Objects.{Object}
 use Rattle.oc_neutral.specs.Building.{is_zero}
-use Rattle.oc_neutral.specs.Computed.{zero_values, zero_patches, computed_section, computed_symbol, reloc_for, computed_field, computed_fields, object_in}
+use Rattle.oc_shows.specs.Computed.{zero_values, zero_patches, computed_section, computed_symbol, reloc_for, computed_field, computed_fields, object_in}
 use Rattle.oc_neutral.specs.Dialects.{Look, kept_fields, is_difference, is_folded, look_of, looks_in, patches_in}
-use Rattle.oc_neutral.specs.Faces.{shown_sections, shown_section}
-use Rattle.oc_neutral.specs.Fitted.{IsFitted}
-use Rattle.oc_neutral.specs.Seen.{seen, seen_section}
-use Rattle.oc_neutral.specs.Manners.{omf_manner}
-use Rattle.oc_neutral.specs.Shows.{Shows, frame_of}
+use Rattle.oc_neutral.specs.Faces.{shown_sections, shown_section, frame_of}
+use Rattle.oc_target.specs.Fitted.{IsFitted}
+use Rattle.oc_shows.specs.Seen.{seen, seen_section}
+use Rattle.oc_shows.specs.Manners.{omf_manner}
+use Rattle.oc_shows.specs.Shows.{Shows}
 use Rattle.oc_linking.specs.Fits.{bytes_of}
 use Rattle.oc_linking.specs.Placing.{zeros}
 use Rattle.oc_linking.specs.Linking.{patch_of}
 use Rattle.oc_base.specs.declared.format.Format.TheVariants.{Omf}
-use Rattle.oc_neutral.proofs.SeenLaws.{seen_is_object_law}
-use Rattle.oc_neutral.proofs.ShownComputed.{shown_is_computed}
+use Rattle.oc_target.proofs.SeenLaws.{seen_is_object_law}
+use Rattle.oc_shows.proofs.ShownComputed.{shown_is_computed}
 use Rattle.oc_names.specs.Wishes.{no_wishes}
 use Rattle.oc_convert.specs.Refusals.{kept_of_file}
 use Rattle.oc_shelf.proofs.ReadingLaws.StageLemmas.{Unbroken, IsUnbroken, no_first_fault}

@@ -18,22 +18,22 @@ use Rattle.oc_neutral.specs.declared.symbol.Symbol.{Symbol}
 use Rattle.oc_neutral.specs.declared.reloc.Reloc.{Reloc}
 use Rattle.oc_neutral.specs.Objects.{Object, reloc_at}
 use Rattle.oc_neutral.specs.Bindings.{is_external}
-use Rattle.oc_neutral.specs.Fitted.{IsFitted}
+use Rattle.oc_target.specs.Fitted.{IsFitted}
 use Rattle.oc_neutral.specs.Invariants.{IsObject}
 use Rattle.oc_neutral.specs.KindRules.{same_kind}
-use Rattle.oc_neutral.specs.Manners.{omf_manner}
+use Rattle.oc_shows.specs.Manners.{omf_manner}
 use Rattle.oc_neutral.specs.Omf.Family.{omf_gives, is_too_long}
 use Rattle.oc_neutral.specs.Omf.Kinds.{omf_class}
 use Rattle.oc_neutral.specs.Rows.{Row}
-use Rattle.oc_neutral.specs.Seen.{seen, seen_symbol, seen_binding, seen_reloc}
+use Rattle.oc_shows.specs.Seen.{seen, seen_symbol, seen_binding, seen_reloc}
 use Rattle.oc_neutral.specs.Shifts.{field_shift}
 use Rattle.oc_neutral.specs.Spelling.{numbers_in, spelling_of}
 use Rattle.oc_neutral.specs.TargetRelocations.{reloc_conditions}
-use Rattle.oc_neutral.proofs.MeetsConditions.{AreMet, reloc_met, neither}
-use Rattle.oc_neutral.proofs.SeenLaws.{seen_is_object_law}
-use Rattle.oc_neutral.proofs.SeenLines.{IsShown}
-use Rattle.oc_neutral.proofs.SeenAlike.{seen_local}
-use Rattle.oc_neutral.proofs.SeenReady.{IsReady, omf_ready}
+use Rattle.oc_target.proofs.MeetsConditions.{AreMet, reloc_met, neither}
+use Rattle.oc_target.proofs.SeenLaws.{seen_is_object_law}
+use Rattle.oc_shows.proofs.SeenLines.{IsShown}
+use Rattle.oc_shows.proofs.SeenAlike.{seen_local}
+use Rattle.oc_target.proofs.SeenReady.{IsReady, omf_ready}
 use Rattle.oc_omf_file.proofs.CodedLaws.{IsForOmf, for_omf}
 use Rattle.oc_omf_file.proofs.SeenLaws.{shown, again, again_is, are_shown}
 use Rattle.oc_canonical.proofs.OmfAgain.{plain_rows, form_same}

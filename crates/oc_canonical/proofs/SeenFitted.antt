@@ -21,25 +21,25 @@ use Rattle.oc_neutral.specs.declared.reloc.Reloc.{Reloc}
 use Rattle.oc_neutral.specs.Objects.{Object, reloc_at}
 use Rattle.oc_neutral.specs.Alignments.{output_align}
 use Rattle.oc_neutral.specs.Families.{family_of, container_of, same_format}
-use Rattle.oc_neutral.specs.Fitted.{IsFitted, IsNamed, first_unfit, fitted_binding}
+use Rattle.oc_target.specs.Fitted.{IsFitted, IsNamed, first_unfit, fitted_binding}
 use Rattle.oc_neutral.specs.GivenTags.{can_have}
 use Rattle.oc_neutral.specs.HomeNames.{is_home, output_names}
 use Rattle.oc_neutral.specs.Invariants.{IsObject}
 use Rattle.oc_neutral.specs.KindRules.{same_kind}
-use Rattle.oc_neutral.specs.Manners.{Manner}
-use Rattle.oc_neutral.specs.Readable.{IsBlankWhereTyped}
-use Rattle.oc_neutral.specs.Seen.{seen_with, seen_section, seen_symbol, seen_binding, seen_fallback, seen_reloc, seen_field}
+use Rattle.oc_shows.specs.Manners.{Manner}
+use Rattle.oc_shows.specs.Readable.{IsBlankWhereTyped}
+use Rattle.oc_shows.specs.Seen.{seen_with, seen_section, seen_symbol, seen_binding, seen_fallback, seen_reloc, seen_field}
 use Rattle.oc_neutral.specs.Stored.{is_stored}
 use Rattle.oc_neutral.specs.TargetSections.{judged, section_counts, section_count, is_debug_kept, is_exception_kept, section_spot, section_conditions, conditions_at, section_stages}
 use Rattle.oc_neutral.specs.TargetSymbols.{bounded, limited, names_length, symbol_count, is_absolute_form, is_common_form, is_weak_form, symbol_conditions, symbol_stages}
 use Rattle.oc_neutral.specs.TargetSections as sections_of_target
 use Rattle.oc_neutral.specs.TargetRelocations.{Standing, standing_in, standing_from, standing, spot_of, reloc_conditions, standing_conditions, relocation_stages}
-use Rattle.oc_neutral.proofs.MeetsConditions.{AreMet, section_met, symbol_met, symbol_count_met, own_names, same_format-self}
-use Rattle.oc_neutral.proofs.MeetsCounts.{met_parts, sum_map}
+use Rattle.oc_target.proofs.MeetsConditions.{AreMet, section_met, symbol_met, symbol_count_met, own_names, same_format-self}
+use Rattle.oc_target.proofs.MeetsCounts.{met_parts, sum_map}
 use Rattle.oc_neutral.proofs.Positions.{each_at, there_at}
-use Rattle.oc_neutral.proofs.SeenAlike.{symbol_from, relocs_same}
-use Rattle.oc_neutral.proofs.SeenLines.{IsShown}
-use Rattle.oc_neutral.proofs.SeenRelocs.{all_from, list_map}
+use Rattle.oc_shows.proofs.SeenAlike.{symbol_from, relocs_same}
+use Rattle.oc_shows.proofs.SeenLines.{IsShown}
+use Rattle.oc_neutral.proofs.Mapped.{all_from, list_map}
 use Rattle.oc_shelf.proofs.ReadingLaws.StageLemmas.{Unbroken, unbroken_append, no_first_fault}
 use Rattle.oc_shelf.proofs.WritingLaws.MemberLemmas.{of_map, of_append}
 use Rattle.oc_canonical.proofs.SeenSums.{seen_sum, seen_few}

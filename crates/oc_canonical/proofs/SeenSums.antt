@@ -7,11 +7,11 @@ use Rattle.std.proofs.lemmas.List.Sums.{sum_by-cons}
 use Rattle.std.proofs.lemmas.Option.{none-some, same_Some}
 use Rattle.oc_neutral.specs.declared.symbol.Symbol.{Symbol}
 use Rattle.oc_neutral.specs.Objects.{Object}
-use Rattle.oc_neutral.specs.Manners.{Manner}
-use Rattle.oc_neutral.specs.Seen.{seen_symbol, seen_symbols}
-use Rattle.oc_neutral.proofs.MeetsCounts.{sum_map}
-use Rattle.oc_neutral.proofs.SeenLines.{IsShown}
-use Rattle.oc_neutral.proofs.SeenRelocs.{all_from}
+use Rattle.oc_shows.specs.Manners.{Manner}
+use Rattle.oc_shows.specs.Seen.{seen_symbol, seen_symbols}
+use Rattle.oc_target.proofs.MeetsCounts.{sum_map}
+use Rattle.oc_shows.proofs.SeenLines.{IsShown}
+use Rattle.oc_neutral.proofs.Mapped.{all_from}
 use Rattle.oc_shelf.proofs.WritingLaws.MemberLemmas.{of_filter_map}
 use Rattle.oc_canonical.proofs.SeenSymbols.{with_position, shown_ones, number_in, moved, one_there, symbols_moved}
 use Rattle.oc_canonical.proofs.SumLemmas.{AreApart, AreOf, sum_apart}

@@ -8,10 +8,10 @@ use Rattle.oc_linking.specs.Parts.{is_local}
 use Rattle.std.proofs.lemmas.Option.{none-some, same_Some, get_or_from_slice_get}
 use Rattle.oc_neutral.specs.declared.symbol.Symbol.{Symbol}
 use Rattle.oc_neutral.specs.Objects.{Object}
-use Rattle.oc_neutral.specs.Manners.{Manner}
-use Rattle.oc_neutral.specs.Seen.{shown_from, new_position, seen_symbol, seen_symbols}
-use Rattle.oc_neutral.specs.SymbolLines.{Line, silent, lines_where}
-use Rattle.oc_neutral.proofs.SeenLines.{IsShown}
+use Rattle.oc_shows.specs.Manners.{Manner}
+use Rattle.oc_shows.specs.Seen.{shown_from, new_position, seen_symbol, seen_symbols}
+use Rattle.oc_shows.specs.SymbolLines.{Line, silent, lines_where}
+use Rattle.oc_shows.proofs.SeenLines.{IsShown}
 use Rattle.oc_shelf.proofs.WritingLaws.MemberLemmas.{position_first, filter_map-map, of_filter_map, map-map, map-alike, of_filter}
 use Rattle.oc_elf_file.proofs.HeadLaws.{of_enumerated}
 use Rattle.oc_canonical.proofs.MapLemmas.{filter-mapped, filter_map-all, filter_map-append, is_filled, filled_map, any_filled, filter_numbered, flat_map-mapped}

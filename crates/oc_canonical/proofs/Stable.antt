@@ -6,14 +6,14 @@ use Rattle.oc_linking.specs.declared.terms.Keep.{Keep}
 use Rattle.oc_linking.specs.Keeping.{all, keeps}
 use Rattle.oc_linking.specs.Numbers.{or_else}
 use Rattle.oc_neutral.specs.Objects.{Object}
-use Rattle.oc_neutral.specs.Computed.{object_in}
+use Rattle.oc_shows.specs.Computed.{object_in}
 use Rattle.oc_neutral.specs.Dialects.{Dialect}
-use Rattle.oc_neutral.specs.Fitted.{IsFitted}
-use Rattle.oc_neutral.specs.Fitting.{fit_of}
-use Rattle.oc_neutral.specs.Seen.{seen}
-use Rattle.oc_neutral.specs.Targets.{WritesCanonical}
-use Rattle.oc_neutral.proofs.SeenLaws.{seen_is_object_law}
-use Rattle.oc_neutral.proofs.ShownComputed.{shown_is_computed}
+use Rattle.oc_target.specs.Fitted.{IsFitted}
+use Rattle.oc_target.specs.Fitting.{fit_of}
+use Rattle.oc_shows.specs.Seen.{seen}
+use Rattle.oc_target.specs.Targets.{WritesCanonical}
+use Rattle.oc_target.proofs.SeenLaws.{seen_is_object_law}
+use Rattle.oc_shows.proofs.ShownComputed.{shown_is_computed}
 use Rattle.oc_names.specs.Wishes.{no_wishes}
 use Rattle.oc_names.specs.Edited.{edited}
 use Rattle.oc_names.specs.Kept.{keep_for}

@@ -24,7 +24,7 @@ use Rattle.oc_neutral.specs.declared.reloc.Target.TheVariants as target
 use Rattle.oc_neutral.specs.Objects.{Object, reloc_at}
 use Rattle.oc_neutral.specs.Bindings.{is_zero}
 use Rattle.oc_neutral.specs.KindRules.{same_kind}
-use Rattle.oc_neutral.specs.Manners.{Manner}
+use Rattle.oc_shows.specs.Manners.{Manner}
 use Rattle.oc_neutral.specs.Normal.{Place, at_section}
 use Rattle.oc_neutral.specs.Relocated.{stays, is_relocated}
 use Rattle.oc_neutral.specs.Rows.{Row, Taken, TakesPlace, TakesSection, taken_of, same_base, same_width, same_check, same_taken, same_hint}
@@ -33,13 +33,13 @@ use Rattle.oc_neutral.specs.Spelling.{is_written, row_taking, written_row}
 use Rattle.oc_linking.specs.declared.terms.Hint.{Hint}
 use Rattle.oc_linking.specs.declared.terms.Hint.TheVariants.{Plain, Call}
 use Rattle.oc_linking.specs.Numbers.{or_else}
-use Rattle.oc_neutral.specs.Seen.{place_at, new_position, section_place, seen_with, seen_section, seen_binding, seen_fallback, seen_target, seen_reloc, seen_field}
+use Rattle.oc_shows.specs.Seen.{place_at, new_position, section_place, seen_with, seen_section, seen_binding, seen_fallback, seen_target, seen_reloc, seen_field}
 use Rattle.oc_neutral.specs.Stored.{is_stored}
 use Rattle.oc_neutral.specs.TargetRelocations.{is_local_number, is_homeless, is_nonlocal, is_target, needs_slot, needs_home, is_wrong_target}
-use Rattle.oc_neutral.proofs.SeenAlike.{stands, seen_local}
-use Rattle.oc_neutral.proofs.SeenLines.{IsShown}
-use Rattle.oc_neutral.proofs.SeenRelocs.{list_map}
-use Rattle.oc_neutral.proofs.SeenReady.{IsReady}
+use Rattle.oc_shows.proofs.SeenAlike.{stands, seen_local}
+use Rattle.oc_shows.proofs.SeenLines.{IsShown}
+use Rattle.oc_neutral.proofs.Mapped.{list_map}
+use Rattle.oc_target.proofs.SeenReady.{IsReady}
 use Rattle.oc_canonical.proofs.MapLemmas.{any_mapped}
 
 pub same_kind-self : (k : Kind) → same_kind k k ≡ true

@@ -5,11 +5,11 @@ use Rattle.oc_base.specs.declared.format.Word.{Word}
 use Rattle.oc_linking.specs.Keeping.{keeps}
 use Rattle.oc_neutral.specs.declared.section.Section.{Section}
 use Rattle.oc_neutral.specs.Objects.{Object}
-use Rattle.oc_neutral.specs.Computed.{object_in}
+use Rattle.oc_shows.specs.Computed.{object_in}
 use Rattle.oc_neutral.specs.Dialects.{Dialect}
-use Rattle.oc_neutral.specs.Fitted.{IsFitted}
-use Rattle.oc_neutral.specs.Fitting.{fit_of}
-use Rattle.oc_neutral.specs.Seen.{seen}
+use Rattle.oc_target.specs.Fitted.{IsFitted}
+use Rattle.oc_target.specs.Fitting.{fit_of}
+use Rattle.oc_shows.specs.Seen.{seen}
 use Rattle.oc_names.specs.Wishes.{no_wishes}
 use Rattle.oc_convert.specs.Refusals.{first_refusal, kept_of_file}
 use Rattle.oc_convert.specs.Converted.{planned_file}

@@ -5,7 +5,7 @@ use Rattle.oc_linking.specs.Rules.{Field}
 use Rattle.oc_linking.specs.Targets.{Target}
 use Rattle.oc_neutral.specs.Rows.{Row}
 use Rattle.oc_neutral.specs.RelocTables.{row_of}
-use Rattle.oc_neutral.specs.RowFields.{field_in_place}
+use Rattle.oc_shows.specs.RowFields.{field_in_place}
 use Rattle.oc_base.specs.declared.format.Word.{Word}
 use Rattle.oc_coff.specs.declared.relocation.Relocation.{Relocation}
 use Rattle.oc_coff.specs.declared.constants.TheConstants.{IMAGE_REL_I386_ABSOLUTE}

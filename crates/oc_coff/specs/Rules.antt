@@ -8,8 +8,7 @@ use Rattle.oc_linking.specs.declared.terms.Keep.{Keep}
 use Rattle.oc_linking.specs.FirstFault.{Stage, first_fault}
 use Rattle.oc_linking.specs.Rules.{Rules}
 use Rattle.oc_neutral.specs.Alignments.{output_align, common_align}
-use Rattle.oc_neutral.specs.Dialects.{Dialect}
-use Rattle.oc_neutral.specs.Targets.{IsDialect}
+use Rattle.oc_neutral.specs.Dialects.{Dialect, IsDialect}
 use Rattle.oc_coff.specs.Tables.{Tables, tables_of}
 use Rattle.oc_coff.specs.Sections.{sections_in}
 use Rattle.oc_coff.specs.Symbols.{symbols_in}

@@ -6,7 +6,7 @@ use Rattle.oc_linking.specs.declared.terms.Value.{Value}
 use Rattle.oc_linking.specs.declared.terms.Value.TheVariants as value
 use Rattle.oc_linking.specs.Parts.{Section, Symbol}
 use Rattle.oc_linking.specs.Targets.{Target, symbol_target}
-use Rattle.oc_neutral.specs.RowFields.{place_target}
+use Rattle.oc_shows.specs.RowFields.{place_target}
 use Rattle.oc_neutral.specs.TargetRelocations.{is_homeless}
 use Rattle.oc_coff.specs.Tables.{Tables}
 use Rattle.oc_coff.specs.Sections.{sections_in}

@@ -26,7 +26,7 @@ use Rattle.oc_neutral.specs.declared.reloc.Reloc.{Reloc}
 use Rattle.oc_neutral.specs.declared.reloc.Target.{Target}
 use Rattle.oc_neutral.specs.Objects.{Object, reloc_at}
 use Rattle.oc_neutral.specs.Coff.Strings.{has_default}
-use Rattle.oc_neutral.specs.SymbolLines.{is_weak_with}
+use Rattle.oc_shows.specs.SymbolLines.{is_weak_with}
 use Rattle.oc_neutral.proofs.Positions.{there_at}
 use Rattle.oc_shelf.specs.Writing.Parts.{place_where}
 use Rattle.oc_shelf.proofs.WritingLaws.PackedLemmas.{Fit}

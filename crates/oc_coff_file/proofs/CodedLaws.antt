@@ -31,12 +31,12 @@ use Rattle.oc_neutral.specs.Family.{IsCoff}
 use Rattle.oc_neutral.specs.Families.{container_of}
 use Rattle.oc_neutral.specs.Coff.Kinds.{coff_kind, coff_tag}
 use Rattle.oc_neutral.specs.Coff.Strings.{is_long, is_tabled, has_default, default_name}
-use Rattle.oc_neutral.specs.CoffMeets.{strings_of, offset_of, MeetsCoff, CoffSection, CoffSymbol}
-use Rattle.oc_neutral.specs.Fitted.{IsFitted}
-use Rattle.oc_neutral.specs.Manners.{coff_manner}
-use Rattle.oc_neutral.specs.SymbolLines.{needs_default, is_weak_with}
+use Rattle.oc_target.specs.CoffMeets.{strings_of, offset_of, MeetsCoff, CoffSection, CoffSymbol}
+use Rattle.oc_target.specs.Fitted.{IsFitted}
+use Rattle.oc_shows.specs.Manners.{coff_manner}
+use Rattle.oc_shows.specs.SymbolLines.{needs_default, is_weak_with}
 use Rattle.oc_neutral.specs.WrittenSymbols.{is_written, is_written_as}
-use Rattle.oc_neutral.proofs.MeetsCoff.{meets_coff}
+use Rattle.oc_target.proofs.MeetsCoff.{meets_coff}
 use Rattle.oc_neutral.proofs.Positions.{each_at}
 use Rattle.oc_coff.specs.Forms.{format_of, shape_of}
 use Rattle.oc_coff_file.specs.Lines.{Line, SectionLine, LocalLine, DefaultLine, OuterLine, lines_of}

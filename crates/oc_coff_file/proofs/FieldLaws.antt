@@ -31,18 +31,18 @@ use Rattle.oc_neutral.specs.declared.section.Section.{Section}
 use Rattle.oc_neutral.specs.declared.reloc.Reloc.{Reloc}
 use Rattle.oc_neutral.specs.declared.reloc.Target.{Target}
 use Rattle.oc_neutral.specs.Building.{is_zero}
-use Rattle.oc_neutral.specs.CoffMeets.{CoffReloc}
+use Rattle.oc_target.specs.CoffMeets.{CoffReloc}
 use Rattle.oc_neutral.specs.KindRules.{same_kind}
-use Rattle.oc_neutral.specs.Manners.{coff_manner}
-use Rattle.oc_neutral.specs.Meets.{MeetsReloc}
+use Rattle.oc_shows.specs.Manners.{coff_manner}
+use Rattle.oc_target.specs.Meets.{MeetsReloc}
 use Rattle.oc_neutral.specs.Objects.{Object, reloc_at, reloc_among}
 use Rattle.oc_neutral.specs.RelocTables.{rows_of, row_of}
-use Rattle.oc_neutral.specs.RowFields.{field_in_place, number_in}
-use Rattle.oc_neutral.specs.RowValues.{row_reloc}
+use Rattle.oc_shows.specs.RowFields.{field_in_place, number_in}
+use Rattle.oc_shows.specs.RowValues.{row_reloc}
 use Rattle.oc_neutral.specs.Rows as rows
 use Rattle.oc_neutral.specs.Rows.{Row, TakesZero, TakesPlace, TakesGotBase, TakesImageBase, TakesHome, TakesSection, same_taken, shift_of}
-use Rattle.oc_neutral.specs.Seen.{seen_reloc, seen_target}
-use Rattle.oc_neutral.proofs.FitLinks.{from_mapped}
+use Rattle.oc_shows.specs.Seen.{seen_reloc, seen_target}
+use Rattle.oc_neutral.proofs.Mapped.{from_mapped}
 use Rattle.oc_neutral.proofs.Positions.{each_at, there_at}
 use Rattle.oc_neutral.proofs.Standing.{ends_by, wide_in}
 use Rattle.oc_shelf.specs.Writing.Parts.{Laid}

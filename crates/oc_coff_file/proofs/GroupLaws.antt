@@ -15,7 +15,7 @@ use Rattle.oc_neutral.specs.declared.symbol.Symbol.{Symbol}
 use Rattle.oc_neutral.specs.Objects.{Object}
 use Rattle.oc_neutral.specs.Faces.{key_of}
 use Rattle.oc_neutral.specs.KeySymbols.{global_place, group_at, is_key_name, is_key_at, lies_in}
-use Rattle.oc_neutral.specs.Meets.{HasKeySymbol}
+use Rattle.oc_target.specs.Meets.{HasKeySymbol}
 use Rattle.oc_neutral.specs.Normal.{Place}
 use Rattle.oc_shelf.specs.Writing.Parts.{laid, laid_end, behind}
 use Rattle.oc_shelf.proofs.WritingLaws.MemberLemmas.{each_map, each_enumerated, member_passes, member_enumerated, member_map, member_filter}

@@ -14,15 +14,15 @@ use Rattle.oc_neutral.specs.declared.symbol.Symbol.{Symbol}
 use Rattle.oc_neutral.specs.Objects.{Object}
 use Rattle.oc_neutral.specs.Normal.{Place}
 use Rattle.oc_neutral.specs.KeySymbols.{global_place, is_key_at}
-use Rattle.oc_neutral.specs.SymbolLines.{silent, one, coff_entries, needs_default, is_weak_with, coff_section_lines, coff_lines}
-use Rattle.oc_neutral.proofs.SeenFamilies.{coff_table}
+use Rattle.oc_shows.specs.SymbolLines.{silent, one, coff_entries, needs_default, is_weak_with, coff_section_lines, coff_lines}
+use Rattle.oc_shows.proofs.SeenFamilies.{coff_table}
 use Rattle.oc_neutral.specs.WrittenSymbols.{is_written}
 use Rattle.oc_shelf.specs.Writing.Parts.{Laid, behind}
 use Rattle.oc_shelf.proofs.WritingLaws.PartLemmas.{IsFound, place_found, laid_part, laid_same}
 use Rattle.oc_shelf.proofs.WritingLaws.MemberLemmas.{member_first, member_second, member_map, member_enumerated, member_flat_map, each_append, each_map, each_flat_map, each_enumerated, of_append, of_map, map-map, map-alike, keyed_once, member_filter}
 use Rattle.oc_coff.specs.Forms.{format_of}
 use Rattle.oc_coff_file.specs.Lines.{Line, SectionLine, LocalLine, DefaultLine, OuterLine, placed_symbols, lines_where, section_lines, is_written_local, is_free, lines_of, line_size, numbered_lines, is_section_line, is_default_line, is_outer_line}
-use Rattle.oc_neutral.specs.SymbolLines as table
+use Rattle.oc_shows.specs.SymbolLines as table
 
 -- what a line stands for is there
 abbrev pub IsLineOf : CoffForm → Object → Line → Type 0

@@ -24,7 +24,7 @@ use Rattle.oc_shelf.proofs.WritingLaws.StringLemmas.{name_in_table, name_read}
 use Rattle.oc_coff.specs.Forms.{format_of}
 use Rattle.oc_shelf.specs.Reading.Texts.{text_at}
 use Rattle.oc_coff_file.specs.Layout.{text_of}
-use Rattle.oc_neutral.specs.CoffMeets.{offset_of, strings_of}
+use Rattle.oc_target.specs.CoffMeets.{offset_of, strings_of}
 use Rattle.oc_coff_file.specs.Canonical.{symbol_field, section_field, string_table}
 
 -- a name without NUL

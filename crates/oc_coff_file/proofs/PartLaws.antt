@@ -1,6 +1,6 @@
 -- The parts of a canonical file: their sizes, and that they stand at their places.
 use Rattle.oc_coff.specs.WeakAux.{weak_aux_bytes}
-use Rattle.oc_neutral.specs.SymbolLines.{is_weak_with}
+use Rattle.oc_shows.specs.SymbolLines.{is_weak_with}
 use Rattle.oc_coff.specs.declared.form.Shape.{Shape}
 use Rattle.oc_coff.specs.Forms.{format_of, header_size, shape_of, symbol_size}
 use Rattle.std.proofs.Common.{◌≡◌, ℕ, zero, suc, ◌+◌, ◌-◌, ◌*◌, ◌≤◌, Bool, true, false, cond, List, [], ◌∷◌, ◌++◌, length, Some, refl, sym, ◌∙◌, ap, subst, arith, append-nil, length-append}
@@ -35,7 +35,7 @@ use Rattle.oc_coff_file.specs.Lines.{Line, SectionLine, LocalLine, DefaultLine, 
 use Rattle.oc_coff_file.specs.Bodies.{field_patches, raw_of, relocs_of}
 use Rattle.oc_coff.specs.Flags.{with_count}
 use Rattle.oc_coff_file.specs.Layout.{Part, FileHead, SectionHeads, Raw, Relocs, SymbolTable, StringTable, section_parts, parts_of, text_of, part_size, laid_parts, is_raw, is_relocs, is_symbol_table}
-use Rattle.oc_neutral.specs.CoffMeets.{offset_of}
+use Rattle.oc_target.specs.CoffMeets.{offset_of}
 use Rattle.oc_coff_file.specs.Canonical.{symbol_field, section_field, header_at, headers_of, line_entry, section_aux, weak_aux, line_aux, outer_aux, line_rows, entry_rows, file_header, string_table, part_bytes, coff_file}
 
 -- names have eight bytes

@@ -20,7 +20,7 @@ use Rattle.oc_neutral.specs.declared.reloc.Target.TheVariants as target
 use Rattle.oc_neutral.specs.Objects.{Object, reloc_at}
 use Rattle.oc_neutral.specs.Invariants.{IsHeld, IsThere}
 use Rattle.oc_neutral.specs.Rows.{Row, TakesHome, same_base, same_taken}
-use Rattle.oc_neutral.specs.RowFields.{place_target}
+use Rattle.oc_shows.specs.RowFields.{place_target}
 use Rattle.oc_neutral.specs.RelocTables.{row_of}
 use Rattle.oc_neutral.specs.TargetRelocations.{is_homeless, needs_home}
 use Rattle.oc_neutral.proofs.Positions.{there_at, each_at}

@@ -7,14 +7,14 @@ use Rattle.oc_linking.specs.Parts.{is_local}
 use Rattle.oc_neutral.specs.declared.symbol.Symbol.{Symbol}
 use Rattle.oc_neutral.specs.Objects.{Object}
 use Rattle.oc_neutral.specs.Families.{container_of}
-use Rattle.oc_neutral.specs.Manners.{coff_manner, manner_of, own_manner}
-use Rattle.oc_neutral.specs.Seen.{shown_from, new_position, seen_symbol, seen_symbols, seen_with, seen}
-use Rattle.oc_neutral.specs.SymbolLines.{coff_lines}
-use Rattle.oc_neutral.proofs.SeenFamilies.{coff_table}
-use Rattle.oc_neutral.proofs.SeenLines.{IsShown, table_shows}
+use Rattle.oc_shows.specs.Manners.{coff_manner, manner_of, own_manner}
+use Rattle.oc_shows.specs.Seen.{shown_from, new_position, seen_symbol, seen_symbols, seen_with, seen}
+use Rattle.oc_shows.specs.SymbolLines.{coff_lines}
+use Rattle.oc_shows.proofs.SeenFamilies.{coff_table}
+use Rattle.oc_shows.proofs.SeenLines.{IsShown, table_shows}
 use Rattle.oc_shelf.specs.Writing.Parts.{Laid}
-use Rattle.oc_shows.proofs.MadeLaws as made
-use Rattle.oc_shows.proofs.ShownLines as by_lines
+use Rattle.oc_made_files.proofs.MadeLaws as made
+use Rattle.oc_made_files.proofs.ShownLines as by_lines
 use Rattle.oc_coff.specs.declared.form.CoffForm.{CoffForm}
 use Rattle.oc_coff.specs.declared.form.CoffForm.TheVariants.{Usual32, Usual64, Big32, Big64}
 use Rattle.oc_coff.specs.Forms.{format_of}

@@ -14,16 +14,16 @@ use Rattle.oc_neutral.specs.declared.reloc.Reloc.{Reloc}
 use Rattle.oc_neutral.specs.declared.reloc.Target.{Target}
 use Rattle.oc_neutral.specs.declared.reloc.Target.TheVariants as target
 use Rattle.oc_neutral.specs.Objects.{Object, reloc_at}
-use Rattle.oc_neutral.specs.Again.{HasContents}
-use Rattle.oc_neutral.specs.Faces.{shown_symbols}
-use Rattle.oc_neutral.specs.Fitted.{IsFitted}
+use Rattle.oc_shows.specs.Again.{HasContents}
+use Rattle.oc_neutral.specs.Faces.{shown_symbols, frame_of}
+use Rattle.oc_target.specs.Fitted.{IsFitted}
 use Rattle.oc_neutral.specs.KindRules.{same_kind}
-use Rattle.oc_neutral.specs.Manners.{coff_manner}
-use Rattle.oc_neutral.specs.RowFields.{number_in, place_target, IsTarget}
-use Rattle.oc_neutral.specs.Seen.{seen, seen_section, seen_target, new_position}
-use Rattle.oc_neutral.specs.Shows.{Shows, frame_of}
-use Rattle.oc_shows.specs.MadeFiles.{IsMadeField, IsMadeFile}
-use Rattle.oc_shows.proofs.MadeLaws.{numbered_target, patched_beside, contents_by_kind, outer_aimed, target_said, made_by_row, made_file_shows}
+use Rattle.oc_shows.specs.Manners.{coff_manner}
+use Rattle.oc_shows.specs.RowFields.{number_in, place_target, IsTarget}
+use Rattle.oc_shows.specs.Seen.{seen, seen_section, seen_target, new_position}
+use Rattle.oc_shows.specs.Shows.{Shows}
+use Rattle.oc_made_files.specs.MadeFiles.{IsMadeField, IsMadeFile}
+use Rattle.oc_made_files.proofs.MadeLaws.{numbered_target, patched_beside, contents_by_kind, outer_aimed, target_said, made_by_row, made_file_shows}
 use Rattle.oc_coff.specs.declared.form.CoffForm.{CoffForm}
 use Rattle.oc_coff.specs.declared.form.CoffForm.TheVariants.{Usual32, Usual64, Big32, Big64}
 use Rattle.oc_coff.specs.Tables.{tables_of}

@@ -12,9 +12,9 @@ use Rattle.oc_neutral.specs.declared.section.Section.{Section}
 use Rattle.oc_neutral.specs.Objects.{Object}
 use Rattle.oc_neutral.specs.Building.{stored_size, stored_sum}
 use Rattle.oc_neutral.specs.Invariants.{HasItsBytes}
-use Rattle.oc_neutral.specs.CoffMeets.{strings_of}
-use Rattle.oc_neutral.specs.SymbolLines.{coff_lines}
-use Rattle.oc_neutral.proofs.SeenFamilies.{coff_table}
+use Rattle.oc_target.specs.CoffMeets.{strings_of}
+use Rattle.oc_shows.specs.SymbolLines.{coff_lines}
+use Rattle.oc_shows.proofs.SeenFamilies.{coff_table}
 use Rattle.oc_shelf.specs.Writing.Parts.{laid_end, behind}
 use Rattle.oc_coff.specs.declared.relocation.Relocation.{Relocation}
 use Rattle.oc_coff.specs.Forms.{format_of, shape_of}
@@ -27,8 +27,8 @@ use Rattle.oc_coff_file.proofs.CodedLaws.{IsForCoff, fewest}
 use Rattle.oc_coff_file.proofs.LineLaws.{counted_line, lines_counted}
 use Rattle.oc_coff_file.proofs.PartLaws.{length-coff_file, table_place, front_parts}
 use Rattle.oc_chains.specs.declared.field.Field as chains
-use Rattle.oc_neutral.specs.SymbolLines as table
-use Rattle.oc_neutral.proofs.SeenTables as counts
+use Rattle.oc_shows.specs.SymbolLines as table
+use Rattle.oc_shows.proofs.SeenTables as counts
 use Rattle.oc_shelf.proofs.WritingLaws.SizeLemmas.{table_size}
 
 -- ... sums

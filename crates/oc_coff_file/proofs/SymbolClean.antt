@@ -46,7 +46,7 @@ use Rattle.oc_coff_file.proofs.HeaderClean.{within_file}
 use Rattle.oc_shelf.proofs.ReadingLaws.StageLemmas.{Unbroken, unbroken_append, IsUnbroken}
 use Rattle.oc_coff_file.proofs.CodableLaws.{HasNumbers}
 use Rattle.oc_coff_file.proofs.KeyLaws.{numbered_section}
-use Rattle.oc_neutral.specs.SymbolLines.{is_weak_with}
+use Rattle.oc_shows.specs.SymbolLines.{is_weak_with}
 use Rattle.oc_neutral.specs.KindRules.{has_nul, begins}
 use Rattle.std.proofs.lemmas.List.Folds.{list_any-append}
 use Rattle.oc_linking.specs.declared.terms.Value.TheVariants as value

@@ -32,7 +32,7 @@ use Rattle.oc_coff.specs.Symbols.{tags, is_tagged, is_section_symbol, value_of, 
 use Rattle.oc_coff_file.specs.Lines.{Line, SectionLine, LocalLine, DefaultLine, OuterLine, lines_of, numbered_lines, is_default_line, is_outer_line, default_number, outer_number}
 use Rattle.oc_coff.specs.Values.{numbers_of, numbers_by, default_numbers, type_by, class_by, aux_by}
 use Rattle.oc_coff_file.specs.Canonical.{entry, tag_of, line_entry, symbol_field, string_table, weak_aux}
-use Rattle.oc_neutral.specs.Seen.{seen_fallback, seen_symbol, new_position, seen_binding}
+use Rattle.oc_shows.specs.Seen.{seen_fallback, seen_symbol, new_position, seen_binding}
 use Rattle.oc_coff_file.proofs.SeenLaws.{seen_line, syms, shown, seen_there, symbols_seen}
 use Rattle.oc_coff_file.proofs.TableLaws.{made_tables}
 use Rattle.oc_coff_file.proofs.EntryLaws.{made_entry, outer_slot, weak_said}
@@ -43,8 +43,8 @@ use Rattle.oc_coff_file.proofs.CodedLaws.{IsForCoff, IsCodedValue, IsCodedFallba
 use Rattle.oc_shelf.proofs.WritingLaws.PackedLemmas.{Fit}
 use Rattle.oc_coff.specs.Forms.{shape_of}
 use Rattle.oc_coff.specs.WeakAux.{weak_aux_numbers}
-use Rattle.oc_neutral.specs.SymbolLines.{is_weak_with}
-use Rattle.oc_neutral.specs.Manners.{coff_manner, coff_mark}
+use Rattle.oc_shows.specs.SymbolLines.{is_weak_with}
+use Rattle.oc_shows.specs.Manners.{coff_manner, coff_mark}
 use Rattle.oc_linking.specs.declared.terms.Value.TheVariants as value
 use Rattle.oc_linking.specs.declared.terms.Fallback.TheVariants as fallback
 use Rattle.oc_linking.specs.Parts as parts

@@ -17,12 +17,12 @@ use Rattle.oc_neutral.specs.declared.section.Section.{Section}
 use Rattle.oc_neutral.specs.declared.symbol.Symbol.{Symbol}
 use Rattle.oc_neutral.specs.Objects.{Object}
 use Rattle.oc_neutral.specs.Faces.{shown_binding, shown_symbol}
-use Rattle.oc_neutral.specs.Manners.{coff_manner}
-use Rattle.oc_neutral.specs.RowFields.{place_target}
-use Rattle.oc_neutral.specs.Seen.{seen_binding, seen_symbol}
+use Rattle.oc_shows.specs.Manners.{coff_manner}
+use Rattle.oc_shows.specs.RowFields.{place_target}
+use Rattle.oc_shows.specs.Seen.{seen_binding, seen_symbol}
 use Rattle.oc_neutral.specs.TargetRelocations.{is_homeless}
 use Rattle.oc_shelf.specs.Writing.Parts.{Laid}
-use Rattle.oc_shows.proofs.MadeLaws.{named_by_symbol}
+use Rattle.oc_made_files.proofs.MadeLaws.{named_by_symbol}
 use Rattle.oc_coff.specs.Entries.{entries_in, entry_numbered}
 use Rattle.oc_coff.specs.Sections.{sections_in}
 use Rattle.oc_coff.specs.Symbols.{is_own, value_of, symbol_of}

@@ -6,7 +6,7 @@ use Rattle.oc_coff.specs.declared.form.CoffForm.TheVariants.{Usual32, Usual64, B
 use Rattle.oc_linking.specs.Keeping.{all}
 use Rattle.oc_linking.specs.FirstFault.{first_fault}
 use Rattle.oc_neutral.specs.Objects.{Object}
-use Rattle.oc_neutral.specs.Targets.{IsDialect}
+use Rattle.oc_neutral.specs.Dialects.{IsDialect}
 use Rattle.oc_shelf.proofs.ReadingLaws.StageLemmas.{Unbroken, no_first_fault}
 use Rattle.oc_coff.specs.HeaderFaults.{header_conditions, header_stage}
 use Rattle.oc_coff.specs.SectionFaults.{section_stage}

@@ -16,7 +16,7 @@ use Rattle.oc_neutral.specs.Objects.{Object}
 use Rattle.oc_neutral.specs.Normal.{Place}
 use Rattle.oc_neutral.specs.KeySymbols.{global_place, is_key_at, is_key_name, lies_in}
 use Rattle.oc_neutral.specs.Coff.Strings.{is_long, is_tabled, default_name}
-use Rattle.oc_neutral.specs.CoffMeets.{offset_of}
+use Rattle.oc_target.specs.CoffMeets.{offset_of}
 use Rattle.oc_neutral.specs.declared.coff.TheConstants.{STRINGS_HEAD}
 use Rattle.oc_shelf.specs.Writing.Parts.{Laid, joined, place_where}
 use Rattle.oc_coff.specs.declared.constants.TheConstants.{IMAGE_SYM_CLASS_STATIC, IMAGE_COMDAT_SELECT_ANY, IMAGE_COMDAT_SELECT_ASSOCIATIVE, IMAGE_WEAK_EXTERN_SEARCH_ALIAS, OVERFLOWED_COUNT}

@@ -5,7 +5,7 @@ use Rattle.oc_coff.specs.declared.form.CoffForm.{CoffForm}
 use Rattle.oc_base.specs.Strings.{table_text}
 use Rattle.oc_neutral.specs.declared.section.Section.{Section}
 use Rattle.oc_neutral.specs.Objects.{Object}
-use Rattle.oc_neutral.specs.CoffMeets.{strings_of}
+use Rattle.oc_target.specs.CoffMeets.{strings_of}
 use Rattle.oc_shelf.specs.Writing.Parts.{Laid, laid, behind}
 use Rattle.oc_neutral.specs.declared.coff.TheConstants.{STRINGS_HEAD}
 use Rattle.oc_coff.specs.declared.section_header.TheConstants.{SECTION_HEADER_SIZE}

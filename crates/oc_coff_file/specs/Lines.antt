@@ -8,7 +8,7 @@ use Rattle.oc_neutral.specs.declared.section.Section.{Section}
 use Rattle.oc_neutral.specs.declared.symbol.Symbol.{Symbol}
 use Rattle.oc_neutral.specs.Objects.{Object}
 use Rattle.oc_neutral.specs.KeySymbols.{is_key_at, is_key}
-use Rattle.oc_neutral.specs.SymbolLines.{coff_entries, needs_default}
+use Rattle.oc_shows.specs.SymbolLines.{coff_entries, needs_default}
 use Rattle.oc_neutral.specs.WrittenSymbols.{is_written}
 use Rattle.oc_shelf.specs.Writing.Parts.{Laid, laid, laid_end, behind, place_where}
 use Rattle.oc_coff.specs.Forms.{format_of}

@@ -15,8 +15,8 @@ use Rattle.oc_base.specs.declared.fault.Fault.{Fault}
 use Rattle.oc_linking.specs.Numbers.{first_upto, or_else}
 use Rattle.oc_linking.specs.FirstFault.{Condition, fault_of, first_broken}
 use Rattle.oc_linking.proofs.FirstFaultLaws.{first_upto_none}
-use Rattle.oc_neutral.specs.declared.repeats.Repeat.{Repeat}
-use Rattle.oc_neutral.specs.Repeats.{NameList, name_at, names_of, place_of, repeat_at, first_repeat}
+use Rattle.oc_strings.specs.declared.repeats.Repeat.{Repeat}
+use Rattle.oc_strings.specs.Repeats.{NameList, name_at, names_of, place_of, repeat_at, first_repeat}
 use Rattle.oc_shelf.proofs.ReadingLaws.StageLemmas.{first_broken-append}
 use Rattle.oc_coff.specs.declared.constants.TheConstants.{IMAGE_SYM_CLASS_WEAK_EXTERNAL, IMAGE_SYM_DEBUG}
 use Rattle.oc_coff.specs.declared.symbol.SymbolEntry.{SymbolEntry}

@@ -6,8 +6,8 @@ use Rattle.std.specs.Option.{option_and_then, option_map}
 use Rattle.std.proofs.lemmas.Option.{none-some, same_Some}
 use Rattle.oc_linking.specs.declared.terms.Binding.{Binding}
 use Rattle.oc_linking.specs.Parts as parts
-use Rattle.oc_neutral.specs.Computed.{position_of}
-use Rattle.oc_neutral.specs.Shows.{AreNumbered}
+use Rattle.oc_shows.specs.Computed.{position_of}
+use Rattle.oc_shows.specs.Shows.{AreNumbered}
 use Rattle.oc_shelf.proofs.ReadingLaws.CollectedLemmas.{IsFrom, collected-from, collected-ordered}
 use Rattle.oc_shelf.proofs.WritingLaws.MemberLemmas.{member_filter_map}
 use Rattle.oc_coff.specs.Tables.{Tables}

@@ -7,8 +7,8 @@ use Rattle.oc_base.specs.declared.code.Code.TheVariants.{BadSymbol, BadName, Dup
 use Rattle.oc_base.specs.declared.fault.Phase.TheVariants.{Symbol}
 use Rattle.oc_base.specs.declared.fault.Fault.{Fault}
 use Rattle.oc_linking.specs.FirstFault.{Condition}
-use Rattle.oc_neutral.specs.declared.repeats.Repeat.{Repeat}
-use Rattle.oc_neutral.specs.Repeats.{NameList}
+use Rattle.oc_strings.specs.declared.repeats.Repeat.{Repeat}
+use Rattle.oc_strings.specs.Repeats.{NameList}
 use Rattle.oc_coff.specs.declared.constants.TheConstants.{IMAGE_SYM_CLASS_EXTERNAL, IMAGE_SYM_CLASS_WEAK_EXTERNAL, IMAGE_SYM_DEBUG}
 use Rattle.oc_coff.specs.declared.symbol.SymbolEntry.{SymbolEntry}
 use Rattle.oc_coff.specs.Tables.{Tables}

@@ -10,7 +10,7 @@ use Rattle.oc_linking.specs.declared.terms.Mark.TheVariants.{NoType, Function}
 use Rattle.oc_linking.specs.declared.terms.Visibility.TheVariants.{Default}
 use Rattle.oc_linking.specs.Parts as parts
 use Rattle.oc_neutral.specs.declared.symbol.Symbol.{Symbol}
-use Rattle.oc_neutral.specs.Computed.{position_of}
+use Rattle.oc_shows.specs.Computed.{position_of}
 use Rattle.oc_coff.specs.declared.constants.TheConstants.{IMAGE_SYM_CLASS_WEAK_EXTERNAL, IMAGE_SYM_TYPE_FUNCTION}
 use Rattle.oc_coff.specs.Tables.{Tables}
 use Rattle.oc_coff.specs.Entries.{Entry, entries_in, entry_numbered, is_class, name_of}

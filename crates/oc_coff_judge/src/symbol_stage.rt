@@ -2,7 +2,7 @@
 ghost use Rattle.std.specs.Prelude.{◌≡◌, ◌+◌, ◌<◌, length, None, Some, MatchOption, IfErr, IfOk, OnOk};
 ghost use Rattle.oc_base.specs.Stops.{IsStop};
 ghost use Rattle.oc_linking.specs.FirstFault.{first_broken, stage_fault};
-ghost use Rattle.oc_neutral.specs.Repeats as repeats;
+ghost use Rattle.oc_strings.specs.Repeats as repeats;
 ghost use Rattle.oc_shelf.specs.Reading.Slots.{AreSlots};
 ghost use Rattle.oc_coff.specs.Entries as entries;
 ghost use Rattle.oc_coff.specs.Sections as sections;
@@ -16,16 +16,11 @@ ghost use Rattle.oc_coff_judge.specs.Numbered.{AreNumbers, entry_by};
 use crate::copies::has_section;
 use crate::found::{Found, tagged_by};
 use crate::owners::number_at;
-use crate::symbols::{
-    class_fault, has_home, is_external, is_weak, name_of, place_fault, symbol_fault,
-};
+use crate::symbols::{class_fault, has_home, is_external, is_weak, name_of, place_fault, symbol_fault};
 use oc_base::{Code, Fault, NoMemory, Stop};
-use oc_coff::{
-    Coff, IMAGE_SYM_ABSOLUTE, IMAGE_SYM_CLASS_EXTERNAL, IMAGE_SYM_CLASS_STATIC, IMAGE_SYM_DEBUG,
-    SymbolEntry,
-};
-use oc_neutral::{Repeat, first_repeat};
+use oc_coff::{Coff, IMAGE_SYM_ABSOLUTE, IMAGE_SYM_CLASS_EXTERNAL, IMAGE_SYM_CLASS_STATIC, IMAGE_SYM_DEBUG, SymbolEntry};
 use oc_shelf::{Slots, earlier};
+use oc_strings::{Repeat, first_repeat};
 use std::alloc::Global;
 
 // whether a weak external may tag a symbol

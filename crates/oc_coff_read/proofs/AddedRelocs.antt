@@ -22,12 +22,12 @@ use Rattle.oc_neutral.specs.declared.reloc.Target.{Target}
 use Rattle.oc_neutral.specs.declared.reloc.Target.TheVariants as target
 use Rattle.oc_neutral.specs.declared.symbol.Symbol.{Symbol}
 use Rattle.oc_neutral.specs.Building.{Draft, is_zero}
-use Rattle.oc_neutral.specs.Built.{IsStarted}
-use Rattle.oc_neutral.specs.Computed.{computed_symbol, placed_binding, position_of as symbol_place}
+use Rattle.oc_shows.specs.Built.{IsStarted}
+use Rattle.oc_shows.specs.Computed.{computed_symbol, placed_binding, position_of as symbol_place}
 use Rattle.oc_neutral.specs.Invariants.{AreBytes, CanAdd, IsBinding, IsLessThere, IsTargetThere}
 use Rattle.oc_neutral.specs.KindRules.{same_kind}
 use Rattle.oc_neutral.specs.Normal.{Place, local_place, place_among}
-use Rattle.oc_neutral.specs.Started.{stored_section}
+use Rattle.oc_shows.specs.Started.{stored_section}
 use Rattle.oc_shelf.proofs.ReadingLaws.CollectedLemmas.{IsFrom, collected-from}
 use Rattle.oc_coff.specs.Tables.{SectionTable, Tables}
 use Rattle.oc_coff.specs.Entries.{entries_in}

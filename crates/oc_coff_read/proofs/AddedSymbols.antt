@@ -17,13 +17,13 @@ use Rattle.oc_linking.specs.Parts as parts
 use Rattle.oc_linking.specs.Parts.{is_local}
 use Rattle.oc_neutral.specs.declared.symbol.Symbol.{Symbol}
 use Rattle.oc_neutral.specs.Building.{Draft, symbol_added}
-use Rattle.oc_neutral.specs.Computed.{computed_symbol, placed_binding, position_of}
+use Rattle.oc_shows.specs.Computed.{computed_symbol, placed_binding, position_of}
 use Rattle.oc_neutral.specs.Invariants.{AreBytes}
 use Rattle.oc_neutral.specs.Keeping.{is_again}
 use Rattle.oc_neutral.specs.Powers.{natural_align}
-use Rattle.oc_neutral.specs.Started.{groups_by, plain_draft, stored_section}
-use Rattle.oc_neutral.proofs.BuiltSteps.{name_is_new}
-use Rattle.oc_neutral.proofs.StartedLaws.{symbol_more}
+use Rattle.oc_shows.specs.Started.{groups_by, plain_draft, stored_section}
+use Rattle.oc_shows.proofs.BuiltSteps.{name_is_new}
+use Rattle.oc_shows.proofs.StartedLaws.{symbol_more}
 use Rattle.oc_shelf.specs.Reading.Collected.{collected}
 use Rattle.oc_shelf.specs.Reading.Slots.{AreSlots}
 use Rattle.oc_shelf.proofs.ReadingLaws.CollectedLemmas.{IsFrom, collected-from, collected-none, collected-some}

@@ -14,7 +14,7 @@ use Rattle.oc_linking.specs.Fits.{bytes_of}
 use Rattle.oc_linking.specs.Keeping.{keeps}
 use Rattle.oc_neutral.specs.declared.reloc.Reloc.{Reloc}
 use Rattle.oc_neutral.specs.Building.{Draft}
-use Rattle.oc_neutral.specs.Built.{HasAdded}
+use Rattle.oc_shows.specs.Built.{HasAdded}
 use Rattle.oc_neutral.specs.Invariants.{AreBytes}
 use Rattle.oc_neutral.specs.Rows.{Row}
 use Rattle.oc_shelf.specs.declared.reading.order.Placed.{Placed}

@@ -14,8 +14,8 @@ use Rattle.oc_linking.specs.FirstFault.{stage_fault}
 use Rattle.oc_linking.specs.Parts as parts
 use Rattle.oc_neutral.specs.declared.group.Group.{Group}
 use Rattle.oc_neutral.specs.Building.{Draft, group_added}
-use Rattle.oc_neutral.specs.Started.{groups_by, plain_draft}
-use Rattle.oc_neutral.proofs.StartedLaws.{group_more}
+use Rattle.oc_shows.specs.Started.{groups_by, plain_draft}
+use Rattle.oc_shows.proofs.StartedLaws.{group_more}
 use Rattle.oc_coff.specs.Tables.{SectionTable, Tables}
 use Rattle.oc_coff.specs.Names.{symbol_name}
 use Rattle.oc_coff.specs.Entries.{name_of}

@@ -19,9 +19,9 @@ use Rattle.oc_neutral.specs.KindRules.{same_kind}
 use Rattle.oc_neutral.specs.declared.section.Section.{Section}
 use Rattle.oc_neutral.specs.Building.{is_zero, limit_passed, section_added, size_sum, stored_size, stored_sum}
 use Rattle.oc_neutral.specs.Invariants.{HasItsBytes, IsMember}
-use Rattle.oc_neutral.specs.Started.{groups_by, plain_draft, stored_section}
-use Rattle.oc_neutral.proofs.BuiltSteps.{within}
-use Rattle.oc_neutral.proofs.StartedLaws.{section_more}
+use Rattle.oc_shows.specs.Started.{groups_by, plain_draft, stored_section}
+use Rattle.oc_shows.proofs.BuiltSteps.{within}
+use Rattle.oc_shows.proofs.StartedLaws.{section_more}
 use Rattle.oc_shelf.specs.Reading.Collected.{collected}
 use Rattle.oc_shelf.specs.Reading.Sums.{sum_upto}
 use Rattle.oc_shelf.proofs.ReadingLaws.CollectedLemmas.{collected-some, collected-none, collected-sum, length-collected}
@@ -38,8 +38,8 @@ use Rattle.oc_coff_judge.specs.Led.{carried_at, section_at}
 use Rattle.oc_coff_read.specs.Built.{keys_of, sectioned}
 use Rattle.oc_coff_read.proofs.BegunLemmas.{key_given, section_group}
 use Rattle.oc_coff_judge.proofs.CarriedLemmas.{section_is}
-use Rattle.oc_neutral.proofs.KeyListLemmas.{given_low}
-use Rattle.oc_neutral.proofs.MeetsCounts.{sum_map}
+use Rattle.oc_shows.proofs.KeyListLemmas.{given_low}
+use Rattle.oc_target.proofs.MeetsCounts.{sum_map}
 
 numbered_at : {X : Type 0} (n : ℕ) (xs : List X) (i : ℕ) → slice_get (enumerate_from n xs) i ≡ option_map (λ x. (i + n, x)) (slice_get xs i)
 numbered_at n [] zero = refl

@@ -14,10 +14,10 @@ use Rattle.oc_chains.specs.declared.field.Field.{Field}
 use Rattle.oc_neutral.specs.declared.group.Group.{Group}
 use Rattle.oc_neutral.specs.declared.reloc.Reloc.{Reloc}
 use Rattle.oc_neutral.specs.declared.section.Section.{Section}
-use Rattle.oc_neutral.specs.Computed.{computed_symbol, keys_after}
+use Rattle.oc_shows.specs.Computed.{computed_symbol, keys_after}
 use Rattle.oc_neutral.specs.Invariants.{AreBegun, AreBytes, HaveKeys, IsAlign, IsComplete, IsHinted, IsSymbol, NamesOriginal, groups_of}
-use Rattle.oc_neutral.specs.Started.{groups_by, stored_section}
-use Rattle.oc_neutral.proofs.StartedLaws.{fieldless_at}
+use Rattle.oc_shows.specs.Started.{groups_by, stored_section}
+use Rattle.oc_shows.proofs.StartedLaws.{fieldless_at}
 use Rattle.oc_shelf.proofs.ReadingLaws.CollectedLemmas.{IsFrom, collected-from}
 use Rattle.oc_coff.specs.Tables.{Tables}
 use Rattle.oc_coff.specs.Names.{is_nothing}
@@ -33,7 +33,7 @@ use Rattle.oc_coff_judge.specs.Led.{leader_of, section_at, symbol_at}
 use Rattle.oc_coff.specs.Head.{IsHeaded}
 use Rattle.oc_coff_read.proofs.BegunLemmas.{section_group}
 use Rattle.oc_coff_judge.proofs.CollectLemmas.{sections_are, symbols_are}
-use Rattle.oc_neutral.proofs.KeyListLemmas.{all_at, keys_all, keys_apart, keys_begin}
+use Rattle.oc_shows.proofs.KeyListLemmas.{all_at, keys_all, keys_apart, keys_begin}
 use Rattle.oc_coff_judge.proofs.LedLemmas.{IsLeading, key_led, leading}
 use Rattle.oc_coff_judge.proofs.NumberedSymbols.{IsAt, stands_at}
 use Rattle.oc_coff_read.proofs.ReadableLemmas.{all_mapped}

@@ -16,18 +16,18 @@ use Rattle.oc_linking.specs.Targets as file
 use Rattle.oc_linking.specs.Targets.{symbol_target}
 use Rattle.oc_neutral.specs.declared.reloc.Reloc.{Reloc}
 use Rattle.oc_neutral.specs.declared.reloc.Target.TheVariants as target
-use Rattle.oc_neutral.specs.Built.{IsField, IsFree, IsGiven}
-use Rattle.oc_neutral.specs.Computed.{position_of}
+use Rattle.oc_shows.specs.Built.{IsField, IsFree, IsGiven}
+use Rattle.oc_shows.specs.Computed.{position_of}
 use Rattle.oc_neutral.specs.Dialects.{is_kept, kept_fields}
 use Rattle.oc_neutral.specs.Faces.{shown_symbols}
 use Rattle.oc_neutral.specs.Normal.{moved_addend}
 use Rattle.oc_neutral.specs.Objects.{Object}
 use Rattle.oc_neutral.specs.RelocTables.{row_of}
-use Rattle.oc_neutral.specs.RowFields.{field_in_place, number_in, place_target, row_field}
-use Rattle.oc_neutral.specs.RowValues.{row_reloc}
+use Rattle.oc_shows.specs.RowFields.{field_in_place, number_in, place_target, row_field}
+use Rattle.oc_shows.specs.RowValues.{row_reloc}
 use Rattle.oc_neutral.specs.TargetRelocations.{is_homeless}
 use Rattle.oc_neutral.specs.Rows.{Row}
-use Rattle.oc_neutral.proofs.RowFieldLaws.{rows_are_fields, section_rows_are_fields, symbol_is_target}
+use Rattle.oc_shows.proofs.RowFieldLaws.{rows_are_fields, section_rows_are_fields, symbol_is_target}
 use Rattle.oc_shelf.proofs.ReadingLaws.StageLemmas.{both_hold}
 use Rattle.oc_coff.specs.declared.relocation.Relocation.{Relocation}
 use Rattle.oc_coff.specs.Entries.{Entry, entries_in, entry_numbered}

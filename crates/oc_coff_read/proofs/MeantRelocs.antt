@@ -20,12 +20,12 @@ use Rattle.oc_algebra.specs.Residues.{reduced_number}
 use Rattle.oc_neutral.specs.declared.reloc.Reloc.{Reloc}
 use Rattle.oc_neutral.specs.declared.reloc.Target.{Target}
 use Rattle.oc_neutral.specs.declared.reloc.Target.TheVariants as target
-use Rattle.oc_neutral.specs.Computed.{position_of}
+use Rattle.oc_shows.specs.Computed.{position_of}
 use Rattle.oc_neutral.specs.Normal.{moved_addend}
 use Rattle.oc_neutral.specs.RelocTables.{row_of}
-use Rattle.oc_neutral.specs.RowFields.{number_in}
+use Rattle.oc_shows.specs.RowFields.{number_in}
 use Rattle.oc_neutral.specs.Rows.{Row, less_of, same_hint, shift_of}
-use Rattle.oc_neutral.specs.RowValues.{row_reloc}
+use Rattle.oc_shows.specs.RowValues.{row_reloc}
 use Rattle.oc_neutral.specs.TargetRelocations.{is_homeless}
 use Rattle.oc_neutral.proofs.MovedAddends.{moved_reduced}
 use Rattle.oc_coff.specs.declared.relocation.Relocation.{Relocation}

@@ -20,8 +20,8 @@ use Rattle.oc_neutral.specs.Coff.Kinds.{coff_kind, coff_tag, is_unwind_name}
 use Rattle.oc_neutral.specs.GivenTags.{can_have, is_blank_type}
 use Rattle.oc_neutral.specs.Invariants.{AreBytes}
 use Rattle.oc_neutral.specs.KindRules.{begins, first_rule, has_nul, kind_number, same_kind}
-use Rattle.oc_neutral.specs.Readable.{IsReadable}
-use Rattle.oc_neutral.specs.Started.{stored_section}
+use Rattle.oc_shows.specs.Readable.{IsReadable}
+use Rattle.oc_shows.specs.Started.{stored_section}
 use Rattle.oc_shelf.specs.Reading.Texts.{text_at, text_within}
 use Rattle.oc_shelf.proofs.ReadingLaws.CollectedLemmas.{IsFrom}
 use Rattle.oc_coff.specs.Tables.{Tables}

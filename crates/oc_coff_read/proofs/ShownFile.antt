@@ -13,12 +13,12 @@ use Rattle.oc_neutral.specs.declared.reloc.Reloc.{Reloc}
 use Rattle.oc_neutral.specs.declared.reloc.Target.{Target}
 use Rattle.oc_neutral.specs.declared.reloc.Target.TheVariants as target
 use Rattle.oc_neutral.specs.Building.{Draft}
-use Rattle.oc_neutral.specs.Built.{HasAdded, IsStarted}
-use Rattle.oc_neutral.specs.Finished.{AreFinal}
+use Rattle.oc_shows.specs.Built.{HasAdded, IsStarted}
+use Rattle.oc_shows.specs.Finished.{AreFinal}
 use Rattle.oc_neutral.specs.Invariants.{AreBytes, IsComplete, IsDraft, NamesOriginal}
-use Rattle.oc_neutral.specs.Readable.{IsReadable}
-use Rattle.oc_neutral.specs.Shows.{Shows}
-use Rattle.oc_neutral.proofs.BuiltWhole.{built_is_complete, built_is_readable}
+use Rattle.oc_shows.specs.Readable.{IsReadable}
+use Rattle.oc_shows.specs.Shows.{Shows}
+use Rattle.oc_shows.proofs.BuiltWhole.{built_is_complete, built_is_readable}
 use Rattle.oc_coff.specs.HeaderFaults.{header_stage}
 use Rattle.oc_coff.specs.RelocationFaults.{relocation_stage}
 use Rattle.oc_coff.specs.Rules.{dialect_by, fault_by, stages_of}

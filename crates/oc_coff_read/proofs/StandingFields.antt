@@ -18,16 +18,16 @@ use Rattle.oc_linking.specs.Targets.{symbol_target}
 use Rattle.oc_neutral.specs.declared.reloc.Reloc.{Reloc}
 use Rattle.oc_neutral.specs.declared.reloc.Target.{Target}
 use Rattle.oc_neutral.specs.declared.reloc.Target.TheVariants as target
-use Rattle.oc_neutral.specs.Built.{AreApart, AreOfFile, DifferencesFit, IsField}
-use Rattle.oc_neutral.specs.Computed.{position_of}
+use Rattle.oc_shows.specs.Built.{AreApart, AreOfFile, DifferencesFit, IsField}
+use Rattle.oc_shows.specs.Computed.{position_of}
 use Rattle.oc_neutral.specs.Dialects.{kept_fields}
 use Rattle.oc_neutral.specs.Faces.{shown_symbols}
 use Rattle.oc_neutral.specs.Normal.{moved_addend}
 use Rattle.oc_neutral.specs.Objects.{Object}
 use Rattle.oc_neutral.specs.RelocTables.{row_of}
-use Rattle.oc_neutral.specs.RowFields.{field_in_place, number_in}
+use Rattle.oc_shows.specs.RowFields.{field_in_place, number_in}
 use Rattle.oc_neutral.specs.Rows.{Row, less_of}
-use Rattle.oc_neutral.specs.RowValues.{row_reloc}
+use Rattle.oc_shows.specs.RowValues.{row_reloc}
 use Rattle.oc_coff.specs.declared.relocation.Relocation.{Relocation}
 use Rattle.oc_coff.specs.Entries.{Entry, entries_in, entry_numbered}
 use Rattle.oc_coff.specs.Sections.{Carried, carried_in, sections_in}

@@ -20,13 +20,13 @@ use Rattle.oc_linking.specs.declared.terms.Kind.TheVariants.{Code, ReadOnly, Dat
 use Rattle.oc_linking.specs.Parts as parts
 use Rattle.oc_linking.specs.Values.{numbered}
 use Rattle.oc_neutral.specs.Building.{Draft, is_zero}
-use Rattle.oc_neutral.specs.Built.{HasAdded, IsStarted}
-use Rattle.oc_neutral.specs.Computed.{computed_symbol, keys_after}
+use Rattle.oc_shows.specs.Built.{HasAdded, IsStarted}
+use Rattle.oc_shows.specs.Computed.{computed_symbol, keys_after}
 use Rattle.oc_neutral.specs.Invariants.{IsDraft}
-use Rattle.oc_neutral.specs.Shows.{Shows}
-use Rattle.oc_neutral.specs.Started.{AreShowable, groups_by, plain_draft, start_of, stored_section}
-use Rattle.oc_neutral.proofs.BuiltLaws.{built_shows}
-use Rattle.oc_neutral.proofs.StartedLaws.{start_is_started}
+use Rattle.oc_shows.specs.Shows.{Shows}
+use Rattle.oc_shows.specs.Started.{AreShowable, groups_by, plain_draft, start_of, stored_section}
+use Rattle.oc_shows.proofs.BuiltLaws.{built_shows}
+use Rattle.oc_shows.proofs.StartedLaws.{start_is_started}
 use Rattle.oc_shelf.proofs.ReadingLaws.CollectedLemmas.{IsFrom, collected-from}
 use Rattle.oc_coff.specs.Entries.{entries_in}
 use Rattle.oc_coff.specs.Forms.{format_by}

@@ -23,12 +23,12 @@ use Rattle.oc_linking.specs.Numbers.{first_from, modulus}
 use Rattle.oc_linking.proofs.Searching.{first_from_found}
 use Rattle.oc_linking.specs.Parts as parts
 use Rattle.oc_neutral.specs.declared.symbol.Symbol.{Symbol}
-use Rattle.oc_neutral.specs.Computed.{computed_symbol, placed_binding, position_of as symbol_place}
+use Rattle.oc_shows.specs.Computed.{computed_symbol, placed_binding, position_of as symbol_place}
 use Rattle.oc_neutral.specs.Faces.{number_of}
 use Rattle.oc_neutral.specs.Invariants.{AreBytes, HasOffset, IsAlign, IsBinding, IsOriginal, IsSymbol, IsValue, is_strong}
 use Rattle.oc_neutral.specs.Objects.{Object}
 use Rattle.oc_neutral.specs.Powers.{natural_align}
-use Rattle.oc_neutral.specs.Started.{stored_section}
+use Rattle.oc_shows.specs.Started.{stored_section}
 use Rattle.oc_shelf.proofs.ReadingLaws.CollectedLemmas.{IsFrom}
 use Rattle.oc_coff.specs.declared.constants.TheConstants.{IMAGE_SYM_SECTION_MAX_EX, IMAGE_SYM_CLASS_EXTERNAL, IMAGE_SYM_CLASS_LABEL, IMAGE_SYM_CLASS_STATIC, IMAGE_SYM_CLASS_WEAK_EXTERNAL}
 use Rattle.oc_coff.specs.declared.symbol.SymbolEntry.{SymbolEntry}

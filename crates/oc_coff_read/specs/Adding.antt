@@ -6,7 +6,7 @@ use Rattle.oc_linking.specs.declared.terms.Keep.{Keep}
 use Rattle.oc_linking.specs.declared.terms.Kind.{Kind}
 use Rattle.oc_linking.specs.FirstFault.{stage_fault}
 use Rattle.oc_neutral.specs.Building.{Draft}
-use Rattle.oc_neutral.specs.Built.{HasAdded, IsStarted}
+use Rattle.oc_shows.specs.Built.{HasAdded, IsStarted}
 use Rattle.oc_shelf.specs.Reading.Collected.{collected}
 use Rattle.oc_shelf.specs.Reading.Slots.{AreSlots}
 use Rattle.oc_coff.specs.Entries.{entries_in}

@@ -5,8 +5,8 @@ use Rattle.oc_base.specs.declared.format.Word.{Word}
 use Rattle.oc_base.specs.Strings.{is_given}
 use Rattle.oc_linking.specs.Parts as parts
 use Rattle.oc_neutral.specs.Building.{Draft}
-use Rattle.oc_neutral.specs.Computed.{computed_symbol, keys_after}
-use Rattle.oc_neutral.specs.Started.{groups_by, plain_draft, stored_section}
+use Rattle.oc_shows.specs.Computed.{computed_symbol, keys_after}
+use Rattle.oc_shows.specs.Started.{groups_by, plain_draft, stored_section}
 use Rattle.oc_shelf.specs.Reading.Collected.{collected}
 use Rattle.oc_coff.specs.Tables.{Tables}
 use Rattle.oc_coff.specs.Entries.{name_of}

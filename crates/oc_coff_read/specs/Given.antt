@@ -14,15 +14,15 @@ use Rattle.oc_linking.specs.Parts as parts
 use Rattle.oc_linking.specs.Targets.{Target, symbol_target}
 use Rattle.oc_algebra.specs.Fields.{from_field_of}
 use Rattle.oc_algebra.specs.Residues.{reduced_number}
-use Rattle.oc_neutral.specs.Built.{Given}
-use Rattle.oc_neutral.specs.Computed.{position_of}
+use Rattle.oc_shows.specs.Built.{Given}
+use Rattle.oc_shows.specs.Computed.{position_of}
 use Rattle.oc_neutral.specs.declared.reloc.Reloc.{Reloc}
 use Rattle.oc_neutral.specs.declared.reloc.Target.{Target as RelocTarget}
 use Rattle.oc_neutral.specs.declared.reloc.Target.TheVariants as target
 use Rattle.oc_neutral.specs.Normal.{moved_addend}
 use Rattle.oc_neutral.specs.RelocTables.{row_of}
-use Rattle.oc_neutral.specs.RowFields.{number_in}
-use Rattle.oc_neutral.specs.RowValues.{row_reloc}
+use Rattle.oc_shows.specs.RowFields.{number_in}
+use Rattle.oc_shows.specs.RowValues.{row_reloc}
 use Rattle.oc_neutral.specs.Rows.{Row}
 use Rattle.oc_shelf.specs.declared.reading.order.Placed.{Placed}
 use Rattle.oc_coff.specs.declared.relocation.Relocation.{Relocation}

@@ -6,8 +6,8 @@ use Rattle.oc_base.specs.declared.format.Word.TheVariants.{W32, W64}
 use Rattle.oc_coff.specs.declared.form.Shape.TheVariants.{Usual, Big}
 use Rattle.oc_linking.specs.declared.terms.Keep.{Keep}
 use Rattle.oc_neutral.specs.Building.{Draft}
-use Rattle.oc_neutral.specs.Built.{HasAdded, IsStarted}
-use Rattle.oc_neutral.specs.Shows.{Shows}
+use Rattle.oc_shows.specs.Built.{HasAdded, IsStarted}
+use Rattle.oc_shows.specs.Shows.{Shows}
 use Rattle.oc_coff.specs.Entries.{entries_in}
 use Rattle.oc_coff.specs.Rules.{CoffIsDialect, dialect_by, fault_by}
 use Rattle.oc_coff_read.specs.Built.{symboled}

@@ -3,7 +3,7 @@ ghost use Rattle.std.specs.Prelude.{◌≡◌, ◌+◌, ◌<◌, ◌≤◌, leng
 ghost use Rattle.std.specs.List.Sorted.{IsPermutation};
 ghost use Rattle.oc_linking.specs.FirstFault.{stage_fault};
 ghost use Rattle.oc_linking.specs.Keeping.{keeps};
-ghost use Rattle.oc_neutral.specs.Built.{HasAdded};
+ghost use Rattle.oc_shows.specs.Built.{HasAdded};
 ghost use Rattle.oc_shelf.specs.Reading.Collected.{collected};
 ghost use Rattle.oc_coff.specs.SectionFaults.{section_stage};
 ghost use Rattle.oc_coff.specs.Sections as sections;

@@ -6,7 +6,7 @@ ghost use Rattle.oc_linking.specs.FirstFault.{stage_fault};
 ghost use Rattle.oc_neutral.specs.Building.{is_zero};
 ghost use Rattle.oc_neutral.specs.Coff.Kinds as kinds;
 ghost use Rattle.oc_neutral.specs.KindRules.{without};
-ghost use Rattle.oc_neutral.specs.Started.{stored_section};
+ghost use Rattle.oc_shows.specs.Started.{stored_section};
 ghost use Rattle.oc_coff.specs.Comdat.{key_in};
 ghost use Rattle.oc_coff.specs.Names as names;
 ghost use Rattle.oc_coff.specs.Sections as sections;

@@ -3,8 +3,8 @@ ghost use Rattle.std.specs.Prelude.{◌≡◌, ◌≤◌, length, None, IfErr, I
 ghost use Rattle.oc_base.specs.declared.limits.TheConstants.{MOST_INPUT};
 ghost use Rattle.oc_base.specs.Stops.{IsStop};
 ghost use Rattle.oc_linking.specs.FirstFault.{first_fault};
-ghost use Rattle.oc_neutral.specs.Readable.{IsReadable};
-ghost use Rattle.oc_neutral.specs.Shows.{Shows};
+ghost use Rattle.oc_shows.specs.Readable.{IsReadable};
+ghost use Rattle.oc_shows.specs.Shows.{Shows};
 ghost use Rattle.oc_coff.specs.Rules.{coff_dialect, dialect_by, fault_by, fault_of};
 ghost use Rattle.oc_coff_judge.specs.Found.{IsFound};
 ghost use Rattle.oc_coff_judge.specs.Relocs.{rest_stages};
@@ -15,7 +15,8 @@ use crate::started::start;
 use oc_base::{NoMemory, Stop, Word};
 use oc_coff::{Coff, CoffForm, Shape, read_coff, shape_of, word_of};
 use oc_coff_judge::{Found, check_rest, symbol_positions};
-use oc_neutral::{Keep, Neutral, Reads, are_bytes};
+use oc_neutral::{Keep, Neutral, are_bytes};
+use oc_shows::Reads;
 use std::alloc::Global;
 
 // the object of a file without faults, by what was found in it

@@ -11,7 +11,7 @@ use Rattle.oc_neutral.specs.Normal.{Place}
 use Rattle.oc_neutral.specs.Objects.{Object}
 use Rattle.oc_neutral.specs.Invariants.{AreDistinct}
 use Rattle.oc_neutral.specs.KeySymbols.{global_place, group_at, is_key_name, is_key_at, lies_in}
-use Rattle.oc_express.proofs.KeyPlaces.{is_key_in, key_at_place, key_nowhere, key_names, keys_at}
+use Rattle.oc_target.proofs.KeyPlaces.{is_key_in, key_at_place, key_nowhere, key_names, keys_at}
 use Rattle.oc_coff_file.specs.Canonical.{leads, leader_number, kept_with, selection_of}
 use Rattle.oc_coff_write.specs.Keys.{first_made, key_place, keyed_at, key_position, led_by, leader_position}
 

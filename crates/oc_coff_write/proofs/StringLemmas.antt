@@ -14,9 +14,9 @@ use Rattle.oc_neutral.specs.Objects.{Object}
 use Rattle.oc_neutral.specs.Families.{same_format}
 use Rattle.oc_neutral.specs.HomeNames.{output_names, names_across}
 use Rattle.oc_neutral.specs.KeySymbols.{is_key_at}
-use Rattle.oc_neutral.specs.SymbolLines.{needs_default, is_weak_with}
+use Rattle.oc_shows.specs.SymbolLines.{needs_default, is_weak_with}
 use Rattle.oc_neutral.specs.Coff.Strings.{is_long, is_tabled, has_default, default_name, defaults_of, names_where, key_strings, coff_strings}
-use Rattle.oc_neutral.specs.CoffMeets.{strings_of}
+use Rattle.oc_target.specs.CoffMeets.{strings_of}
 use Rattle.oc_coff.specs.Forms.{format_of}
 use Rattle.oc_coff_file.specs.Lines.{Line, LocalLine, DefaultLine, OuterLine, lines_where, section_lines, is_written_local, is_free, lines_of}
 use Rattle.oc_coff_write.specs.Strings.{line_strings, table_names}

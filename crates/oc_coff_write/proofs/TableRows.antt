@@ -3,7 +3,7 @@ use Rattle.std.proofs.Common.{◌≡◌, ℕ, ◌+◌, ◌^◌, ◌<◌, ◌≤�
 use Rattle.std.specs.Prelude.{slice_get}
 use Rattle.std.proofs.lemmas.List.{length-map}
 use Rattle.std.proofs.lemmas.Option.{get_or_from_slice_get}
-use Rattle.oc_neutral.proofs.Reordered.{member_map}
+use Rattle.oc_shows.proofs.Reordered.{member_map}
 use Rattle.oc_shelf.specs.Writing.Parts.{table_of, row_of}
 use Rattle.oc_shelf.proofs.WritingLaws.TableLemmas.{table_long}
 use Rattle.oc_coff.specs.declared.relocation.Relocation.{Relocation}

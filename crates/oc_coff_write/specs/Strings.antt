@@ -6,7 +6,7 @@ use Rattle.oc_base.specs.Strings.{table_place}
 use Rattle.oc_neutral.specs.Coff.Strings.{is_long, is_tabled, default_name}
 use Rattle.oc_neutral.specs.declared.section.Section.{Section}
 use Rattle.oc_neutral.specs.Objects.{Object}
-use Rattle.oc_neutral.specs.CoffMeets.{strings_of}
+use Rattle.oc_target.specs.CoffMeets.{strings_of}
 use Rattle.oc_strings.specs.Tables.{StringTable}
 use Rattle.oc_neutral.specs.declared.coff.TheConstants.{STRINGS_HEAD}
 use Rattle.oc_coff.specs.Forms.{format_of}

@@ -8,7 +8,7 @@ ghost use Rattle.oc_linking.specs.Parts.{is_local};
 ghost use Rattle.oc_linking.specs.declared.terms.Fallback.{Fallback};
 ghost use Rattle.oc_neutral.specs.Families.{container_of};
 ghost use Rattle.oc_neutral.specs.Family.{IsCoff};
-ghost use Rattle.oc_neutral.specs.Fitted.{IsFitted};
+ghost use Rattle.oc_target.specs.Fitted.{IsFitted};
 ghost use Rattle.oc_neutral.specs.Objects.{Object};
 ghost use Rattle.oc_neutral.specs.declared.section.Section.{Section as Held};
 ghost use Rattle.oc_shelf.specs.Writing.Parts.{Laid};

@@ -2,7 +2,7 @@
 ghost use Rattle.std.specs.Prelude.{◌≡◌, ◌+◌, ◌<◌, ◌^◌, ◌++◌, [], ◌∷◌, IfOk, List, OnOk, flat_map, map};
 ghost use Rattle.std.specs.List.{enumerate_from};
 ghost use Rattle.oc_coff.specs.declared.form.CoffForm.{CoffForm as Width};
-ghost use Rattle.oc_neutral.specs.Fitted.{IsFitted};
+ghost use Rattle.oc_target.specs.Fitted.{IsFitted};
 ghost use Rattle.oc_neutral.specs.Objects.{Object};
 ghost use Rattle.oc_coff.specs.Forms.{format_of};
 ghost use Rattle.oc_coff_file.specs.Layout.{Part, FileHead, SectionHeads, parts_of, part_size, section_parts};

@@ -4,7 +4,7 @@ ghost use Rattle.std.specs.Prelude.{◌≡◌, ◌++◌, [], ◌∷◌, if◌the
 ghost use Rattle.std.specs.List.{enumerate_from};
 ghost use Rattle.std.specs.Option.{option_map_or};
 ghost use Rattle.oc_linking.specs.Parts as parts;
-ghost use Rattle.oc_neutral.specs.SymbolLines as symbol_lines;
+ghost use Rattle.oc_shows.specs.SymbolLines as symbol_lines;
 ghost use Rattle.oc_coff_file.specs.Lines as coff_lines;
 ghost use Rattle.oc_coff_write.specs.Keys.{AreKeys};
 ghost use Rattle.oc_coff_write.specs.Lines.{lines_in, AreLines};

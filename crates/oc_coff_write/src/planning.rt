@@ -1,6 +1,6 @@
 //! Planning the canonical COFF file of an object that is ready to be written.
 ghost use Rattle.std.specs.Prelude.{◌≡◌, IfOk, map};
-ghost use Rattle.oc_neutral.specs.Fitted.{IsFitted};
+ghost use Rattle.oc_target.specs.Fitted.{IsFitted};
 ghost use Rattle.oc_coff_file.specs.Canonical as canonical;
 ghost use Rattle.oc_coff.specs.Forms.{format_of};
 ghost use Rattle.oc_coff_file.specs.Layout.{parts_of};
@@ -19,10 +19,11 @@ use crate::relocations::all_relocations;
 use crate::symbols::symbols_of;
 use oc_base::NoMemory;
 use oc_coff::{CoffForm, Relocation, SectionHeader, shape_of};
-use oc_neutral::{Fitted, Neutral, Section};
+use oc_neutral::{Neutral, Section};
 use oc_plans::with_numbers;
 use oc_shelf::Layout;
 use oc_strings::Table;
+use oc_target::Fitted;
 use std::alloc::Global;
 
 // the sections of an object, with the numbers in their fields

@@ -4,7 +4,7 @@ ghost use Rattle.std.specs.Prelude.{◌≡◌, IfOk, length, map};
 ghost use Rattle.oc_coff_write.specs.FormFor.{form_for};
 ghost use Rattle.oc_neutral.specs.Families.{container_of};
 ghost use Rattle.oc_neutral.specs.Family.{IsCoff};
-ghost use Rattle.oc_neutral.specs.Fitted.{IsFitted};
+ghost use Rattle.oc_target.specs.Fitted.{IsFitted};
 ghost use Rattle.oc_coff_file.specs.Canonical.{entry_rows};
 ghost use Rattle.oc_coff.specs.Forms.{format_of, shape_of};
 ghost use Rattle.oc_coff_file.specs.Lines.{entry_count};

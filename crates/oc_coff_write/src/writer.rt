@@ -8,7 +8,7 @@ use crate::plan::Plan;
 use crate::planning::plan_object;
 use oc_base::NoMemory;
 use oc_coff::CoffForm;
-use oc_neutral::{Fitted, Writes};
+use oc_target::{Fitted, Writes};
 use std::alloc::Global;
 
 /// Writes COFF for i386: every object that is ready for it, as its canonical file.

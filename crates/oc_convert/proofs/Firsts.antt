@@ -10,10 +10,10 @@ use Rattle.oc_linking.specs.Numbers.{or_else}
 use Rattle.oc_neutral.specs.Objects.{Object}
 use Rattle.oc_neutral.specs.Invariants.{IsObject}
 use Rattle.oc_neutral.specs.Dialects.{Dialect}
-use Rattle.oc_neutral.specs.Shows.{Shows}
-use Rattle.oc_neutral.specs.Computed.{object_in}
-use Rattle.oc_neutral.specs.Fitted.{first_unfit}
-use Rattle.oc_neutral.proofs.ShownComputed.{shown_is_computed}
+use Rattle.oc_shows.specs.Shows.{Shows}
+use Rattle.oc_shows.specs.Computed.{object_in}
+use Rattle.oc_target.specs.Fitted.{first_unfit}
+use Rattle.oc_shows.proofs.ShownComputed.{shown_is_computed}
 use Rattle.oc_drop.specs.Refusals.{IsStepRefusal}
 use Rattle.oc_names.specs.Wishes.{Wishes}
 use Rattle.oc_names.specs.Edited.{edited}

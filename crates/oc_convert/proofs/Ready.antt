@@ -9,13 +9,13 @@ use Rattle.oc_linking.specs.Parts as parts
 use Rattle.oc_neutral.specs.Objects.{Object}
 use Rattle.oc_neutral.specs.Invariants.{IsObject}
 use Rattle.oc_neutral.specs.Dialects.{Dialect}
-use Rattle.oc_neutral.specs.Readable.{IsReadable}
-use Rattle.oc_neutral.specs.Shows.{Shows}
-use Rattle.oc_neutral.specs.Fitted.{CanFit, IsFit, IsFitted, first_unfit}
-use Rattle.oc_neutral.specs.Fitting.{fit_of}
-use Rattle.oc_neutral.specs.Targets.{WritesCanonical}
-use Rattle.oc_neutral.proofs.SeenLaws.{seen_looks_alike_law}
-use Rattle.oc_neutral.proofs.ShownComputed.{shown_is_computed}
+use Rattle.oc_shows.specs.Readable.{IsReadable}
+use Rattle.oc_shows.specs.Shows.{Shows}
+use Rattle.oc_target.specs.Fitted.{CanFit, IsFit, IsFitted, first_unfit}
+use Rattle.oc_target.specs.Fitting.{fit_of}
+use Rattle.oc_target.specs.Targets.{WritesCanonical}
+use Rattle.oc_target.proofs.SeenLaws.{seen_looks_alike_law}
+use Rattle.oc_shows.proofs.ShownComputed.{shown_is_computed}
 use Rattle.oc_names.specs.Wishes.{Wishes}
 use Rattle.oc_names.specs.Edited.{edited}
 use Rattle.oc_names.specs.EditedShows.{is_folded_after, HasEdited}

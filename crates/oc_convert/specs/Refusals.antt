@@ -6,8 +6,8 @@ use Rattle.oc_linking.specs.declared.terms.Keep.{Keep}
 use Rattle.oc_linking.specs.Numbers.{or_else}
 use Rattle.oc_neutral.specs.Objects.{Object}
 use Rattle.oc_neutral.specs.Dialects.{Dialect}
-use Rattle.oc_neutral.specs.Computed.{object_in}
-use Rattle.oc_neutral.specs.Fitted.{first_unfit}
+use Rattle.oc_shows.specs.Computed.{object_in}
+use Rattle.oc_target.specs.Fitted.{first_unfit}
 use Rattle.oc_names.specs.Wishes.{Wishes}
 use Rattle.oc_names.specs.Kept.{keep_for}
 use Rattle.oc_names.specs.Edited.{edited}

@@ -4,8 +4,8 @@ ghost use Rattle.oc_base.specs.Formats.{word_for};
 ghost use Rattle.oc_base.specs.declared.limits.TheConstants.{MOST_INPUT};
 ghost use Rattle.oc_base.specs.Stops.{IsStop};
 ghost use Rattle.oc_neutral.specs.Invariants.{IsObject};
-ghost use Rattle.oc_neutral.specs.Readable.{IsReadable};
-ghost use Rattle.oc_neutral.specs.Shows.{Shows};
+ghost use Rattle.oc_shows.specs.Readable.{IsReadable};
+ghost use Rattle.oc_shows.specs.Shows.{Shows};
 ghost use Rattle.oc_drop.specs.Refusals.{IsStepRefusal};
 ghost use Rattle.oc_names.specs.Edited as editing;
 ghost use Rattle.oc_convert.specs.Converted.{IsReady};
@@ -14,7 +14,9 @@ ghost use Rattle.oc_convert.specs.Refusals.{first_refusal};
 use oc_base::{Format, Stop};
 use oc_express::fit;
 use oc_names::{Edits, apply, edited_is_readable, keep_for};
-use oc_neutral::{Fitted, Keep, Neutral, Reads};
+use oc_neutral::{Keep, Neutral};
+use oc_shows::Reads;
+use oc_target::Fitted;
 use std::alloc::Global;
 
 // reads a file as it is kept

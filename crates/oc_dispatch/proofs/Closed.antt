@@ -10,7 +10,7 @@ use Rattle.oc_base.specs.Formats.{word_for}
 use Rattle.oc_linking.specs.Numbers.{or_else}
 use Rattle.oc_neutral.specs.Families.{same_word}
 use Rattle.oc_neutral.specs.Dialects.{Dialect}
-use Rattle.oc_neutral.specs.Fitted.{IsFitted}
+use Rattle.oc_target.specs.Fitted.{IsFitted}
 use Rattle.oc_neutral.specs.Objects.{Object}
 use Rattle.oc_names.specs.Wishes.{no_wishes}
 use Rattle.oc_convert.specs.Converted.{planned_file}

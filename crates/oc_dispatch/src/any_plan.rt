@@ -6,8 +6,8 @@ use oc_big_elf::{BigElfWriter32, BigElfWriter64};
 use oc_coff_write::{CoffWriter32, CoffWriter64};
 use oc_elf_write::{ElfWriter32, ElfWriter64};
 use oc_macho_write::{MachWriter32, MachWriter64};
-use oc_neutral::{Emits, Writes};
 use oc_omf_write::OmfWriter;
+use oc_target::{Emits, Writes};
 
 /// The planned file of any format.
 #[derive(Debug, Drop)]

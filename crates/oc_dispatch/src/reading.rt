@@ -2,10 +2,10 @@
 ghost use Rattle.std.specs.Prelude.{◌≡◌, ◌≤◌, length, None, IfErr, IfOk, OnOk};
 ghost use Rattle.oc_base.specs.declared.limits.TheConstants.{MOST_INPUT};
 ghost use Rattle.oc_base.specs.Stops.{IsStop};
-ghost use Rattle.oc_neutral.specs.Computed.{object_in};
-ghost use Rattle.oc_neutral.specs.Readable.{IsReadable};
-ghost use Rattle.oc_neutral.specs.Shows.{Shows};
-ghost use Rattle.oc_neutral.specs.Targets.{IsDialect};
+ghost use Rattle.oc_shows.specs.Computed.{object_in};
+ghost use Rattle.oc_shows.specs.Readable.{IsReadable};
+ghost use Rattle.oc_shows.specs.Shows.{Shows};
+ghost use Rattle.oc_neutral.specs.Dialects.{IsDialect};
 ghost use Rattle.oc_convert.specs.Dispatched.{reading_refusal};
 ghost use Rattle.oc_dispatch.specs.Built.{IsRead, built};
 
@@ -17,8 +17,9 @@ use oc_coff_read::{CoffReader32, CoffReader64};
 use oc_convert::identify;
 use oc_elf_read::{ElfReader32, ElfReader64};
 use oc_macho_read::{MachReader32, MachReader64};
-use oc_neutral::{Keep, Neutral, Reads, shown_object_is_computed};
+use oc_neutral::{Keep, Neutral};
 use oc_omf_read::OmfReader;
+use oc_shows::{Reads, shown_object_is_computed};
 use std::alloc::Global;
 
 // the object of a file that this reader reads

@@ -10,9 +10,8 @@ use Rattle.oc_linking.specs.Keeping.{keeps, kept_flags, kept_of}
 use Rattle.oc_linking.specs.Parts as parts
 use Rattle.oc_neutral.specs.declared.group.Group.{Group}
 use Rattle.oc_neutral.specs.declared.section.Section.{Section}
-use Rattle.oc_neutral.specs.Faces.{key_of, shown_section}
+use Rattle.oc_neutral.specs.Faces.{key_of, shown_section, frame_of}
 use Rattle.oc_neutral.specs.Invariants.{IsMember, groups_of}
-use Rattle.oc_neutral.specs.Shows.{frame_of}
 use Rattle.oc_neutral.proofs.Positions.{there_at}
 use Rattle.oc_drop.specs.Dropping.{sections_stay}
 use Rattle.oc_neutral.specs.Without.{place_in, begun_more, begun_by, groups_left, regrouped}

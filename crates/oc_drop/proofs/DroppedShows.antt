@@ -38,11 +38,11 @@ use Rattle.oc_neutral.specs.Faces.{contents_of, field_of}
 use Rattle.oc_neutral.specs.Normal.{local_place, place_among}
 use Rattle.oc_neutral.specs.Worth.{target_worth, base_of, less_of, residue_at}
 use Rattle.oc_neutral.specs.Dialects.{Dialect, is_folded, patches_in}
-use Rattle.oc_neutral.specs.Shows.{patches_of, IsTrueToFixed, Shows}
-use Rattle.oc_neutral.proofs.Blank.{found_field}
+use Rattle.oc_shows.specs.Shows.{patches_of, IsTrueToFixed, Shows}
+use Rattle.oc_shows.proofs.Blank.{found_field}
 use Rattle.oc_neutral.proofs.NormalLemmas.{place_among-there}
 use Rattle.oc_neutral.proofs.Positions.{there_at}
-use Rattle.oc_neutral.proofs.SeenRelocs.{list_map}
+use Rattle.oc_neutral.proofs.Mapped.{list_map}
 use Rattle.oc_neutral.specs.Without.{symbols_stay, is_dropped, binding_section, lies_in_dropped, targets_dropped, takes_dropped, refers_to_dropped, new_position, moved_target, moved_less, moved_reloc, moved_field, groups_left, regrouped, IsDetached}
 use Rattle.oc_drop.specs.Dropping.{dropping_fault, stays, left}
 use Rattle.oc_drop.specs.KeptShows.{kept_patches, ShowsKept, DroppedShowsKept}

@@ -13,7 +13,7 @@ use Rattle.oc_neutral.specs.Objects.{Object}
 use Rattle.oc_neutral.specs.Invariants.{IsObject}
 use Rattle.oc_neutral.specs.Faces.{contents_of}
 use Rattle.oc_neutral.specs.Dialects.{Dialect, is_folded}
-use Rattle.oc_neutral.specs.Shows.{patches_of, IsTrueToFixed, Shows}
+use Rattle.oc_shows.specs.Shows.{patches_of, IsTrueToFixed, Shows}
 use Rattle.oc_neutral.specs.Without.{symbols_stay}
 use Rattle.oc_drop.specs.Dropping.{dropped}
 

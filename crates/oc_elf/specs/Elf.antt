@@ -5,8 +5,7 @@ use Rattle.oc_linking.specs.declared.terms.Keep.{Keep}
 use Rattle.oc_linking.specs.FirstFault.{Stage, first_fault}
 use Rattle.oc_linking.specs.Rules.{Rules}
 use Rattle.oc_neutral.specs.Alignments.{output_align, common_align}
-use Rattle.oc_neutral.specs.Dialects.{Dialect}
-use Rattle.oc_neutral.specs.Targets.{IsDialect}
+use Rattle.oc_neutral.specs.Dialects.{Dialect, IsDialect}
 use Rattle.oc_elf.specs.declared.class.ElfClass.{ElfClass}
 use Rattle.oc_elf.specs.declared.class.ElfClass.TheVariants.{Class32, Class64, Big32, Big64}
 use Rattle.oc_elf.specs.Classes.{word_of, format_of}

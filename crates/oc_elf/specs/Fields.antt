@@ -10,7 +10,7 @@ use Rattle.oc_linking.specs.Targets.{Target, symbol_target}
 use Rattle.oc_algebra.specs.Fields.{extended}
 use Rattle.oc_neutral.specs.Rows.{Row}
 use Rattle.oc_neutral.specs.RelocTables.{row_of}
-use Rattle.oc_neutral.specs.RowFields.{number_in, place_target, row_field}
+use Rattle.oc_shows.specs.RowFields.{number_in, place_target, row_field}
 use Rattle.oc_base.specs.declared.format.Word.{Word}
 use Rattle.oc_base.specs.declared.format.Word.TheVariants.{W32, W64}
 use Rattle.oc_elf.specs.declared.constants.TheConstants.{R_NONE}

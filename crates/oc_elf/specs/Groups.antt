@@ -3,7 +3,7 @@ use Rattle.std.specs.Prelude.{ℕ, ◌+◌, ◌-◌, ◌*◌, ◌/◌, Bool, ◌
 use Rattle.std.specs.List.{range_with_len}
 use Rattle.std.specs.Option.{option_map, option_and_then}
 use Rattle.oc_base.specs.Numbers.{number_at}
-use Rattle.oc_neutral.specs.Repeats.{NameList}
+use Rattle.oc_strings.specs.Repeats.{NameList}
 use Rattle.oc_shelf.specs.Reading.Firsts.{any_upto, first_place}
 use Rattle.oc_elf.specs.declared.constants.TheConstants.{GRP_COMDAT, GRP_ENTRY_SIZE, SHT_GROUP}
 use Rattle.oc_elf.specs.declared.shdr.Shdr.{Shdr}

@@ -7,8 +7,8 @@ use Rattle.oc_base.specs.declared.code.Code.TheVariants.{BadName, BadSymbol, Sym
 use Rattle.oc_base.specs.declared.fault.Fault.{Fault}
 use Rattle.oc_base.specs.declared.fault.Phase.TheVariants.{Symbol as SymbolPhase}
 use Rattle.oc_linking.specs.FirstFault.{Condition, Stage}
-use Rattle.oc_neutral.specs.declared.repeats.Repeat.{Repeat}
-use Rattle.oc_neutral.specs.Repeats.{NameList, repeat_at}
+use Rattle.oc_strings.specs.declared.repeats.Repeat.{Repeat}
+use Rattle.oc_strings.specs.Repeats.{NameList, repeat_at}
 use Rattle.oc_shelf.specs.Reading.Firsts.{any_upto}
 use Rattle.oc_neutral.specs.declared.elf.TheConstants.{ALIGN_BITS}
 use Rattle.oc_elf.specs.declared.constants.TheConstants.{SHN_LORESERVE}

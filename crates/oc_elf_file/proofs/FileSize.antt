@@ -16,7 +16,7 @@ use Rattle.oc_neutral.specs.Building.{stored_size, stored_sum}
 use Rattle.oc_neutral.specs.Invariants.{HasItsBytes}
 use Rattle.oc_neutral.specs.Objects.{Object}
 use Rattle.oc_neutral.specs.Elf.Family.{elf_symbol_count, signature_count}
-use Rattle.oc_neutral.specs.SymbolLines.{needs_signature}
+use Rattle.oc_shows.specs.SymbolLines.{needs_signature}
 use Rattle.oc_shelf.specs.Writing.Parts.{laid, behind}
 use Rattle.oc_elf.specs.declared.class.ElfClass.{ElfClass}
 use Rattle.oc_elf.specs.Classes.{format_of, word_of}
@@ -37,7 +37,7 @@ use Rattle.oc_elf_file.proofs.HeadCounts.{length-heads, counted_tables, most_tab
 use Rattle.oc_elf_file.proofs.PartLaws.{length-elf_file}
 use Rattle.oc_elf_file.proofs.SizeLaws.{strings_size, end_low, gap_low, align_low, members_few}
 use Rattle.oc_shelf.proofs.WritingLaws.SizeLemmas.{sum_enumerated, sum_filter, sum_more, sum_same, ended_size}
-use Rattle.oc_neutral.proofs.MeetsCounts.{sum_map}
+use Rattle.oc_target.proofs.MeetsCounts.{sum_map}
 
 -- ... sums over lists
 

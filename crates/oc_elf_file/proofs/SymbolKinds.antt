@@ -13,7 +13,7 @@ use Rattle.oc_linking.specs.declared.terms.Value.TheVariants as value
 use Rattle.oc_neutral.specs.declared.section.Section.{Section}
 use Rattle.oc_neutral.specs.declared.symbol.Symbol.{Symbol}
 use Rattle.oc_neutral.specs.Invariants.{IsBinding, IsAlign, HasOffset}
-use Rattle.oc_neutral.specs.Manners.{elf_mark}
+use Rattle.oc_shows.specs.Manners.{elf_mark}
 use Rattle.oc_neutral.specs.Objects.{Object}
 use Rattle.oc_elf.specs.declared.class.ElfClass.{ElfClass}
 use Rattle.oc_elf.specs.declared.shdr.Shdr.{Shdr}

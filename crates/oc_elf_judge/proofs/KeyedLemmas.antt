@@ -3,7 +3,7 @@ use Rattle.std.proofs.Common.{◌≡◌, ℕ, ◌<◌, ◌∙◌, length, None, 
 use Rattle.std.specs.Option.{option_flatten}
 use Rattle.std.proofs.lemmas.List.FromFn.{length-map-range_with_len, get_or-map-range_with_len}
 use Rattle.std.proofs.lemmas.Option.{slice_get-get_or}
-use Rattle.oc_neutral.specs.Repeats.{name_at}
+use Rattle.oc_strings.specs.Repeats.{name_at}
 use Rattle.oc_elf.specs.Frames.{Framed}
 use Rattle.oc_elf.specs.Groups.{comdat_key, comdat_keys}
 

@@ -7,8 +7,8 @@ use Rattle.std.specs.Option.{option_and_then, option_map, option_map_or}
 use Rattle.std.proofs.lemmas.Slice.Eq.{bytes_eq-Decides}
 use denote.Ref.{Bor}
 use Rattle.oc_linking.specs.Numbers.{or_else}
-use Rattle.oc_neutral.specs.declared.repeats.Repeat.{Repeat}
-use Rattle.oc_neutral.specs.Repeats.{NameList, name_at, place_of, repeat_at}
+use Rattle.oc_strings.specs.declared.repeats.Repeat.{Repeat}
+use Rattle.oc_strings.specs.Repeats.{NameList, name_at, place_of, repeat_at}
 use Rattle.oc_shelf.proofs.ReadingLaws.FirstsLemmas.{first_more}
 use Rattle.oc_elf_judge.specs.Stood.{HaveStood, value_at}
 

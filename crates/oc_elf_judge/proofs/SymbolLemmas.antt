@@ -13,8 +13,8 @@ use Rattle.oc_base.specs.declared.fault.Fault.{Fault}
 use Rattle.oc_linking.specs.Numbers.{first_upto, or_else}
 use Rattle.oc_linking.specs.FirstFault.{first_broken, fault_of}
 use Rattle.oc_linking.proofs.FirstFaultLaws.{first_upto_none}
-use Rattle.oc_neutral.specs.declared.repeats.Repeat.{Repeat}
-use Rattle.oc_neutral.specs.Repeats.{NameList, name_at, names_of, place_of, repeat_at, first_repeat}
+use Rattle.oc_strings.specs.declared.repeats.Repeat.{Repeat}
+use Rattle.oc_strings.specs.Repeats.{NameList, name_at, names_of, place_of, repeat_at, first_repeat}
 use Rattle.oc_shelf.proofs.ReadingLaws.StageLemmas.{all_hold, first_broken-append}
 use Rattle.oc_elf.specs.Frames.{Framed}
 use Rattle.oc_elf.specs.Tables.{symbol_count, symbol_place, entry_of}

@@ -2,7 +2,7 @@
 ghost use Rattle.std.specs.Prelude.{◌≡◌, ◌+◌, ◌*◌, ◌<◌, ◌≤◌, ◌&&◌, ◌||◌, [], length, map, nat_eq, bytes_eq, is_some, true, false, None, Some, IfOk, MatchOption};
 ghost use Rattle.std.specs.List.{range_with_len};
 ghost use Rattle.std.specs.Option.{option_map_or};
-ghost use Rattle.oc_neutral.specs.Repeats as repeats;
+ghost use Rattle.oc_strings.specs.Repeats as repeats;
 ghost use Rattle.oc_elf.specs.Frames.{header_at};
 ghost use Rattle.oc_elf.specs.Groups as groups;
 ghost use Rattle.oc_elf_judge.specs.Known.{IsSymtab, AreSigned};
@@ -15,11 +15,11 @@ ghost use Rattle.oc_linking.specs.FirstFault.{stage_fault};
 use crate::groups::group_word;
 use crate::sections::section_name;
 use crate::stood::{is_repeated, name_at};
-use crate::symbols::{self, entry_of, is_section_symbol, is_sectional, symbol_count};
+use crate::symbols::{entry_of, is_section_symbol, is_sectional, self, symbol_count};
 use oc_base::NoMemory;
 use oc_elf::{Frame, GRP_COMDAT, SHT_GROUP, Shdr};
-use oc_neutral::first_repeat;
 use oc_shelf::Slots;
+use oc_strings::first_repeat;
 use std::alloc::Global;
 use std::collections::BTreeMap;
 

@@ -1,11 +1,11 @@
 //! Which keys of groups stood before.
 ghost use Rattle.std.specs.Prelude.{◌≡◌, ◌+◌, ◌<◌, List, ℕ, length, bytes_eq, is_some, None, Some, IfOk, OnOk, MatchOption};
 ghost use Rattle.std.specs.Map.{update};
-ghost use Rattle.oc_neutral.specs.Repeats as repeats;
+ghost use Rattle.oc_strings.specs.Repeats as repeats;
 ghost use Rattle.oc_elf_judge.specs.Stood.{HaveStood, HaveStoodIf, value_at};
 
 use oc_base::NoMemory;
-use oc_neutral::Repeat;
+use oc_strings::Repeat;
 use std::collections::BTreeMap;
 
 /// The name at a position. Constant time.

@@ -3,7 +3,7 @@ ghost use Rattle.std.specs.Prelude.{◌≡◌, ◌<◌, ◌+◌, length, map, na
 ghost use Rattle.std.specs.List.{range_with_len};
 ghost use Rattle.oc_base.specs.Stops.{IsStop};
 ghost use Rattle.oc_linking.specs.FirstFault.{first_broken, stage_fault};
-ghost use Rattle.oc_neutral.specs.Repeats as repeats;
+ghost use Rattle.oc_strings.specs.Repeats as repeats;
 ghost use Rattle.oc_elf_judge.specs.Known.{IsSymtab, AreSigned};
 ghost use Rattle.oc_elf_judge.specs.Marks.{AreMarks};
 ghost use Rattle.oc_elf.specs.SectionRules.{section_stage};
@@ -11,13 +11,11 @@ ghost use Rattle.oc_elf.specs.SymbolRules as rules;
 ghost use Rattle.oc_elf.specs.Tables as tables;
 
 use crate::signatures::bad_signatures;
-use crate::symbols::{
-    entry_fault, entry_of, is_local, name_of, symbol_count, symbol_fault, symbol_place,
-};
+use crate::symbols::{entry_fault, entry_of, is_local, name_of, symbol_count, symbol_fault, symbol_place};
 use oc_base::{Code, Fault, NoMemory, Stop};
 use oc_elf::{Frame, Shdr};
-use oc_neutral::{Repeat, first_repeat};
 use oc_shelf::{Slots, earlier};
+use oc_strings::{Repeat, first_repeat};
 use std::alloc::Global;
 
 // the name of symbol `k`, where it is nonlocal

@@ -19,14 +19,14 @@ use Rattle.oc_neutral.specs.declared.reloc.Target.{Target}
 use Rattle.oc_neutral.specs.declared.reloc.Target.TheVariants as target
 use Rattle.oc_neutral.specs.declared.symbol.Symbol.{Symbol}
 use Rattle.oc_neutral.specs.Building.{Draft, is_zero}
-use Rattle.oc_neutral.specs.Built.{IsStarted}
-use Rattle.oc_neutral.specs.Computed.{computed_symbol, placed_binding}
+use Rattle.oc_shows.specs.Built.{IsStarted}
+use Rattle.oc_shows.specs.Computed.{computed_symbol, placed_binding}
 use Rattle.oc_neutral.specs.Elf.Kinds.{elf_kind, is_debug_name, is_unwind_name}
 use Rattle.oc_neutral.specs.Invariants.{CanAdd, IsLessThere, IsTargetThere}
 use Rattle.oc_neutral.specs.KindRules.{first_rule, has}
 use Rattle.oc_neutral.specs.Normal.{Place, local_place, place_among}
 use Rattle.oc_neutral.specs.Rows.{Row, Taken, TakesZero, TakesPlace, TakesGotBase, TakesImageBase, TakesHome, TakesSection, less_of, same_taken}
-use Rattle.oc_neutral.specs.Started.{stored_section}
+use Rattle.oc_shows.specs.Started.{stored_section}
 use Rattle.oc_elf_read.specs.Built.{keys_of, symboled}
 use Rattle.oc_elf.specs.CarriedSections.{section_with, sections_of}
 use Rattle.oc_elf.specs.CarriedSymbols.{symbols_of}

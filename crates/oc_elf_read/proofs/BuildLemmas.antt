@@ -10,9 +10,9 @@ use Rattle.oc_neutral.specs.declared.elf.TheConstants.{SHT_NOBITS}
 use Rattle.oc_neutral.specs.declared.section.Section.{Section}
 use Rattle.oc_neutral.specs.Building.{is_zero, limit_passed, section_added, size_sum, stored_size, stored_sum}
 use Rattle.oc_neutral.specs.Invariants.{HasItsBytes}
-use Rattle.oc_neutral.specs.Started.{groups_by, plain_draft, stored_section}
-use Rattle.oc_neutral.proofs.BuiltSteps.{within}
-use Rattle.oc_neutral.proofs.StartedLaws.{section_more}
+use Rattle.oc_shows.specs.Started.{groups_by, plain_draft, stored_section}
+use Rattle.oc_shows.proofs.BuiltSteps.{within}
+use Rattle.oc_shows.proofs.StartedLaws.{section_more}
 use Rattle.oc_shelf.specs.Reading.Collected.{collected}
 use Rattle.oc_shelf.specs.Reading.Sums.{sum_upto}
 use Rattle.oc_shelf.proofs.ReadingLaws.CollectedLemmas.{collected-some, collected-none, collected-sum, length-collected}
@@ -28,7 +28,7 @@ use Rattle.oc_elf.specs.Sections.{is_type, is_carried, kind_of, contents_of}
 use Rattle.oc_elf.specs.SectionRules.{has_bytes, size_counted, bytes_counted, section_stage}
 use Rattle.oc_elf_judge.proofs.SectionLemmas.{IsSound, here, null_first, sound_at}
 use Rattle.oc_elf_judge.proofs.PlaceLemmas.{section_some, section_none}
-use Rattle.oc_neutral.proofs.MeetsCounts.{sum_map}
+use Rattle.oc_target.proofs.MeetsCounts.{sum_map}
 
 -- a carried section takes bytes of the file, where it is not NOBITS
 carried_bytes : (s : Shdr) → is_carried s ≡ true → is_type SHT_NOBITS s ≡ false → has_bytes s ≡ true

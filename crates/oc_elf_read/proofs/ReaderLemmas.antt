@@ -4,12 +4,12 @@ use Rattle.std.specs.Option.{unwrap_or}
 use Rattle.oc_linking.specs.declared.terms.Keep.{Keep}
 use Rattle.oc_linking.specs.FirstFault.{first_fault}
 use Rattle.oc_neutral.specs.Building.{Draft}
-use Rattle.oc_neutral.specs.Built.{HasAdded, IsStarted}
+use Rattle.oc_shows.specs.Built.{HasAdded, IsStarted}
 use Rattle.oc_neutral.specs.Invariants.{AreBytes, IsComplete, IsDraft}
 use Rattle.oc_neutral.specs.Objects.{Object}
-use Rattle.oc_neutral.specs.Readable.{IsReadable}
-use Rattle.oc_neutral.specs.Shows.{Shows}
-use Rattle.oc_neutral.proofs.BuiltWhole.{built_is_complete, built_is_readable}
+use Rattle.oc_shows.specs.Readable.{IsReadable}
+use Rattle.oc_shows.specs.Shows.{Shows}
+use Rattle.oc_shows.proofs.BuiltWhole.{built_is_complete, built_is_readable}
 use Rattle.oc_elf.specs.declared.class.ElfClass.{ElfClass}
 use Rattle.oc_elf_read.specs.Built.{symboled}
 use Rattle.oc_elf.specs.Elf.{elf_dialect, rest_stages}

@@ -18,16 +18,16 @@ use Rattle.oc_neutral.specs.declared.reloc.Target.{Target}
 use Rattle.oc_neutral.specs.declared.reloc.Target.TheVariants as target
 use Rattle.oc_neutral.specs.declared.section.Section.{Section}
 use Rattle.oc_neutral.specs.declared.symbol.Symbol.{Symbol}
-use Rattle.oc_neutral.specs.Built.{IsStarted}
-use Rattle.oc_neutral.specs.Computed.{computed_symbol}
+use Rattle.oc_shows.specs.Built.{IsStarted}
+use Rattle.oc_shows.specs.Computed.{computed_symbol}
 use Rattle.oc_neutral.specs.Elf.Kinds.{elf_tag, is_nobits_tag}
 use Rattle.oc_neutral.specs.Faces.{number_of}
-use Rattle.oc_neutral.specs.Finished.{AreFinal, LeavesBlanks}
+use Rattle.oc_shows.specs.Finished.{AreFinal, LeavesBlanks}
 use Rattle.oc_neutral.specs.Invariants.{IsHinted, NamesOriginal}
 use Rattle.oc_neutral.specs.Rows.{Row, Taken, TakesZero, TakesPlace, TakesGotBase, TakesImageBase, TakesHome, TakesSection, less_of, same_base, same_hint, same_taken, same_width}
-use Rattle.oc_neutral.specs.Shows.{AreNumbered}
-use Rattle.oc_neutral.specs.Started.{stored_section}
-use Rattle.oc_neutral.proofs.BuiltLaws.{built_shows}
+use Rattle.oc_shows.specs.Shows.{AreNumbered}
+use Rattle.oc_shows.specs.Started.{stored_section}
+use Rattle.oc_shows.proofs.BuiltLaws.{built_shows}
 use Rattle.oc_shelf.proofs.ReadingLaws.StageLemmas.{both_hold}
 use Rattle.oc_elf_read.specs.Built.{keys_of, symboled}
 use Rattle.oc_elf.specs.CarriedSections.{section_with, sections_of}

@@ -13,7 +13,7 @@ use Rattle.oc_linking.specs.Numbers.{first_upto}
 use Rattle.oc_linking.specs.Parts as parts
 use Rattle.oc_linking.specs.Rules.{Field}
 use Rattle.oc_neutral.specs.declared.reloc.Reloc.{Reloc}
-use Rattle.oc_neutral.specs.Built.{AreApart, AreOfFile, DifferencesFit, IsField, IsFree, IsGiven}
+use Rattle.oc_shows.specs.Built.{AreApart, AreOfFile, DifferencesFit, IsField, IsFree, IsGiven}
 use Rattle.oc_neutral.specs.Dialects.{kept_fields}
 use Rattle.oc_neutral.specs.Faces.{shown_symbols}
 use Rattle.oc_neutral.specs.Objects.{Object}

@@ -6,9 +6,9 @@ use Rattle.oc_neutral.specs.declared.elf.TheConstants.{SHT_NOBITS, ALIGN_BITS}
 use Rattle.oc_elf.specs.declared.constants.TheConstants.{MOST_SIZE}
 use Rattle.oc_neutral.specs.declared.symbol.Symbol.{Symbol}
 use Rattle.oc_neutral.specs.Building.{Draft}
-use Rattle.oc_neutral.specs.Computed.{computed_symbol, keys_after}
+use Rattle.oc_shows.specs.Computed.{computed_symbol, keys_after}
 use Rattle.std.specs.Option.{option_and_then}
-use Rattle.oc_neutral.specs.Started.{groups_by, plain_draft, stored_section}
+use Rattle.oc_shows.specs.Started.{groups_by, plain_draft, stored_section}
 use Rattle.oc_shelf.specs.Reading.Collected.{collected}
 use Rattle.oc_elf.specs.declared.shdr.Shdr.{Shdr}
 use Rattle.oc_elf.specs.Classes.{format_of}

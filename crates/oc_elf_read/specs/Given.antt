@@ -13,12 +13,12 @@ use Rattle.std.specs.Option.{option_map, option_map_or, option_and_then}
 use Rattle.oc_linking.specs.declared.terms.Keep.{Keep}
 use Rattle.oc_linking.specs.Keeping.{keeps}
 use Rattle.oc_linking.specs.Parts as parts
-use Rattle.oc_neutral.specs.Built.{Given}
+use Rattle.oc_shows.specs.Built.{Given}
 use Rattle.oc_neutral.specs.declared.reloc.Reloc.{Reloc}
 use Rattle.oc_neutral.specs.declared.reloc.Target.TheVariants as target
 use Rattle.oc_neutral.specs.Normal.{moved_addend}
 use Rattle.oc_neutral.specs.Rows.{Row}
-use Rattle.oc_neutral.specs.RowValues.{row_reloc}
+use Rattle.oc_shows.specs.RowValues.{row_reloc}
 use Rattle.oc_shelf.specs.declared.reading.order.Placed.{Placed}
 use Rattle.oc_elf.specs.declared.meaning.Meaning.{Meaning}
 use Rattle.oc_elf.specs.declared.rel.Rel.{Rel}

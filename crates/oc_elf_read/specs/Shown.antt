@@ -3,8 +3,8 @@ use Rattle.std.specs.Prelude.{◌≡◌, None}
 use Rattle.oc_linking.specs.declared.terms.Keep.{Keep}
 use Rattle.oc_linking.specs.FirstFault.{first_fault}
 use Rattle.oc_neutral.specs.Building.{Draft}
-use Rattle.oc_neutral.specs.Built.{HasAdded, IsStarted}
-use Rattle.oc_neutral.specs.Shows.{Shows}
+use Rattle.oc_shows.specs.Built.{HasAdded, IsStarted}
+use Rattle.oc_shows.specs.Shows.{Shows}
 use Rattle.oc_elf_read.specs.Built.{symboled}
 use Rattle.oc_elf.specs.Elf.{elf_dialect, rest_stages}
 use Rattle.oc_elf.specs.Frames.{Framed}

@@ -2,7 +2,7 @@
 ghost use Rattle.std.specs.Prelude.{◌≡◌, ◌+◌, ◌<◌, ◌≤◌, length, take, true, false, None, Some, OnOk};
 ghost use Rattle.std.specs.List.Sorted.{IsPermutation};
 ghost use Rattle.oc_linking.specs.FirstFault.{first_fault};
-ghost use Rattle.oc_neutral.specs.Built.{HasAdded, IsStarted};
+ghost use Rattle.oc_shows.specs.Built.{HasAdded, IsStarted};
 ghost use Rattle.oc_neutral.specs.declared.elf.TheConstants.{SHT_NOBITS};
 ghost use Rattle.oc_shelf.specs.Reading.Collected.{collected};
 ghost use Rattle.oc_shelf.specs.Reading.Slots.{AreSlots};

@@ -4,7 +4,7 @@ ghost use Rattle.std.specs.Option.{option_map};
 ghost use Rattle.std.specs.List.{position_or_len};
 ghost use Rattle.oc_linking.specs.FirstFault.{stage_fault};
 ghost use Rattle.oc_neutral.specs.Building.{is_zero};
-ghost use Rattle.oc_neutral.specs.Started.{stored_section};
+ghost use Rattle.oc_shows.specs.Started.{stored_section};
 ghost use Rattle.oc_shelf.specs.Reading.Slots.{AreSlots};
 ghost use Rattle.oc_elf_read.specs.Built as built;
 ghost use Rattle.oc_elf.specs.CarriedSections as carried;

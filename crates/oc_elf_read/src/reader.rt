@@ -3,8 +3,8 @@ ghost use Rattle.std.specs.Prelude.{◌≡◌, ◌≤◌, length, None, IfErr, I
 ghost use Rattle.oc_base.specs.declared.limits.TheConstants.{MOST_INPUT};
 ghost use Rattle.oc_base.specs.Stops.{IsStop};
 ghost use Rattle.oc_linking.specs.FirstFault.{first_fault};
-ghost use Rattle.oc_neutral.specs.Readable.{IsReadable};
-ghost use Rattle.oc_neutral.specs.Shows.{Shows};
+ghost use Rattle.oc_shows.specs.Readable.{IsReadable};
+ghost use Rattle.oc_shows.specs.Shows.{Shows};
 ghost use Rattle.oc_elf.specs.Elf.{elf_dialect, fault_in, rest_stages};
 ghost use Rattle.oc_elf_judge.specs.Known.{IsFound};
 
@@ -13,7 +13,8 @@ use crate::started::start;
 use oc_base::{NoMemory, Stop};
 use oc_elf::{ElfClass, Frame, read_frame};
 use oc_elf_judge::{Aims, Found, check_rest};
-use oc_neutral::{Keep, Neutral, Reads, are_bytes};
+use oc_neutral::{Keep, Neutral, are_bytes};
+use oc_shows::Reads;
 use std::alloc::Global;
 
 // the object of a file without faults

@@ -5,8 +5,8 @@ ghost use Rattle.oc_elf_file.specs.Bodies as bodies;
 use oc_algebra::{residue, to_field};
 use oc_base::{Format, Word};
 use oc_elf::{ElfClass, R_NONE};
-use oc_express::{Spelling, lookup};
 use oc_neutral::Reloc;
+use oc_target::{Spelling, lookup};
 
 /// The type of a relocation. Constant time.
 #[tactic(auto, unfolding(oc_elf_file::specs::Bodies::type_of))]

@@ -1,6 +1,6 @@
 //! The file header and the section headers (gABI, "ELF Header", "Section Header" and "Section Groups").
 ghost use Rattle.std.specs.Prelude.{◌≡◌, ◌+◌, ◌-◌, if◌then◌else◌, ◌/◌, ◌<◌, ◌≤◌, ◌^◌, ℕ, length, slice_get, Some, IsSome, IfOk};
-ghost use Rattle.oc_neutral.specs.Fitted.{IsFitted};
+ghost use Rattle.oc_target.specs.Fitted.{IsFitted};
 ghost use Rattle.oc_neutral.specs.Objects.{Object};
 ghost use Rattle.oc_shelf.specs.Writing.Parts.{place_where};
 ghost use Rattle.oc_neutral.specs.Elf.Kinds.{elf_tag_flags, elf_tag_type};

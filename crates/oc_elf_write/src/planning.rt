@@ -19,8 +19,9 @@ use crate::plan::{ElfParts, Plan};
 use crate::raw::with_addends;
 use oc_base::{NoMemory, Word};
 use oc_elf::ElfClass;
-use oc_neutral::{Fitted, Neutral, Section};
+use oc_neutral::{Neutral, Section};
 use oc_shelf::Layout;
+use oc_target::Fitted;
 use std::alloc::Global;
 
 // the sections of an object, with the addends in their fields where the entries have none

@@ -3,7 +3,7 @@ ghost use Rattle.std.specs.Prelude.{◌≡◌, ◌^◌, ◌<◌, ◌+◌, IfSome
 ghost use Rattle.std.specs.Option.{option_map_or};
 ghost use Rattle.oc_neutral.specs.Invariants.{IsBinding, IsFallback, IsValue};
 ghost use Rattle.oc_neutral.specs.KeySymbols as keys;
-ghost use Rattle.oc_neutral.specs.Manners.{elf_mark, elf_size};
+ghost use Rattle.oc_shows.specs.Manners.{elf_mark, elf_size};
 ghost use Rattle.oc_neutral.specs.Normal.{Place as Held};
 ghost use Rattle.oc_elf_file.specs.Symbols as symbols;
 ghost use Rattle.oc_elf_write.specs.Values.{AreStood};

@@ -6,7 +6,7 @@ ghost use Rattle.oc_neutral.specs.Coff.Family as coff;
 ghost use Rattle.oc_neutral.specs.Coff.Strings as strings;
 ghost use Rattle.oc_neutral.specs.Families.{family_of};
 ghost use Rattle.oc_neutral.specs.HomeNames.{output_names};
-ghost use Rattle.oc_express.specs.Far.{lies_far, lies_far_in};
+ghost use Rattle.oc_target.specs.Far.{lies_far, lies_far_in};
 
 use crate::strings::{default_names, given_names, is_tabled};
 use oc_base::{Bytes, Format, NoMemory};

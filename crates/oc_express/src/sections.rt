@@ -16,14 +16,12 @@ ghost use Rattle.oc_neutral.specs.KindRules as rules;
 ghost use Rattle.oc_neutral.specs.Omf.Family as omf;
 ghost use Rattle.oc_neutral.specs.TargetSections as conditions;
 ghost use Rattle.oc_neutral.specs.Tests as tests;
-ghost use Rattle.oc_express.specs.Far.{lies_far};
-ghost use Rattle.oc_express.specs.Cut.{is_cut_key};
-ghost use Rattle.oc_express.specs.Found.{held};
+ghost use Rattle.oc_target.specs.Far.{lies_far};
+ghost use Rattle.oc_target.specs.Cut.{is_cut_key};
 
-use crate::formats::{keeps_debug, most_align, same_format, takes_exceptions};
-use crate::stored::is_relocated;
 use oc_base::{Bytes, Code, Fault, Format, Phase, Spot};
 use oc_neutral::{Kind, Neutral, Section, coff, elf};
+use oc_target::{has_nul, is_marked, is_relocated, keeps_debug, key_of, most_align, same_format, takes_exceptions};
 
 // whether two kinds are the same
 fn same_kind(a: Kind, b: Kind) -> bool
@@ -65,23 +63,6 @@ fn is_unavailable(target: Format, kind: Kind) -> bool
         | Format::Mac32
         | Format::Mac64 => false,
     }
-}
-
-/// Whether a NUL is among the bytes. Linear time, no memory.
-pub(crate) fn has_nul(name: &[u8]) -> bool
-    ensures { result ≡ rules.has_nul name.now }
-{
-    name.iter().any(|byte| 0 == *byte)
-}
-
-/// The key of the group at a position, where it is there. Constant time, no memory.
-pub(crate) fn key_of(neutral: &Neutral, group: u32) -> Option<&[u8]>
-    ensures { held result ≡ faces.key_of neutral.now.groups group }
-{
-    if group >= neutral.group_count() {
-        return None;
-    }
-    Some(neutral.group(group).key.as_slice())
 }
 
 // whether the section is a member of a group whose key has a NUL; `cut` tells of each group
@@ -154,13 +135,6 @@ fn lacks_member(target: Format, neutral: &Neutral, group: u32, keyed: &[bool]) -
         ),
         Format::Mac32 | Format::Mac64 | Format::Omf => true,
     }
-}
-
-/// Whether that one is marked; none past the end is. Constant time.
-pub(crate) fn is_marked(marked: &[bool], at: usize) -> bool
-    ensures { result ≡ slice_index_or marked.now at false }
-{
-    at < marked.len() && marked[at]
 }
 
 // whether the section is a member of a group, which the target cannot write

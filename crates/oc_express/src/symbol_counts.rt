@@ -11,11 +11,9 @@ ghost use Rattle.oc_neutral.specs.Mach.Family as mach;
 ghost use Rattle.oc_neutral.specs.TargetSymbols as conditions;
 ghost use Rattle.oc_neutral.specs.WrittenSymbols as written;
 
-use crate::locals::is_written;
-use crate::section_symbols::needed_count;
-use crate::signatures::signature_count;
 use oc_base::{Code, Fault, Format, NoMemory, Phase, Spot};
 use oc_neutral::{Binding, Neutral};
+use oc_target::{is_written, needed_count, signature_count};
 use std::alloc::Global;
 
 /// The most symbols that an entry of 24 bits tells apart.

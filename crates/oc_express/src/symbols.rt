@@ -4,29 +4,16 @@ ghost use Rattle.std.specs.Option.{option_map, option_map_or};
 ghost use Rattle.oc_base.specs.Faults.{fault_at};
 ghost use Rattle.oc_linking.specs.FirstFault.{first_broken};
 ghost use Rattle.oc_linking.specs.Numbers.{first_upto};
-ghost use Rattle.oc_linking.specs.Parts as parts;
 ghost use Rattle.oc_neutral.specs.Bindings as bindings;
 ghost use Rattle.oc_neutral.specs.Families.{family_of};
 ghost use Rattle.oc_neutral.specs.TargetSections.{each_of};
 ghost use Rattle.oc_neutral.specs.TargetSymbols as conditions;
 ghost use Rattle.oc_neutral.specs.Tests as tests;
 
-use crate::aligns::natural_align;
-use crate::keys::{global_place, group_at};
-use crate::sections::{has_nul, is_too_long};
+use crate::sections::is_too_long;
 use oc_base::{Code, Fault, Format, Phase, Spot};
 use oc_neutral::{Binding, Fallback, Neutral, Symbol, Value};
-
-/// Whether a symbol is a Local. Constant time.
-pub(crate) fn is_local(binding: Binding) -> bool
-    ensures { result ≡ parts.is_local binding }
-{
-    match binding {
-        Binding::Local(_) => true,
-        Binding::Global(_) | Binding::Undefined | Binding::Common { .. } | Binding::Weak(_) =>
-            false,
-    }
-}
+use oc_target::{global_place, group_at, has_nul, is_local, is_long_number, natural_align};
 
 // whether the target cannot write the name of a symbol
 fn is_unwritable(target: Format, symbol: &Symbol) -> bool
@@ -55,16 +42,6 @@ pub(crate) fn is_absolute(value: Value) -> bool
     match value {
         Value::Place { .. } => false,
         Value::Absolute(_) => true,
-    }
-}
-
-/// Whether the value is an absolute number of more than 32 bits. Constant time.
-pub(crate) fn is_long_number(value: Value) -> bool
-    ensures { result ≡ bindings.is_long_number value }
-{
-    match value {
-        Value::Place { .. } => false,
-        Value::Absolute(number) => number >= 1 << 32,
     }
 }
 

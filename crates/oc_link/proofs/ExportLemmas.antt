@@ -22,8 +22,8 @@ use Rattle.oc_linking.specs.Linking.{Export, export_at, exports}
 use Rattle.oc_neutral.specs.Objects.{Object}
 use Rattle.oc_neutral.specs.Faces.{shown_symbol, shown_symbols}
 use Rattle.oc_neutral.specs.Invariants.{IsObject}
-use Rattle.oc_neutral.specs.Repeats.{NameList, name_at, nonlocal_name}
-use Rattle.oc_neutral.proofs.RepeatLemmas.{named_within}
+use Rattle.oc_strings.specs.Repeats.{NameList, name_at, nonlocal_name}
+use Rattle.oc_strings.proofs.RepeatLemmas.{named_within}
 use Rattle.oc_place.specs.declared.index.Named.{Named}
 use Rattle.oc_place.specs.Indexes.{IsIndex, IsNamed, present, texts}
 use Rattle.oc_place.specs.Placings.{Placing}

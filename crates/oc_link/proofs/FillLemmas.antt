@@ -16,7 +16,7 @@ use Rattle.oc_neutral.specs.declared.reloc.Reloc.{Reloc}
 use Rattle.oc_neutral.specs.Building.{written}
 use Rattle.oc_neutral.specs.Constants.{IsWide}
 use Rattle.oc_neutral.specs.Objects.{reloc_among}
-use Rattle.oc_neutral.proofs.FitLinks.{from_mapped}
+use Rattle.oc_neutral.proofs.Mapped.{from_mapped}
 use Rattle.oc_neutral.proofs.SortedFields.{found_first, other_first, none_before}
 use Rattle.oc_neutral.proofs.Standing.{ends_by}
 use Rattle.oc_link.proofs.PatchedBytes.{patch_written}

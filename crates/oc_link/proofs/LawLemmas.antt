@@ -5,11 +5,10 @@ use Rattle.oc_linking.specs.Keeping.{all}
 use Rattle.oc_linking.specs.Placing.{Placement, Outside}
 use Rattle.oc_linking.specs.Shows.{object_link}
 use Rattle.oc_neutral.specs.Objects.{Object}
-use Rattle.oc_neutral.specs.Faces.{linked_object, shown_sections, shown_symbols}
-use Rattle.oc_neutral.specs.Dialects.{Dialect}
-use Rattle.oc_neutral.specs.Shows.{Shows, frame_of}
-use Rattle.oc_neutral.specs.Targets.{IsDialect}
-use Rattle.oc_neutral.proofs.Linked.{link_of_file}
+use Rattle.oc_neutral.specs.Faces.{linked_object, shown_sections, shown_symbols, frame_of}
+use Rattle.oc_neutral.specs.Dialects.{Dialect, IsDialect}
+use Rattle.oc_shows.specs.Shows.{Shows}
+use Rattle.oc_shows.proofs.Linked.{link_of_file}
 use Rattle.oc_place.specs.Placings.{outside_of, placement_of}
 use Rattle.oc_place.specs.Footprints.{Footprint, footprint_in}
 use Rattle.oc_place.proofs.FootprintLemmas.{footprints_agree}

@@ -14,9 +14,8 @@ use Rattle.oc_linking.proofs.Overlay.{length-overlay}
 use Rattle.oc_neutral.specs.declared.section.Section.{Section}
 use Rattle.oc_neutral.specs.Objects.{Object}
 use Rattle.oc_neutral.specs.Building.{is_zero, stored_size}
-use Rattle.oc_neutral.specs.Faces.{contents_of, shown_section}
+use Rattle.oc_neutral.specs.Faces.{contents_of, shown_section, frame_of}
 use Rattle.oc_neutral.specs.Invariants.{HasItsBytes, IsObject}
-use Rattle.oc_neutral.specs.Shows.{frame_of}
 use Rattle.oc_neutral.proofs.Numbered.{overlay_at}
 use Rattle.oc_neutral.proofs.Positions.{each_at}
 use Rattle.oc_place.specs.declared.spot.Spot.{Spot}

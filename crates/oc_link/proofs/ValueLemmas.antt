@@ -29,7 +29,7 @@ use Rattle.oc_neutral.specs.declared.reloc.Target.TheVariants as target
 use Rattle.oc_neutral.specs.Objects.{Object}
 use Rattle.oc_neutral.specs.Faces.{number_of, shown_binding, shown_fallback, shown_symbol, shown_symbols}
 use Rattle.oc_neutral.specs.Invariants.{IsFallback, IsLessThere, IsObject, IsOriginal, is_strong}
-use Rattle.oc_neutral.specs.Repeats.{name_at}
+use Rattle.oc_strings.specs.Repeats.{name_at}
 use Rattle.oc_neutral.specs.Worth.{base_of, less_of, residue_at, target_worth}
 use Rattle.oc_neutral.proofs.Positions.{there_at}
 use Rattle.oc_place.specs.declared.spot.Spot.{Spot}

@@ -6,9 +6,8 @@ use Rattle.oc_linking.specs.Placing.{Placement, Outside}
 use Rattle.oc_linking.specs.Linking.{link_whole}
 use Rattle.oc_linking.specs.Shows.{object_link}
 use Rattle.oc_neutral.specs.Objects.{Object}
-use Rattle.oc_neutral.specs.Faces.{linked_object, shown_sections, shown_symbols}
+use Rattle.oc_neutral.specs.Faces.{linked_object, shown_sections, shown_symbols, frame_of}
 use Rattle.oc_neutral.specs.Dialects.{Dialect}
-use Rattle.oc_neutral.specs.Shows.{frame_of}
 use Rattle.oc_place.specs.Placings.{Placing, outside_of, placement_of}
 use Rattle.oc_place.specs.Footprints.{footprint_in, footprint_of}
 use Rattle.oc_link.specs.Texts.{text_of}

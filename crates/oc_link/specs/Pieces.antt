@@ -7,8 +7,7 @@ use Rattle.oc_linking.specs.Parts.{Section, Symbol}
 use Rattle.oc_linking.specs.Images.{overlays}
 use Rattle.oc_linking.specs.Linking.{Export, export_of, exports}
 use Rattle.oc_neutral.specs.Objects.{Object}
-use Rattle.oc_neutral.specs.Faces.{shown_sections, shown_symbols}
-use Rattle.oc_neutral.specs.Shows.{frame_of}
+use Rattle.oc_neutral.specs.Faces.{shown_sections, shown_symbols, frame_of}
 use Rattle.oc_place.specs.declared.index.Named.{Named}
 use Rattle.oc_place.specs.Placings.{Placing}
 use Rattle.oc_link.specs.Texts.{exported_text, exports_text, image_text, section_text, sections_text}

@@ -22,16 +22,16 @@ use Rattle.oc_neutral.specs.declared.section.Section.{Section}
 use Rattle.oc_neutral.specs.declared.symbol.Symbol.{Symbol}
 use Rattle.oc_neutral.specs.Building.{is_zero}
 use Rattle.oc_neutral.specs.Dialects.{Dialect, Look, is_folded, looks_in, patches_in}
-use Rattle.oc_neutral.specs.Faces.{field_of, named_of, number_of, shown_section, shown_sections, shown_symbol, shown_symbols}
+use Rattle.oc_neutral.specs.Faces.{field_of, named_of, number_of, shown_section, shown_sections, shown_symbol, shown_symbols, frame_of}
 use Rattle.oc_neutral.specs.Invariants.{HasItsBytes, IsBinding, IsHeld, IsObject, IsSymbol, IsThere}
 use Rattle.oc_neutral.specs.Objects.{Object, reloc_at}
-use Rattle.oc_neutral.specs.Shows.{AreNumbered, Shows, ShowsAt, frame_of, reloc_look}
+use Rattle.oc_shows.specs.Shows.{AreNumbered, Shows, ShowsAt, reloc_look}
 use Rattle.oc_neutral.specs.Worth.{residue_at}
 use Rattle.oc_neutral.proofs.FoundRelocs.{found_at, widths_at}
 use Rattle.oc_neutral.proofs.Positions.{each_at, each_weaker, images_same, there_at}
 use Rattle.oc_neutral.proofs.SameParts.{bytes_within}
 use Rattle.oc_neutral.proofs.Scanning.{field_at, field_found, scanned}
-use Rattle.oc_neutral.proofs.Truth.{values_fixed}
+use Rattle.oc_shows.proofs.Truth.{values_fixed}
 use Rattle.oc_listings.specs.declared.listing.Listing.{Listing}
 use Rattle.oc_listings.specs.declared.listing.Listing.TheVariants.{Header, Sections, Relocations}
 use Rattle.oc_listings.specs.Texts.{field_text, header_text, numbered_text, section_text, symbol_text}

@@ -28,9 +28,9 @@ use Rattle.oc_neutral.specs.declared.symbol.Symbol.{Symbol}
 use Rattle.oc_neutral.specs.Objects.{Object}
 use Rattle.oc_neutral.specs.Faces.{number_of, shown_binding, shown_fallback, shown_symbol, shown_symbols}
 use Rattle.oc_neutral.specs.Invariants.{IsBinding, IsFallback}
-use Rattle.oc_neutral.specs.Shows.{AreNumbered}
+use Rattle.oc_shows.specs.Shows.{AreNumbered}
 use Rattle.oc_neutral.specs.Worth.{base_of, less_of, residue_at, target_worth}
-use Rattle.oc_neutral.proofs.Truth.{numbered-own, values-own}
+use Rattle.oc_shows.proofs.Truth.{numbered-own, values-own}
 use Rattle.oc_listings.specs.Listings.{silent}
 use Rattle.oc_listings.specs.ObjectListings.{own_number, strong_number, fallback_number, resting_number, target_number, base_number, less_number, resting_residue}
 

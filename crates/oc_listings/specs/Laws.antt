@@ -2,10 +2,9 @@
 use Rattle.std.specs.Prelude.{◌≡◌, ℕ, List, length}
 use Rattle.oc_linking.specs.Keeping.{all}
 use Rattle.oc_neutral.specs.Objects.{Object}
-use Rattle.oc_neutral.specs.Dialects.{Dialect}
+use Rattle.oc_neutral.specs.Dialects.{Dialect, IsDialect}
 use Rattle.oc_neutral.specs.Invariants.{IsObject}
-use Rattle.oc_neutral.specs.Shows.{Shows}
-use Rattle.oc_neutral.specs.Targets.{IsDialect}
+use Rattle.oc_shows.specs.Shows.{Shows}
 use Rattle.oc_listings.specs.declared.listing.Listing.{Listing}
 use Rattle.oc_listings.specs.Listings.{listing_of}
 use Rattle.oc_listings.specs.ObjectListings.{object_listing}

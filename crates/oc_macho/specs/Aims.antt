@@ -6,7 +6,7 @@ use Rattle.oc_linking.specs.declared.terms.Binding.TheVariants.{Local, Global, U
 use Rattle.oc_linking.specs.Parts.{Symbol}
 use Rattle.oc_linking.specs.Targets.{Target, symbol_target}
 use Rattle.oc_neutral.specs.Normal.{Place, place_of}
-use Rattle.oc_neutral.specs.RowFields.{place_target}
+use Rattle.oc_shows.specs.RowFields.{place_target}
 use Rattle.oc_macho.specs.declared.nlist.Nlist.{Nlist}
 use Rattle.oc_macho.specs.declared.relocation_info.Reference.{Reference}
 use Rattle.oc_macho.specs.declared.relocation_info.Reference.TheVariants as reference

@@ -13,7 +13,7 @@ use Rattle.oc_linking.specs.Rules.{Field}
 use Rattle.oc_algebra.specs.Residues.{residue_of}
 use Rattle.oc_neutral.specs.Normal.{Place}
 use Rattle.oc_neutral.specs.Rows.{TakesZero, TakesPlace, TakesGotBase, TakesImageBase, TakesHome, TakesSection, less_of}
-use Rattle.oc_neutral.specs.RowFields.{number_in}
+use Rattle.oc_shows.specs.RowFields.{number_in}
 use Rattle.oc_neutral.specs.Worth as worth
 use Rattle.oc_neutral.specs.Mach.Relocs.{MachRow}
 use Rattle.oc_macho.specs.declared.entries.Item.{Item}

@@ -7,7 +7,7 @@ use Rattle.oc_base.specs.declared.fault.Phase.TheVariants.{Symbol}
 use Rattle.oc_base.specs.declared.fault.Fault.{Fault}
 use Rattle.oc_linking.specs.FirstFault.{Condition, Stage}
 use Rattle.oc_neutral.specs.KindRules.{has}
-use Rattle.oc_neutral.specs.Repeats.{NameList, repeat_at}
+use Rattle.oc_strings.specs.Repeats.{NameList, repeat_at}
 use Rattle.oc_macho.specs.declared.constants.TheConstants.{N_UNDF, N_ABS, N_SECT, N_WEAK_DEF}
 use Rattle.oc_macho.specs.declared.section_header.SectionHeader.{SectionHeader}
 use Rattle.oc_macho.specs.declared.nlist.Nlist.{Nlist}

@@ -15,13 +15,13 @@ use Rattle.oc_linking.specs.Shows.{Apart, lives, unders}
 use Rattle.oc_linking.specs.Values.{Valuation}
 use Rattle.oc_neutral.specs.declared.reloc.Target.{Target}
 use Rattle.oc_neutral.specs.declared.reloc.Target.TheVariants as target
-use Rattle.oc_neutral.specs.Again.{IsReadAgain}
+use Rattle.oc_shows.specs.Again.{IsReadAgain}
 use Rattle.oc_neutral.specs.Dialects.{Dialect, target_by, is_difference, is_kept, kept_fields, is_folded, look_of, less_in, looks_in, patches_in}
 use Rattle.oc_neutral.specs.Invariants.{IsObject}
 use Rattle.oc_neutral.specs.Normal.{cancels, takes_section}
 use Rattle.oc_neutral.specs.Objects.{Object}
-use Rattle.oc_neutral.specs.Shows.{Shows}
-use Rattle.oc_neutral.proofs.AgainLaws.{read_again_shows}
+use Rattle.oc_shows.specs.Shows.{Shows}
+use Rattle.oc_shows.proofs.AgainLaws.{read_again_shows}
 
 -- a field of section s, from which its own section is taken as its place
 abbrev pub placed_field : ℕ → Field → Field

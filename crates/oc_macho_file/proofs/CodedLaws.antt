@@ -19,18 +19,18 @@ use Rattle.oc_neutral.specs.Bindings as weak
 use Rattle.oc_neutral.specs.Building.{is_zero, stored_size}
 use Rattle.oc_neutral.specs.Families.{container_of}
 use Rattle.oc_neutral.specs.Family.{IsMach}
-use Rattle.oc_neutral.specs.Fitted.{IsFitted}
+use Rattle.oc_target.specs.Fitted.{IsFitted}
 use Rattle.oc_neutral.specs.Invariants.{IsObject, IsSymbol, IsBinding, HasOffset, HasItsBytes}
 use Rattle.oc_neutral.specs.KeySymbols.{global_place}
 use Rattle.oc_neutral.specs.Mach.Kinds.{mach_kind, segment_of, section_of, is_zerofill_tag}
-use Rattle.oc_neutral.specs.MachMeets.{MeetsMach, MachSection}
-use Rattle.oc_neutral.specs.Manners.{mach_manner}
-use Rattle.oc_neutral.specs.Meets.{IsPower}
+use Rattle.oc_target.specs.MachMeets.{MeetsMach, MachSection}
+use Rattle.oc_shows.specs.Manners.{mach_manner}
+use Rattle.oc_target.specs.Meets.{IsPower}
 use Rattle.oc_neutral.specs.Normal.{Place}
 use Rattle.oc_neutral.specs.Objects.{Object}
-use Rattle.oc_neutral.specs.Seen.{place_at, new_position, seen_fallback}
-use Rattle.oc_neutral.proofs.MeetsMach.{meets_mach}
-use Rattle.oc_neutral.proofs.MeetsMachKinds.{mach_zero}
+use Rattle.oc_shows.specs.Seen.{place_at, new_position, seen_fallback}
+use Rattle.oc_target.proofs.MeetsMach.{meets_mach}
+use Rattle.oc_target.proofs.MeetsMachKinds.{mach_zero}
 use Rattle.oc_neutral.proofs.Positions.{each_at}
 use Rattle.oc_macho.specs.MachHeader.{mach_format}
 use Rattle.oc_macho_file.specs.Addresses.{is_blank}

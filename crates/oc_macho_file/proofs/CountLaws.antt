@@ -15,7 +15,7 @@ use Rattle.oc_neutral.specs.Bindings.{is_zero, is_written_by}
 use Rattle.oc_neutral.specs.Mach.Family.{mach_writes, mach_needed, mach_symbol_count}
 use Rattle.oc_neutral.specs.Mach.SectionSymbols.{needed_sections}
 use Rattle.oc_neutral.specs.Objects.{Object}
-use Rattle.oc_neutral.specs.SymbolLines.{is_defined, is_undefined, is_weak_with}
+use Rattle.oc_shows.specs.SymbolLines.{is_defined, is_undefined, is_weak_with}
 use Rattle.oc_neutral.specs.Dressing.{is_common}
 use Rattle.oc_neutral.specs.WrittenSymbols.{is_written}
 use Rattle.oc_macho.specs.MachHeader.{mach_format}

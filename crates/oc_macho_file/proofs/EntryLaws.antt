@@ -22,11 +22,11 @@ use Rattle.oc_neutral.specs.declared.reloc.Target.{Target}
 use Rattle.oc_neutral.specs.declared.reloc.Target.TheVariants as target
 use Rattle.oc_neutral.specs.Mach.Kinds.{is_zerofill_tag}
 use Rattle.oc_neutral.specs.Mach.Relocs.{MachRow, length_of, mach_entries, entry_among}
-use Rattle.oc_neutral.specs.MachMeets.{MachReloc}
-use Rattle.oc_neutral.specs.Meets.{MeetsReloc}
+use Rattle.oc_target.specs.MachMeets.{MachReloc}
+use Rattle.oc_target.specs.Meets.{MeetsReloc}
 use Rattle.oc_neutral.specs.Objects.{Object, reloc_at, reloc_among}
 use Rattle.oc_neutral.specs.Rows.{Row, TakesPlace, TakesSection, same_taken}
-use Rattle.oc_neutral.proofs.FitLinks.{from_mapped}
+use Rattle.oc_neutral.proofs.Mapped.{from_mapped}
 use Rattle.oc_neutral.proofs.Positions.{there_at}
 use Rattle.oc_neutral.proofs.Standing.{ends_by, wide_in}
 use Rattle.oc_shelf.specs.Writing.Parts.{Laid}

@@ -12,9 +12,9 @@ use Rattle.oc_algebra.specs.Fields.{extended, to_field_of, from_field_of}
 use Rattle.oc_neutral.specs.declared.section.Section.{Section}
 use Rattle.oc_neutral.specs.declared.reloc.Reloc.{Reloc}
 use Rattle.oc_neutral.specs.Mach.Relocs.{MachRow}
-use Rattle.oc_neutral.specs.Meets.{HoldsAddend}
+use Rattle.oc_target.specs.Meets.{HoldsAddend}
 use Rattle.oc_neutral.specs.Objects.{Object, reloc_at}
-use Rattle.oc_neutral.specs.RowFields.{number_in}
+use Rattle.oc_shows.specs.RowFields.{number_in}
 use Rattle.oc_shelf.specs.Writing.Parts.{Laid}
 use Rattle.oc_macho.specs.declared.relocation_info.Reference.TheVariants as reference
 use Rattle.oc_macho.specs.declared.entries.Item.{Item}

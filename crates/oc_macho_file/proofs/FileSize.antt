@@ -20,7 +20,7 @@ use Rattle.oc_neutral.specs.Dressing.{is_common}
 use Rattle.oc_neutral.specs.Invariants.{HasItsBytes}
 use Rattle.oc_neutral.specs.Mach.SectionSymbols.{needed_sections}
 use Rattle.oc_neutral.specs.Objects.{Object}
-use Rattle.oc_neutral.specs.SymbolLines.{is_defined, is_undefined, is_weak_with}
+use Rattle.oc_shows.specs.SymbolLines.{is_defined, is_undefined, is_weak_with}
 use Rattle.oc_neutral.specs.WrittenSymbols.{is_written}
 use Rattle.oc_shelf.specs.Writing.Parts.{aligned}
 use Rattle.oc_macho.specs.MachHeader.{address_size}
@@ -37,7 +37,7 @@ use Rattle.oc_macho_file.proofs.EntryLaws.{written_field, written_all, entries_a
 use Rattle.oc_macho_file.proofs.AddressLaws.{laid_low, gap_low}
 use Rattle.oc_macho_file.proofs.CountLaws.{few_lines}
 use Rattle.oc_shelf.proofs.WritingLaws.SizeLemmas.{ended_size, table_size, sum_filter, sum_more, sum_enumerated}
-use Rattle.oc_neutral.proofs.MeetsCounts.{sum_map}
+use Rattle.oc_target.proofs.MeetsCounts.{sum_map}
 
 -- ... sums
 

@@ -23,18 +23,18 @@ use Rattle.oc_neutral.specs.declared.section.Section.{Section}
 use Rattle.oc_neutral.specs.declared.reloc.Reloc.{Reloc}
 use Rattle.oc_neutral.specs.declared.reloc.Target.{Target}
 use Rattle.oc_neutral.specs.declared.reloc.Target.TheVariants as target
-use Rattle.oc_neutral.specs.Built.{IsField}
+use Rattle.oc_shows.specs.Built.{IsField}
 use Rattle.oc_neutral.specs.Dialects.{Dialect, target_by, is_difference, less_in}
-use Rattle.oc_neutral.specs.Manners.{mach_manner, mach_hint, mach_by_section}
+use Rattle.oc_shows.specs.Manners.{mach_manner, mach_hint, mach_by_section}
 use Rattle.oc_neutral.specs.Mach.Relocs.{MachRow}
 use Rattle.oc_neutral.specs.Faces.{shown_symbols}
-use Rattle.oc_neutral.specs.Meets.{IsTakenBy, has_calls}
-use Rattle.oc_neutral.specs.RowFields.{number_in}
+use Rattle.oc_target.specs.Meets.{IsTakenBy, has_calls}
+use Rattle.oc_shows.specs.RowFields.{number_in}
 use Rattle.oc_neutral.specs.Normal.{Place, cancels, at_section, moved_addend}
 use Rattle.oc_neutral.specs.Objects.{Object, reloc_at}
 use Rattle.oc_neutral.specs.Rows as rows
 use Rattle.oc_neutral.specs.Rows.{Row, Taken, TakesZero, TakesPlace, TakesGotBase, TakesImageBase, TakesHome, TakesSection, same_taken, taken_of, shift_of}
-use Rattle.oc_neutral.specs.Seen.{target_place, section_place, seen_target, seen_reloc}
+use Rattle.oc_shows.specs.Seen.{target_place, section_place, seen_target, seen_reloc}
 use Rattle.oc_neutral.specs.Shifts.{said_shift}
 use Rattle.oc_neutral.specs.Worth as worth
 use Rattle.oc_neutral.specs.Worth.{base_of, target_worth, residue_at}

@@ -15,10 +15,10 @@ use Rattle.oc_neutral.specs.Bindings.{is_zero}
 use Rattle.oc_neutral.specs.Dressing.{is_common}
 use Rattle.oc_neutral.specs.Mach.SectionSymbols.{needed_sections}
 use Rattle.oc_neutral.specs.Objects.{Object}
-use Rattle.oc_neutral.specs.SymbolLines.{silent, one, is_defined, is_undefined, is_weak_with, mach_lines}
-use Rattle.oc_neutral.specs.SymbolLines as table
+use Rattle.oc_shows.specs.SymbolLines.{silent, one, is_defined, is_undefined, is_weak_with, mach_lines}
+use Rattle.oc_shows.specs.SymbolLines as table
 use Rattle.oc_neutral.specs.WrittenSymbols.{is_written}
-use Rattle.oc_neutral.proofs.SeenFamilies.{mach_table}
+use Rattle.oc_shows.proofs.SeenFamilies.{mach_table}
 use Rattle.oc_shelf.proofs.WritingLaws.GatheredLemmas.{found_ones}
 use Rattle.oc_shelf.proofs.WritingLaws.MemberLemmas.{member_first, member_second, member_enumerated, member_map, map-map, map-alike, of_append, of_map, of_enumerated, of_filter, member_filter}
 use Rattle.oc_macho_file.specs.Lines.{Line, OwnLine, LocalLine, OuterLine, own_lines, lines_where, local_lines, inner_lines, defined_lines, undefined_lines, lines_of, line_size, numbered_lines, is_own_line, is_symbol_line, own_number, symbol_number}

@@ -12,7 +12,7 @@ use Rattle.oc_neutral.specs.KindRules.{has_nul}
 use Rattle.oc_neutral.specs.Mach.Kinds.{mach_name, segment_of, section_of}
 use Rattle.oc_neutral.specs.Mach.SectionSymbols.{needs_section_symbol, needed_sections}
 use Rattle.oc_neutral.specs.Objects.{Object}
-use Rattle.oc_neutral.proofs.MeetsNames.{section_symbol_uncut}
+use Rattle.oc_target.proofs.MeetsNames.{section_symbol_uncut}
 use Rattle.oc_shelf.specs.Reading.Texts.{text_at}
 use Rattle.oc_shelf.specs.Writing.Parts.{Stands}
 use Rattle.oc_shelf.proofs.WritingLaws.MemberLemmas.{member_map, of_filter}

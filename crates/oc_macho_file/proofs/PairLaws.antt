@@ -26,14 +26,14 @@ use Rattle.oc_neutral.specs.declared.reloc.Reloc.{Reloc}
 use Rattle.oc_neutral.specs.declared.reloc.Target.{Target}
 use Rattle.oc_neutral.specs.declared.reloc.Target.TheVariants as target
 use Rattle.oc_neutral.specs.Dialects.{Dialect, target_by, less_in}
-use Rattle.oc_neutral.specs.Manners.{mach_manner, mach_hint, is_of_section, mach_by_section}
+use Rattle.oc_shows.specs.Manners.{mach_manner, mach_hint, is_of_section, mach_by_section}
 use Rattle.oc_neutral.specs.Mach.Relocs.{MachRow}
 use Rattle.oc_neutral.specs.Faces.{shown_symbols}
 use Rattle.oc_neutral.specs.Normal.{Place, cancels, takes_section, at_section, moved_addend}
 use Rattle.oc_neutral.specs.Objects.{Object, reloc_at}
 use Rattle.oc_neutral.specs.Rows as rows
 use Rattle.oc_neutral.specs.Rows.{Row, Taken, TakesZero, TakesPlace, TakesGotBase, TakesImageBase, TakesHome, TakesSection, same_taken, taken_of, shift_of}
-use Rattle.oc_neutral.specs.Seen.{place_at, target_place, section_place, seen_target}
+use Rattle.oc_shows.specs.Seen.{place_at, target_place, section_place, seen_target}
 use Rattle.oc_neutral.specs.Worth as worth
 use Rattle.oc_neutral.specs.Worth.{base_of, target_worth, residue_at}
 use Rattle.oc_macho.specs.MachHeader.{mach_format}

@@ -16,7 +16,7 @@ use Rattle.oc_neutral.specs.declared.reloc.Reloc.{Reloc}
 use Rattle.oc_neutral.specs.declared.reloc.Target.TheVariants as target
 use Rattle.oc_neutral.specs.Mach.SectionSymbols.{names_section, needed_sections}
 use Rattle.oc_neutral.specs.Mach.SelfReferences.{is_section, is_long_distance}
-use Rattle.oc_neutral.specs.Meets.{IsTakenBy}
+use Rattle.oc_target.specs.Meets.{IsTakenBy}
 use Rattle.oc_neutral.specs.Normal.{takes_section}
 use Rattle.oc_neutral.specs.Objects.{Object, reloc_at}
 use Rattle.oc_neutral.specs.Rows.{TakesZero, TakesPlace, TakesGotBase, TakesImageBase, TakesHome, TakesSection, taken_of, same_taken}

@@ -8,15 +8,15 @@ use Rattle.oc_base.specs.Formats.{word_for}
 use Rattle.oc_linking.specs.Parts.{is_local}
 use Rattle.oc_neutral.specs.declared.symbol.Symbol.{Symbol}
 use Rattle.oc_neutral.specs.Families.{container_of}
-use Rattle.oc_neutral.specs.Manners.{mach_manner, manner_of, own_manner}
+use Rattle.oc_shows.specs.Manners.{mach_manner, manner_of, own_manner}
 use Rattle.oc_neutral.specs.Objects.{Object}
-use Rattle.oc_neutral.specs.Seen.{shown_from, new_position, seen_symbol, seen_symbols, seen_with, seen}
-use Rattle.oc_neutral.specs.SymbolLines.{mach_lines}
-use Rattle.oc_neutral.proofs.SeenFamilies.{mach_table}
-use Rattle.oc_neutral.proofs.SeenLines.{IsShown, table_shows}
+use Rattle.oc_shows.specs.Seen.{shown_from, new_position, seen_symbol, seen_symbols, seen_with, seen}
+use Rattle.oc_shows.specs.SymbolLines.{mach_lines}
+use Rattle.oc_shows.proofs.SeenFamilies.{mach_table}
+use Rattle.oc_shows.proofs.SeenLines.{IsShown, table_shows}
 use Rattle.oc_shelf.specs.Writing.Parts.{Laid}
-use Rattle.oc_shows.proofs.MadeLaws as made
-use Rattle.oc_shows.proofs.ShownLines as by_lines
+use Rattle.oc_made_files.proofs.MadeLaws as made
+use Rattle.oc_made_files.proofs.ShownLines as by_lines
 use Rattle.oc_macho.specs.MachHeader.{mach_format}
 use Rattle.oc_macho_file.specs.Lines.{Line, OwnLine, LocalLine, OuterLine, lines_of, line_size, numbered_lines, symbol_number}
 use Rattle.oc_macho_file.proofs.LineLaws.{IsLine, one_line, line_at, counted_line, lines_counted, symbol_found}

@@ -14,24 +14,24 @@ use Rattle.oc_neutral.specs.declared.symbol.Symbol.{Symbol}
 use Rattle.oc_neutral.specs.declared.reloc.Reloc.{Reloc}
 use Rattle.oc_neutral.specs.declared.reloc.Target.{Target}
 use Rattle.oc_neutral.specs.declared.reloc.Target.TheVariants as target
-use Rattle.oc_neutral.specs.Again.{HasContents}
+use Rattle.oc_shows.specs.Again.{HasContents}
 use Rattle.oc_neutral.specs.Dialects.{Dialect, target_by, is_difference, kept_fields}
-use Rattle.oc_neutral.specs.Faces.{key_of, shown_symbols}
-use Rattle.oc_neutral.specs.Fitted.{IsFitted}
+use Rattle.oc_neutral.specs.Faces.{key_of, shown_symbols, frame_of}
+use Rattle.oc_target.specs.Fitted.{IsFitted}
 use Rattle.oc_neutral.specs.Invariants.{IsObject, IsThere}
 use Rattle.oc_neutral.specs.Mach.Kinds.{is_zerofill_tag}
-use Rattle.oc_neutral.specs.Manners.{mach_manner}
+use Rattle.oc_shows.specs.Manners.{mach_manner}
 use Rattle.oc_neutral.specs.Objects.{Object, reloc_at}
-use Rattle.oc_neutral.specs.RowFields.{place_target}
+use Rattle.oc_shows.specs.RowFields.{place_target}
 use Rattle.oc_neutral.specs.Rows.{TakesSection}
-use Rattle.oc_neutral.specs.Seen.{seen, seen_section, seen_target}
+use Rattle.oc_shows.specs.Seen.{seen, seen_section, seen_target}
 use Rattle.oc_neutral.specs.Shifts.{said_shift}
-use Rattle.oc_neutral.specs.Shows.{Shows, frame_of}
-use Rattle.oc_neutral.proofs.AgainLaws.{inside_of}
+use Rattle.oc_shows.specs.Shows.{Shows}
+use Rattle.oc_shows.proofs.AgainLaws.{inside_of}
 use Rattle.oc_neutral.proofs.Positions.{there_at}
-use Rattle.oc_neutral.proofs.SeenLaws.{seen_is_object_law}
-use Rattle.oc_shows.specs.MadeFiles.{IsMadeField, IsMadeFile}
-use Rattle.oc_shows.proofs.MadeLaws.{numbered_target, field_kept, patched_beside, contents_by_type, made_read_again}
+use Rattle.oc_target.proofs.SeenLaws.{seen_is_object_law}
+use Rattle.oc_made_files.specs.MadeFiles.{IsMadeField, IsMadeFile}
+use Rattle.oc_made_files.proofs.MadeLaws.{numbered_target, field_kept, patched_beside, contents_by_type, made_read_again}
 use Rattle.oc_macho.specs.declared.relocation_info.Reference.TheVariants as reference
 use Rattle.oc_macho.specs.MachHeader.{mach_format}
 use Rattle.oc_macho.specs.Tables.{Tables, tables_of}

@@ -10,8 +10,8 @@ use Rattle.oc_base.specs.declared.format.Word.{Word}
 use Rattle.oc_linking.specs.FirstFault.{Condition}
 use Rattle.oc_neutral.specs.declared.symbol.Symbol.{Symbol}
 use Rattle.oc_neutral.specs.Objects.{Object}
-use Rattle.oc_neutral.specs.Repeats.{repeat_at}
-use Rattle.oc_neutral.specs.Repeats as repeats
+use Rattle.oc_strings.specs.Repeats.{repeat_at}
+use Rattle.oc_strings.specs.Repeats as repeats
 use Rattle.oc_neutral.proofs.Positions.{there_at}
 use Rattle.oc_shelf.proofs.ReadingLaws.StageLemmas.{Unbroken, IsUnbroken, unbroken_append}
 use Rattle.oc_shelf.proofs.WritingLaws.MemberLemmas.{member_map}

@@ -13,7 +13,7 @@ use Rattle.oc_linking.specs.declared.terms.Visibility.{Visibility}
 use Rattle.oc_linking.specs.declared.terms.Visibility.TheVariants.{Default, Internal, Hidden, Protected}
 use Rattle.oc_neutral.specs.declared.symbol.Symbol.{Symbol}
 use Rattle.oc_neutral.specs.Invariants.{IsValue, IsBinding, HasOffset}
-use Rattle.oc_neutral.specs.Manners.{mach_vis}
+use Rattle.oc_shows.specs.Manners.{mach_vis}
 use Rattle.oc_neutral.specs.Bindings as weak
 use Rattle.oc_neutral.specs.Objects.{Object}
 use Rattle.oc_neutral.specs.Mach.SectionSymbols.{section_symbol_name}

@@ -22,11 +22,11 @@ use Rattle.oc_neutral.specs.declared.symbol.Symbol.{Symbol}
 use Rattle.oc_neutral.specs.Faces.{shown_fallback, shown_binding, shown_symbol}
 use Rattle.oc_neutral.specs.Invariants.{HasOffset, IsValue, IsBinding}
 use Rattle.oc_neutral.specs.KindRules.{has}
-use Rattle.oc_neutral.specs.Manners.{mach_manner, mach_vis, hidden}
+use Rattle.oc_shows.specs.Manners.{mach_manner, mach_vis, hidden}
 use Rattle.oc_neutral.specs.Mach.SectionSymbols.{is_start_named, section_symbol_name}
-use Rattle.oc_neutral.specs.Meets.{IsPower}
+use Rattle.oc_target.specs.Meets.{IsPower}
 use Rattle.oc_neutral.specs.Objects.{Object}
-use Rattle.oc_neutral.specs.Seen.{seen_fallback, seen_binding, seen_symbol}
+use Rattle.oc_shows.specs.Seen.{seen_fallback, seen_binding, seen_symbol}
 use Rattle.oc_neutral.specs.WrittenSymbols.{is_written, is_written_as}
 use Rattle.oc_neutral.proofs.Positions.{there_at}
 use Rattle.oc_shelf.specs.Writing.Parts.{laid, behind}

@@ -18,17 +18,17 @@ use Rattle.oc_linking.specs.Values.{Valuation}
 use Rattle.oc_neutral.specs.declared.symbol.Symbol.{Symbol}
 use Rattle.oc_neutral.specs.declared.reloc.Target.{Target}
 use Rattle.oc_neutral.specs.declared.reloc.Target.TheVariants as target
-use Rattle.oc_neutral.specs.Built.{named_in}
+use Rattle.oc_shows.specs.Built.{named_in}
 use Rattle.oc_neutral.specs.Dialects.{Dialect}
 use Rattle.oc_neutral.specs.Faces.{shown_symbol, shown_symbols}
-use Rattle.oc_neutral.specs.Manners.{mach_manner}
+use Rattle.oc_shows.specs.Manners.{mach_manner}
 use Rattle.oc_neutral.specs.Normal.{place_among}
 use Rattle.oc_neutral.specs.Objects.{Object}
-use Rattle.oc_neutral.specs.RowFields.{place_target}
-use Rattle.oc_neutral.specs.Seen.{seen_symbol, new_position}
-use Rattle.oc_neutral.specs.Shows.{IsTrueToFixed}
+use Rattle.oc_shows.specs.RowFields.{place_target}
+use Rattle.oc_shows.specs.Seen.{seen_symbol, new_position}
+use Rattle.oc_shows.specs.Shows.{IsTrueToFixed}
 use Rattle.oc_neutral.specs.Worth.{base_of, target_worth}
-use Rattle.oc_shows.proofs.MadeLaws.{numbered_target, named_by_symbol, outer_aimed}
+use Rattle.oc_made_files.proofs.MadeLaws.{numbered_target, named_by_symbol, outer_aimed}
 use Rattle.oc_macho.specs.declared.relocation_info.Reference.TheVariants as reference
 use Rattle.oc_macho.specs.Tables.{Tables}
 use Rattle.oc_macho.specs.Symbols.{name_of, symbol_of}

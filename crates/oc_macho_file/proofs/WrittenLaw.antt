@@ -5,7 +5,7 @@ use Rattle.oc_base.specs.declared.format.Word.{Word}
 use Rattle.oc_base.specs.declared.format.Word.TheVariants.{W32, W64}
 use Rattle.oc_linking.specs.Keeping.{all}
 use Rattle.oc_neutral.specs.Objects.{Object}
-use Rattle.oc_neutral.specs.Targets.{IsDialect}
+use Rattle.oc_neutral.specs.Dialects.{IsDialect}
 use Rattle.oc_shelf.proofs.ReadingLaws.StageLemmas.{IsUnbroken, no_first_fault}
 use Rattle.oc_macho.specs.HeaderFaults.{header_stage}
 use Rattle.oc_macho.specs.Rules.{rest_stages, fault_of, mach_dialect}

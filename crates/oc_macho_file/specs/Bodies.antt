@@ -17,7 +17,7 @@ use Rattle.oc_neutral.specs.Mach.Relocs.{length_of}
 use Rattle.oc_neutral.specs.Normal.{Place}
 use Rattle.oc_neutral.specs.Objects.{Object, reloc_at}
 use Rattle.oc_neutral.specs.Rows.{Row, TakesPlace, same_taken}
-use Rattle.oc_neutral.specs.Seen.{place_at}
+use Rattle.oc_shows.specs.Seen.{place_at}
 use Rattle.oc_neutral.specs.Shifts.{Said, Symbolic, Sectional, said_shift, sectdiff_shift, written_shift}
 use Rattle.oc_neutral.specs.Spelling.{written_row}
 use Rattle.oc_neutral.specs.TargetRelocations.{section_taken}

@@ -13,11 +13,11 @@ use Rattle.oc_linking.specs.declared.terms.Binding.TheVariants.{Local, Global, U
 use Rattle.oc_linking.specs.Numbers.{first_from}
 use Rattle.oc_neutral.specs.declared.symbol.Symbol.{Symbol}
 use Rattle.oc_neutral.specs.Bindings.{is_zero}
-use Rattle.oc_neutral.specs.Manners.{mach_vis}
+use Rattle.oc_shows.specs.Manners.{mach_vis}
 use Rattle.oc_neutral.specs.Mach.SectionSymbols.{section_symbol_name}
 use Rattle.oc_neutral.specs.Normal.{Place}
 use Rattle.oc_neutral.specs.Objects.{Object}
-use Rattle.oc_neutral.specs.Seen.{place_at}
+use Rattle.oc_shows.specs.Seen.{place_at}
 use Rattle.oc_macho.specs.declared.constants.TheConstants.{MOST_ALIGN_EXPONENT, N_UNDF, N_ABS, N_SECT, N_EXT, N_PEXT, N_WEAK_REF, N_WEAK_DEF}
 use Rattle.oc_macho.specs.declared.nlist.Nlist.{Nlist}
 use Rattle.oc_macho_file.specs.Addresses.{address_of}

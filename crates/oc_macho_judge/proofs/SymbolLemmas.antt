@@ -8,8 +8,8 @@ use denote.Ref.{Bor}
 use Rattle.oc_linking.specs.Numbers.{first_upto}
 use Rattle.oc_linking.specs.FirstFault.{first_broken, fault_of}
 use Rattle.oc_linking.proofs.FirstFaultLaws.{first_upto_none}
-use Rattle.oc_neutral.specs.declared.repeats.Repeat.{Repeat}
-use Rattle.oc_neutral.specs.Repeats.{NameList, name_at, names_of, repeat_at, first_repeat}
+use Rattle.oc_strings.specs.declared.repeats.Repeat.{Repeat}
+use Rattle.oc_strings.specs.Repeats.{NameList, name_at, names_of, repeat_at, first_repeat}
 use Rattle.oc_shelf.proofs.ReadingLaws.StageLemmas.{all_hold, clean_both}
 use Rattle.oc_macho.specs.declared.nlist.Nlist.{Nlist}
 use Rattle.oc_macho.specs.Tables.{Tables}

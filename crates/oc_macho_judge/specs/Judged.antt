@@ -1,7 +1,7 @@
 -- What is known of a file while it is judged (our profile).
 use Rattle.std.specs.Prelude.{◌≡◌, ℕ, ◌<◌, ◌≤◌, Bool, false, nat_eq, List, Option, Some}
 use Rattle.std.specs.Option.{option_map_or}
-use Rattle.oc_neutral.specs.declared.repeats.Repeat.{Repeat}
+use Rattle.oc_strings.specs.declared.repeats.Repeat.{Repeat}
 use Rattle.oc_base.specs.declared.fault.Fault.{Fault}
 use Rattle.oc_linking.specs.FirstFault.{first_broken}
 use Rattle.oc_shelf.specs.Reading.Bitmaps.{AreBytesOf, room}

@@ -2,14 +2,14 @@
 ghost use Rattle.std.specs.Prelude.{◌≡◌, ◌<◌, length, None, Some, MatchOption, IfErr, IfOk, OnOk};
 ghost use Rattle.oc_base.specs.Stops.{IsStop};
 ghost use Rattle.oc_linking.specs.FirstFault.{stage_fault};
-ghost use Rattle.oc_neutral.specs.Repeats as repeats;
+ghost use Rattle.oc_strings.specs.Repeats as repeats;
 ghost use Rattle.oc_macho_judge.specs.Judged as judged;
 ghost use Rattle.oc_macho.specs.SymbolFaults as rules;
 
 use crate::symbols::{entry_fault, is_external, is_stab, name_of};
 use oc_base::{NoMemory, Stop};
 use oc_macho::{Frame, Nlist};
-use oc_neutral::{Repeat, first_repeat};
+use oc_strings::{Repeat, first_repeat};
 use std::alloc::Global;
 
 // the name of a symbol, where it is external

@@ -33,12 +33,12 @@ use Rattle.oc_macho_read.specs.Adding.{IsClean}
 use Rattle.oc_macho_read.specs.Built.{started, symbol_as}
 use Rattle.oc_macho_read.specs.Given.{IsTakeable, given_at, target_for}
 use Rattle.oc_neutral.specs.Building.{Draft, is_zero}
-use Rattle.oc_neutral.specs.Built.{IsStarted}
-use Rattle.oc_neutral.specs.Computed.{computed_symbol, position_of}
+use Rattle.oc_shows.specs.Built.{IsStarted}
+use Rattle.oc_shows.specs.Computed.{computed_symbol, position_of}
 use Rattle.oc_neutral.specs.Invariants.{CanAdd, IsLessThere, IsTargetThere}
 use Rattle.oc_neutral.specs.Normal.{Place, local_place, place_among, place_of}
 use Rattle.oc_neutral.specs.Rows.{Taken, TakesGotBase, TakesHome, TakesImageBase, TakesPlace, TakesSection, TakesZero}
-use Rattle.oc_neutral.specs.Started.{stored_section}
+use Rattle.oc_shows.specs.Started.{stored_section}
 use Rattle.oc_neutral.specs.declared.reloc.Reloc.{Reloc}
 use Rattle.oc_neutral.specs.declared.symbol.Symbol.{Symbol}
 use Rattle.oc_linking.specs.Parts as parts

@@ -22,15 +22,15 @@ use Rattle.oc_macho.specs.declared.section_header.SectionHeader.{SectionHeader}
 use Rattle.oc_macho_read.proofs.SymbolLemmas.{as_part, carried_at, left_at, number, symbol_stands}
 use Rattle.oc_macho_read.specs.Built.{symbol_position}
 use Rattle.oc_macho_read.specs.Given.{target_by, target_for}
-use Rattle.oc_neutral.proofs.RowFieldLaws.{rows_are_fields, section_rows_are_fields, symbol_is_target}
-use Rattle.oc_neutral.specs.Built.{IsField}
-use Rattle.oc_neutral.specs.Computed.{position_of}
+use Rattle.oc_shows.proofs.RowFieldLaws.{rows_are_fields, section_rows_are_fields, symbol_is_target}
+use Rattle.oc_shows.specs.Built.{IsField}
+use Rattle.oc_shows.specs.Computed.{position_of}
 use Rattle.oc_neutral.specs.Faces.{shown_symbols}
 use Rattle.oc_neutral.specs.Mach.SectionSymbols.{section_symbol_name}
 use Rattle.oc_neutral.specs.Normal.{moved_addend}
 use Rattle.oc_neutral.specs.Objects.{Object}
-use Rattle.oc_neutral.specs.RowFields.{place_target, row_field}
-use Rattle.oc_neutral.specs.RowValues.{row_reloc}
+use Rattle.oc_shows.specs.RowFields.{place_target, row_field}
+use Rattle.oc_shows.specs.RowValues.{row_reloc}
 use Rattle.oc_neutral.specs.Rows.{Row}
 use Rattle.oc_neutral.specs.declared.reloc.Target.{Target}
 use Rattle.oc_linking.specs.Parts as parts

@@ -20,18 +20,18 @@ use Rattle.oc_macho.specs.declared.nlist.Nlist.{Nlist}
 use Rattle.oc_macho_read.proofs.SectionedLemmas.{sections_whole}
 use Rattle.oc_macho_read.proofs.SymbolLemmas.{as_computed, as_part, carried_at, each_binding, each_outer, is_sound, left_at, not_stab, sound_symbol, standing_at, stands_at}
 use Rattle.oc_macho_read.specs.Built.{IsSound, sectioned, symbol_as, symbol_at, symbol_position, symboled}
-use Rattle.oc_neutral.proofs.BuiltSteps.{name_is_new}
-use Rattle.oc_neutral.proofs.StartedLaws.{symbol_more}
+use Rattle.oc_shows.proofs.BuiltSteps.{name_is_new}
+use Rattle.oc_shows.proofs.StartedLaws.{symbol_more}
 use Rattle.oc_neutral.specs.Building.{Draft, symbol_added}
-use Rattle.oc_neutral.specs.Computed.{computed_symbol, position_of}
+use Rattle.oc_shows.specs.Computed.{computed_symbol, position_of}
 use Rattle.oc_neutral.specs.Keeping.{is_again}
-use Rattle.oc_neutral.specs.Started.{plain_draft, stored_section}
-use Rattle.oc_neutral.specs.declared.repeats.Repeat.{Repeat}
+use Rattle.oc_shows.specs.Started.{plain_draft, stored_section}
+use Rattle.oc_strings.specs.declared.repeats.Repeat.{Repeat}
 use Rattle.oc_neutral.specs.declared.symbol.Symbol.{Symbol}
 use Rattle.oc_shelf.proofs.ReadingLaws.CollectedLemmas.{collected-from, collected-none, collected-some, length-collected}
 use Rattle.oc_shelf.specs.Reading.Collected.{collected}
 use Rattle.oc_linking.specs.Parts as parts
-use Rattle.oc_neutral.specs.Repeats as repeats
+use Rattle.oc_strings.specs.Repeats as repeats
 use Rattle.oc_macho.specs.SymbolFaults as rules
 use Rattle.oc_macho.specs.SectionFaults as sections
 

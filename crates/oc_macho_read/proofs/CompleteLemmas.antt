@@ -28,18 +28,18 @@ use Rattle.oc_macho_read.specs.Adding.{IsClean}
 use Rattle.oc_macho_read.specs.Built.{started}
 use Rattle.oc_macho_read.specs.Given.{given_at}
 use Rattle.oc_neutral.proofs.GivenLaws.{mach_given}
-use Rattle.oc_neutral.proofs.StartedLaws.{fieldless_at}
+use Rattle.oc_shows.proofs.StartedLaws.{fieldless_at}
 use Rattle.oc_neutral.specs.Building.{is_zero}
-use Rattle.oc_neutral.specs.Built.{IsStarted}
-use Rattle.oc_neutral.specs.Finished.{LeavesBlanks}
+use Rattle.oc_shows.specs.Built.{IsStarted}
+use Rattle.oc_shows.specs.Finished.{LeavesBlanks}
 use Rattle.oc_neutral.specs.GivenTags.{can_have, is_blank_type}
 use Rattle.oc_neutral.specs.Invariants.{AreBytes}
 use Rattle.oc_neutral.specs.KindRules.{has_nul}
 use Rattle.oc_neutral.specs.Mach.Family.{is_mach_name, mach_family}
 use Rattle.oc_neutral.specs.Mach.Kinds.{is_zerofill_tag, mach_kind, mach_tag}
 use Rattle.oc_neutral.specs.Objects.{Object}
-use Rattle.oc_neutral.specs.Readable.{AreZeros, IsReadable}
-use Rattle.oc_neutral.specs.Started.{stored_section}
+use Rattle.oc_shows.specs.Readable.{AreZeros, IsReadable}
+use Rattle.oc_shows.specs.Started.{stored_section}
 use Rattle.oc_neutral.specs.declared.mach.TheConstants.{S_ZEROFILL}
 use Rattle.oc_neutral.specs.declared.reloc.Reloc.{Reloc}
 use Rattle.oc_neutral.specs.declared.section.Section.{Section}

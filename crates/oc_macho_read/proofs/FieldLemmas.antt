@@ -28,16 +28,16 @@ use Rattle.oc_macho_read.proofs.AimLemmas.{Carried, IsAim, IsNamed, IsSectional,
 use Rattle.oc_macho_read.proofs.ItemLemmas.{IsGoodItem, IsTaken, Nothing, Something, first_takes, found_as, reference_second, second_first, taken_is}
 use Rattle.oc_macho_read.proofs.SymbolLemmas.{as_part, carried_at, symbol_stands}
 use Rattle.oc_macho_read.specs.Given.{IsTakeable, reloc_as, taken_offset, target_for}
-use Rattle.oc_neutral.specs.Built.{IsField}
-use Rattle.oc_neutral.specs.Computed.{position_of}
+use Rattle.oc_shows.specs.Built.{IsField}
+use Rattle.oc_shows.specs.Computed.{position_of}
 use Rattle.oc_neutral.specs.Faces.{shown_symbols}
 use Rattle.oc_neutral.specs.Mach.Relocs.{MachRow}
 use Rattle.oc_neutral.specs.Normal.{Place}
 use Rattle.oc_neutral.specs.Objects.{Object}
-use Rattle.oc_neutral.specs.RowFields.{row_field}
-use Rattle.oc_neutral.specs.RowValues.{row_reloc}
+use Rattle.oc_shows.specs.RowFields.{row_field}
+use Rattle.oc_shows.specs.RowValues.{row_reloc}
 use Rattle.oc_neutral.specs.Rows.{Taken, TakesSection}
-use Rattle.oc_neutral.specs.Shows.{IsTrueToFixed}
+use Rattle.oc_shows.specs.Shows.{IsTrueToFixed}
 use Rattle.oc_linking.specs.Parts as parts
 use Rattle.oc_linking.specs.Targets as file
 use Rattle.oc_linking.specs.declared.terms.Value.TheVariants as value

@@ -28,15 +28,15 @@ use Rattle.oc_macho_read.proofs.FieldLemmas.{taken_lies, target_lies}
 use Rattle.oc_macho_read.proofs.ItemLemmas.{IsTaken, Nothing, Something, found_as, found_is, pair_row, second_reference, taken_is, takes_first}
 use Rattle.oc_macho_read.proofs.StandingLemmas.{IsStanding, field_standing, pinned_by}
 use Rattle.oc_macho_read.proofs.SymbolLemmas.{symbols_numbered}
-use Rattle.oc_neutral.proofs.Truth.{values_fixed}
-use Rattle.oc_neutral.specs.Built.{DifferencesFit}
-use Rattle.oc_neutral.specs.Computed.{zero_values, zeros_outside}
+use Rattle.oc_shows.proofs.Truth.{values_fixed}
+use Rattle.oc_shows.specs.Built.{DifferencesFit}
+use Rattle.oc_shows.specs.Computed.{zero_values, zeros_outside}
 use Rattle.oc_neutral.specs.Dialects.{is_difference, target_by}
 use Rattle.oc_neutral.specs.Faces.{shown_symbols}
 use Rattle.oc_neutral.specs.Normal.{Place, cancels}
 use Rattle.oc_neutral.specs.Objects.{Object}
 use Rattle.oc_neutral.specs.Rows.{Taken, TakesGotBase, TakesHome, TakesImageBase, TakesPlace, TakesSection, TakesZero}
-use Rattle.oc_neutral.specs.Shows.{IsTrueToFixed}
+use Rattle.oc_shows.specs.Shows.{IsTrueToFixed}
 use Rattle.oc_shelf.proofs.ReadingLaws.StageLemmas.{not_false}
 use Rattle.oc_linking.specs.declared.terms.Base.TheVariants as base
 use Rattle.oc_linking.specs.declared.terms.Less.TheVariants as less

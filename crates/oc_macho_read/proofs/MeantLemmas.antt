@@ -39,7 +39,7 @@ use Rattle.oc_macho_read.specs.Built.{AreRead, symbol_position}
 use Rattle.oc_macho_read.specs.Given.{AreAimed, IsAimed, IsTakeable, addend_meant, aim_for, counted_by, given_meant, less_meant, reloc_as, reloc_by, reloc_meant, reloc_of_item, taken_aim, taken_offset, target_for}
 use Rattle.oc_neutral.specs.Mach.Relocs.{MachRow}
 use Rattle.oc_neutral.specs.Normal.{Place, place_of}
-use Rattle.oc_neutral.specs.RowValues.{row_reloc}
+use Rattle.oc_shows.specs.RowValues.{row_reloc}
 use Rattle.oc_neutral.specs.Rows.{Taken, TakesGotBase, TakesHome, TakesImageBase, TakesPlace, TakesSection, TakesZero}
 use Rattle.oc_neutral.specs.declared.reloc.Reloc.{Reloc}
 use Rattle.oc_neutral.specs.declared.reloc.Target.{Target}

@@ -18,12 +18,12 @@ use Rattle.oc_macho.specs.Sections.{kind_of, section_of, sections_in}
 use Rattle.oc_macho.specs.Tables.{SectionTable, Tables}
 use Rattle.oc_macho.specs.declared.section_header.SectionHeader.{SectionHeader}
 use Rattle.oc_macho_read.specs.Built.{sectioned}
-use Rattle.oc_neutral.proofs.BuiltSteps.{within}
-use Rattle.oc_neutral.proofs.StartedLaws.{section_more}
+use Rattle.oc_shows.proofs.BuiltSteps.{within}
+use Rattle.oc_shows.proofs.StartedLaws.{section_more}
 use Rattle.oc_neutral.specs.Building.{is_zero, limit_passed, section_added, size_sum, stored_size, stored_sum}
 use Rattle.oc_neutral.specs.Invariants.{IsMember}
 use Rattle.oc_neutral.specs.KindRules.{same_kind}
-use Rattle.oc_neutral.specs.Started.{plain_draft, stored_section}
+use Rattle.oc_shows.specs.Started.{plain_draft, stored_section}
 use Rattle.oc_neutral.specs.declared.section.Section.{Section}
 use Rattle.oc_shelf.proofs.ReadingLaws.StageLemmas.{all_hold, clean_at, clean_both}
 use Rattle.oc_shelf.specs.Reading.Sums.{sum_upto}

@@ -27,16 +27,16 @@ use Rattle.oc_macho_read.specs.Adding.{IsClean}
 use Rattle.oc_macho_read.specs.Built.{started}
 use Rattle.oc_macho_read.specs.Given.{given_at}
 use Rattle.oc_macho_read.specs.Shown.{CleanIsShown}
-use Rattle.oc_neutral.proofs.BuiltLaws.{built_shows}
-use Rattle.oc_neutral.proofs.StartedLaws.{start_is_started}
+use Rattle.oc_shows.proofs.BuiltLaws.{built_shows}
+use Rattle.oc_shows.proofs.StartedLaws.{start_is_started}
 use Rattle.oc_neutral.specs.Building.{Draft, is_zero}
-use Rattle.oc_neutral.specs.Built.{HasAdded, IsStarted}
-use Rattle.oc_neutral.specs.Computed.{computed_symbol, keys_after, keys_in}
+use Rattle.oc_shows.specs.Built.{HasAdded, IsStarted}
+use Rattle.oc_shows.specs.Computed.{computed_symbol, keys_after, keys_in}
 use Rattle.oc_neutral.specs.Invariants.{IsDraft}
 use Rattle.oc_neutral.specs.KindRules.{first_rule, has}
 use Rattle.oc_neutral.specs.Mach.Kinds.{mach_kind, type_of}
-use Rattle.oc_neutral.specs.Shows.{Shows}
-use Rattle.oc_neutral.specs.Started.{AreShowable, groups_by, plain_draft, start_of, stored_section}
+use Rattle.oc_shows.specs.Shows.{Shows}
+use Rattle.oc_shows.specs.Started.{AreShowable, groups_by, plain_draft, start_of, stored_section}
 use Rattle.oc_neutral.specs.declared.mach.TheConstants.{S_ATTR_PURE_INSTRUCTIONS, S_ATTR_SOME_INSTRUCTIONS, S_MOD_INIT_FUNC_POINTERS, S_MOD_TERM_FUNC_POINTERS, S_ZEROFILL}
 use Rattle.oc_linking.specs.Parts as parts
 use Rattle.oc_linking.specs.declared.terms.Fallback.TheVariants as fallback

@@ -25,7 +25,7 @@ use Rattle.oc_macho_read.proofs.ItemLemmas.{IsGoodItem, found_as, found_is, good
 use Rattle.oc_macho_read.proofs.PinLemmas.{refers_symbol}
 use Rattle.oc_macho_read.proofs.SectionedLemmas.{at_most, section_there}
 use Rattle.oc_macho_read.specs.Given.{given_at, reloc_as, reloc_by}
-use Rattle.oc_neutral.specs.Built.{AreApart, AreOfFile, IsField, IsFree, IsGiven}
+use Rattle.oc_shows.specs.Built.{AreApart, AreOfFile, IsField, IsFree, IsGiven}
 use Rattle.oc_neutral.specs.Dialects.{kept_fields}
 use Rattle.oc_neutral.specs.Faces.{shown_symbols}
 use Rattle.oc_neutral.specs.Objects.{Object}

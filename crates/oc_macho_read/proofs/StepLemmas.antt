@@ -25,7 +25,7 @@ use Rattle.oc_macho_read.specs.Adding.{IsClean, IsReady}
 use Rattle.oc_macho_read.specs.Built.{started}
 use Rattle.oc_macho_read.specs.Given.{AreAimed, given_at, given_before, given_with, placed, reloc_as, reloc_by, reloc_in}
 use Rattle.oc_neutral.specs.Building.{Draft}
-use Rattle.oc_neutral.specs.Built.{HasAdded, IsStarted}
+use Rattle.oc_shows.specs.Built.{HasAdded, IsStarted}
 use Rattle.oc_neutral.specs.declared.reloc.Reloc.{Reloc}
 use Rattle.oc_shelf.specs.Reading.Collected.{collected}
 use Rattle.oc_shelf.specs.declared.reading.order.Placed.{Placed}

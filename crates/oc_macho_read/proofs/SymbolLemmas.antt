@@ -20,15 +20,15 @@ use Rattle.oc_macho.specs.declared.section_header.SectionHeader.{SectionHeader}
 use Rattle.oc_shelf.proofs.ReadingLaws.NumberedLemmas.{one_position, stands_numbered}
 use Rattle.oc_macho_read.proofs.SectionedLemmas.{at_most, sound_section}
 use Rattle.oc_macho_read.specs.Built.{IsSound, symbol_as, symbol_at}
-use Rattle.oc_neutral.specs.Computed.{computed_symbol, placed_binding, position_of}
+use Rattle.oc_shows.specs.Computed.{computed_symbol, placed_binding, position_of}
 use Rattle.oc_neutral.specs.KindRules.{has}
-use Rattle.oc_neutral.specs.Shows.{AreNumbered}
+use Rattle.oc_shows.specs.Shows.{AreNumbered}
 use Rattle.oc_shelf.proofs.ReadingLaws.CollectedLemmas.{IsFrom, collected-at, collected-from, collected-ordered, collected-same, numbered}
 use Rattle.oc_shelf.proofs.ReadingLaws.StageLemmas.{all_hold, clean_at, clean_both}
 use Rattle.oc_shelf.specs.Reading.Collected.{collected}
 use Rattle.oc_linking.specs.Parts as parts
 use Rattle.oc_linking.specs.declared.terms.Fallback.TheVariants as fallback
-use Rattle.oc_neutral.specs.Repeats as repeats
+use Rattle.oc_strings.specs.Repeats as repeats
 use Rattle.oc_macho.specs.SymbolFaults as rules
 use Rattle.oc_macho.specs.SectionFaults as sections
 use Rattle.oc_macho.specs.Symbols as own

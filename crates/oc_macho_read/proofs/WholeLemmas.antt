@@ -32,19 +32,19 @@ use Rattle.oc_macho_read.proofs.SymbolLemmas.{IsSoundSymbol, as_computed, as_par
 use Rattle.oc_macho_read.specs.Adding.{IsClean}
 use Rattle.oc_macho_read.specs.Built.{started}
 use Rattle.oc_macho_read.specs.Given.{given_at, target_for}
-use Rattle.oc_neutral.proofs.BuiltWhole.{built_is_complete, built_is_readable}
-use Rattle.oc_neutral.proofs.StartedLaws.{fieldless_at}
+use Rattle.oc_shows.proofs.BuiltWhole.{built_is_complete, built_is_readable}
+use Rattle.oc_shows.proofs.StartedLaws.{fieldless_at}
 use Rattle.oc_neutral.specs.Building.{Draft}
-use Rattle.oc_neutral.specs.Built.{HasAdded, IsStarted}
-use Rattle.oc_neutral.specs.Computed.{computed_symbol, position_of}
+use Rattle.oc_shows.specs.Built.{HasAdded, IsStarted}
+use Rattle.oc_shows.specs.Computed.{computed_symbol, position_of}
 use Rattle.oc_neutral.specs.Faces.{number_of}
-use Rattle.oc_neutral.specs.Finished.{AreFinal}
+use Rattle.oc_shows.specs.Finished.{AreFinal}
 use Rattle.oc_neutral.specs.Invariants.{AreBegun, AreBytes, HasOffset, IsAlign, IsBinding, IsComplete, IsDraft, IsHinted, IsOriginal, IsSymbol, IsValue, NamesOriginal, groups_of}
 use Rattle.oc_neutral.specs.Objects.{Object}
-use Rattle.oc_neutral.specs.Readable.{IsReadable}
+use Rattle.oc_shows.specs.Readable.{IsReadable}
 use Rattle.oc_neutral.specs.Rows.{Taken}
-use Rattle.oc_neutral.specs.Shows.{Shows}
-use Rattle.oc_neutral.specs.Started.{stored_section}
+use Rattle.oc_shows.specs.Shows.{Shows}
+use Rattle.oc_shows.specs.Started.{stored_section}
 use Rattle.oc_neutral.specs.declared.reloc.Reloc.{Reloc}
 use Rattle.oc_neutral.specs.declared.section.Section.{Section}
 use Rattle.oc_neutral.specs.declared.symbol.Symbol.{Symbol}

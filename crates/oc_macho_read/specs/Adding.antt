@@ -3,7 +3,7 @@ use Rattle.std.specs.Prelude.{◌≡◌, ℕ, List, length, Option, None}
 use Rattle.oc_base.specs.declared.format.Word.{Word}
 use Rattle.oc_linking.specs.declared.terms.Keep.{Keep}
 use Rattle.oc_linking.specs.FirstFault.{first_fault, stage_fault}
-use Rattle.oc_neutral.specs.Built.{IsStarted}
+use Rattle.oc_shows.specs.Built.{IsStarted}
 use Rattle.oc_neutral.specs.Invariants.{AreBytes}
 use Rattle.oc_shelf.specs.Reading.Slots.{AreSlots}
 use Rattle.oc_macho.specs.Tables.{Tables, tables_of}

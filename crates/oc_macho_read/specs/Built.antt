@@ -8,10 +8,10 @@ use Rattle.oc_linking.specs.declared.terms.Visibility.TheVariants.{Default, Hidd
 use Rattle.oc_linking.specs.Parts as parts
 use Rattle.oc_neutral.specs.declared.symbol.Symbol.{Symbol}
 use Rattle.oc_neutral.specs.Building.{Draft}
-use Rattle.oc_neutral.specs.Computed.{computed_symbol, position_of}
+use Rattle.oc_shows.specs.Computed.{computed_symbol, position_of}
 use Rattle.oc_neutral.specs.Invariants.{AreBytes}
 use Rattle.oc_neutral.specs.KindRules.{has}
-use Rattle.oc_neutral.specs.Started.{plain_draft, stored_section}
+use Rattle.oc_shows.specs.Started.{plain_draft, stored_section}
 use Rattle.oc_shelf.specs.Reading.Collected.{collected}
 use Rattle.oc_macho.specs.declared.constants.TheConstants.{N_PEXT, N_SECT}
 use Rattle.oc_macho.specs.declared.nlist.Nlist.{Nlist}

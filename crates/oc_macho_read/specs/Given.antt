@@ -9,12 +9,12 @@ use Rattle.oc_linking.specs.declared.terms.Less.{Less}
 use Rattle.oc_linking.specs.declared.terms.Less.TheVariants as less
 use Rattle.oc_algebra.specs.Fields.{extended}
 use Rattle.oc_algebra.specs.Residues.{reduced_number}
-use Rattle.oc_neutral.specs.Built.{Given}
+use Rattle.oc_shows.specs.Built.{Given}
 use Rattle.oc_neutral.specs.Normal.{Place}
 use Rattle.oc_neutral.specs.declared.reloc.Reloc.{Reloc}
 use Rattle.oc_neutral.specs.declared.reloc.Target.{Target}
 use Rattle.oc_neutral.specs.declared.reloc.Target.TheVariants as target
-use Rattle.oc_neutral.specs.RowValues.{row_reloc}
+use Rattle.oc_shows.specs.RowValues.{row_reloc}
 use Rattle.oc_shelf.specs.declared.reading.order.Placed.{Placed}
 use Rattle.oc_macho.specs.declared.entries.Item.{Item}
 use Rattle.oc_macho.specs.declared.meaning.Meaning.{Meaning}

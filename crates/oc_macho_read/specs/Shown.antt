@@ -4,9 +4,9 @@ use Rattle.oc_base.specs.declared.format.Word.{Word}
 use Rattle.oc_base.specs.declared.format.Word.TheVariants.{W32, W64}
 use Rattle.oc_linking.specs.declared.terms.Keep.{Keep}
 use Rattle.oc_neutral.specs.Building.{Draft}
-use Rattle.oc_neutral.specs.Built.{HasAdded, IsStarted}
-use Rattle.oc_neutral.specs.Shows.{Shows}
-use Rattle.oc_neutral.specs.Targets.{IsDialect}
+use Rattle.oc_shows.specs.Built.{HasAdded, IsStarted}
+use Rattle.oc_shows.specs.Shows.{Shows}
+use Rattle.oc_neutral.specs.Dialects.{IsDialect}
 use Rattle.oc_macho.specs.Tables.{tables_of}
 use Rattle.oc_macho.specs.Rules.{fault_of, mach_dialect}
 use Rattle.oc_macho_read.specs.Built.{started}

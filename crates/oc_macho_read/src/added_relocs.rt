@@ -1,7 +1,7 @@
 //! The relocations of the object, added section by section.
 ghost use Rattle.std.specs.Prelude.{◌≡◌, ◌+◌, ◌<◌, length, take, true, OnOk};
 ghost use Rattle.std.specs.List.Sorted.{IsPermutation};
-ghost use Rattle.oc_neutral.specs.Built.{HasAdded};
+ghost use Rattle.oc_shows.specs.Built.{HasAdded};
 ghost use Rattle.oc_shelf.specs.Reading.Collected.{collected};
 ghost use Rattle.oc_macho.specs.Framed.{IsTable, table_at};
 ghost use Rattle.oc_macho_judge.specs.Holders.{AreHolders};

@@ -3,7 +3,7 @@ ghost use Rattle.std.specs.Prelude.{◌≡◌, ◌+◌, ◌<◌, ◌≤◌, ◌^
 ghost use Rattle.oc_linking.specs.FirstFault.{stage_fault};
 ghost use Rattle.oc_neutral.specs.Building.{is_zero};
 ghost use Rattle.oc_neutral.specs.Mach.Kinds as kinds;
-ghost use Rattle.oc_neutral.specs.Started.{stored_section};
+ghost use Rattle.oc_shows.specs.Started.{stored_section};
 ghost use Rattle.oc_macho.specs.Framed.{IsTable, table_at};
 ghost use Rattle.oc_macho.specs.SectionFaults.{section_stage};
 ghost use Rattle.oc_macho.specs.Sections as sections;

@@ -3,8 +3,8 @@ ghost use Rattle.std.specs.Prelude.{◌≡◌, ◌≤◌, length, None, IfErr, I
 ghost use Rattle.oc_base.specs.declared.limits.TheConstants.{MOST_INPUT};
 ghost use Rattle.oc_base.specs.Stops.{IsStop};
 ghost use Rattle.oc_linking.specs.FirstFault.{first_fault};
-ghost use Rattle.oc_neutral.specs.Readable.{IsReadable};
-ghost use Rattle.oc_neutral.specs.Shows.{Shows};
+ghost use Rattle.oc_shows.specs.Readable.{IsReadable};
+ghost use Rattle.oc_shows.specs.Shows.{Shows};
 ghost use Rattle.oc_shelf.specs.Reading.Slots.{AreSlots};
 ghost use Rattle.oc_macho.specs.Rules.{fault_of, mach_dialect, rest_stages};
 ghost use Rattle.oc_macho.specs.Tables.{tables_of};
@@ -21,8 +21,9 @@ use crate::pins::pins_of;
 use oc_base::{NoMemory, Stop, Word};
 use oc_macho::{Frame, format_of};
 use oc_macho_judge::{Found, judged};
-use oc_neutral::{Builder, Keep, Neutral, Reads, are_bytes};
+use oc_neutral::{Builder, Keep, Neutral, are_bytes};
 use oc_shelf::Slots;
+use oc_shows::Reads;
 use std::alloc::Global;
 
 // the sections and symbols of a file that are carried, and the positions of its symbols

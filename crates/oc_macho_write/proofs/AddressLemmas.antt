@@ -11,7 +11,7 @@ use Rattle.oc_base.specs.declared.format.Word.{Word}
 use Rattle.oc_neutral.specs.declared.section.Section.{Section}
 use Rattle.oc_neutral.specs.Objects.{Object}
 use Rattle.oc_neutral.proofs.Positions.{there_at}
-use Rattle.oc_express.proofs.Steps.{drop_step}
+use Rattle.oc_target.proofs.Steps.{drop_step}
 use Rattle.oc_shelf.specs.Writing.Parts.{Laid, laid, laid_end, aligned}
 use Rattle.oc_macho_file.specs.Addresses.{Numbered, address_of, blank_sections, is_at, is_blank, memory_end, section_begin, size_of, stored_end, stored_sections}
 use Rattle.oc_macho_file.proofs.AddressLaws.{address_low, memory_low, section_rises}

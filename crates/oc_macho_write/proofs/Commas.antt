@@ -6,7 +6,7 @@ use Rattle.std.proofs.lemmas.Bool.Decides.{nat_tests}
 use Rattle.std.proofs.lemmas.List.{drop_all}
 use Rattle.std.proofs.lemmas.Option.{none-some, same_Some}
 use Rattle.oc_neutral.specs.Mach.Kinds.{is_comma, section_of}
-use Rattle.oc_express.specs.Commas.{comma_place}
+use Rattle.oc_target.specs.Commas.{comma_place}
 
 -- what stands behind it
 pub after_comma : (name : List ℕ) (at : ℕ) → comma_place name ≡ Some at → drop (at + 1) name ≡ section_of name

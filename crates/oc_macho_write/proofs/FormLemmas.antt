@@ -19,11 +19,11 @@ use Rattle.oc_neutral.specs.RelocTables.{rows_of}
 use Rattle.oc_neutral.specs.Shifts.{said_shift, written_shift}
 use Rattle.oc_neutral.specs.Spelling.{is_written, numbers_in, row_taking, spelling_of, written_row}
 use Rattle.oc_neutral.specs.Objects.{Object}
-use Rattle.oc_neutral.proofs.MeetsRows.{of_table, found_there}
-use Rattle.oc_express.specs.declared.forms.NoForm.{NoForm}
-use Rattle.oc_express.specs.declared.forms.Spelling.{Spelling}
-use Rattle.oc_express.specs.declared.forms.Spelling.TheVariants as spelling
-use Rattle.oc_express.specs.Lookup.{answer_of}
+use Rattle.oc_target.proofs.MeetsRows.{of_table, found_there}
+use Rattle.oc_target.specs.declared.forms.NoForm.{NoForm}
+use Rattle.oc_target.specs.declared.forms.Spelling.{Spelling}
+use Rattle.oc_target.specs.declared.forms.Spelling.TheVariants as spelling
+use Rattle.oc_target.specs.Lookup.{answer_of}
 use Rattle.oc_macho.specs.MachHeader.{mach_format}
 use Rattle.oc_macho_file.specs.Addresses.{address_of}
 use Rattle.oc_macho_file.specs.Bodies as bodies

@@ -10,7 +10,7 @@ use Rattle.oc_neutral.specs.Mach.Relocs.{length_of}
 use Rattle.oc_neutral.specs.Objects.{Object}
 use Rattle.oc_neutral.specs.Rows.{TakesPlace, same_taken}
 use Rattle.oc_shelf.specs.Writing.Parts.{Laid}
-use Rattle.oc_express.proofs.Giving.{all_given, more_given}
+use Rattle.oc_target.proofs.Giving.{all_given, more_given}
 use Rattle.oc_macho.specs.declared.relocation_info.Reference.{Reference}
 use Rattle.oc_macho.specs.declared.relocation_info.Reference.TheVariants as reference
 use Rattle.oc_macho.specs.declared.relocation_info.RelocationInfo.{RelocationInfo}

@@ -13,7 +13,7 @@ use Rattle.oc_neutral.specs.Bindings.{is_zero}
 use Rattle.oc_neutral.specs.Dressing.{is_common}
 use Rattle.oc_neutral.specs.Mach.SectionSymbols.{needed_sections}
 use Rattle.oc_neutral.specs.Objects.{Object}
-use Rattle.oc_neutral.specs.SymbolLines.{is_defined, is_undefined, is_weak_with}
+use Rattle.oc_shows.specs.SymbolLines.{is_defined, is_undefined, is_weak_with}
 use Rattle.oc_neutral.specs.WrittenSymbols.{is_written}
 use Rattle.oc_macho_file.specs.Lines.{Line, OwnLine, LocalLine, OuterLine, lines_of, line_name, lines_where, own_lines, local_lines, inner_lines, defined_lines, undefined_lines}
 use Rattle.oc_macho_file.specs.Layout.{line_names}

@@ -13,7 +13,7 @@ use Rattle.oc_neutral.specs.KeySymbols.{global_place}
 use Rattle.oc_neutral.specs.Normal.{Place}
 use Rattle.oc_neutral.specs.Objects.{Object}
 use Rattle.oc_neutral.specs.Spelling.{written_row, numbers_in}
-use Rattle.oc_express.specs.Lookup.{answer_of}
+use Rattle.oc_target.specs.Lookup.{answer_of}
 use Rattle.oc_macho.specs.MachHeader.{mach_format}
 use Rattle.oc_macho_file.specs.Bodies as bodies
 use Rattle.oc_macho_write.specs.declared.forms.Scene.{Scene}

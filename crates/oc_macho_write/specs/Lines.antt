@@ -5,7 +5,7 @@ use Rattle.oc_base.specs.declared.format.Word.{Word}
 use Rattle.oc_linking.specs.declared.terms.Binding.{Binding}
 use Rattle.oc_neutral.specs.Bindings.{is_zero}
 use Rattle.oc_neutral.specs.Dressing.{is_common}
-use Rattle.oc_neutral.specs.SymbolLines.{is_defined, is_undefined, is_weak_with}
+use Rattle.oc_shows.specs.SymbolLines.{is_defined, is_undefined, is_weak_with}
 use Rattle.oc_neutral.specs.Objects.{Object}
 use Rattle.oc_macho_file.specs.Lines as lines
 use Rattle.oc_macho_write.specs.declared.lines.Line.{Line}

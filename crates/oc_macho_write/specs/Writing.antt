@@ -1,6 +1,6 @@
 -- What the writers of Mach-O promise of their files.
 use Rattle.oc_base.specs.declared.format.Word.{Word}
-use Rattle.oc_neutral.specs.Targets.{WritesCanonical}
+use Rattle.oc_target.specs.Targets.{WritesCanonical}
 use Rattle.oc_macho.specs.Rules.{mach_dialect}
 use Rattle.oc_macho_file.specs.Canonical.{mach_file}
 use Rattle.oc_macho_file.proofs.WrittenLaw.{mach_is_written}

@@ -2,7 +2,7 @@
 //! behind them those without (our profile).
 ghost use Rattle.std.specs.Prelude.{◌≡◌, ◌+◌, ◌^◌, ◌<◌, ◌≤◌, ℕ, length, slice_index_or, IfOk};
 ghost use Rattle.oc_neutral.specs.Building as building;
-ghost use Rattle.oc_neutral.specs.Fitted.{IsFitted};
+ghost use Rattle.oc_target.specs.Fitted.{IsFitted};
 ghost use Rattle.oc_macho.specs.MachHeader.{mach_format};
 ghost use Rattle.oc_macho_file.specs.Addresses.{is_at};
 ghost use Rattle.oc_macho_write.specs.Addresses.{AreAllAddresses, place_or, those_end, those_laid};

@@ -1,6 +1,6 @@
 //! What parts hold: their sizes, and windows of them.
 ghost use Rattle.std.specs.Prelude.{◌≡◌, ◌+◌, ◌^◌, ◌<◌, ◌++◌, [], IfOk, length, map, replicate, slice_index_or};
-ghost use Rattle.oc_neutral.specs.Fitted.{IsFitted};
+ghost use Rattle.oc_target.specs.Fitted.{IsFitted};
 ghost use Rattle.oc_outside.specs.Windows.{IsFilled};
 ghost use Rattle.oc_shelf.specs.Writing.Parts.{HaveSize};
 ghost use Rattle.oc_macho.specs.MachHeader.{mach_format};

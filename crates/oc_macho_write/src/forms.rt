@@ -18,9 +18,9 @@ ghost use Rattle.oc_macho_write.specs.Forms.{AreWritten, IsFor, IsReady, IsScene
 use crate::values::global_place;
 use oc_algebra::to_field;
 use oc_base::Word;
-use oc_express::{Spelling, lookup};
 use oc_macho::format_of;
 use oc_neutral::{Less, Reloc, Symbol, Target, Width};
+use oc_target::{Spelling, lookup};
 
 /// How many bytes a self-relative field of x86-64 has, from whose end the value is taken.
 const SIGNED_BEHIND: u8 = 4;

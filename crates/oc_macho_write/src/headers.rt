@@ -1,7 +1,7 @@
 //! The file header, the commands and the section headers (Mach-O reference, "mach_header",
 //! "segment_command", "section" and "symtab_command").
 ghost use Rattle.std.specs.Prelude.{◌≡◌, ◌<◌, ◌^◌, ℕ, length, slice_get, Some, IfOk, if◌then◌else◌, nat_eq};
-ghost use Rattle.oc_neutral.specs.Fitted.{IsFitted};
+ghost use Rattle.oc_target.specs.Fitted.{IsFitted};
 ghost use Rattle.oc_neutral.specs.Objects.{Object};
 ghost use Rattle.oc_neutral.specs.declared.section.Section.{Section as Held};
 ghost use Rattle.oc_macho.specs.MachHeader.{mach_format};

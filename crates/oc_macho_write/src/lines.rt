@@ -10,8 +10,8 @@ ghost use Rattle.oc_macho_write.specs.Lines.{AreLines, is_outer, lines_in};
 
 use crate::names::section_symbol_name;
 use oc_base::{NoMemory, Word};
-use oc_express::needed_sections;
 use oc_neutral::{Binding, Fallback, Neutral, Symbol, Value};
+use oc_target::needed_sections;
 use std::alloc::Global;
 
 /// A line of the symbol table, by the position of its section or symbol in the object.

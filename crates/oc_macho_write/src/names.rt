@@ -3,7 +3,7 @@ ghost use Rattle.std.specs.Prelude.{◌≡◌, ℕ, List, IfOk};
 ghost use Rattle.oc_neutral.specs.Mach.Kinds as kinds;
 ghost use Rattle.oc_neutral.specs.Mach.SectionSymbols.{section_symbol_name};
 ghost use Rattle.oc_macho_file.specs.Layout as layout;
-ghost use Rattle.oc_express.specs.Commas.{comma_place};
+ghost use Rattle.oc_target.specs.Commas.{comma_place};
 ghost use Rattle.oc_macho_write.specs.Strings.{table_with};
 
 use oc_base::{Bytes, NoMemory};

@@ -1,7 +1,7 @@
 //! The numbers of the symbols in the symbol table (Mach-O reference, "nlist").
 ghost use Rattle.std.specs.Prelude.{◌≡◌, ◌+◌, ◌^◌, ◌<◌, ℕ, if◌then◌else◌, IfOk, Some, slice_index_or, length};
 ghost use Rattle.oc_base.specs.declared.format.Word.{Word};
-ghost use Rattle.oc_neutral.specs.Fitted.{IsFitted};
+ghost use Rattle.oc_target.specs.Fitted.{IsFitted};
 ghost use Rattle.oc_neutral.specs.declared.reloc.Target.TheVariants as to;
 ghost use Rattle.oc_neutral.specs.Objects.{Object};
 ghost use Rattle.oc_macho.specs.MachHeader.{mach_format};

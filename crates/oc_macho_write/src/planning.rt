@@ -19,9 +19,10 @@ use crate::parts::parts_of;
 use crate::places::Places;
 use crate::plan::{MachParts, Plan};
 use oc_base::{NoMemory, Word};
-use oc_neutral::{Fitted, Neutral, Section};
+use oc_neutral::{Neutral, Section};
 use oc_plans::with_numbers;
 use oc_shelf::Layout;
+use oc_target::Fitted;
 use std::alloc::Global;
 
 // the sections of an object, which have these addresses, with the numbers in their fields

@@ -2,7 +2,7 @@
 //! "scattered_relocation_info").
 ghost use Rattle.std.specs.Prelude.{◌≡◌, ◌<◌, ◌++◌, ◌^◌, [], ◌∷◌, length, IfOk, OnOk, Some};
 ghost use Rattle.oc_base.specs.declared.format.Word.{Word};
-ghost use Rattle.oc_neutral.specs.Fitted.{IsFitted};
+ghost use Rattle.oc_target.specs.Fitted.{IsFitted};
 ghost use Rattle.oc_neutral.specs.Mach.Relocs as relocs;
 ghost use Rattle.oc_neutral.specs.Objects.{Object};
 ghost use Rattle.oc_macho.specs.MachHeader.{mach_format};
@@ -17,9 +17,9 @@ use crate::forms::{Scene, Standing, length_of, standing_at, taken_section, takes
 use crate::numbers::Numbers;
 use oc_base::{NoMemory, Word};
 use oc_chains::Field;
-use oc_express::Spelling;
 use oc_macho::{Reference, RelocationInfo};
 use oc_neutral::{Neutral, Reloc};
+use oc_target::Spelling;
 use std::alloc::Global;
 
 // an entry that is not scattered, which takes the place of its field or not

@@ -1,6 +1,6 @@
 //! The string table (Mach-O reference, "nlist"; our profile).
 ghost use Rattle.std.specs.Prelude.{◌≡◌, ◌+◌, ◌^◌, ◌<◌, ◌≤◌, ◌-◌, Some, IsSome, IfOk, length};
-ghost use Rattle.oc_neutral.specs.Fitted.{IsFitted};
+ghost use Rattle.oc_target.specs.Fitted.{IsFitted};
 ghost use Rattle.oc_macho.specs.MachHeader.{mach_format};
 ghost use Rattle.oc_shelf.specs.Writing.Parts.{aligned};
 ghost use Rattle.oc_macho.specs.MachHeader.{address_size};

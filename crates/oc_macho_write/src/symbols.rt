@@ -1,7 +1,7 @@
 //! The entries of the symbol table (Mach-O reference, "nlist").
 ghost use Rattle.std.specs.Prelude.{◌≡◌, ◌<◌, ℕ, length, map, Some, IsSome, IfOk};
 ghost use Rattle.oc_base.specs.declared.format.Word.{Word};
-ghost use Rattle.oc_neutral.specs.Fitted.{IsFitted};
+ghost use Rattle.oc_target.specs.Fitted.{IsFitted};
 ghost use Rattle.oc_neutral.specs.Invariants.{IsBinding};
 ghost use Rattle.oc_macho.specs.MachHeader.{mach_format};
 ghost use Rattle.oc_macho_file.specs.Layout as layout;

@@ -3,7 +3,7 @@ ghost use Rattle.std.specs.Prelude.{◌≡◌, ◌*◌, ◌^◌, ◌<◌, ◌≤
 ghost use Rattle.std.specs.Option.{option_map_or};
 ghost use Rattle.oc_neutral.specs.Invariants.{IsBinding, IsFallback, IsValue};
 ghost use Rattle.oc_neutral.specs.KeySymbols as keys;
-ghost use Rattle.oc_neutral.specs.Manners.{hidden, mach_vis};
+ghost use Rattle.oc_shows.specs.Manners.{hidden, mach_vis};
 ghost use Rattle.oc_neutral.specs.Normal.{Place as Held};
 ghost use Rattle.oc_macho_file.specs.Symbols as symbols;
 ghost use Rattle.oc_macho_write.specs.Values.{AreAddresses, AreStood};

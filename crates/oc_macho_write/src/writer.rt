@@ -7,7 +7,7 @@ ghost use Rattle.oc_macho_write.specs.Writing.{writes_mach};
 use crate::plan::Plan;
 use crate::planning::plan_object;
 use oc_base::{NoMemory, Word};
-use oc_neutral::{Fitted, Writes};
+use oc_target::{Fitted, Writes};
 use std::alloc::Global;
 
 /// Writes Mach-O for i386: every object that is ready for it, as its canonical file.

@@ -22,11 +22,11 @@ use Rattle.oc_neutral.specs.declared.section.Section.{Section}
 use Rattle.oc_neutral.specs.declared.symbol.Symbol.{Symbol}
 use Rattle.oc_neutral.specs.Alignments.{output_align}
 use Rattle.oc_neutral.specs.Elf.Family.{elf_symbol_count, header_count}
-use Rattle.oc_neutral.specs.Fitted.{first_unfit, fitted_binding, IsFitted, IsNamed}
+use Rattle.oc_target.specs.Fitted.{first_unfit, fitted_binding, IsFitted, IsNamed}
 use Rattle.oc_neutral.specs.HomeNames.{is_home, output_names}
 use Rattle.oc_neutral.specs.KindRules.{has_nul}
 use Rattle.oc_neutral.specs.Objects.{Object}
-use Rattle.oc_neutral.specs.Readable.{IsBlankWhereTyped}
+use Rattle.oc_shows.specs.Readable.{IsBlankWhereTyped}
 use Rattle.oc_neutral.specs.Relocated.{is_relocated}
 use Rattle.oc_neutral.specs.Shifts.{field_shift}
 use Rattle.oc_neutral.specs.Spelling.{written_row}

@@ -5,7 +5,7 @@ ghost use Rattle.oc_made.specs.Files.{made_bytes};
 use crate::object::made;
 use oc_base::{Format, NoMemory, Word};
 use oc_elf_write::{ElfWriter32, ElfWriter64};
-use oc_neutral::{Emits, Fitted, Writes};
+use oc_target::{Emits, Fitted, Writes};
 use std::alloc::Global;
 
 // the whole file of a plan

@@ -20,7 +20,7 @@ use Rattle.oc_neutral.specs.declared.reloc.Target.TheVariants as target
 use Rattle.oc_neutral.specs.declared.symbol.Symbol.{Symbol}
 use Rattle.oc_neutral.specs.Families.{container_of}
 use Rattle.oc_neutral.specs.Family.{IsElf}
-use Rattle.oc_neutral.specs.Fitted.{first_unfit}
+use Rattle.oc_target.specs.Fitted.{first_unfit}
 use Rattle.oc_neutral.specs.HomeNames.{output_names, wanted_names}
 use Rattle.oc_neutral.specs.KindRules.{has_nul}
 use Rattle.oc_neutral.specs.Objects.{Object}

@@ -13,11 +13,11 @@ use Rattle.oc_linking.specs.Keeping.{keeps}
 use Rattle.oc_linking.specs.Numbers.{or_else}
 use Rattle.oc_neutral.specs.declared.section.Section.{Section}
 use Rattle.oc_neutral.specs.Dialects.{Dialect}
-use Rattle.oc_neutral.specs.Computed.{object_in}
+use Rattle.oc_shows.specs.Computed.{object_in}
 use Rattle.oc_neutral.specs.Families.{is_many, same_word}
-use Rattle.oc_neutral.specs.Fitted.{IsFitted}
+use Rattle.oc_target.specs.Fitted.{IsFitted}
 use Rattle.oc_neutral.specs.Objects.{Object}
-use Rattle.oc_neutral.specs.Seen.{seen}
+use Rattle.oc_shows.specs.Seen.{seen}
 use Rattle.oc_names.specs.Wishes.{no_wishes}
 use Rattle.oc_names.specs.Edited.{edited}
 use Rattle.oc_names.specs.Kept.{keep_for}

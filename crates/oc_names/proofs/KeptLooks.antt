@@ -27,12 +27,12 @@ use Rattle.oc_neutral.specs.declared.reloc.Target.TheVariants as target
 use Rattle.oc_neutral.specs.declared.reloc.Reloc.{Reloc}
 use Rattle.oc_neutral.specs.Objects.{Object, reloc_at}
 use Rattle.oc_neutral.specs.Invariants.{IsThere, IsLessThere, IsObject}
-use Rattle.oc_neutral.specs.Computed.{zeros_outside}
+use Rattle.oc_shows.specs.Computed.{zeros_outside}
 use Rattle.oc_neutral.specs.Faces.{number_of, named_of, shown_symbols}
 use Rattle.oc_neutral.specs.Normal.{Place, local_place, place_among, cancels}
 use Rattle.oc_neutral.specs.Dialects.{Dialect, Look, less_in, look_of, kept_fields, target_by, is_folded, looks_in}
-use Rattle.oc_neutral.specs.Shows.{looks_of, reloc_look, Shows}
-use Rattle.oc_neutral.proofs.Looking.{cancels-named, folds, look_among, look-normal, normal_look}
+use Rattle.oc_shows.specs.Shows.{looks_of, reloc_look, Shows}
+use Rattle.oc_shows.proofs.Looking.{cancels-named, folds, look_among, look-normal, normal_look}
 use Rattle.oc_neutral.proofs.NormalLemmas.{section_for, place_among-there}
 use Rattle.oc_neutral.proofs.Positions.{there_at}
 use Rattle.oc_names.specs.declared.edit.Edit.{Edit}

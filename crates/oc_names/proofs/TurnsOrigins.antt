@@ -17,8 +17,7 @@ use Rattle.oc_neutral.specs.declared.reloc.Target.TheVariants as target
 use Rattle.oc_neutral.specs.Objects.{Object}
 use Rattle.oc_neutral.specs.Normal.{Place, local_place, place_among}
 use Rattle.oc_neutral.specs.Invariants.{IsObject}
-use Rattle.oc_neutral.proofs.FitLinks.{from_mapped}
-use Rattle.oc_neutral.proofs.SeenRelocs.{all_from}
+use Rattle.oc_neutral.proofs.Mapped.{from_mapped, all_from}
 use Rattle.oc_names.specs.declared.edit.Edit.{Edit}
 use Rattle.oc_names.specs.declared.edit.Edit.TheVariants.{MakeLocal}
 use Rattle.oc_drop.specs.Steps.{first_in}

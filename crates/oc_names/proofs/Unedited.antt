@@ -26,10 +26,10 @@ use Rattle.oc_neutral.specs.declared.normal.Normal.TheVariants as normal
 use Rattle.oc_neutral.specs.Objects.{Object}
 use Rattle.oc_neutral.specs.Building.{has_name}
 use Rattle.oc_neutral.specs.Normal.{by_section, folded, by_place, normal_of, at_section, takes_section}
-use Rattle.oc_neutral.specs.Repeats.{nonlocal_name, name_at, repeat_at, first_repeat}
+use Rattle.oc_strings.specs.Repeats.{nonlocal_name, name_at, repeat_at, first_repeat}
 use Rattle.oc_neutral.specs.Invariants.{IsBinding, is_strong, IsNormal, IsObject}
 use Rattle.oc_neutral.proofs.Positions.{there_at}
-use Rattle.oc_neutral.proofs.RepeatLemmas.{no_repeat}
+use Rattle.oc_strings.proofs.RepeatLemmas.{no_repeat}
 use Rattle.oc_drop.specs.Steps.{first_in, unless, then_by, edit_fault, symbol_fault, fault_in, first_field}
 use Rattle.oc_base.specs.declared.code.Code.TheVariants.{LimitSymbols, EmptyName}
 use Rattle.oc_neutral.specs.Without.{with_binding}

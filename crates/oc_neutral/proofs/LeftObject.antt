@@ -17,7 +17,7 @@ use Rattle.oc_neutral.specs.Objects.{Object}
 use Rattle.oc_neutral.specs.Building.{stored_size}
 use Rattle.oc_neutral.specs.Invariants.{AreBytes, HasItsBytes, IsAlign, IsSection, IsMember, WithinLimits, HoldsFields, AreFew, IsHeld, IsHinted, NamesOriginal, AreBegun, groups_of, IsBuilt, IsComplete, IsObject}
 use Rattle.oc_neutral.proofs.Positions.{each_weaker, there_at}
-use Rattle.oc_neutral.proofs.SeenRelocs.{list_map, held_map}
+use Rattle.oc_neutral.proofs.Mapped.{list_map, held_map}
 use Rattle.oc_neutral.specs.Without.{IsDetached, is_dropped, refers_to_dropped, new_position, moved_field, groups_left, regrouped}
 use Rattle.oc_neutral.proofs.KeptLists.{Stays, kept_there, all_kept, kept_few, kept_long, sum_kept}
 use Rattle.oc_neutral.proofs.LeftParts.{flags, moved_symbol, left_object, section_from, symbols_fine, distinct, held_still, hinted_still, original_still}

@@ -29,10 +29,9 @@ use Rattle.oc_neutral.specs.Faces.{number_of}
 use Rattle.oc_neutral.specs.Normal.{local_place, place_among, cancels, takes_section}
 use Rattle.oc_neutral.specs.Invariants.{HasOffset, IsValue, is_strong, IsOriginal, IsFallback, IsBinding, IsSymbol, AreDistinct, IsThere, IsLessThere, IsNormal, IsHeld, IsHinted, NamesOriginal}
 use Rattle.oc_neutral.proofs.Adding.{or_left, or_right}
-use Rattle.oc_neutral.proofs.FitLinks.{from_mapped}
+use Rattle.oc_neutral.proofs.Mapped.{from_mapped, all_from}
 use Rattle.oc_neutral.proofs.NormalLemmas.{place_among-there}
 use Rattle.oc_neutral.proofs.Positions.{each_at, there_at}
-use Rattle.oc_neutral.proofs.SeenRelocs.{all_from}
 use Rattle.oc_neutral.specs.Without.{is_dropped, value_section, binding_section, lies_in_dropped, symbols_stay, targets_dropped, takes_dropped, refers_to_dropped, IsDetached, new_position, moved_value, moved_fallback, moved_binding, with_binding, moved_target, moved_less, moved_reloc, moved_field, groups_left, regrouped, left_of}
 use Rattle.oc_neutral.proofs.KeptLists.{Stays, kept_there, kept_from, old_order, one_position}
 

@@ -5,7 +5,7 @@ use Rattle.oc_base.specs.declared.format.Word.TheVariants.{W32}
 use Rattle.oc_linking.specs.Rules.{Field}
 use Rattle.oc_linking.specs.Targets.{Target}
 use Rattle.oc_neutral.specs.Rows.{Row}
-use Rattle.oc_neutral.specs.RowFields.{row_field, number_in}
+use Rattle.oc_shows.specs.RowFields.{row_field, number_in}
 use Rattle.oc_neutral.specs.Omf.Relocs.{ByFlat, ByTarget, BySelf, fixup_row}
 use Rattle.oc_omf.specs.declared.constants.TheConstants.{OFFSET_32}
 use Rattle.oc_omf.specs.declared.structures.Method.{Method}

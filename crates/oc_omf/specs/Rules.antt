@@ -7,8 +7,7 @@ use Rattle.oc_linking.specs.declared.terms.Keep.{Keep}
 use Rattle.oc_linking.specs.FirstFault.{Stage, first_fault}
 use Rattle.oc_linking.specs.Rules.{Rules}
 use Rattle.oc_neutral.specs.Alignments.{output_align, common_align}
-use Rattle.oc_neutral.specs.Dialects.{Dialect}
-use Rattle.oc_neutral.specs.Targets.{IsDialect}
+use Rattle.oc_neutral.specs.Dialects.{Dialect, IsDialect}
 use Rattle.oc_omf.specs.Entries.{Entry, entries_in}
 use Rattle.oc_omf.specs.Tables.{tables_of}
 use Rattle.oc_omf.specs.Sections.{sections_in}

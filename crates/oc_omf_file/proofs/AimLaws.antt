@@ -18,12 +18,12 @@ use Rattle.oc_neutral.specs.declared.reloc.Target.TheVariants as target
 use Rattle.oc_neutral.specs.Bindings.{is_external}
 use Rattle.oc_neutral.specs.Invariants.{IsSymbol, IsBinding, IsThere}
 use Rattle.oc_neutral.specs.KeySymbols.{global_place}
-use Rattle.oc_neutral.specs.Manners.{omf_manner}
+use Rattle.oc_shows.specs.Manners.{omf_manner}
 use Rattle.oc_neutral.specs.Normal.{Place, takes_section, at_section}
 use Rattle.oc_neutral.specs.Objects.{Object, reloc_at}
 use Rattle.oc_neutral.specs.Omf.Relocs.{Framed, ByFlat, ByTarget, BySelf, fixup_row}
 use Rattle.oc_neutral.specs.Rows as rows
-use Rattle.oc_neutral.specs.Seen.{place_at, target_place, section_place}
+use Rattle.oc_shows.specs.Seen.{place_at, target_place, section_place}
 use Rattle.oc_neutral.proofs.Positions.{each_at, there_at}
 use Rattle.oc_omf_file.specs.Fixups.{written_reloc, target_method}
 use Rattle.oc_omf_file.proofs.CodedLaws.{IsForOmf, framed, meets, row_takes}

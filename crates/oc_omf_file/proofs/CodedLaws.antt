@@ -13,16 +13,16 @@ use Rattle.oc_chains.specs.declared.field.Field.{Field}
 use Rattle.oc_chains.specs.Lists.{list_of}
 use Rattle.oc_neutral.specs.declared.section.Section.{Section}
 use Rattle.oc_neutral.specs.declared.reloc.Reloc.{Reloc}
-use Rattle.oc_neutral.specs.Fitted.{IsFitted}
+use Rattle.oc_target.specs.Fitted.{IsFitted}
 use Rattle.oc_neutral.specs.Invariants.{IsObject}
-use Rattle.oc_neutral.specs.Meets.{MeetsReloc}
+use Rattle.oc_target.specs.Meets.{MeetsReloc}
 use Rattle.oc_neutral.specs.Objects.{Object, reloc_at, reloc_among}
-use Rattle.oc_neutral.specs.OmfMeets.{MeetsOmf, OmfSection, OmfReloc}
+use Rattle.oc_target.specs.OmfMeets.{MeetsOmf, OmfSection, OmfReloc}
 use Rattle.oc_neutral.specs.Omf.Relocs.{Framed, ByFlat, ByTarget, BySelf, fixup_row}
 use Rattle.oc_neutral.specs.Rows as rows
 use Rattle.oc_neutral.specs.Rows.{Row, taken_of}
-use Rattle.oc_neutral.proofs.FitLinks.{from_mapped}
-use Rattle.oc_neutral.proofs.MeetsOmf.{meets_omf}
+use Rattle.oc_neutral.proofs.Mapped.{from_mapped}
+use Rattle.oc_target.proofs.MeetsOmf.{meets_omf}
 use Rattle.oc_neutral.proofs.Positions.{each_at, there_at}
 use Rattle.oc_neutral.proofs.Standing.{ends_by, wide_in}
 use Rattle.oc_shelf.proofs.WritingLaws.MemberLemmas.{of_map}

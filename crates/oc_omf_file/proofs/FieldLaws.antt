@@ -25,17 +25,17 @@ use Rattle.oc_neutral.specs.declared.section.Section.{Section}
 use Rattle.oc_neutral.specs.declared.reloc.Reloc.{Reloc}
 use Rattle.oc_neutral.specs.declared.reloc.Target.{Target}
 use Rattle.oc_neutral.specs.Building.{is_zero}
-use Rattle.oc_neutral.specs.Manners.{omf_manner}
-use Rattle.oc_neutral.specs.Meets.{MeetsReloc}
+use Rattle.oc_shows.specs.Manners.{omf_manner}
+use Rattle.oc_target.specs.Meets.{MeetsReloc}
 use Rattle.oc_neutral.specs.Normal.{Place, at_section}
 use Rattle.oc_neutral.specs.Objects.{Object, reloc_at}
 use Rattle.oc_neutral.specs.Omf.Relocs.{Framed, ByFlat, ByTarget, BySelf, fixup_row}
-use Rattle.oc_neutral.specs.RowFields.{number_in, row_field}
-use Rattle.oc_neutral.specs.RowValues.{row_reloc}
+use Rattle.oc_shows.specs.RowFields.{number_in, row_field}
+use Rattle.oc_shows.specs.RowValues.{row_reloc}
 use Rattle.oc_neutral.specs.Rows as rows
 use Rattle.oc_neutral.specs.Rows.{Row, shift_of}
-use Rattle.oc_neutral.specs.Seen.{section_place, seen_reloc, seen_target}
-use Rattle.oc_neutral.proofs.MeetsRelocs.{no_error}
+use Rattle.oc_shows.specs.Seen.{section_place, seen_reloc, seen_target}
+use Rattle.oc_target.proofs.MeetsRelocs.{no_error}
 use Rattle.oc_neutral.proofs.ShiftLemmas.{four_bytes_hold}
 use Rattle.oc_omf.specs.Sections.{size_at, contents_of}
 use Rattle.oc_omf.specs.Fixups.{Fixed, fixed_from, has_field, placed_upto, is_of_segment, field_offsets}

@@ -15,8 +15,8 @@ use Rattle.oc_neutral.specs.declared.symbol.Symbol.{Symbol}
 use Rattle.oc_neutral.specs.Bindings.{is_external}
 use Rattle.oc_neutral.specs.Dressing.{is_common}
 use Rattle.oc_neutral.specs.Objects.{Object}
-use Rattle.oc_neutral.specs.SymbolLines.{Line, is_undefined, is_global, is_weak_with, omf_lines}
-use Rattle.oc_neutral.proofs.SeenFamilies.{omf_table}
+use Rattle.oc_shows.specs.SymbolLines.{Line, is_undefined, is_global, is_weak_with, omf_lines}
+use Rattle.oc_shows.proofs.SeenFamilies.{omf_table}
 use Rattle.oc_shelf.proofs.WritingLaws.MemberLemmas.{member_enumerated, member_filter_map, member_first, member_second, member_map, position_first}
 use Rattle.oc_omf_file.specs.Outputs.{Output, external_by, communal_by, external_output, communal_output, public_output, indexed_outputs, symbol_outputs, is_of_symbol, symbol_number}
 use Rattle.oc_omf_file.specs.Outputs as output

@@ -8,7 +8,7 @@ use Rattle.std.proofs.lemmas.Option.{none-some, same_Some}
 use Rattle.std.proofs.Math.Seq.{drop-append-add, take-append_seam}
 use Rattle.oc_omf_records.specs.Blocks.{none, content, denotation}
 use Rattle.oc_omf.specs.Sections.{laid_over}
-use Rattle.oc_neutral.proofs.MeetsRows.{found_there}
+use Rattle.oc_target.proofs.MeetsRows.{found_there}
 use Rattle.oc_shelf.proofs.WritingLaws.WindowLemmas.{take_none, drop_none}
 use Rattle.oc_omf.specs.declared.constants.TheConstants.{MOST_ENTRY_BYTES}
 use Rattle.oc_omf_file.specs.Pieces.{cuts, piece_end, pieces_upto}

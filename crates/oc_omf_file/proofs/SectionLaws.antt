@@ -17,7 +17,7 @@ use Rattle.oc_neutral.specs.Invariants.{HasItsBytes}
 use Rattle.oc_neutral.specs.Objects.{Object}
 use Rattle.oc_neutral.specs.Omf.Family.{omf_aligns}
 use Rattle.oc_neutral.specs.Omf.Kinds.{omf_kind, omf_tag}
-use Rattle.oc_neutral.specs.OmfMeets.{OmfSection}
+use Rattle.oc_target.specs.OmfMeets.{OmfSection}
 use Rattle.oc_neutral.proofs.Positions.{each_at}
 use Rattle.oc_omf.specs.Structures.{Piece}
 use Rattle.oc_omf.specs.Entries.{entries_in}

@@ -7,13 +7,13 @@ use Rattle.oc_base.specs.Formats.{word_for}
 use Rattle.oc_neutral.specs.declared.symbol.Symbol.{Symbol}
 use Rattle.oc_neutral.specs.Objects.{Object}
 use Rattle.oc_neutral.specs.Families.{container_of}
-use Rattle.oc_neutral.specs.Manners.{omf_manner, manner_of, own_manner}
-use Rattle.oc_neutral.specs.Seen.{shown_from, new_position, seen_symbol, seen_symbols, seen_with, seen}
-use Rattle.oc_neutral.specs.SymbolLines.{omf_lines}
-use Rattle.oc_neutral.proofs.SeenFamilies.{omf_table}
-use Rattle.oc_neutral.proofs.SeenLines.{IsShown, table_shows}
-use Rattle.oc_shows.proofs.MadeLaws as made
-use Rattle.oc_shows.proofs.ShownLines as by_lines
+use Rattle.oc_shows.specs.Manners.{omf_manner, manner_of, own_manner}
+use Rattle.oc_shows.specs.Seen.{shown_from, new_position, seen_symbol, seen_symbols, seen_with, seen}
+use Rattle.oc_shows.specs.SymbolLines.{omf_lines}
+use Rattle.oc_shows.proofs.SeenFamilies.{omf_table}
+use Rattle.oc_shows.proofs.SeenLines.{IsShown, table_shows}
+use Rattle.oc_made_files.proofs.MadeLaws as made
+use Rattle.oc_made_files.proofs.ShownLines as by_lines
 use Rattle.oc_omf_file.specs.Outputs.{Output, symbol_outputs}
 use Rattle.oc_omf_file.proofs.CodedLaws.{IsForOmf}
 use Rattle.oc_omf_file.proofs.LineLaws.{key_of, line_of, lines_are, strong}

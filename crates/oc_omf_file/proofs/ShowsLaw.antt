@@ -9,23 +9,23 @@ use Rattle.oc_neutral.specs.declared.section.Section.{Section}
 use Rattle.oc_neutral.specs.declared.reloc.Reloc.{Reloc}
 use Rattle.oc_neutral.specs.declared.reloc.Target.TheVariants as target
 use Rattle.oc_neutral.specs.Objects.{Object, reloc_at}
-use Rattle.oc_neutral.specs.Again.{HasContents}
+use Rattle.oc_shows.specs.Again.{HasContents}
 use Rattle.oc_neutral.specs.Building.{is_zero}
-use Rattle.oc_neutral.specs.Fitted.{IsFitted}
-use Rattle.oc_neutral.specs.Manners.{omf_manner}
+use Rattle.oc_target.specs.Fitted.{IsFitted}
+use Rattle.oc_shows.specs.Manners.{omf_manner}
 use Rattle.oc_neutral.specs.Normal.{place_among}
 use Rattle.oc_neutral.specs.Omf.Relocs.{fixup_row}
-use Rattle.oc_neutral.specs.RowFields.{IsTarget}
-use Rattle.oc_neutral.specs.Seen.{seen, seen_section, seen_target, new_position}
-use Rattle.oc_neutral.specs.Shows.{Shows}
+use Rattle.oc_shows.specs.RowFields.{IsTarget}
+use Rattle.oc_shows.specs.Seen.{seen, seen_section, seen_target, new_position}
+use Rattle.oc_shows.specs.Shows.{Shows}
 use Rattle.oc_omf.specs.Entries.{entries_in}
 use Rattle.oc_omf.specs.Sections.{sections_in}
 use Rattle.oc_omf.specs.Fixups.{fixed_in}
 use Rattle.oc_omf.specs.Targets.{meaning_of, section_target, target_of}
 use Rattle.oc_omf.specs.Fields.{relocates, field_by, fixups_in, fields_in}
 use Rattle.oc_omf.specs.Rules.{omf_dialect}
-use Rattle.oc_shows.specs.MadeFiles.{IsMadeField, IsMadeFile}
-use Rattle.oc_shows.proofs.MadeLaws.{patched_beside, contents_by_kind, outer_aimed, made_by_row, made_file_shows}
+use Rattle.oc_made_files.specs.MadeFiles.{IsMadeField, IsMadeFile}
+use Rattle.oc_made_files.proofs.MadeLaws.{patched_beside, contents_by_kind, outer_aimed, made_by_row, made_file_shows}
 use Rattle.oc_omf_file.specs.Fixups.{written_reloc, target_method, field_patch, raw_of}
 use Rattle.oc_omf_file.specs.Canonical.{omf_file}
 use Rattle.oc_omf_file.proofs.MadeLaw.{entries_made}

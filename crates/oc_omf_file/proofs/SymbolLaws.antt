@@ -12,17 +12,17 @@ use Rattle.oc_linking.specs.declared.terms.Binding.TheVariants.{Global, Undefine
 use Rattle.oc_neutral.specs.declared.symbol.Symbol.{Symbol}
 use Rattle.oc_neutral.specs.Faces.{shown_symbol, shown_symbols, shown_binding}
 use Rattle.oc_neutral.specs.KeySymbols.{global_place}
-use Rattle.oc_neutral.specs.Manners.{omf_manner}
+use Rattle.oc_shows.specs.Manners.{omf_manner}
 use Rattle.oc_neutral.specs.Normal.{Place}
 use Rattle.oc_neutral.specs.Objects.{Object}
 use Rattle.oc_neutral.specs.Powers.{natural_align}
-use Rattle.oc_neutral.specs.Seen.{seen_symbol, seen_symbols, seen_binding}
+use Rattle.oc_shows.specs.Seen.{seen_symbol, seen_symbols, seen_binding}
 use Rattle.oc_shelf.proofs.WritingLaws.MemberLemmas.{each_flat_map, member_flat_map, member_map, of_map, none_passes, position_first}
 use Rattle.oc_omf.specs.Structures.{Public, External}
 use Rattle.oc_omf.specs.Entries.{entries_in}
 use Rattle.oc_omf.specs.Tables.{Tables, tables_of}
 use Rattle.oc_omf.specs.Symbols.{Mention, same_symbol, public_mention, external_mention, entry_mentions, with_new, mentions_in, number_of, public_of, public_binding, communal_of, binding_of, symbol_of, symbols_in}
-use Rattle.oc_shows.proofs.ShownLines.{seen_one}
+use Rattle.oc_made_files.proofs.ShownLines.{seen_one}
 use Rattle.oc_omf_file.specs.Outputs.{Output, symbol_outputs, outputs_of}
 use Rattle.oc_omf_file.specs.Outputs as output
 use Rattle.oc_omf_file.specs.Canonical.{size_by, omf_file}

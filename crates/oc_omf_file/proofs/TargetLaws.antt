@@ -19,10 +19,10 @@ use Rattle.oc_neutral.specs.declared.reloc.Reloc.{Reloc}
 use Rattle.oc_neutral.specs.declared.reloc.Target.TheVariants as target
 use Rattle.oc_neutral.specs.Bindings.{is_external}
 use Rattle.oc_neutral.specs.Faces.{shown_symbol, shown_symbols}
-use Rattle.oc_neutral.specs.Manners.{omf_manner}
+use Rattle.oc_shows.specs.Manners.{omf_manner}
 use Rattle.oc_neutral.specs.Objects.{Object, reloc_at}
 use Rattle.oc_neutral.specs.Omf.Relocs.{Framed, ByFlat, ByTarget, BySelf, fixup_row}
-use Rattle.oc_neutral.specs.Seen.{seen_symbol}
+use Rattle.oc_shows.specs.Seen.{seen_symbol}
 use Rattle.oc_shelf.proofs.WritingLaws.MemberLemmas.{each_append, each_filter_map, member_map}
 use Rattle.oc_omf.specs.declared.structures.Method.{Method}
 use Rattle.oc_omf.specs.Structures.{External}
@@ -31,7 +31,7 @@ use Rattle.oc_omf.specs.Symbols.{Mention, external_mention, number_of, symbol_of
 use Rattle.oc_omf.specs.Fixups.{Fixed}
 use Rattle.oc_omf.specs.Targets.{Meaning, section_target, target_of, is_flat, is_home}
 use Rattle.oc_omf.specs.Fields.{framed_row, row_of}
-use Rattle.oc_shows.proofs.MadeLaws.{named_by_symbol}
+use Rattle.oc_made_files.proofs.MadeLaws.{named_by_symbol}
 use Rattle.oc_omf_file.specs.Outputs.{Output, external_by, communal_by, external_output, communal_output, public_output, indexed_outputs, symbol_outputs, symbol_number}
 use Rattle.oc_omf_file.specs.Outputs as output
 use Rattle.oc_omf_file.specs.Fixups.{is_row, written_reloc, target_method}

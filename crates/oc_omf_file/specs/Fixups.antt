@@ -13,11 +13,11 @@ use Rattle.oc_neutral.specs.declared.reloc.Reloc.{Reloc}
 use Rattle.oc_neutral.specs.declared.reloc.Target.{Target}
 use Rattle.oc_neutral.specs.declared.reloc.Target.TheVariants as target
 use Rattle.oc_neutral.specs.Objects.{Object, reloc_at}
-use Rattle.oc_neutral.specs.Manners.{omf_manner}
+use Rattle.oc_shows.specs.Manners.{omf_manner}
 use Rattle.oc_neutral.specs.Normal.{at_section}
 use Rattle.oc_neutral.specs.Omf.Relocs.{Framed, ByTarget, BySelf, fixup_row}
 use Rattle.oc_neutral.specs.Rows.{Row, shift_of}
-use Rattle.oc_neutral.specs.Seen.{section_place}
+use Rattle.oc_shows.specs.Seen.{section_place}
 use Rattle.oc_neutral.specs.Spelling.{written_row}
 use Rattle.oc_omf.specs.declared.structures.Method.{Method}
 use Rattle.oc_omf.specs.declared.constants.TheConstants.{METHOD_SEGMENT, METHOD_GROUP, METHOD_EXTERNAL, FRAME_OF_TARGET}

@@ -1,5 +1,5 @@
 -- OMF is written.
-use Rattle.oc_neutral.specs.Targets.{WritesCanonical}
+use Rattle.oc_target.specs.Targets.{WritesCanonical}
 use Rattle.oc_omf.specs.Rules.{omf_dialect}
 use Rattle.oc_omf_file.specs.Canonical.{omf_file}
 

@@ -9,7 +9,7 @@ use Rattle.std.proofs.lemmas.Bool.Decides.{nat_tests}
 use Rattle.std.proofs.lemmas.Option.{none-some, same_Some, slice_get-get_or}
 use Rattle.std.proofs.lemmas.List.Folds.{list_any-append}
 use Rattle.oc_neutral.proofs.FieldLists.{take_here}
-use Rattle.oc_neutral.proofs.MeetsParts.{any_passes}
+use Rattle.oc_target.proofs.MeetsParts.{any_passes}
 use Rattle.oc_shelf.proofs.ReadingLaws.StageLemmas.{both_hold}
 use Rattle.oc_shelf.proofs.WritingLaws.MemberLemmas.{each_append, member_map, member_passes, of_map}
 use Rattle.oc_omf_records.specs.Blocks.{moved}

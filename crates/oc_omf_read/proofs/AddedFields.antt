@@ -26,12 +26,12 @@ use Rattle.oc_neutral.specs.declared.reloc.Target.{Target}
 use Rattle.oc_neutral.specs.declared.reloc.Target.TheVariants as target
 use Rattle.oc_neutral.specs.declared.symbol.Symbol.{Symbol}
 use Rattle.oc_neutral.specs.Building.{Draft, is_zero}
-use Rattle.oc_neutral.specs.Built.{HasAdded, IsStarted}
-use Rattle.oc_neutral.specs.Computed.{computed_symbol, position_of}
+use Rattle.oc_shows.specs.Built.{HasAdded, IsStarted}
+use Rattle.oc_shows.specs.Computed.{computed_symbol, position_of}
 use Rattle.oc_neutral.specs.Faces.{number_of}
 use Rattle.oc_neutral.specs.Invariants.{AreBytes, CanAdd, IsBinding, IsLessThere, IsTargetThere, NamesOriginal}
 use Rattle.oc_neutral.specs.Normal.{Place, local_place, place_among}
-use Rattle.oc_neutral.specs.Started.{stored_section}
+use Rattle.oc_shows.specs.Started.{stored_section}
 use Rattle.oc_omf.specs.declared.structures.Fixup.{Fixup}
 use Rattle.oc_omf.specs.declared.structures.Method.{Method}
 use Rattle.oc_omf.specs.declared.structures.Segment.{Segment}

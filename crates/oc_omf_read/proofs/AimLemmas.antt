@@ -14,7 +14,7 @@ use Rattle.oc_linking.specs.Rules as rules
 use Rattle.oc_linking.specs.Targets as file
 use Rattle.oc_linking.specs.Targets.{named_by, symbol_target}
 use Rattle.oc_linking.specs.Values.{numbered}
-use Rattle.oc_neutral.specs.Computed.{position_of}
+use Rattle.oc_shows.specs.Computed.{position_of}
 use Rattle.oc_neutral.specs.declared.reloc.Target.TheVariants as target
 use Rattle.oc_shelf.proofs.WritingLaws.MemberLemmas.{each_flat_map, member_flat_map, member_map, member_passes, member_second, of_map}
 use Rattle.oc_omf.specs.declared.structures.Communal.{Communal}

@@ -12,7 +12,7 @@ use Rattle.oc_linking.specs.Numbers.{or_else}
 use Rattle.oc_linking.specs.FirstFault.{fault_of, first_broken, first_fault}
 use Rattle.oc_base.specs.declared.code.Code.TheVariants.{BadTarget}
 use Rattle.oc_neutral.proofs.FieldLists.{take_here}
-use Rattle.oc_neutral.proofs.SeenRelocs.{all_from}
+use Rattle.oc_neutral.proofs.Mapped.{all_from}
 use Rattle.oc_shelf.proofs.WritingLaws.MemberLemmas.{each_enumerated, each_flat_map, each_map}
 use Rattle.oc_shelf.proofs.ReadingLaws.StageLemmas.{all_hold, clean_at, not_false}
 use Rattle.oc_omf.specs.declared.constants.TheConstants.{OFFSET_32}

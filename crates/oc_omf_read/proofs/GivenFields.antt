@@ -12,8 +12,8 @@ use Rattle.oc_linking.specs.Rules.{Field}
 use Rattle.oc_linking.specs.Targets as file
 use Rattle.oc_linking.specs.Targets.{symbol_target}
 use Rattle.oc_linking.specs.Values.{numbered}
-use Rattle.oc_neutral.specs.Built.{IsField, IsFree, IsGiven}
-use Rattle.oc_neutral.specs.Computed.{position_of}
+use Rattle.oc_shows.specs.Built.{IsField, IsFree, IsGiven}
+use Rattle.oc_shows.specs.Computed.{position_of}
 use Rattle.oc_neutral.specs.declared.reloc.Reloc.{Reloc}
 use Rattle.oc_neutral.specs.declared.reloc.Target.{Target}
 use Rattle.oc_neutral.specs.declared.reloc.Target.TheVariants as target
@@ -21,10 +21,10 @@ use Rattle.oc_neutral.specs.Dialects.{is_kept, kept_fields}
 use Rattle.oc_neutral.specs.Faces.{shown_symbols}
 use Rattle.oc_neutral.specs.Normal.{place_among}
 use Rattle.oc_neutral.specs.Objects.{Object}
-use Rattle.oc_neutral.specs.RowFields.{IsTarget}
+use Rattle.oc_shows.specs.RowFields.{IsTarget}
 use Rattle.oc_neutral.specs.Rows.{Row}
-use Rattle.oc_neutral.specs.RowValues.{row_reloc}
-use Rattle.oc_neutral.proofs.RowFieldLaws.{rows_are_fields, symbol_is_target}
+use Rattle.oc_shows.specs.RowValues.{row_reloc}
+use Rattle.oc_shows.proofs.RowFieldLaws.{rows_are_fields, symbol_is_target}
 use Rattle.oc_omf.specs.declared.structures.Method.{Method}
 use Rattle.oc_omf.specs.Entries.{entries_in}
 use Rattle.oc_omf.specs.Fields.{added_at, field_by, field_of, fields_in, fixups_in, relocates, row_of}

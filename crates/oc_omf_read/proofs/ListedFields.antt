@@ -13,8 +13,8 @@ use Rattle.std.proofs.lemmas.Option.{none-some, same_Some, get_or_from_slice_get
 use Rattle.oc_linking.specs.declared.terms.Keep.{Keep}
 use Rattle.oc_linking.specs.FirstFault.{first_fault, stage_fault}
 use Rattle.oc_neutral.specs.declared.reloc.Reloc.{Reloc}
-use Rattle.oc_neutral.proofs.SeenRelocs.{all_from}
-use Rattle.oc_neutral.proofs.MeetsRows.{found_there}
+use Rattle.oc_neutral.proofs.Mapped.{all_from}
+use Rattle.oc_target.proofs.MeetsRows.{found_there}
 use Rattle.oc_shelf.proofs.WritingLaws.MemberLemmas.{member_map, member_passes, of_map}
 use Rattle.oc_omf_records.specs.Blocks.{copies_of, moved}
 use Rattle.oc_omf.specs.declared.constants.TheConstants.{OFFSET_32}

@@ -11,7 +11,7 @@ use Rattle.oc_linking.specs.Keeping.{keeps}
 use Rattle.oc_linking.specs.FirstFault.{first_fault, stage_fault}
 use Rattle.oc_linking.specs.Parts as parts
 use Rattle.oc_neutral.proofs.Positions.{each_at}
-use Rattle.oc_neutral.proofs.SeenRelocs.{all_from}
+use Rattle.oc_neutral.proofs.Mapped.{all_from}
 use Rattle.oc_shelf.proofs.WritingLaws.MemberLemmas.{find_first, member_flat_map}
 use Rattle.oc_omf_records.specs.Blocks.{copies_of, moved}
 use Rattle.oc_omf_records.specs.NextEntry.{entry_of}

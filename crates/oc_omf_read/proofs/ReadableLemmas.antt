@@ -10,8 +10,8 @@ use Rattle.oc_neutral.specs.declared.section.Section.{Section}
 use Rattle.oc_neutral.specs.GivenTags.{can_have}
 use Rattle.oc_neutral.specs.KindRules.{begins}
 use Rattle.oc_neutral.specs.Omf.Kinds.{omf_kind, omf_tag}
-use Rattle.oc_neutral.specs.Readable.{IsReadable}
-use Rattle.oc_neutral.specs.Started.{stored_section}
+use Rattle.oc_shows.specs.Readable.{IsReadable}
+use Rattle.oc_shows.specs.Started.{stored_section}
 use Rattle.oc_omf.specs.declared.structures.Segment.{Segment}
 use Rattle.oc_omf.specs.Entries.{entries_in}
 use Rattle.oc_omf.specs.Sections.{is_covered, section_of, sections_in}

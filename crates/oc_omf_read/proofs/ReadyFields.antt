@@ -10,9 +10,9 @@ use Rattle.oc_base.specs.Numbers.{number_at}
 use Rattle.oc_linking.specs.FirstFault.{first_fault}
 use Rattle.oc_neutral.specs.declared.reloc.Reloc.{Reloc}
 use Rattle.oc_neutral.specs.Building.{Draft, is_zero}
-use Rattle.oc_neutral.specs.Built.{HasAdded}
+use Rattle.oc_shows.specs.Built.{HasAdded}
 use Rattle.oc_neutral.specs.Omf.Relocs.{fixup_row}
-use Rattle.oc_neutral.specs.RowValues.{row_reloc}
+use Rattle.oc_shows.specs.RowValues.{row_reloc}
 use Rattle.oc_omf.specs.declared.structures.Segment.{Segment}
 use Rattle.oc_omf.specs.Entries.{Entry, entries_in}
 use Rattle.oc_omf.specs.Fields.{fixups_in}

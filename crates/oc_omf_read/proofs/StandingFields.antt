@@ -8,7 +8,7 @@ use Rattle.oc_linking.specs.FirstFault.{first_fault, stage_fault}
 use Rattle.oc_linking.specs.Fits.{bytes_of}
 use Rattle.oc_linking.specs.Rules.{Field}
 use Rattle.oc_neutral.specs.declared.reloc.Reloc.{Reloc}
-use Rattle.oc_neutral.specs.Built.{AreApart, AreOfFile, DifferencesFit, IsField}
+use Rattle.oc_shows.specs.Built.{AreApart, AreOfFile, DifferencesFit, IsField}
 use Rattle.oc_neutral.specs.Dialects.{kept_fields}
 use Rattle.oc_neutral.specs.Faces.{shown_symbols}
 use Rattle.oc_neutral.specs.Objects.{Object}

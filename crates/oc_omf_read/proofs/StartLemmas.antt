@@ -17,15 +17,15 @@ use Rattle.oc_linking.specs.declared.terms.Keep.{Keep}
 use Rattle.oc_linking.specs.declared.terms.Kind.TheVariants.{Code, ReadOnly, Data, Zero, Debug}
 use Rattle.oc_linking.specs.Parts as parts
 use Rattle.oc_neutral.specs.Building.{is_zero}
-use Rattle.oc_neutral.specs.Built.{IsStarted}
-use Rattle.oc_neutral.specs.Computed.{computed_symbol, keys_after, keys_in}
+use Rattle.oc_shows.specs.Built.{IsStarted}
+use Rattle.oc_shows.specs.Computed.{computed_symbol, keys_after, keys_in}
 use Rattle.oc_neutral.specs.Invariants.{IsDraft}
 use Rattle.oc_neutral.specs.KindRules.{begins}
 use Rattle.oc_neutral.specs.Omf.Kinds.{omf_kind}
 use Rattle.oc_neutral.specs.Powers.{natural_align}
-use Rattle.oc_neutral.specs.Shows.{AreNumbered}
-use Rattle.oc_neutral.specs.Started.{groups_by, plain_draft, start_of, stored_section}
-use Rattle.oc_neutral.proofs.StartedLaws.{start_is_started}
+use Rattle.oc_shows.specs.Shows.{AreNumbered}
+use Rattle.oc_shows.specs.Started.{groups_by, plain_draft, start_of, stored_section}
+use Rattle.oc_shows.proofs.StartedLaws.{start_is_started}
 use Rattle.oc_omf_records.specs.Blocks.{denotation}
 use Rattle.oc_omf_records.proofs.CopyLaws.{length-denotation}
 use Rattle.oc_omf.specs.declared.structures.Segment.{Segment}

@@ -15,13 +15,13 @@ use Rattle.oc_linking.specs.Parts as parts
 use Rattle.oc_linking.specs.Parts.{is_local}
 use Rattle.oc_neutral.specs.declared.symbol.Symbol.{Symbol}
 use Rattle.oc_neutral.specs.Building.{symbol_added}
-use Rattle.oc_neutral.specs.Computed.{computed_symbol, placed_binding}
+use Rattle.oc_shows.specs.Computed.{computed_symbol, placed_binding}
 use Rattle.oc_neutral.specs.Keeping.{is_again}
 use Rattle.oc_neutral.specs.Powers.{natural_align}
-use Rattle.oc_neutral.specs.Started.{plain_draft, stored_section}
-use Rattle.oc_neutral.proofs.BuiltSteps.{name_is_new}
+use Rattle.oc_shows.specs.Started.{plain_draft, stored_section}
+use Rattle.oc_shows.proofs.BuiltSteps.{name_is_new}
 use Rattle.oc_neutral.proofs.FieldLists.{take_here}
-use Rattle.oc_neutral.proofs.StartedLaws.{symbol_more}
+use Rattle.oc_shows.proofs.StartedLaws.{symbol_more}
 use Rattle.oc_omf.specs.Entries.{Entry}
 use Rattle.oc_omf.specs.Sections.{sections_in}
 use Rattle.oc_omf.specs.SymbolFaults.{symbol_stages}

@@ -13,17 +13,17 @@ use Rattle.oc_linking.specs.Parts as parts
 use Rattle.oc_neutral.specs.declared.reloc.Reloc.{Reloc}
 use Rattle.oc_neutral.specs.declared.section.Section.{Section}
 use Rattle.oc_neutral.specs.Building.{Draft}
-use Rattle.oc_neutral.specs.Built.{HasAdded, IsStarted}
-use Rattle.oc_neutral.specs.Computed.{computed_symbol}
-use Rattle.oc_neutral.specs.Finished.{AreFinal, LeavesBlanks}
+use Rattle.oc_shows.specs.Built.{HasAdded, IsStarted}
+use Rattle.oc_shows.specs.Computed.{computed_symbol}
+use Rattle.oc_shows.specs.Finished.{AreFinal, LeavesBlanks}
 use Rattle.oc_neutral.specs.Invariants.{AreBegun, AreBytes, IsAlign, IsComplete, IsHinted, IsSymbol, NamesOriginal, groups_of}
 use Rattle.oc_neutral.specs.Objects.{Object}
-use Rattle.oc_neutral.specs.Readable.{IsReadable}
-use Rattle.oc_neutral.specs.Shows.{Shows}
-use Rattle.oc_neutral.specs.Started.{stored_section}
-use Rattle.oc_neutral.proofs.BuiltLaws.{built_shows}
-use Rattle.oc_neutral.proofs.BuiltWhole.{built_is_complete, built_is_readable}
-use Rattle.oc_neutral.proofs.StartedLaws.{fieldless_at}
+use Rattle.oc_shows.specs.Readable.{IsReadable}
+use Rattle.oc_shows.specs.Shows.{Shows}
+use Rattle.oc_shows.specs.Started.{stored_section}
+use Rattle.oc_shows.proofs.BuiltLaws.{built_shows}
+use Rattle.oc_shows.proofs.BuiltWhole.{built_is_complete, built_is_readable}
+use Rattle.oc_shows.proofs.StartedLaws.{fieldless_at}
 use Rattle.oc_shelf.proofs.ReadingLaws.StageLemmas.{first_fault-append}
 use Rattle.oc_shelf.proofs.WritingLaws.MemberLemmas.{of_map}
 use Rattle.oc_omf.specs.declared.structures.Segment.{Segment}

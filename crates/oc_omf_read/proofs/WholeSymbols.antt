@@ -11,11 +11,11 @@ use Rattle.oc_linking.specs.FirstFault.{Condition, fault_of, first_broken, first
 use Rattle.oc_linking.specs.Numbers.{first_from, or_else}
 use Rattle.oc_linking.specs.Parts as parts
 use Rattle.oc_linking.proofs.Searching.{first_from_found}
-use Rattle.oc_neutral.specs.Computed.{computed_symbol}
+use Rattle.oc_shows.specs.Computed.{computed_symbol}
 use Rattle.oc_neutral.specs.Invariants.{AreBytes, HasOffset, IsAlign, IsBinding, IsSymbol}
 use Rattle.oc_neutral.specs.Objects.{Object}
 use Rattle.oc_neutral.specs.Powers.{natural_align}
-use Rattle.oc_neutral.specs.Started.{stored_section}
+use Rattle.oc_shows.specs.Started.{stored_section}
 use Rattle.oc_neutral.proofs.Positions.{each_at}
 use Rattle.oc_shelf.proofs.ReadingLaws.StageLemmas.{all_hold, clean_at, clean_both}
 use Rattle.oc_omf_records.specs.declared.records.Entry.{Entry as Record}

@@ -2,7 +2,7 @@
 use Rattle.std.specs.Prelude.{◌≡◌, ℕ, List, None, Vec}
 use Rattle.std.specs.Global.{Global}
 use Rattle.oc_linking.specs.FirstFault.{first_fault, stage_fault}
-use Rattle.oc_neutral.specs.Built.{IsStarted}
+use Rattle.oc_shows.specs.Built.{IsStarted}
 use Rattle.oc_neutral.specs.Invariants.{AreBytes}
 use Rattle.oc_omf.specs.Entries.{entries_in}
 use Rattle.oc_omf.specs.HeaderFaults.{IsModule}

@@ -6,7 +6,7 @@ use Rattle.oc_linking.specs.Parts as parts
 use Rattle.oc_linking.specs.Rules as rules
 use Rattle.oc_linking.specs.Targets as file
 use Rattle.oc_linking.specs.Keeping.{keeps}
-use Rattle.oc_neutral.specs.Computed.{position_of}
+use Rattle.oc_shows.specs.Computed.{position_of}
 use Rattle.oc_neutral.specs.declared.reloc.Target.{Target}
 use Rattle.oc_neutral.specs.declared.reloc.Target.TheVariants as target
 use Rattle.oc_omf.specs.declared.constants.TheConstants.{OFFSET_32}

@@ -5,9 +5,9 @@ use Rattle.oc_base.specs.declared.format.Format.TheVariants.{Omf}
 use Rattle.oc_linking.specs.declared.terms.Kind.{Kind}
 use Rattle.oc_neutral.specs.declared.section.Section.{Section}
 use Rattle.oc_neutral.specs.Building.{Draft}
-use Rattle.oc_neutral.specs.Computed.{computed_symbol}
+use Rattle.oc_shows.specs.Computed.{computed_symbol}
 use Rattle.oc_neutral.specs.Omf.Kinds.{omf_tag}
-use Rattle.oc_neutral.specs.Started.{plain_draft, stored_section}
+use Rattle.oc_shows.specs.Started.{plain_draft, stored_section}
 use Rattle.oc_omf.specs.declared.structures.Segment.{Segment}
 use Rattle.oc_omf.specs.Entries.{Entry, entries_in}
 use Rattle.oc_omf.specs.Sections.{align_of, sections_in, segment_size}

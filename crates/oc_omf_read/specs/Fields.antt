@@ -4,7 +4,7 @@ use Rattle.std.specs.List.{list_any}
 use Rattle.std.specs.Option.{option_and_then, option_map, option_map_or, unwrap_or}
 use Rattle.oc_linking.specs.declared.terms.Keep.{Keep}
 use Rattle.oc_linking.specs.Numbers.{or_else}
-use Rattle.oc_neutral.specs.Built.{Given}
+use Rattle.oc_shows.specs.Built.{Given}
 use Rattle.oc_omf_records.specs.Blocks.{Blocks, copies_of, size_of}
 use Rattle.oc_omf.specs.declared.structures.Fixup.{Fixup}
 use Rattle.oc_omf.specs.declared.structures.Method.{Method}

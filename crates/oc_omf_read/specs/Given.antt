@@ -6,13 +6,13 @@ use Rattle.oc_linking.specs.declared.terms.Keep.{Keep}
 use Rattle.oc_linking.specs.Keeping.{keeps}
 use Rattle.oc_linking.specs.Parts as parts
 use Rattle.oc_linking.specs.Targets as file
-use Rattle.oc_neutral.specs.Built.{Given}
-use Rattle.oc_neutral.specs.Computed.{position_of}
+use Rattle.oc_shows.specs.Built.{Given}
+use Rattle.oc_shows.specs.Computed.{position_of}
 use Rattle.oc_neutral.specs.declared.reloc.Reloc.{Reloc}
 use Rattle.oc_neutral.specs.declared.reloc.Target.{Target}
 use Rattle.oc_neutral.specs.declared.reloc.Target.TheVariants as target
 use Rattle.oc_neutral.specs.Rows.{Row}
-use Rattle.oc_neutral.specs.RowValues.{row_reloc}
+use Rattle.oc_shows.specs.RowValues.{row_reloc}
 use Rattle.oc_omf.specs.declared.structures.Method.{Method}
 use Rattle.oc_omf.specs.Entries.{Entry}
 use Rattle.oc_omf.specs.Fields.{added_at, fixups_in, relocates, row_of}

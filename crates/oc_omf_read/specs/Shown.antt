@@ -2,11 +2,11 @@
 use Rattle.std.specs.Prelude.{ℕ, List, refl}
 use Rattle.oc_linking.specs.declared.terms.Keep.{Keep}
 use Rattle.oc_neutral.specs.Building.{Draft}
-use Rattle.oc_neutral.specs.Built.{HasAdded, IsStarted}
+use Rattle.oc_shows.specs.Built.{HasAdded, IsStarted}
 use Rattle.oc_neutral.specs.Invariants.{IsDraft}
-use Rattle.oc_neutral.specs.Readable.{IsReadable}
-use Rattle.oc_neutral.specs.Shows.{Shows}
-use Rattle.oc_neutral.specs.Targets.{IsDialect}
+use Rattle.oc_shows.specs.Readable.{IsReadable}
+use Rattle.oc_shows.specs.Shows.{Shows}
+use Rattle.oc_neutral.specs.Dialects.{IsDialect}
 use Rattle.oc_omf.specs.Entries.{entries_in}
 use Rattle.oc_omf.specs.Rules.{omf_dialect}
 use Rattle.oc_omf_read.specs.Built.{started}

@@ -2,7 +2,7 @@
 ghost use Rattle.std.specs.Prelude.{◌≡◌, ◌+◌, ◌<◌, ◌≤◌, length, take, OnOk};
 ghost use Rattle.std.specs.List.Sorted.{IsPermutation};
 ghost use Rattle.oc_base.specs.Numbers.{number_at};
-ghost use Rattle.oc_neutral.specs.Built.{HasAdded};
+ghost use Rattle.oc_shows.specs.Built.{HasAdded};
 ghost use Rattle.oc_omf.specs.Entries.{entries_in};
 ghost use Rattle.oc_omf.specs.Fields.{fixups_in};
 ghost use Rattle.oc_omf_read.specs.Adding.{IsReady};

@@ -4,7 +4,7 @@ ghost use Rattle.oc_base.specs.declared.format.Word.TheVariants.{W32};
 ghost use Rattle.oc_algebra.specs.Residues.{reduced_number};
 ghost use Rattle.oc_neutral.specs.Omf.Relocs.{fixup_row};
 ghost use Rattle.oc_neutral.specs.Rows as rows;
-ghost use Rattle.oc_neutral.specs.RowValues.{row_reloc};
+ghost use Rattle.oc_shows.specs.RowValues.{row_reloc};
 ghost use Rattle.oc_omf_read.specs.Fixing as fixing;
 
 use oc_algebra::from_field;

@@ -3,8 +3,8 @@ ghost use Rattle.std.specs.Prelude.{◌≡◌, ◌≤◌, length, None, IfErr, I
 ghost use Rattle.oc_base.specs.declared.limits.TheConstants.{MOST_INPUT};
 ghost use Rattle.oc_base.specs.Stops.{IsStop};
 ghost use Rattle.oc_linking.specs.FirstFault.{first_fault, stage_fault};
-ghost use Rattle.oc_neutral.specs.Readable.{IsReadable};
-ghost use Rattle.oc_neutral.specs.Shows.{Shows};
+ghost use Rattle.oc_shows.specs.Readable.{IsReadable};
+ghost use Rattle.oc_shows.specs.Shows.{Shows};
 ghost use Rattle.oc_omf.specs.Entries.{entries_in};
 ghost use Rattle.oc_omf.specs.RelocationFaults.{relocation_stages};
 ghost use Rattle.oc_omf.specs.Rules.{fault_of, omf_dialect};
@@ -22,9 +22,10 @@ use crate::mentioned::mentions_of;
 use crate::started::start;
 use crate::weight::weigh_segments;
 use oc_base::{NoMemory, Stop};
-use oc_neutral::{Keep, Neutral, Reads, are_bytes};
+use oc_neutral::{Keep, Neutral, are_bytes};
 use oc_omf::Module;
 use oc_omf_judge::{Defined, judged};
+use oc_shows::Reads;
 use std::alloc::Global;
 
 // the object of a module without faults, by what it defines

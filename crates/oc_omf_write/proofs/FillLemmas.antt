@@ -6,7 +6,7 @@ use Rattle.std.proofs.lemmas.Bool.Decides.{nat_tests}
 use Rattle.std.proofs.lemmas.List.{drop_all}
 use Rattle.std.proofs.lemmas.List.Sums.{sum_by-append}
 use Rattle.std.proofs.lemmas.Option.{none-some, same_Some, slice_get_within}
-use Rattle.oc_express.proofs.Steps.{drop_step}
+use Rattle.oc_target.proofs.Steps.{drop_step}
 use Rattle.oc_neutral.proofs.Positions.{each_at}
 use Rattle.oc_omf_file.specs.Names.{names_size, filled_from}
 use Rattle.oc_omf_file.proofs.ListLemmas.{all_both}

@@ -5,8 +5,8 @@ use Rattle.std.specs.List.{AllByRecursion, enumerate_from}
 use Rattle.std.proofs.lemmas.Option.{slice_get_within}
 use Rattle.oc_chains.specs.declared.field.Field.{Field}
 use Rattle.oc_chains.specs.Lists.{list_of}
-use Rattle.oc_express.proofs.Giving.{all_given}
-use Rattle.oc_express.proofs.Steps.{drop_step, more_done}
+use Rattle.oc_target.proofs.Giving.{all_given}
+use Rattle.oc_target.proofs.Steps.{drop_step, more_done}
 use Rattle.oc_neutral.specs.declared.reloc.Reloc.{Reloc}
 use Rattle.oc_neutral.specs.Objects.{Object, reloc_at}
 use Rattle.oc_omf_file.specs.Fixups.{written_reloc}

@@ -16,7 +16,7 @@ use Rattle.oc_neutral.specs.Omf.Relocs.{ByFlat, fixup_row}
 use Rattle.oc_neutral.specs.Rows.{Row, Taken, TakesPlace, TakesSection, same_taken, taken_of, shift_of}
 use Rattle.oc_neutral.specs.RelocTables.{rows_of}
 use Rattle.oc_neutral.specs.Spelling.{is_written, row_taking, written_row}
-use Rattle.oc_neutral.proofs.MeetsRows.{of_table, found_there}
+use Rattle.oc_target.proofs.MeetsRows.{of_table, found_there}
 use Rattle.oc_omf_file.specs.Fixups.{written_reloc, row_by, number_or, number_by, field_number}
 use Rattle.oc_omf_write.specs.Written.{number_in, shift_by, number_with}
 

@@ -6,7 +6,7 @@ use Rattle.std.specs.Map.{update}
 use Rattle.std.proofs.lemmas.List.{drop_all, length-map}
 use Rattle.std.proofs.lemmas.Option.{none-some}
 use Rattle.std.proofs.lemmas.Slice.Eq.{bytes_eq-Decides}
-use Rattle.oc_express.proofs.Steps.{drop_step}
+use Rattle.oc_target.proofs.Steps.{drop_step}
 use Rattle.oc_neutral.specs.declared.section.Section.{Section}
 use Rattle.oc_omf_file.specs.Names.{class_of, with_name}
 use Rattle.oc_omf_file.proofs.ListLemmas.{all_both}

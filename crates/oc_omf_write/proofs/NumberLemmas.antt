@@ -2,7 +2,7 @@
 use Rattle.std.proofs.Common.{◌≡◌, ℕ, ◌+◌, ◌<◌, Bool, true, false, cond, not, List, [], ◌∷◌, length, drop, map, refl, sym, ◌∙◌, ap, Some, arith}
 use Rattle.std.specs.Prelude.{slice_get, slice_index_or}
 use Rattle.std.specs.List.{position_or_len}
-use Rattle.oc_express.proofs.Steps.{drop_step}
+use Rattle.oc_target.proofs.Steps.{drop_step}
 use Rattle.oc_neutral.specs.Objects.{Object}
 use Rattle.oc_omf_file.specs.Outputs.{Output, symbol_outputs}
 use Rattle.oc_omf_file.specs.Outputs as output

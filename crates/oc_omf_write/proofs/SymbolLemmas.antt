@@ -4,8 +4,8 @@ use Rattle.std.specs.Prelude.{slice_get, filter_map}
 use Rattle.std.specs.List.{enumerate_from, cons_option}
 use Rattle.std.specs.Option.{option_map, option_map_or}
 use Rattle.std.proofs.lemmas.List.{drop_all}
-use Rattle.oc_express.proofs.Giving.{more_given, all_given}
-use Rattle.oc_express.proofs.Steps.{drop_step}
+use Rattle.oc_target.proofs.Giving.{more_given, all_given}
+use Rattle.oc_target.proofs.Steps.{drop_step}
 use Rattle.oc_neutral.specs.declared.symbol.Symbol.{Symbol}
 use Rattle.oc_neutral.specs.Objects.{Object}
 use Rattle.oc_omf_file.specs.Outputs.{Output, external_output, communal_output, public_output, symbol_outputs}

@@ -1,11 +1,11 @@
 //! The fixups of sections (TIS OMF 1.1, "FIXUPP: Fixup Record").
 ghost use Rattle.std.specs.Prelude.{◌≡◌, ◌<◌, IfOk, length, map};
 ghost use Rattle.oc_base.specs.declared.format.Format.TheVariants.{Omf};
-ghost use Rattle.oc_neutral.specs.Fitted.{IsFitted};
+ghost use Rattle.oc_target.specs.Fitted.{IsFitted};
 ghost use Rattle.oc_neutral.specs.KeySymbols.{global_place};
 ghost use Rattle.oc_neutral.specs.Normal as normal;
 ghost use Rattle.oc_neutral.specs.Objects.{Object};
-ghost use Rattle.oc_neutral.specs.Seen as seen;
+ghost use Rattle.oc_shows.specs.Seen as seen;
 ghost use Rattle.oc_omf_file.specs.Fixups as fixups;
 ghost use Rattle.oc_omf_write.specs.Numbers.{AreNumbers};
 ghost use Rattle.oc_omf_write.specs.Written as written;

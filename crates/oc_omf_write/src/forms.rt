@@ -10,9 +10,9 @@ ghost use Rattle.oc_omf_write.specs.Written.{number_in, number_with, shift_by};
 use crate::fixups::written_reloc;
 use oc_algebra::{Form, to_field};
 use oc_base::{Format, Word};
-use oc_express::{Spelling, lookup};
 use oc_linking::Hint;
 use oc_neutral::{Reloc, Symbol};
+use oc_target::{Spelling, lookup};
 
 /// The row of a fixup that counts from 0.
 pub(crate) const BY_FLAT: u16 = 0;

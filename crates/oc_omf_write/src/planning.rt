@@ -23,8 +23,9 @@ use crate::segments::segments_of;
 use crate::symbols::symbol_entries;
 use crate::tables::Tables;
 use oc_base::NoMemory;
-use oc_neutral::{Fitted, Neutral, Section, Symbol};
+use oc_neutral::{Neutral, Section, Symbol};
 use oc_plans::with_numbers;
+use oc_target::Fitted;
 use std::alloc::Global;
 
 // the sections of an object, with the numbers in their fields, and its symbols

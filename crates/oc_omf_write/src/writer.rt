@@ -7,7 +7,7 @@ ghost use Rattle.oc_omf_write.specs.Writing.{writes_omf};
 use crate::plan::Plan;
 use crate::planning::plan_object;
 use oc_base::NoMemory;
-use oc_neutral::{Fitted, Writes};
+use oc_target::{Fitted, Writes};
 use std::alloc::Global;
 
 /// Writes OMF: every object that is ready for it, as its canonical file.

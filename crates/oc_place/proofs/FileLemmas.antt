@@ -8,8 +8,7 @@ use Rattle.oc_linking.specs.Keeping.{all}
 use Rattle.oc_linking.specs.Parts.{Section, Symbol}
 use Rattle.oc_linking.specs.Placing.{IsOutside, IsPlacement, Placement, Places}
 use Rattle.oc_linking.proofs.Whole.{flags-all, sections-whole, spread_in-whole}
-use Rattle.oc_neutral.specs.Faces.{shown_sections, shown_symbols}
-use Rattle.oc_neutral.specs.Shows.{frame_of}
+use Rattle.oc_neutral.specs.Faces.{shown_sections, shown_symbols, frame_of}
 use Rattle.oc_neutral.proofs.Positions.{images_same, lengths_same, there_at}
 use Rattle.oc_place.specs.Footprints.{Footprint, footprint_in, footprint_of}
 use Rattle.oc_place.specs.Placings.{outside_of, placed_in, placement_of}

@@ -7,9 +7,9 @@ use Rattle.oc_base.specs.Formats.{word_for}
 use Rattle.oc_linking.specs.Parts as parts
 use Rattle.oc_linking.specs.Keeping.{all}
 use Rattle.oc_neutral.specs.Objects.{Object}
-use Rattle.oc_neutral.specs.Computed.{computed_section, keys_in, object_in}
+use Rattle.oc_shows.specs.Computed.{computed_section, keys_in, object_in}
 use Rattle.oc_neutral.specs.Dialects.{Dialect}
-use Rattle.oc_neutral.proofs.ShownComputed.{shown_is_computed}
+use Rattle.oc_shows.proofs.ShownComputed.{shown_is_computed}
 use Rattle.oc_place.specs.Footprints.{Plot, Footprint, plot_in, plot_of, FootprintsAgree}
 
 -- a footprint of these parts

@@ -27,8 +27,8 @@ use Rattle.oc_neutral.specs.declared.symbol.Symbol.{Symbol}
 use Rattle.oc_neutral.specs.Objects.{Object}
 use Rattle.oc_neutral.specs.Faces.{shown_binding, shown_symbol, shown_symbols}
 use Rattle.oc_neutral.specs.Invariants.{AreDistinct}
-use Rattle.oc_neutral.specs.Repeats.{NameList, name_at, nonlocal_name, place_of}
-use Rattle.oc_neutral.proofs.RepeatLemmas.{named_within}
+use Rattle.oc_strings.specs.Repeats.{NameList, name_at, nonlocal_name, place_of}
+use Rattle.oc_strings.proofs.RepeatLemmas.{named_within}
 use Rattle.oc_place.specs.declared.index.Named.{Named}
 use Rattle.oc_place.specs.Indexes.{AddsName, AreListed, IsIndex, IsNamed, compared, is_of, present, texts}
 use Rattle.oc_place.specs.Written.{names_of, symbol_named}

@@ -22,7 +22,7 @@ use Rattle.oc_neutral.specs.declared.section.Section.{Section}
 use Rattle.oc_neutral.specs.Objects.{Object}
 use Rattle.oc_neutral.specs.Faces.{key_of, shown_section, shown_sections, shown_symbol, shown_symbols}
 use Rattle.oc_neutral.specs.Invariants.{HaveKeys, IsMember, IsObject}
-use Rattle.oc_neutral.specs.Repeats.{name_at, nonlocal_name}
+use Rattle.oc_strings.specs.Repeats.{name_at, nonlocal_name}
 use Rattle.oc_neutral.proofs.Positions.{there_at}
 use Rattle.oc_place.specs.declared.spot.Spot.{Spot}
 use Rattle.oc_place.specs.declared.spot.Outside.{Outside}

@@ -9,11 +9,10 @@ use Rattle.oc_linking.specs.Keeping.{all}
 use Rattle.oc_neutral.specs.declared.section.Section.{Section}
 use Rattle.oc_neutral.specs.Objects.{Object}
 use Rattle.oc_neutral.specs.Faces.{shown_symbols}
-use Rattle.oc_neutral.specs.Dialects.{Dialect}
-use Rattle.oc_neutral.specs.Computed.{keys_in}
+use Rattle.oc_neutral.specs.Dialects.{Dialect, IsDialect}
+use Rattle.oc_shows.specs.Computed.{keys_in}
 use Rattle.oc_neutral.specs.Invariants.{IsObject}
-use Rattle.oc_neutral.specs.Shows.{Shows}
-use Rattle.oc_neutral.specs.Targets.{IsDialect}
+use Rattle.oc_shows.specs.Shows.{Shows}
 
 -- what placing asks of a section: its alignment, its size and the position of its group
 pub record Plot : Type 0 where

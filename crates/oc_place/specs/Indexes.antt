@@ -5,7 +5,7 @@ use Rattle.std.specs.declared.cmp.Ordering.{Ordering}
 use Rattle.std.specs.Ordering.{nat_cmp}
 use Rattle.std.specs.Cmp.Lexicographic.{slice_cmp}
 use Rattle.std.specs.List.Sorted.{IsPermutation, IsSorted}
-use Rattle.oc_neutral.specs.Repeats.{NameList, name_at}
+use Rattle.oc_strings.specs.Repeats.{NameList, name_at}
 use Rattle.oc_place.specs.declared.index.Named.{Named}
 
 -- two entries by their names

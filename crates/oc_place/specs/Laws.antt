@@ -8,10 +8,9 @@ use Rattle.oc_linking.specs.Keeping.{all}
 use Rattle.oc_linking.specs.Linking.{sections_in, spread_in}
 use Rattle.oc_neutral.specs.Objects.{Object}
 use Rattle.oc_neutral.specs.Faces.{shown_sections, shown_symbols}
-use Rattle.oc_neutral.specs.Dialects.{Dialect}
+use Rattle.oc_neutral.specs.Dialects.{Dialect, IsDialect}
 use Rattle.oc_neutral.specs.Invariants.{IsObject}
-use Rattle.oc_neutral.specs.Shows.{Shows}
-use Rattle.oc_neutral.specs.Targets.{IsDialect}
+use Rattle.oc_shows.specs.Shows.{Shows}
 use Rattle.oc_place.specs.Footprints.{footprint_of, footprint_in}
 use Rattle.oc_place.specs.Placings.{Placing, placed_in, placement_of, outside_of}
 

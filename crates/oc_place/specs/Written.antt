@@ -4,7 +4,7 @@ use Rattle.std.specs.List.{slice_split}
 use Rattle.oc_base.specs.declared.format.Word.{Word}
 use Rattle.oc_linking.specs.Numbers.{modulus}
 use Rattle.oc_linking.specs.Parts as parts
-use Rattle.oc_neutral.specs.Repeats.{NameList, nonlocal_name, place_of}
+use Rattle.oc_strings.specs.Repeats.{NameList, nonlocal_name, place_of}
 use Rattle.oc_place.specs.declared.spot.Spot.{Spot}
 use Rattle.oc_place.specs.declared.spot.Outside.{Outside}
 use Rattle.oc_place.specs.declared.entry.Entry.{Entry}

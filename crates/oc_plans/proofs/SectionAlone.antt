@@ -17,11 +17,11 @@ use Rattle.oc_neutral.specs.declared.section.Section.{Section}
 use Rattle.oc_neutral.specs.Building.{Draft, empty_draft, limit_passed, section_added, section_by}
 use Rattle.oc_neutral.specs.Elf.Family.{elf_gives}
 use Rattle.oc_neutral.specs.Elf.Kinds.{elf_kind}
-use Rattle.oc_neutral.specs.Fitted.{CanFit}
+use Rattle.oc_target.specs.Fitted.{CanFit}
 use Rattle.oc_neutral.specs.GivenTags.{can_have, is_blank_type}
 use Rattle.oc_neutral.specs.Invariants.{AreBegun, IsComplete, IsHinted, NamesOriginal}
 use Rattle.oc_neutral.specs.Objects.{Object}
-use Rattle.oc_neutral.specs.Readable.{IsReadable}
+use Rattle.oc_shows.specs.Readable.{IsReadable}
 use Rattle.oc_neutral.proofs.MoreSections.{sectioned}
 use Rattle.oc_plans.specs.Alone.{IsData, elf_of}
 

@@ -1,6 +1,6 @@
 //! A smallest object, for trials of plans.
 ghost use Rattle.std.specs.Prelude.{◌≡◌, IfOk};
-ghost use Rattle.oc_neutral.specs.Fitted.{CanFit};
+ghost use Rattle.oc_target.specs.Fitted.{CanFit};
 ghost use Rattle.oc_neutral.specs.Invariants.{HasItsBytes};
 ghost use Rattle.oc_plans.specs.Alone.{IsData, elf_of};
 

@@ -3,8 +3,8 @@ ghost use Rattle.std.specs.Prelude.{◌≡◌};
 ghost use Rattle.oc_plans.specs.Placed.{IsPlaced, pieces_by};
 
 use crate::windows::{Parts, window_of};
-use oc_neutral::Emits;
 use oc_shelf::Layout;
+use oc_target::Emits;
 use std::marker::Model;
 
 /// A planned file: what it is made of, and where its parts stand. Contracts see its parts, each with its

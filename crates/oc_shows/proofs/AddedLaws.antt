@@ -10,11 +10,11 @@ use Rattle.oc_linking.specs.declared.terms.Keep.{Keep}
 use Rattle.oc_linking.specs.Rules.{Field}
 use Rattle.oc_neutral.specs.declared.reloc.Reloc.{Reloc}
 use Rattle.oc_neutral.specs.Building.{Draft, reloc_added}
-use Rattle.oc_neutral.specs.Built.{AreApart, AreOfFile, DifferencesFit, Given, HasAdded, IsField, IsStarted, and_one}
+use Rattle.oc_shows.specs.Built.{AreApart, AreOfFile, DifferencesFit, Given, HasAdded, IsField, IsStarted, and_one}
 use Rattle.oc_neutral.specs.Dialects.{Dialect, kept_fields}
 use Rattle.oc_neutral.specs.Invariants.{CanAdd}
-use Rattle.oc_neutral.proofs.BuiltSteps.{added_more, added_same, can_still}
-use Rattle.oc_neutral.proofs.CleanLaws.{clean_is_added}
+use Rattle.oc_shows.proofs.BuiltSteps.{added_more, added_same, can_still}
+use Rattle.oc_shows.proofs.CleanLaws.{clean_is_added}
 use Rattle.oc_shelf.specs.declared.reading.order.Placed.{Placed}
 use Rattle.oc_shelf.specs.Reading.Order.{is_among}
 

@@ -7,9 +7,9 @@ use Rattle.std.proofs.lemmas.List.{append-nil, get_or-set_other, get_or-set_same
 use Rattle.std.proofs.lemmas.Slice.Eq.{bytes_eq-Decides}
 use Rattle.oc_base.specs.Strings.{is_given}
 use Rattle.oc_linking.specs.Parts as parts
-use Rattle.oc_neutral.specs.Computed.{keys_after}
-use Rattle.oc_neutral.proofs.KeyListLemmas.{new_last}
-use Rattle.oc_neutral.proofs.KeysMore.{keys_none, keys_some, position_stays}
+use Rattle.oc_shows.specs.Computed.{keys_after}
+use Rattle.oc_shows.proofs.KeyListLemmas.{new_last}
+use Rattle.oc_shows.proofs.KeysMore.{keys_none, keys_some, position_stays}
 use Rattle.oc_shelf.specs.Reading.Collected.{collected}
 use Rattle.oc_shelf.specs.Reading.Slots.{place_in}
 use Rattle.oc_shelf.proofs.ReadingLaws.CollectedLemmas.{collected-none, collected-some, length-collected}

@@ -21,12 +21,12 @@ use Rattle.oc_algebra.proofs.FieldLaws.{written_law}
 use Rattle.oc_chains.specs.declared.field.Field as chains
 use Rattle.oc_chains.specs.Fields.{FollowFrom, end_of}
 use Rattle.oc_neutral.specs.declared.reloc.Reloc.{Reloc}
-use Rattle.oc_neutral.specs.declared.repeats.Repeat.{Repeat}
+use Rattle.oc_strings.specs.declared.repeats.Repeat.{Repeat}
 use Rattle.oc_neutral.specs.Invariants.{HasOffset, IsBinding}
 use Rattle.oc_neutral.specs.KeySymbols.{global_place}
 use Rattle.oc_neutral.specs.Normal.{Place}
 use Rattle.oc_neutral.specs.Objects.{Object, reloc_among}
-use Rattle.oc_neutral.specs.Repeats.{NameList, name_at, place_of, repeat_at}
+use Rattle.oc_strings.specs.Repeats.{NameList, name_at, place_of, repeat_at}
 use Rattle.oc_neutral.specs.Rows as rows
 use Rattle.oc_neutral.specs.Rows.{Taken, TakesSection, same_taken, taken_of}
 use Rattle.oc_shelf.proofs.ReadingLaws.StageLemmas.{upto_none}

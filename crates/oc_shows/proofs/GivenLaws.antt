@@ -11,7 +11,7 @@ use Rattle.oc_linking.specs.Rules.{Field}
 use Rattle.oc_neutral.specs.declared.reloc.Reloc.{Reloc}
 use Rattle.oc_neutral.specs.declared.reloc.Target.{Target}
 use Rattle.oc_neutral.specs.declared.reloc.Target.TheVariants as target
-use Rattle.oc_neutral.specs.Built.{AreOfFile, DifferencesFit, Given, IsField, IsFree, IsGiven}
+use Rattle.oc_shows.specs.Built.{AreOfFile, DifferencesFit, Given, IsField, IsFree, IsGiven}
 use Rattle.oc_neutral.specs.Dialects.{Dialect, kept_fields, target_by}
 use Rattle.oc_neutral.specs.Normal.{cancels}
 use Rattle.oc_neutral.specs.Objects.{Object}

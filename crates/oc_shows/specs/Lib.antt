@@ -1,1 +1,15 @@
-pub mod MadeFiles
+pub mod Again
+pub mod Built
+pub mod Computed
+pub mod Finished
+pub mod Laws
+pub mod Manners
+pub mod Readable
+pub mod Reordered
+pub mod RowFields
+pub mod RowValues
+pub mod Seen
+pub mod Shows
+pub mod Started
+pub mod SymbolLines
+pub mod Written

@@ -1,5 +1,6 @@
-pub mod Tables
-pub mod Order
-pub mod Keys
 pub mod Inside
+pub mod Keys
+pub mod Order
 pub mod Parts
+pub mod Repeats
+pub mod Tables

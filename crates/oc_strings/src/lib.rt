@@ -4,9 +4,11 @@
 mod layout;
 mod order;
 mod parts;
+mod repeats;
 mod search;
 mod table;
 mod tails;
 
 pub use layout::offsets;
+pub use repeats::{Repeat, first_repeat};
 pub use table::Table;

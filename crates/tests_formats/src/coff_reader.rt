@@ -10,11 +10,12 @@ ghost use Rattle.oc_base.specs.declared.limits.TheConstants.{MOST_INPUT};
 
 use crate::cases::{Case, Edits, KEEP, expected, fault_in, put};
 use objects::{ALL, CALL, COMPILED, COUNT, FLAGS, R_SYMBOL, R_TYPE, SELECTION, STRINGS};
-use oc_base::Code::{self, Group, RelocKind};
-use oc_base::Phase::{self, Header, Relocation, Section, Symbol};
+use oc_base::Code::{Group, RelocKind, self};
+use oc_base::Phase::{Header, Relocation, Section, Symbol, self};
 use oc_base::{Fault, Word};
 use oc_coff_read::{CoffReader32, CoffReader64};
-use oc_neutral::{Keep, Reads};
+use oc_neutral::Keep;
+use oc_shows::Reads;
 use std::alloc::Global;
 use std::test::Fail;
 

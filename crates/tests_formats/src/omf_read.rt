@@ -4,8 +4,9 @@ ghost use Rattle.oc_base.specs.declared.limits.TheConstants.{MOST_INPUT};
 
 use crate::cases::KEEP;
 use oc_base::{MOST_INPUT, NoMemory, Stop};
-use oc_neutral::{Binding, Keep, Kind, Less, Neutral, Reads, Target, Value};
+use oc_neutral::{Binding, Keep, Kind, Less, Neutral, Target, Value};
 use oc_omf_read::OmfReader;
+use oc_shows::Reads;
 use std::alloc::Global;
 use std::test::Fail;
 

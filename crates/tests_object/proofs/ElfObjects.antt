@@ -12,10 +12,10 @@ use Rattle.oc_linking.specs.declared.terms.Kind.TheVariants.{Code, Init, Excepti
 use Rattle.oc_neutral.specs.declared.section.Section.{Section}
 use Rattle.oc_neutral.specs.Elf.Family.{elf_gives}
 use Rattle.oc_neutral.specs.Elf.Kinds.{elf_kind}
-use Rattle.oc_neutral.specs.Fitted.{CanFit}
+use Rattle.oc_target.specs.Fitted.{CanFit}
 use Rattle.oc_neutral.specs.GivenTags.{can_have, is_blank_type}
 use Rattle.oc_neutral.specs.Objects.{Object}
-use Rattle.oc_neutral.specs.Readable.{IsReadable}
+use Rattle.oc_shows.specs.Readable.{IsReadable}
 use Rattle.tests_object.specs.Elf.{IsGiven, elf_of}
 
 -- a section of a name, a kind and a tag that reading can give

@@ -1,17 +1,16 @@
 //! Worked cases. Expected numbers are those of the standards.
 ghost use Rattle.std.specs.Prelude.{◌≡◌, false, IfOk};
 ghost use Rattle.oc_neutral.specs.Building.{is_zero};
-ghost use Rattle.oc_neutral.specs.Fitted.{CanFit};
+ghost use Rattle.oc_target.specs.Fitted.{CanFit};
 ghost use Rattle.oc_neutral.specs.Invariants.{HasItsBytes};
 ghost use Rattle.tests_object.specs.Small.{IsAlone, IsPlain};
 ghost use Rattle.tests_object.specs.Elf.{IsGiven, elf_of};
 
 use crate::small::{add_first, begun, plain};
 use oc_base::{Bytes, Code, Format, NoMemory, Phase, Stop, Word, word_of};
-use oc_express::{NoForm, Spelling, fit, lookup};
-use oc_neutral::{
-    Base, Binding, Check, Fallback, Form, Hint, Kind, Less, Neutral, Section, Symbol, Width,
-};
+use oc_express::fit;
+use oc_neutral::{Base, Binding, Check, Fallback, Form, Hint, Kind, Less, Neutral, Section, Symbol, Width};
+use oc_target::{NoForm, Spelling, lookup};
 use std::alloc::Global;
 use std::test::Fail;
 

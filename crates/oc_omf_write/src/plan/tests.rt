@@ -1,13 +1,13 @@
 //! What a plan holds of a file, where data are cut, and windows of a small file.
-use super::OmfParts;
 use crate::tables::Tables;
 use crate::writer::OmfWriter;
 use oc_base::Format;
 use oc_express::fit;
-use oc_neutral::{Emits, Writes};
 use oc_plans::object_of_data;
 use oc_shelf::Layout;
+use oc_target::{Emits, Writes};
 use std::test::Fail;
+use super::OmfParts;
 
 /// How many bytes the one section has.
 const SIZE: u32 = 100_000;

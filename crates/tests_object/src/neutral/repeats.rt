@@ -1,6 +1,6 @@
 //! Small lists of names, with their first repeats told by hand.
 
-use oc_neutral::{Repeat, first_repeat};
+use oc_strings::{Repeat, first_repeat};
 use std::alloc::Global;
 use std::process::Abort;
 use std::test::Fail;

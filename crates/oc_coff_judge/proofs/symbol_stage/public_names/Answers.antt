@@ -2,7 +2,7 @@
 use Rattle.oc_coff.specs.Files.{tables_in}
 use Rattle.std.proofs.Common.{◌≡◌, ℕ, ◌<◌, length, map, take, sym, ◌∙◌, ap, subst, arith}
 use Rattle.std.proofs.Math.Seq.{take-length}
-use Rattle.oc_neutral.specs.Repeats.{names_of}
+use Rattle.oc_strings.specs.Repeats.{names_of}
 use Rattle.oc_coff_judge.specs.Classed.{public_name}
 use Rattle.oc_coff_judge.specs.Numbered.{entry_by}
 use Rattle.oc_coff_judge.proofs.JudgedSymbols.{copied, names_end, names_more}

@@ -4,9 +4,9 @@ use Rattle.std.proofs.Common.{◌+◌, ◌<◌, ◌≤◌, ◌∙◌, length, ta
 use Rattle.std.specs.Option.{IsSome}
 use Rattle.std.proofs.lemmas.Result.{on_ok_weaker}
 use Rattle.oc_neutral.specs.Building.{Draft}
-use Rattle.oc_neutral.specs.Built.{HasAdded}
+use Rattle.oc_shows.specs.Built.{HasAdded}
 use Rattle.oc_neutral.specs.Invariants.{AreBytes}
-use Rattle.oc_neutral.proofs.BuiltSteps.{added_is}
+use Rattle.oc_shows.proofs.BuiltSteps.{added_is}
 use Rattle.oc_coff.specs.declared.relocation.Relocation.{Relocation}
 use Rattle.oc_coff_read.specs.Adding.{started}
 use Rattle.oc_coff_read.specs.Given.{IsAimed, given_with, reloc_by}

@@ -1,7 +1,7 @@
 -- Nothing is given for no sections, and all for all.
 use Rattle.oc_coff.specs.Files.{tables_in}
 use Rattle.std.proofs.Common.{◌≡◌, ℕ, length, ◌∙◌, sym, ap, arith}
-use Rattle.oc_neutral.proofs.BuiltSteps.{added_same}
+use Rattle.oc_shows.proofs.BuiltSteps.{added_same}
 use Rattle.oc_shelf.specs.Reading.Collected.{collected}
 use Rattle.oc_coff.specs.Sections.{carried_in}
 use Rattle.oc_coff_read.specs.Adding.{started}

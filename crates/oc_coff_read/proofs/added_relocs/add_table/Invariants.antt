@@ -1,7 +1,7 @@
 -- The relocations of the entries so far are added.
 use Rattle.oc_coff.specs.Files.{tables_in}
 use Rattle.std.proofs.Common.{take}
-use Rattle.oc_neutral.specs.Built.{HasAdded}
+use Rattle.oc_shows.specs.Built.{HasAdded}
 use Rattle.oc_coff_read.specs.Adding.{started}
 use Rattle.oc_coff_read.specs.Given.{given_with}
 use Rattle.oc_coff_read.proofs.added_relocs.add_table.Given as goal

@@ -7,7 +7,7 @@ use Rattle.oc_neutral.specs.declared.group.Group.{Group}
 use Rattle.oc_neutral.specs.declared.section.Section.{Section}
 use Rattle.oc_neutral.specs.Building.{Draft, section_added}
 use Rattle.oc_neutral.specs.Invariants.{HasItsBytes, IsMember}
-use Rattle.oc_neutral.proofs.BuiltSteps.{added_is}
+use Rattle.oc_shows.proofs.BuiltSteps.{added_is}
 use Rattle.oc_coff.specs.Sections.{section_of}
 use Rattle.oc_coff.specs.Tables.{section_table}
 use Rattle.oc_coff_read.specs.Built.{keys_of, sectioned}

@@ -4,9 +4,9 @@ use Rattle.std.proofs.Common.{◌+◌, ◌∙◌, IsOk, length, refl, sym, ap, s
 use Rattle.std.proofs.lemmas.List.{length-map}
 use Rattle.std.proofs.lemmas.Option.{slice_get_within}
 use Rattle.oc_neutral.specs.Building.{Draft}
-use Rattle.oc_neutral.specs.Computed.{computed_symbol}
+use Rattle.oc_shows.specs.Computed.{computed_symbol}
 use Rattle.oc_neutral.specs.Invariants.{AreBytes}
-use Rattle.oc_neutral.proofs.BuiltSteps.{added_is}
+use Rattle.oc_shows.proofs.BuiltSteps.{added_is}
 use Rattle.oc_shelf.specs.Reading.Collected.{collected}
 use Rattle.oc_shelf.proofs.ReadingLaws.CollectedLemmas.{length-collected}
 use Rattle.oc_coff.specs.Entries.{entries_in}

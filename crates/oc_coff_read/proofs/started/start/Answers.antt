@@ -4,7 +4,7 @@ use Rattle.std.proofs.Common.{List, [], map, sym, ◌∙◌, ap}
 use Rattle.oc_linking.specs.Parts as parts
 use Rattle.oc_neutral.specs.Building.{empty_draft}
 use Rattle.oc_coff_read.proofs.StartedFile.{shape_is}
-use Rattle.oc_neutral.specs.Started.{groups_by, plain_draft, stored_section}
+use Rattle.oc_shows.specs.Started.{groups_by, plain_draft, stored_section}
 use Rattle.oc_coff.specs.Forms.{format_by}
 use Rattle.oc_coff_read.specs.Built.{keys_of}
 use Rattle.oc_coff_judge.proofs.CollectLemmas.{sections_are}

@@ -5,7 +5,7 @@ use Rattle.std.specs.Option.{is_some}
 use Rattle.std.proofs.lemmas.List.{length-map}
 use Rattle.std.proofs.lemmas.Option.{slice_get-get_or}
 use Rattle.oc_coff_write.specs.FormFor.{form_for}
-use Rattle.oc_express.proofs.Giving.{more_given, flat_step}
+use Rattle.oc_target.proofs.Giving.{more_given, flat_step}
 use Rattle.oc_coff_file.specs.Lines.{lines_of}
 use Rattle.oc_coff_file.specs.Canonical.{line_rows}
 use Rattle.oc_coff_file.proofs.PartLaws.{length-entry_rows}

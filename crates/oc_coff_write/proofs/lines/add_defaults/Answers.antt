@@ -1,7 +1,7 @@
 -- Each turn adds the line of its symbol, where it passes.
 use Rattle.std.proofs.Common.{◌≤◌, length, ap, arith}
 use Rattle.std.specs.Option.{option_map}
-use Rattle.oc_neutral.specs.SymbolLines.{needs_default}
+use Rattle.oc_shows.specs.SymbolLines.{needs_default}
 use Rattle.oc_coff_file.specs.Lines.{DefaultLine}
 use Rattle.oc_coff_write.proofs.LineLemmas.{line_turn, lines_whole}
 use Rattle.oc_coff_write.proofs.lines.add_defaults.Goals as goal

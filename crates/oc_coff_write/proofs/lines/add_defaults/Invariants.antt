@@ -1,5 +1,5 @@
 use Rattle.std.proofs.Common.{◌≡◌, ◌++◌, map, Some}
-use Rattle.oc_neutral.specs.SymbolLines.{needs_default}
+use Rattle.oc_shows.specs.SymbolLines.{needs_default}
 use Rattle.oc_coff_file.specs.Lines.{DefaultLine, lines_where}
 use Rattle.oc_coff_write.specs.Lines.{lines_in}
 use Rattle.oc_coff_write.proofs.LineLemmas.{lines_left}

@@ -1,6 +1,6 @@
 -- The parts are placed, can be given, and make the canonical file.
 use Rattle.std.proofs.Common.{◌∙◌, ap, subst}
-use Rattle.oc_neutral.specs.Fitted.{IsFitted}
+use Rattle.oc_target.specs.Fitted.{IsFitted}
 use Rattle.oc_shelf.specs.Writing.Parts.{file_of}
 use Rattle.oc_coff_file.proofs.CodedLaws.{for_coff}
 use Rattle.oc_coff_write.proofs.PlannedLemmas.{file_same, placed, sound}

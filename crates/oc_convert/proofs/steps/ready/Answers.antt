@@ -4,8 +4,8 @@ use Rattle.oc_base.specs.Formats.{word_for}
 use Rattle.oc_base.specs.Stops.{IsStop}
 use Rattle.oc_neutral.specs.Objects.{Object}
 use Rattle.oc_neutral.specs.Dialects.{Dialect}
-use Rattle.oc_neutral.specs.Shows.{Shows}
-use Rattle.oc_neutral.specs.Fitted.{first_unfit}
+use Rattle.oc_shows.specs.Shows.{Shows}
+use Rattle.oc_target.specs.Fitted.{first_unfit}
 use Rattle.oc_names.specs.Wishes.{Wishes}
 use Rattle.oc_names.specs.Edited.{edited}
 use Rattle.oc_names.specs.Kept.{keep_for}

@@ -3,7 +3,7 @@ use Rattle.std.proofs.Common.{◌≡◌, ◌∙◌, length, ap, arith}
 use Rattle.std.proofs.lemmas.List.{length-map}
 use Rattle.std.proofs.lemmas.List.FromFn.{length-map-range_with_len}
 use Rattle.std.specs.Option.{option_copied}
-use Rattle.oc_neutral.specs.Repeats.{names_of}
+use Rattle.oc_strings.specs.Repeats.{names_of}
 use Rattle.oc_elf.specs.Groups.{comdat_key}
 use Rattle.oc_elf_judge.proofs.signatures.bad_signatures.Goals as goal
 

@@ -1,5 +1,5 @@
 -- The signatures of the groups so far are marked, and their keys are known.
-use Rattle.oc_neutral.specs.Repeats.{names_of}
+use Rattle.oc_strings.specs.Repeats.{names_of}
 use Rattle.oc_elf_judge.specs.Marks.{AreMarks}
 use Rattle.oc_elf_judge.specs.Stood.{HaveStoodIf}
 use Rattle.oc_elf_judge.proofs.signatures.bad_signatures.Given as goal

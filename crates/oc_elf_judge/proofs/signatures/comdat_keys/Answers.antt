@@ -1,6 +1,6 @@
 -- One key more.
 use Rattle.std.proofs.Common.{◌∙◌, ap}
-use Rattle.oc_neutral.specs.Repeats.{names_of}
+use Rattle.oc_strings.specs.Repeats.{names_of}
 use Rattle.oc_elf.specs.Groups.{comdat_key}
 use Rattle.oc_elf_judge.proofs.SymbolLemmas.{copied, names_more}
 use Rattle.oc_elf_judge.proofs.signatures.comdat_keys.Goals as goal

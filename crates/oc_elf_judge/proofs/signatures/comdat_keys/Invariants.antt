@@ -1,7 +1,7 @@
 -- The keys so far.
 use Rattle.std.proofs.Common.{◌≡◌, map}
 use Rattle.std.specs.List.{range_with_len}
-use Rattle.oc_neutral.specs.Repeats.{names_of}
+use Rattle.oc_strings.specs.Repeats.{names_of}
 use Rattle.oc_elf.specs.Groups.{comdat_key}
 use Rattle.oc_elf_judge.proofs.signatures.comdat_keys.Given as goal
 

@@ -3,7 +3,7 @@ use Rattle.std.proofs.Common.{◌≡◌, ℕ, ◌+◌, ◌<◌, ◌∙◌, ◌||
 use Rattle.std.proofs.lemmas.List.{length-map}
 use Rattle.std.specs.Option.{option_copied, option_map_or}
 use Rattle.std.proofs.lemmas.List.FromFn.{length-map-range_with_len}
-use Rattle.oc_neutral.specs.Repeats.{NameList, name_at, names_of, repeat_at}
+use Rattle.oc_strings.specs.Repeats.{NameList, name_at, names_of, repeat_at}
 use Rattle.oc_elf.specs.declared.shdr.Shdr.{Shdr}
 use Rattle.oc_elf.specs.Frames.{Framed}
 use Rattle.oc_elf.specs.Groups.{comdat_key, comdat_keys}

@@ -3,7 +3,7 @@ use Rattle.std.proofs.Common.{◌<◌, ◌∙◌, length, sym, ap, arith, is_som
 use Rattle.std.proofs.lemmas.List.{length-map}
 use Rattle.std.specs.Option.{option_copied}
 use Rattle.oc_linking.proofs.FirstFaultLaws.{first_upto_none}
-use Rattle.oc_neutral.specs.Repeats.{names_of, repeat_at}
+use Rattle.oc_strings.specs.Repeats.{names_of, repeat_at}
 use Rattle.oc_elf_judge.proofs.stood.is_repeated.Goals as goal
 
 pub returns-in-None-clause-again : goal.returns-in-None-clause-again

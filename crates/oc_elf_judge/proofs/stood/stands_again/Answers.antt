@@ -1,6 +1,6 @@
 -- A key stands again where it stood before.
 use Rattle.std.proofs.Common.{sym, ◌∙◌}
-use Rattle.oc_neutral.specs.Repeats.{names_of}
+use Rattle.oc_strings.specs.Repeats.{names_of}
 use Rattle.oc_elf_judge.proofs.StoodLemmas.{repeats_none, repeats_where, stood_more, stood_none}
 use Rattle.oc_elf_judge.proofs.stood.stands_again.Goals as goal
 

@@ -1,6 +1,6 @@
 -- One name more.
 use Rattle.std.proofs.Common.{◌∙◌, ap}
-use Rattle.oc_neutral.specs.Repeats.{names_of}
+use Rattle.oc_strings.specs.Repeats.{names_of}
 use Rattle.oc_elf.specs.SymbolRules.{public_name}
 use Rattle.oc_elf_judge.proofs.SymbolLemmas.{copied, names_more}
 use Rattle.oc_elf_judge.proofs.symbol_stage.public_names.Goals as goal

@@ -3,9 +3,9 @@ use Rattle.std.proofs.Common.{ℕ, ◌+◌, ◌<◌, ◌≤◌, ◌∙◌, List,
 use Rattle.std.specs.Option.{IsSome}
 use Rattle.std.proofs.lemmas.Result.{on_ok_weaker}
 use Rattle.oc_neutral.specs.Building.{Draft}
-use Rattle.oc_neutral.specs.Built.{HasAdded}
+use Rattle.oc_shows.specs.Built.{HasAdded}
 use Rattle.oc_neutral.specs.declared.elf.TheConstants.{SHT_NOBITS}
-use Rattle.oc_neutral.proofs.BuiltSteps.{added_is}
+use Rattle.oc_shows.proofs.BuiltSteps.{added_is}
 use Rattle.oc_elf.specs.declared.rel.Rel.{Rel}
 use Rattle.oc_elf.specs.declared.shdr.Shdr.{Shdr}
 use Rattle.oc_elf_read.specs.Built.{symboled}

@@ -1,8 +1,8 @@
 -- Nothing is given for no sections, and all for all.
 use Rattle.std.proofs.Common.{◌≡◌, ℕ, ◌∙◌, [], length, sym, ap, arith, subst}
 use Rattle.oc_neutral.specs.Building.{Draft}
-use Rattle.oc_neutral.specs.Built.{HasAdded, given_by}
-use Rattle.oc_neutral.proofs.BuiltSteps.{added_none, added_same}
+use Rattle.oc_shows.specs.Built.{HasAdded, given_by}
+use Rattle.oc_shows.proofs.BuiltSteps.{added_none, added_same}
 use Rattle.oc_elf_read.specs.Built.{symboled}
 use Rattle.oc_elf_read.specs.Given.{given_at, given_before}
 use Rattle.oc_elf.specs.Tables.{symbol_count}

@@ -1,5 +1,5 @@
 -- The relocations of the sections so far are added.
-use Rattle.oc_neutral.specs.Built.{HasAdded}
+use Rattle.oc_shows.specs.Built.{HasAdded}
 use Rattle.oc_elf_read.specs.Built.{symboled}
 use Rattle.oc_elf_read.specs.Given.{given_before}
 use Rattle.oc_elf.specs.Tables.{symbol_count}

@@ -1,7 +1,7 @@
 -- A section that is left out is given nothing; any other is carried, and its table lies in the file.
 use Rattle.std.proofs.Common.{◌+◌, ◌∙◌, sym, ap, subst}
 use Rattle.std.specs.Option.{IsSome}
-use Rattle.oc_neutral.proofs.BuiltSteps.{added_same}
+use Rattle.oc_shows.proofs.BuiltSteps.{added_same}
 use Rattle.oc_elf_read.specs.Built.{symboled}
 use Rattle.oc_elf.specs.Frames.{header_at}
 use Rattle.oc_elf_read.specs.Given.{given_before}

@@ -1,6 +1,6 @@
 -- With its last entry a section is done.
 use Rattle.std.proofs.Common.{◌≡◌, ℕ, ◌+◌, ◌∙◌, length, take, ap, arith}
-use Rattle.oc_neutral.proofs.BuiltSteps.{added_same}
+use Rattle.oc_shows.proofs.BuiltSteps.{added_same}
 use Rattle.oc_elf_read.specs.Built.{symboled}
 use Rattle.oc_elf_read.specs.Given.{given_before, given_with}
 use Rattle.oc_elf.specs.Tables.{symbol_count}

@@ -6,8 +6,8 @@ use Rattle.oc_neutral.specs.declared.group.Group.{Group}
 use Rattle.oc_neutral.specs.declared.section.Section.{Section}
 use Rattle.oc_neutral.specs.Invariants.{HasItsBytes, IsMember}
 use Rattle.oc_elf_read.proofs.StoredLemmas.{member_stored}
-use Rattle.oc_neutral.specs.Started.{stored_section}
-use Rattle.oc_neutral.proofs.BuiltSteps.{added_is}
+use Rattle.oc_shows.specs.Started.{stored_section}
+use Rattle.oc_shows.proofs.BuiltSteps.{added_is}
 use Rattle.oc_elf.specs.declared.shdr.Shdr.{Shdr}
 use Rattle.oc_elf_read.specs.Built.{IsPlaced, keys_of, sectioned}
 use Rattle.oc_elf.specs.CarriedSections.{section_with}

@@ -3,8 +3,8 @@ use Rattle.std.proofs.Common.{◌+◌, ◌∙◌, IsOk, length, refl, sym, ap, s
 use Rattle.std.proofs.lemmas.Bool.{ne_eqb}
 use Rattle.std.proofs.lemmas.List.{length-map}
 use Rattle.oc_neutral.specs.Building.{Draft}
-use Rattle.oc_neutral.specs.Computed.{computed_symbol}
-use Rattle.oc_neutral.proofs.BuiltSteps.{added_is}
+use Rattle.oc_shows.specs.Computed.{computed_symbol}
+use Rattle.oc_shows.proofs.BuiltSteps.{added_is}
 use Rattle.oc_shelf.specs.Reading.Collected.{collected}
 use Rattle.oc_shelf.proofs.ReadingLaws.CollectedLemmas.{length-collected}
 use Rattle.oc_elf_read.specs.Built.{symboled}

@@ -1,8 +1,8 @@
 -- What is built can be finished, and what is read shows the file.
 use Rattle.std.proofs.Common.{sym, ◌∙◌, ap, subst}
 use Rattle.oc_neutral.specs.Invariants.{AreBytes, IsDraft}
-use Rattle.oc_neutral.specs.Readable.{IsReadable}
-use Rattle.oc_neutral.specs.Shows.{Shows}
+use Rattle.oc_shows.specs.Readable.{IsReadable}
+use Rattle.oc_shows.specs.Shows.{Shows}
 use Rattle.oc_elf.specs.Elf.{elf_dialect}
 use Rattle.oc_elf.specs.Frames.{header_at}
 use Rattle.oc_elf_judge.specs.Known.{IsSymtab}

@@ -1,6 +1,6 @@
 -- What is made is that of the object.
 use Rattle.std.proofs.Common.{◌≡◌, ℕ, ◌+◌, ◌-◌, ◌^◌, ◌<◌, cond, length, get_or, refl, rules, sym, ◌∙◌, ap, subst, arith}
-use Rattle.oc_neutral.specs.Fitted.{IsFitted}
+use Rattle.oc_target.specs.Fitted.{IsFitted}
 use Rattle.oc_neutral.specs.Objects.{Object}
 use Rattle.oc_elf.specs.Classes.{format_of, is_big, word_of}
 use Rattle.oc_shelf.specs.Writing.Parts.{place_where}

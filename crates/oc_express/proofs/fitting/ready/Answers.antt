@@ -1,5 +1,5 @@
 use Rattle.std.proofs.Common.{◌∙◌, subst, sym}
-use Rattle.oc_neutral.specs.Fitted.{IsFit, IsFitted}
+use Rattle.oc_target.specs.Fitted.{IsFit, IsFitted}
 use Rattle.oc_neutral.specs.Invariants.{IsObject}
 use Rattle.oc_neutral.specs.Objects.{Object}
 use Rattle.oc_express.proofs.FitIsFitted.{fit_of-fitted}

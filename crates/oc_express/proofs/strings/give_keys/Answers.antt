@@ -1,5 +1,5 @@
 use Rattle.std.proofs.Common.{◌≤◌, ◌<◌, length, arith}
-use Rattle.oc_express.proofs.Giving.{more_given, all_given, keys_step, keys_none}
+use Rattle.oc_target.proofs.Giving.{more_given, all_given, keys_step, keys_none}
 use Rattle.oc_express.proofs.strings.give_keys.Goals as goal
 
 pub loop-k-preserved : goal.loop-k-preserved

@@ -2,7 +2,7 @@ use Rattle.std.proofs.Common.{◌≡◌, ◌++◌, length}
 use Rattle.std.specs.List.{flat_map, range_with_len}
 use Rattle.oc_strings.specs.Tables.{texts}
 use Rattle.oc_neutral.specs.Coff.Strings.{key_strings}
-use Rattle.oc_express.proofs.Giving.{keys_from}
+use Rattle.oc_target.proofs.Giving.{keys_from}
 use Rattle.oc_express.proofs.strings.give_keys.Given as goal
 
 -- the names so far, and those that are left

@@ -3,8 +3,7 @@ use Rattle.std.specs.List.{enumerate_from, flat_map}
 use Rattle.std.proofs.lemmas.List.{append_assoc, length-map, take_all}
 use Rattle.std.proofs.lemmas.List.FromFn.{length-enumerate_from}
 use Rattle.oc_base.specs.Formats.{word_for}
-use Rattle.oc_neutral.specs.Faces.{shown_section, shown_sections}
-use Rattle.oc_neutral.specs.Shows.{frame_of}
+use Rattle.oc_neutral.specs.Faces.{shown_section, shown_sections, frame_of}
 use Rattle.oc_neutral.proofs.Positions.{there_at}
 use Rattle.oc_dump.proofs.LineLemmas.{flat_map-next}
 use Rattle.oc_link.specs.Texts.{section_text}

@@ -1,6 +1,6 @@
 -- One name more.
 use Rattle.std.proofs.Common.{◌≡◌, length, ◌∙◌, ap, arith}
-use Rattle.oc_neutral.specs.Repeats.{names_of}
+use Rattle.oc_strings.specs.Repeats.{names_of}
 use Rattle.oc_macho.specs.SymbolFaults.{public_name}
 use Rattle.oc_macho_judge.proofs.SymbolLemmas.{all_names, copied, names_more}
 use Rattle.oc_macho_judge.proofs.symbol_stage.public_names.Goals as goal

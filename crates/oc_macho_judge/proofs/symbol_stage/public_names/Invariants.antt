@@ -1,6 +1,6 @@
 -- The names so far.
 use Rattle.std.proofs.Common.{◌≡◌, map, take}
-use Rattle.oc_neutral.specs.Repeats.{names_of}
+use Rattle.oc_strings.specs.Repeats.{names_of}
 use Rattle.oc_macho.specs.SymbolFaults.{public_name}
 use Rattle.oc_macho_judge.proofs.symbol_stage.public_names.Given as goal
 

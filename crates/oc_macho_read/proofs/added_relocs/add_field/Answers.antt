@@ -2,9 +2,9 @@
 use Rattle.std.proofs.Common.{◌+◌, take, refl, sym, ◌∙◌, subst}
 use Rattle.std.specs.Prelude.{IsOk}
 use Rattle.oc_neutral.specs.Building.{Draft}
-use Rattle.oc_neutral.specs.Built.{HasAdded}
+use Rattle.oc_shows.specs.Built.{HasAdded}
 use Rattle.std.proofs.lemmas.Result.{on_ok_weaker}
-use Rattle.oc_neutral.proofs.BuiltSteps.{added_is}
+use Rattle.oc_shows.proofs.BuiltSteps.{added_is}
 use Rattle.oc_macho_read.specs.Built.{started}
 use Rattle.oc_macho_read.specs.Given.{given_with}
 use Rattle.oc_macho_read.proofs.StepLemmas.{index_begins, index_low, item_aimed, item_inside, item_next, item_some}

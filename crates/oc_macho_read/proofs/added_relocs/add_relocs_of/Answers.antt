@@ -1,7 +1,7 @@
 -- A section that is left out is given nothing.
 use Rattle.std.proofs.Common.{◌+◌, sym, ◌∙◌, ap}
 use Rattle.oc_linking.specs.Keeping.{keeps}
-use Rattle.oc_neutral.proofs.BuiltSteps.{added_same}
+use Rattle.oc_shows.proofs.BuiltSteps.{added_same}
 use Rattle.oc_macho.specs.Sections.{kind_of}
 use Rattle.oc_macho.specs.Framed.{table_at}
 use Rattle.oc_macho_judge.proofs.SectionLemmas.{there}

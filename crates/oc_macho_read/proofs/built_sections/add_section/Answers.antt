@@ -3,7 +3,7 @@ use Rattle.std.proofs.Common.{◌+◌, length, sym, ◌∙◌, ap, subst, arith,
 use Rattle.oc_neutral.specs.Building.{Draft, section_added}
 use Rattle.oc_neutral.specs.Invariants.{HasItsBytes, IsMember}
 use Rattle.oc_neutral.specs.declared.section.Section.{Section}
-use Rattle.oc_neutral.proofs.BuiltSteps.{added_is}
+use Rattle.oc_shows.proofs.BuiltSteps.{added_is}
 use Rattle.oc_macho.specs.declared.section_header.SectionHeader.{SectionHeader}
 use Rattle.oc_macho.specs.Framed.{IsTable}
 use Rattle.oc_macho_judge.proofs.SectionLemmas.{there}

@@ -2,7 +2,7 @@
 use Rattle.std.proofs.Common.{ℕ, ◌+◌, ◌<◌, Bool, Some, length, refl, sym, ◌∙◌, ap, subst, arith}
 use Rattle.std.specs.Prelude.{IsOk}
 use Rattle.oc_neutral.specs.Building.{Draft, symbol_added}
-use Rattle.oc_neutral.proofs.BuiltSteps.{added_is}
+use Rattle.oc_shows.proofs.BuiltSteps.{added_is}
 use Rattle.oc_shelf.specs.Reading.Slots.{AreSlots}
 use Rattle.oc_shelf.proofs.ReadingLaws.SlotLemmas.{slots_pushed}
 use Rattle.oc_macho_read.specs.Built.{symbol_as, symbol_position, symboled}

@@ -1,7 +1,7 @@
 -- The relocation stands exactly where its form is told.
 use Rattle.std.proofs.Common.{sym, ◌∙◌, ap}
 use Rattle.oc_neutral.specs.Spelling.{spelling_of}
-use Rattle.oc_express.specs.Lookup.{answer_of}
+use Rattle.oc_target.specs.Lookup.{answer_of}
 use Rattle.oc_macho_write.proofs.FormLemmas.{told, none_told}
 use Rattle.oc_macho_write.proofs.forms.standing_at.Goals as goal
 

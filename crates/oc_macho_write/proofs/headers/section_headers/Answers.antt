@@ -3,7 +3,7 @@ use Rattle.std.proofs.Common.{◌<◌, ◌≤◌, List, [], ◌∷◌, ◌++◌,
 use Rattle.std.specs.List.{enumerate_from}
 use Rattle.std.proofs.lemmas.List.{drop_all}
 use Rattle.oc_neutral.proofs.Positions.{there_at}
-use Rattle.oc_express.proofs.Giving.{more_given, all_given}
+use Rattle.oc_target.proofs.Giving.{more_given, all_given}
 use Rattle.oc_macho.specs.declared.section_header.SectionHeader.{SectionHeader}
 use Rattle.oc_macho_file.specs.Canonical.{section_header}
 use Rattle.oc_plans.proofs.Turns.{map_step}

@@ -1,5 +1,5 @@
 use Rattle.std.proofs.Common.{◌∙◌, sym}
-use Rattle.oc_express.proofs.Commas.{before_comma, no_comma}
+use Rattle.oc_target.proofs.Commas.{before_comma, no_comma}
 use Rattle.oc_macho_write.proofs.names.segment_of.Goals as goal
 
 pub returns-in-Some : goal.returns-in-Some

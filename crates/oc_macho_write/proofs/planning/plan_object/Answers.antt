@@ -1,6 +1,6 @@
 -- The parts are placed, can be given, and make the canonical file.
 use Rattle.std.proofs.Common.{◌∙◌, ap, subst}
-use Rattle.oc_neutral.specs.Fitted.{IsFitted}
+use Rattle.oc_target.specs.Fitted.{IsFitted}
 use Rattle.oc_shelf.specs.Writing.Parts.{file_of}
 use Rattle.oc_macho_file.proofs.CodedLaws.{for_mach}
 use Rattle.oc_macho_write.proofs.PlannedLemmas.{file_is, placed, sound}

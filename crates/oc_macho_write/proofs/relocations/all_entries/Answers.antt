@@ -4,7 +4,7 @@ use Rattle.std.specs.List.{enumerate_from}
 use Rattle.oc_neutral.specs.declared.section.Section.{Section}
 use Rattle.oc_neutral.specs.Objects.{Object}
 use Rattle.oc_neutral.proofs.Positions.{there_at}
-use Rattle.oc_express.proofs.Steps.{more_done}
+use Rattle.oc_target.proofs.Steps.{more_done}
 use Rattle.oc_macho.specs.declared.relocation_info.RelocationInfo.{RelocationInfo}
 use Rattle.oc_macho_file.specs.Layout.{relocs_of}
 use Rattle.oc_macho_write.specs.Relocations.{all_entries}

@@ -3,7 +3,7 @@ use Rattle.std.proofs.Common.{ℕ, ◌≤◌, List, [], ◌∷◌, ◌++◌, len
 use Rattle.std.specs.Option.{is_some}
 use Rattle.std.proofs.lemmas.List.{drop_all}
 use Rattle.std.proofs.lemmas.Option.{slice_get-get_or}
-use Rattle.oc_express.proofs.Giving.{more_given, all_given}
+use Rattle.oc_target.proofs.Giving.{more_given, all_given}
 use Rattle.oc_macho_file.specs.Layout.{line_names}
 use Rattle.oc_macho_file.specs.Lines.{line_name, lines_of}
 use Rattle.oc_macho_write.specs.declared.lines.Line.TheVariants as line

@@ -3,8 +3,8 @@ use Rattle.std.proofs.Common.{◌≤◌, List, [], ◌∷◌, ◌++◌, length, 
 use Rattle.std.specs.Option.{is_some}
 use Rattle.std.proofs.lemmas.List.{drop_all}
 use Rattle.std.proofs.lemmas.Option.{slice_get-get_or}
-use Rattle.oc_express.proofs.Giving.{more_given, all_given}
-use Rattle.oc_express.proofs.Steps.{drop_step}
+use Rattle.oc_target.proofs.Giving.{more_given, all_given}
+use Rattle.oc_target.proofs.Steps.{drop_step}
 use Rattle.oc_macho.specs.declared.nlist.Nlist.{Nlist}
 use Rattle.oc_macho_file.specs.Lines.{lines_of}
 use Rattle.oc_macho_file.specs.Symbols.{line_entry}

@@ -3,7 +3,7 @@ use Rattle.std.proofs.Common.{◌≡◌, ℕ, ◌≤◌, sym, ◌∙◌, ap, sub
 use Rattle.std.proofs.lemmas.Result.{IfOk-weaker}
 use Rattle.oc_base.specs.declared.format.Word.{Word}
 use Rattle.oc_base.specs.declared.format.Word.TheVariants.{W32, W64}
-use Rattle.oc_neutral.specs.Fitted.{IsFitted}
+use Rattle.oc_target.specs.Fitted.{IsFitted}
 use Rattle.oc_neutral.specs.Objects.{Object}
 use Rattle.oc_elf.specs.declared.class.ElfClass.TheVariants.{Class32, Class64}
 use Rattle.oc_elf_file.specs.Canonical.{elf_file}

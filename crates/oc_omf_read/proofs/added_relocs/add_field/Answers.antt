@@ -3,8 +3,8 @@ use Rattle.std.proofs.Common.{◌+◌, take, refl, sym, subst}
 use Rattle.std.specs.Prelude.{IsOk}
 use Rattle.std.proofs.lemmas.Result.{on_ok_weaker}
 use Rattle.oc_neutral.specs.Building.{Draft}
-use Rattle.oc_neutral.specs.Built.{HasAdded}
-use Rattle.oc_neutral.proofs.BuiltSteps.{added_is}
+use Rattle.oc_shows.specs.Built.{HasAdded}
+use Rattle.oc_shows.proofs.BuiltSteps.{added_is}
 use Rattle.oc_omf.specs.Entries.{entries_in}
 use Rattle.oc_omf_read.specs.Built.{started}
 use Rattle.oc_omf_read.specs.Fields.{given_with}

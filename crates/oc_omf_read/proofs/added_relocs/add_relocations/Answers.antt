@@ -1,7 +1,7 @@
 -- Nothing is given for no fields, and all for all.
 use Rattle.std.proofs.Common.{◌≡◌, length, subst, take, arith}
 use Rattle.std.specs.List.Sorted.{IsPermutation}
-use Rattle.oc_neutral.proofs.BuiltSteps.{added_same}
+use Rattle.oc_shows.proofs.BuiltSteps.{added_same}
 use Rattle.oc_omf.specs.Entries.{entries_in}
 use Rattle.oc_omf_read.specs.Built.{started}
 use Rattle.oc_omf_read.specs.Fields.{given_with}

@@ -1,6 +1,6 @@
 -- The relocations of the fields so far are added.
 use Rattle.std.proofs.Common.{take}
-use Rattle.oc_neutral.specs.Built.{HasAdded}
+use Rattle.oc_shows.specs.Built.{HasAdded}
 use Rattle.oc_omf.specs.Entries.{entries_in}
 use Rattle.oc_omf_read.specs.Built.{started}
 use Rattle.oc_omf_read.specs.Fields.{given_with}

@@ -1,5 +1,5 @@
 -- Each field is given, and what is built of fields shows the module.
-use Rattle.oc_neutral.proofs.BuiltLaws.{built_shows}
+use Rattle.oc_shows.proofs.BuiltLaws.{built_shows}
 use Rattle.oc_omf.specs.Entries.{entries_in}
 use Rattle.oc_omf.specs.Rules.{omf_dialect}
 use Rattle.oc_omf_read.specs.Built.{started}

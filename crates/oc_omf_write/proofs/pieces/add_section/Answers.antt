@@ -1,6 +1,6 @@
 -- Each turn adds the entries of the next piece.
 use Rattle.std.proofs.Common.{◌++◌, arith}
-use Rattle.oc_express.proofs.Giving.{more_given, all_given}
+use Rattle.oc_target.proofs.Giving.{more_given, all_given}
 use Rattle.oc_omf_write.specs.Pieces.{places_of, piece_entries, section_entries}
 use Rattle.oc_omf_write.proofs.PieceLemmas.{follow_from, are_apart, ends_behind, pieces_left, pieces_step, pieces_end}
 use Rattle.oc_omf_write.proofs.pieces.add_section.Goals as goal

@@ -1,7 +1,7 @@
 -- Each turn adds the entry of the next segment.
 use Rattle.std.proofs.Common.{◌≡◌, ◌+◌, ◌-◌, List, ◌++◌, map, ◌∙◌, ap, suc, arith}
 use Rattle.std.specs.List.{range_with_len}
-use Rattle.oc_express.proofs.Steps.{more_done}
+use Rattle.oc_target.proofs.Steps.{more_done}
 use Rattle.oc_omf_write.specs.declared.entries.Entry.{Entry}
 use Rattle.oc_omf_write.specs.declared.entries.Entry.TheVariants as entry
 use Rattle.oc_omf_write.proofs.planning.add_segments.Goals as goal

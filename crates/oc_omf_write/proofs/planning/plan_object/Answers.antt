@@ -1,7 +1,7 @@
 -- What is made is the canonical file, entry by entry.
 use Rattle.std.proofs.Common.{List, length, sym, ◌∙◌, ap, subst, arith}
 use Rattle.std.specs.List.{AllByRecursion}
-use Rattle.oc_neutral.specs.Fitted.{IsFitted}
+use Rattle.oc_target.specs.Fitted.{IsFitted}
 use Rattle.oc_omf_file.proofs.CodedLaws.{for_omf}
 use Rattle.oc_omf_write.specs.declared.entries.Entry.{Entry}
 use Rattle.oc_shelf.specs.Writing.Parts.{file_of}

@@ -1,7 +1,0 @@
-use Rattle.std.proofs.Common.{◌≡◌, drop}
-use Rattle.oc_neutral.specs.Repeats.{number_after}
-use Rattle.oc_neutral.proofs.repeats.number_of.Given as goal
-
--- the bytes that are left follow those of the number
-abbrev pub invariant-loop-byte : goal.invariant-loop-byte
-invariant-loop-byte l = number_after l.number (drop l.byte-index l.name) ≡ number_after 0 l.name

@@ -1,0 +1,129 @@
+//! Names that stand twice in a list.
+ghost use Rattle.std.specs.Prelude.{◌≡◌, IfOk, length};
+ghost use Rattle.std.specs.List.Sorted.{IsPermutation, IsSorted};
+ghost use Rattle.oc_strings.specs.Repeats as repeats;
+
+use oc_base::NoMemory;
+use std::alloc::Global;
+use std::cmp::Ordering;
+
+/// Two positions at which a list has the same name.
+#[derive(Clone, Copy, Debug, PartialEq, Eq)]
+pub struct Repeat {
+    /// Where the name stands first.
+    pub earlier: usize,
+    /// Where it stands again.
+    pub later: usize,
+}
+
+/// An odd number, by which a name's number is multiplied before its next byte is added: names that differ
+/// in one byte alone get different numbers.
+const SPREAD: u64 = 0x9e37_79b9_7f4a_7c15;
+
+/// What is sorted: a number of the name, and where the name stands.
+#[derive(Clone, Copy, Drop)]
+struct Entry {
+    number: u64,
+    at: usize,
+}
+
+// a number of a name, of all its bytes
+fn number_of(name: &[u8]) -> u64
+    ensures { result ≡ repeats.number_after 0 name.now }
+{
+    let mut number = 0_u64;
+    for byte in name {
+        number = number.wrapping_mul(SPREAD).wrapping_add(u64::from(*byte));
+    }
+    number
+}
+
+// the name at a position, and no bytes where there is none
+fn bytes_at<'a>(names: &[Option<&'a [u8]>], at: usize) -> &'a [u8]
+    ensures { result.now ≡ repeats.bytes_at (repeats.names_of names.now) at }
+{
+    match names.get(at) {
+        Some(Some(name)) => name,
+        _ => &[],
+    }
+}
+
+// by the number, then by the name, then by the position
+fn order(names: &[Option<&[u8]>], x: &Entry, y: &Entry) -> Ordering
+    ensures { result ≡ repeats.order (repeats.names_of names.now) x.now y.now }
+{
+    if x.number != y.number {
+        return x.number.cmp(&y.number);
+    }
+    match bytes_at(names, x.at).cmp(bytes_at(names, y.at)) {
+        Ordering::Equal => x.at.cmp(&y.at),
+        other => other,
+    }
+}
+
+// whether two entries have the same name
+fn are_tied(names: &[Option<&[u8]>], x: Entry, y: Entry) -> bool
+    ensures { result ≡ repeats.are_tied (repeats.names_of names.now) x y }
+{
+    x.number == y.number && bytes_at(names, x.at) == bytes_at(names, y.at)
+}
+
+// the one of two repeats whose later position is the lower
+fn sooner(found: Option<Repeat>, next: Repeat) -> Repeat
+    ensures { result ≡ repeats.sooner found next }
+{
+    match found {
+        Some(repeat) if repeat.later <= next.later => repeat,
+        _ => next,
+    }
+}
+
+// an entry for each name
+fn entries_of(alloc: Global, names: &[Option<&[u8]>]) -> Result<Vec<Entry>, NoMemory>
+    ensures { IfOk result (λ entries. entries.items ≡ repeats.entries_of (repeats.names_of names.now) (length names.now)) }
+{
+    let mut entries = Vec::with_capacity(alloc, names.len())?;
+    for at in 0..names.len() {
+        if let Some(name) = names[at] {
+            entries.push(Entry {
+                number: number_of(name),
+                at,
+            })?;
+        }
+    }
+    Ok(entries)
+}
+
+// puts the entries in order
+fn sort(names: &[Option<&[u8]>], entries: &mut Vec<Entry>)
+    ensures same { IsPermutation entries.old.items entries.new.items }
+    ensures sorted { IsSorted (repeats.order (repeats.names_of names.now)) entries.new.items }
+{
+    entries.sort_unstable_by(|x, y| order(names, x, y));
+}
+
+/// The first position at which a name stands that stood before, and where it stood. A position
+/// without a name counts for nothing.
+///
+/// `NoMemory` where memory ran out; it takes sixteen bytes a position. The time is that of about
+/// n log2(n) comparisons for n names, whoever chose them. A comparison takes constant time but for
+/// names that agree in number, which few do that were not made for it: it then walks along both up to
+/// where they differ.
+pub fn first_repeat(alloc: Global, names: &[Option<&[u8]>]) -> Result<Option<Repeat>, NoMemory>
+    ensures { IfOk result (λ found. found ≡ repeats.first_repeat (repeats.names_of names.now)) }
+{
+    let mut entries = entries_of(alloc, names)?;
+    sort(names, &mut entries);
+    let mut found: Option<Repeat> = None;
+    for i in 1..entries.len() {
+        let (x, y) = (entries[i - 1], entries[i]);
+        if are_tied(names, x, y) {
+            let next = Repeat {
+                earlier: x.at,
+                later: y.at,
+            };
+            found = Some(sooner(found, next));
+        }
+    }
+    Ok(found)
+}
