@@ -20,7 +20,7 @@ LEVELS = [
             "Edited as the words ask,", "and ready for the target."]),
         ("plan", "the writers: Writes; Emits: file", ["What is written is the", "canonical file, byte by byte."])]),
     ("section", [
-        ("built_shows", "oc_neutral: BuiltShows", ["What is added field by", "field shows the file."]),
+        ("built_shows", "oc_shows: BuiltShows", ["What is added field by", "field shows the file."]),
         ("edited_shows_file", "oc_names: EditedShowsFile", [
             "Linking the edited object is", "linking the edited file."]),
         ("elf_file_is_written, ..", "oc_elf_file, ..: WritesCanonical", [

@@ -25,7 +25,7 @@ const EXTERNAL: u8 = 2;
 /// The class of a symbol with a default.
 const WEAK_EXTERNAL: u8 = 105;
 
-// appends the file header, of an object with one section, whose symbol table stands there
+// appends the file header of an object with one section, whose symbol table begins at `symbols_at`
 fn file_header(bytes: &mut Vec<u8>, symbols_at: u32, entries: u32) -> Result<(), NoMemory> {
     half(bytes, 0x14C)?;
     half(bytes, 1)?;
@@ -36,7 +36,7 @@ fn file_header(bytes: &mut Vec<u8>, symbols_at: u32, entries: u32) -> Result<(),
     half(bytes, 0)
 }
 
-// appends the header of code of two bytes for each relocation, whose count stands in the first entry
+// appends the header of code of two bytes for each relocation, whose count is in the first entry
 fn section_header(bytes: &mut Vec<u8>, relocs: u32) -> Result<(), NoMemory>
     requires { relocs ≤ 8000000 }
 {
@@ -146,7 +146,7 @@ struct Shape {
     more: u32,
     /// What these are.
     symbols: Symbols,
-    /// In which order the offsets or the names stand.
+    /// The order of the offsets or the names.
     order: Order,
 }
 
@@ -204,7 +204,7 @@ fn shape_of(kind: &str, count: u32) -> Result<Shape>
     })
 }
 
-/// Reads an object of that kind, and tells how long it took.
+/// Reads an object of that kind, and prints how long it took.
 pub(crate) fn measure<R: Clock + Print + Eprint>(
     rt: &R,
     alloc: Global,

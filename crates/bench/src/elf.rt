@@ -189,7 +189,7 @@ fn shape_of(kind: &str, count: u32) -> Result<(u32, u32, Order)>
     }
 }
 
-/// Judges an object of that kind and reads it, and tells how long each took.
+/// Judges an object of that kind and reads it, and prints how long each took.
 pub(crate) fn measure<R: Clock + Print + Eprint>(
     rt: &R,
     alloc: Global,

@@ -5,10 +5,10 @@
 ghost use Rattle.std.specs.Prelude.{◌≤◌};
 ghost use Rattle.bench.specs.Shape.{IsElf};
 
-use anyhow::{Result, anyhow};
 use crate::MOST;
 use crate::objects::{object, timed_walk};
 use crate::timing::micros;
+use anyhow::{Result, anyhow};
 use oc_base::{Format, Stop, word_of};
 use oc_coff_write::CoffWriter64;
 use oc_elf_write::{ElfWriter32, ElfWriter64};
@@ -32,7 +32,7 @@ fn windows<E: Emits>(plan: &E) -> u64 {
     at
 }
 
-// gives all windows of a planned file, and tells how long that and the planning took
+// gives all windows of a planned file, and prints how long that and the planning took
 fn give<R: Clock + Eprint, E: Emits>(rt: &R, start: Instant, plan: &E) -> Result<()> {
     let planned = micros(rt, start)?;
     let start = Instant::now(rt)?;
@@ -61,7 +61,7 @@ fn emit<R: Clock + Eprint>(rt: &R, alloc: Global, fitted: Fitted) -> Result<()> 
     }
 }
 
-// fits the object to a target, and tells how long that took
+// fits the object to a target, and prints how long that took
 fn fitted<R: Clock + Eprint>(
     rt: &R,
     alloc: Global,
@@ -94,8 +94,8 @@ fn target_of(kind: &str) -> Result<Format> {
     }
 }
 
-/// Fits an object of so many symbols and relocations, plans its file where that is asked, and tells how
-/// long each took.
+/// Fits an object of so many symbols and relocations, plans its file where that is asked, and
+/// prints how long each took.
 pub(crate) fn measure<R: Clock + Print + Eprint>(
     rt: &R,
     alloc: Global,

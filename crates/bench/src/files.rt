@@ -2,8 +2,8 @@
 ghost use Rattle.std.specs.Prelude.{◌<◌, ◌≤◌, length, IfOk};
 ghost use Rattle.oc_base.specs.declared.limits.TheConstants.{MOST_INPUT};
 
-use anyhow::{Result, anyhow};
 use crate::timing::micros;
+use anyhow::{Result, anyhow};
 use oc_base::{MOST_INPUT, NoMemory};
 use oc_neutral::Keep;
 use oc_shows::Reads;
@@ -39,14 +39,15 @@ pub(crate) fn zeros(alloc: Global, bytes: &mut Vec<u8>, count: u32) -> Result<()
     Ok(())
 }
 
-/// In which order things stand.
+/// The order in which things come.
 #[derive(Clone, Copy)]
 pub(crate) enum Order {
     /// From the first to the last.
     Up,
     /// From the last to the first.
     Down,
-    /// Mixed: each step goes on by a prime, around the end. Of fewer than the prime, each stands once.
+    /// Mixed: each step goes on by a prime, around the end. Of fewer than the prime, each comes
+    /// once.
     Drawn,
 }
 
@@ -109,7 +110,7 @@ pub(crate) fn ask_size(size: usize) -> Result<()>
     Ok(())
 }
 
-/// Reads a file, and tells what was read and how long it took.
+/// Reads a file, and prints what was read and how long it took.
 pub(crate) fn read_file<R: Clock + Print + Eprint, F: Reads>(
     rt: &R,
     alloc: Global,

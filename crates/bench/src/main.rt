@@ -6,13 +6,14 @@
 //! | PART | What is timed |
 //! |---|---|
 //! | `coff`, `elf` | the reading of an object of i386 with COUNT relocations or symbols |
-//! | `express`, `fit` | the fitting of COUNT symbols and MORE relocations to the target KIND, with planning and without |
+//! | `fit` | the fitting of COUNT symbols and MORE relocations to the target KIND |
+//! | `express` | the same, with planning |
 //! | `names` | MORE edits of COUNT symbols, or the dropping of a section before COUNT others |
 //! | `neutral` | the building of an object of COUNT relocations or symbols |
 //! | `strings` | the string table of COUNT names of MORE bytes |
 //! | `all` | a small case of each |
 //!
-//! The module of each part tells its kinds.
+//! The module of each part lists its kinds.
 #![tactic(auto)]
 
 ghost use Rattle.std.specs.Prelude.{◌≡◌, ◌≤◌, IfOk};

@@ -1,10 +1,10 @@
-//! An object of many sections with relocations, before which stands one that can be dropped. It is read from
-//! a file of ELF for i386 (gABI, "Sections").
+//! An object of many sections with relocations, after one that can be dropped. It is read from an
+//! ELF file for i386 (gABI, "Sections").
 ghost use Rattle.std.specs.Prelude.{◌+◌, ◌*◌, ◌≡◌, ◌≤◌};
 
-use anyhow::{Result, anyhow};
 use crate::elf::{Header, NONE, file_header, section_header, symbol};
 use crate::files::{KEEP_ALL, ask_size, word, zeros};
+use anyhow::{Result, anyhow};
 use oc_base::NoMemory;
 use oc_elf_read::ElfReader32;
 use oc_neutral::Neutral;
@@ -20,7 +20,7 @@ const EACH: u32 = 1_000;
 /// The names of the string table.
 const NAMES: &[u8] = b"\0x\0.debug_info\0";
 
-/// Where `.debug_info` stands there.
+/// Where `.debug_info` lies there.
 const DEBUG: u32 = 3;
 
 // where the contents begin: after the file header, a header of no section, that of the section that can be

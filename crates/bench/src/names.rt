@@ -1,10 +1,11 @@
-//! Times the edits of an object of many symbols, beside a walk over the same symbols, and the dropping of a
-//! section.
+//! Times the edits of an object of many symbols, compared with a walk over the same symbols, and
+//! the dropping of a section.
 //!
-//! KIND says what each edit does: `rename`, `weaken`, `local` or `alias` (to one symbol, which it names),
-//! `absent` (a new name for a symbol that is not there), `prefix` (a new name where one begins in a way in
-//! which none does) or `all` (an alias of each symbol, by how its name begins). `drop` drops the first
-//! section, before COUNT others with 1,000 relocations each; `keep` is the same with nothing dropped.
+//! KIND says what each edit does: `rename`, `weaken`, `local` or `alias` (to one symbol, which it
+//! names), `absent` (a new name for a symbol that does not exist), `prefix` (a new name for each
+//! symbol with a prefix that none has) or `all` (an alias of each symbol, by how its name begins).
+//! `drop` drops the first section, before COUNT others with 1,000 relocations each; `keep` is the
+//! same with nothing dropped.
 ghost use Rattle.std.specs.Prelude.{◌≤◌};
 
 use crate::many_sections::sectioned;
@@ -20,7 +21,7 @@ use std::time::Instant;
 
 /// What each edit does.
 #[derive(Clone, Copy, Debug, PartialEq, Eq)]
-enum What {
+enum EditKind {
     Rename,
     Weaken,
     Local,
@@ -31,15 +32,15 @@ enum What {
 }
 
 // what the word asks for
-fn asked(kind: &str) -> Result<What> {
+fn asked(kind: &str) -> Result<EditKind> {
     match kind {
-        "rename" => Ok(What::Rename),
-        "weaken" => Ok(What::Weaken),
-        "local" => Ok(What::Local),
-        "alias" => Ok(What::Alias),
-        "absent" => Ok(What::Absent),
-        "prefix" => Ok(What::Prefix),
-        "all" => Ok(What::All),
+        "rename" => Ok(EditKind::Rename),
+        "weaken" => Ok(EditKind::Weaken),
+        "local" => Ok(EditKind::Local),
+        "alias" => Ok(EditKind::Alias),
+        "absent" => Ok(EditKind::Absent),
+        "prefix" => Ok(EditKind::Prefix),
+        "all" => Ok(EditKind::All),
         _ => Err(anyhow!(
             "KIND is rename, weaken, local, alias, absent, prefix, all, drop or keep"
         )),
@@ -47,23 +48,23 @@ fn asked(kind: &str) -> Result<What> {
 }
 
 // an edit, the one of that number, that names the symbol of another number
-fn edit(alloc: Global, what: What, number: u32, of: u32) -> Result<Edit, NoMemory> {
+fn edit(alloc: Global, what: EditKind, number: u32, of: u32) -> Result<Edit, NoMemory> {
     let from = name(alloc, BEGIN, of)?;
     let to = name(alloc, b"edited__", number)?;
     Ok(match what {
-        What::Rename => Edit::Rename { from, to },
-        What::Weaken => Edit::Weaken { name: from },
-        What::Local => Edit::MakeLocal { name: from },
-        What::Alias => Edit::Alias { from, to },
-        What::Absent => Edit::Rename {
+        EditKind::Rename => Edit::Rename { from, to },
+        EditKind::Weaken => Edit::Weaken { name: from },
+        EditKind::Local => Edit::MakeLocal { name: from },
+        EditKind::Alias => Edit::Alias { from, to },
+        EditKind::Absent => Edit::Rename {
             from: name(alloc, b"absent__", of)?,
             to,
         },
-        What::Prefix => Edit::Prefix {
+        EditKind::Prefix => Edit::Prefix {
             from: name(alloc, b"absent__", of)?,
             to,
         },
-        What::All => Edit::AliasPrefix {
+        EditKind::All => Edit::AliasPrefix {
             from: Bytes::from_slice(alloc, BEGIN)?,
             to,
         },
@@ -71,7 +72,7 @@ fn edit(alloc: Global, what: What, number: u32, of: u32) -> Result<Edit, NoMemor
 }
 
 // so many edits, which name symbols at equal distances
-fn edits(alloc: Global, what: What, symbols: u32, count: u32) -> Result<Edits, NoMemory> {
+fn edits(alloc: Global, what: EditKind, symbols: u32, count: u32) -> Result<Edits, NoMemory> {
     let mut edits = Edits::new(alloc);
     let step = symbols / count.max(1);
     for k in 0..count {
@@ -80,7 +81,7 @@ fn edits(alloc: Global, what: What, symbols: u32, count: u32) -> Result<Edits, N
     Ok(edits)
 }
 
-// edits an object, and tells how long that took
+// edits an object, and prints how long that took
 fn timed_apply<R: Clock + Eprint>(
     rt: &R,
     alloc: Global,
@@ -95,11 +96,11 @@ fn timed_apply<R: Clock + Eprint>(
     Ok(made)
 }
 
-// edits an object, and tells how long that took, beside a walk
+// edits an object, and prints how long that took, compared with a walk
 fn measure_edits<R: Clock + Print + Eprint>(
     rt: &R,
     alloc: Global,
-    what: What,
+    what: EditKind,
     symbols: u32,
     count: u32,
 ) -> Result<()> {
@@ -116,7 +117,7 @@ fn measure_edits<R: Clock + Print + Eprint>(
     Ok(())
 }
 
-// drops a section or none, and tells how long that took
+// drops a section or none, and prints how long that took
 fn measure_dropping<R: Clock + Print + Eprint>(
     rt: &R,
     alloc: Global,
@@ -136,7 +137,8 @@ fn measure_dropping<R: Clock + Print + Eprint>(
     Ok(())
 }
 
-/// Edits an object of so many symbols, or of so many sections with relocations, and tells how long that took.
+/// Edits an object of so many symbols, or of so many sections with relocations, and prints how long
+/// that took.
 pub(crate) fn measure<R: Clock + Print + Eprint>(
     rt: &R,
     alloc: Global,

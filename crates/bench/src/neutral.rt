@@ -6,18 +6,20 @@
 //! lengths, and std's sort of the same names).
 ghost use Rattle.std.specs.Prelude.{◌≡◌, ◌<◌, ◌≤◌, ◌^◌};
 
-use anyhow::{Result, anyhow};
 use crate::MOST;
 use crate::objects::code;
 use crate::timing::micros;
+use anyhow::{Result, anyhow};
 use oc_base::{Bytes, Format, NoMemory};
-use oc_neutral::{Base, Binding, Builder, Check, Form, Hint, Less, Mark, Reloc, Symbol, Target, Visibility, Width};
+use oc_neutral::{
+    Base, Binding, Builder, Check, Form, Hint, Less, Mark, Reloc, Symbol, Target, Visibility, Width,
+};
 use oc_strings::first_repeat;
 use std::alloc::Global;
 use std::rt::Clock;
 use std::time::Instant;
 
-/// How many equal bytes stand first in a long name.
+/// How many equal bytes a long name begins with.
 const LONG: usize = 53;
 
 // an undefined symbol of that name
@@ -139,7 +141,8 @@ fn new_symbols(alloc: Global, count: u32) -> Result<Builder>
     Ok(builder)
 }
 
-// searches a repeat among names that differ, and tells how long that took, and how long a sort
+// searches for a repeat among names that differ, and prints how long that took, and how long a sort
+// took
 fn search<R: Clock + Print + Eprint>(
     rt: &R,
     alloc: Global,
@@ -200,7 +203,7 @@ fn room_for(built: Built, count: u32) -> u32
     }
 }
 
-// builds the object, and tells how long it took
+// builds the object, and prints how long it took
 fn timed_build<R: Clock + Eprint>(
     rt: &R,
     alloc: Global,
@@ -226,8 +229,8 @@ fn timed_build<R: Clock + Eprint>(
     Ok(builder)
 }
 
-/// Builds an object of so many relocations or symbols, or searches among so many names, and tells how long
-/// it took.
+/// Builds an object of so many relocations or symbols, or searches among so many names, and prints
+/// how long it took.
 pub(crate) fn measure<R: Clock + Print + Eprint>(
     rt: &R,
     alloc: Global,

@@ -210,7 +210,7 @@ fn walk(neutral: &Neutral) -> u64 {
     sum
 }
 
-/// Walks over an object, and tells how long that took, which it gives in microseconds.
+/// Walks over an object, prints how long that took, and returns it in microseconds.
 pub(crate) fn timed_walk<R: Clock + Eprint>(rt: &R, neutral: &Neutral) -> Result<u128> {
     let start = Instant::now(rt)?;
     let sum = walk(neutral);

@@ -64,7 +64,7 @@ fn equal(alloc: Global, count: usize, length: usize) -> Result<Vec<Bytes>, NoMem
     Ok(names)
 }
 
-// sorts the names in two ways, and tells how long each took
+// sorts the names in two ways, and prints how long each took
 fn sort<R: Clock + Eprint>(rt: &R, alloc: Global, names: &[Bytes]) -> Result<()> {
     let mut sorted = Vec::new(alloc);
     for name in names {
@@ -80,7 +80,7 @@ fn sort<R: Clock + Eprint>(rt: &R, alloc: Global, names: &[Bytes]) -> Result<()>
     Ok(())
 }
 
-// makes the table of the names, and tells how long it took
+// makes the table of the names, and prints how long it took
 fn timed_table<R: Clock + Eprint>(rt: &R, alloc: Global, names: &[Bytes]) -> Result<Table> {
     if !Table::fits(1, names) {
         return Err(anyhow!("the names are too long for a table"));
@@ -92,7 +92,7 @@ fn timed_table<R: Clock + Eprint>(rt: &R, alloc: Global, names: &[Bytes]) -> Res
     Ok(table)
 }
 
-// asks the table for each name, by the search and at its position, and tells how long each took
+// asks the table for each name, by the search and at its position, and prints how long each took
 fn ask<R: Clock + Print + Eprint>(rt: &R, table: &Table, names: &[Bytes]) -> Result<()> {
     let start = Instant::now(rt)?;
     let found = names

@@ -1,4 +1,4 @@
-//! What the clock tells.
+//! Times that the clock measures.
 
 use anyhow::Result;
 use std::rt::Clock;

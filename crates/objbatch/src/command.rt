@@ -23,22 +23,22 @@ impl RunsJob for Objconv {
     }
 }
 
-/// Runs the jobs of the list that the one word names, over these files and this console, and answers
-/// its status.
+/// Runs the jobs of the list that the one word names, over these files and this console, and
+/// returns its status.
 ///
-/// The list is UTF-8 text. Each line that has a word is a job for the command `objconv`: blanks part its
-/// words, and a newline ends it. The jobs are run in order, each as if alone on the files that the one
-/// before left, whatever their statuses are. After each the line `job I: S` is shown, with its number,
-/// counted from 1, and its status. The list is read once, and the words of all jobs are made before the
-/// first one runs.
+/// The list is UTF-8 text. Each line that has a word is a job for the command `objconv`: blanks
+/// separate its words, and a newline ends it. The jobs are run in order, each as if alone on the
+/// files that the one before left, whatever their statuses are. After each the line `job I: S` is
+/// shown, with its number, counted from 1, and its status. The list is read once, and the words of
+/// all jobs are made before the first one runs.
 /// - 0: all jobs ran, each with status 0. 10: all ran, and one had another status.
-/// - 3: there is not one word. 4: a read of the list failed, or it is not held. 8: it has more than
-///   67,108,864 bytes. 9: it is not UTF-8. 7: memory ran out before a job began. With these no job is
-///   run, no file is changed, nothing was shown, and the cause was told.
+/// - 3: there is not exactly one word. 4: a read of the list failed, or it is not held. 8: it has
+///   more than 67,108,864 bytes. 9: it is not UTF-8. 7: memory ran out before a job began. With
+///   these no job is run, no file is changed, nothing was shown, and the cause was reported.
 /// - 6: standard output took a prefix of a job's line, and then failed; no later job was run.
 ///
-/// There is no other status. Where telling a text fails, the status stays. Takes memory for the list and
-/// the words of its jobs, and for one job at a time.
+/// There is no other status. Where reporting a text fails, the status stays. Takes memory for the
+/// list and the words of its jobs, and for one job at a time.
 pub fn run_batch<F: Files, C: Console>(
     alloc: Global,
     words: &Words,

@@ -12,8 +12,8 @@ use Rattle.oc_runs.specs.Refusals.{HasRefusal, IsExact, IsJudged}
 use Rattle.objconv.specs.Refusals.{conversion_refusal}
 
 module _ (to : Format) (wishes : Wishes) (input : List ℕ) where
-  -- c is the output for the input: where files are told, the input is held and is not refused, c is the file that the writer of the target has for its object,
-  -- edited and fitted, and c links as the edited input does
+  -- c is the output for the input: where contracts see the files, the input is held and is not refused, c is the file that the writer of the target has for
+  -- its object, edited and fitted, and c links as the edited input does
   pub record IsOutput (files : Option Held) (c : List ℕ) : Type 0 where
     pub accepted : HasRefusal (conversion_refusal wishes to) input files None
     pub dispatched : (m : Held) → files ≡ Some m → IsSomeAnd (file_of input m) (λ b. IsDispatched built wishes to b c)
@@ -25,7 +25,7 @@ module _ (to : Format) (wishes : Wishes) (input : List ℕ) where
       pub planned : IsOutput before file
       pub files : now ≡ option_map (with_file output file) before
 
-    -- the files are as they were, or the output holds some front of the output for the input and all others stay
+    -- the files are as they were, or the output holds a prefix of the output for the input and all others stay
     pub record IsPartlyWritten (before now : Option Held) : Type 0 where
       pub file : List ℕ
       pub planned : IsOutput before file

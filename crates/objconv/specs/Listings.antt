@@ -18,7 +18,7 @@ pub record IsListed (b : List ℕ) (text : List ℕ) : Type 0 where
   pub lines : text ≡ symbol_lines_of object
 
 module _ (input : List ℕ) where
-  -- the text is the listing of the input: where files are told, the input is held and is not refused, and the text is the lines of its symbols
+  -- the text is the listing of the input: where contracts see the files, the input is held and is not refused, and the text is the lines of its symbols
   pub record IsListing (files : Option Held) (text : List ℕ) : Type 0 where
     pub accepted : HasRefusal listing_refusal input files None
     pub listed : (m : Held) → files ≡ Some m → IsSomeAnd (file_of input m) (λ b. IsListed b text)
@@ -29,7 +29,7 @@ module _ (input : List ℕ) where
     pub listing : IsListing files text
     pub shown : now ≡ grown text before
 
-  -- some front of it was
+  -- a prefix of it was shown
   pub record IsPartlyShown (files : Option Held) (before now : Option (List ℕ)) : Type 0 where
     pub text : List ℕ
     pub listing : IsListing files text

@@ -41,14 +41,14 @@ module _ (count : ℕ) (to : Format) where
       pub files : after.held ≡ option_map (with_file output file) before.held
       pub shown : after.shown ≡ grown (summary_of count (length file)) before.shown
 
-    -- the files are as they were, or the output holds some front of the file and all others stay; nothing was shown
+    -- the files are as they were, or the output holds a prefix of the file and all others stay; nothing was shown
     pub record IsPartlyMade (before after : State) : Type 0 where
       pub file : List ℕ
       pub planned : IsMadeFile file
       pub files : HasPart output file before.held after.held
       pub shown : after.shown ≡ before.shown
 
-    -- the output holds the file, and all other files stay; some front of the summary was shown
+    -- the output holds the file, and all other files stay; a prefix of the summary was shown
     pub record IsPartlyTold (before after : State) : Type 0 where
       pub file : List ℕ
       pub planned : IsMadeFile file

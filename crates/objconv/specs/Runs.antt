@@ -15,7 +15,7 @@ use Rattle.objconv.specs.Making.{IsMaking}
 
 -- ... what the words ask for
 
--- nothing is done, and nothing is read; the text was told for the words
+-- nothing is done, and nothing is read; the text for the words was reported
 pub record IsUndone (text : List ℕ) (before : State) (status : ℕ) (after : State) : Type 0 where
   pub named : (status ≡ 3) ⊎ (status ≡ 7)
   pub told : status ≡ 3 → Tells text before.told after.told before.err_faults after.err_faults
@@ -25,7 +25,7 @@ pub record IsUndone (text : List ℕ) (before : State) (status : ℕ) (after : S
   pub shown : after.shown ≡ before.shown
   pub outs : after.out_faults ≡ before.out_faults
 
--- the job of the words is done, or it is told which word is at fault
+-- the job of the words is done, or it is reported which word is at fault
 abbrev pub DoesJob : Result Job BadWord → State → ℕ → State → Type 0
 DoesJob (Err bad) = IsUndone (word_message_of bad.index bad.code)
 DoesJob (Ok (Convert to wishes input output)) = IsConversion to wishes input output

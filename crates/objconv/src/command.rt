@@ -12,29 +12,29 @@ use oc_runs::report_memory;
 use oc_words::{Job, WordFault, Words, read_words};
 use std::alloc::Global;
 
-/// Runs the command that `words` give, over these files and this console, and answers its status.
+/// Runs the command that `words` give, over these files and this console, and returns its status.
 ///
-/// `-fTARGET [options] IN OUT` converts the object file IN, edited as the options say, `-ds IN` lists
-/// its symbols, and `--make=N TARGET OUT` makes an object of N functions and converts it.
-/// - 0: done. A conversion's OUT holds the converted object, which links as the edited input does, and
-///   nothing was shown; a listing was shown whole, and no file is changed; an object that was made is
-///   in OUT, and how much was made was shown. Nothing was told.
-/// - 1, 2, 8: the input, or what was made, has a first refusal, which is malformed, refused or a limit;
-///   its message was told.
-/// - 3: the words are no job; it was told which word is at fault, and nothing was read.
-/// - 4: a read failed, or IN is not held; never where an object is made. 5: a write failed; OUT is as it
-///   was, or holds some front of the planned file. 6: standard output took some front of a listing, or
-///   of how much was made, and then failed; OUT is whole where an object was made. 7: memory ran out,
-///   before anything was written or shown.
+/// `-fTARGET [options] IN OUT` converts the object file IN, edited as the options say, `-ds IN`
+/// lists its symbols, and `--make=N TARGET OUT` makes an object of N functions and converts it.
+/// - 0: done. A conversion's OUT holds the converted object, which links as the edited input does,
+///   and nothing was shown; a listing was shown whole, and no file is changed; an object that was
+///   made is in OUT, and how much was made was shown. Nothing was reported.
+/// - 1, 2, 8: the input, or what was made, has a first refusal, which is malformed, refused or a
+///   limit; its message was reported.
+/// - 3: the words are no job; it was reported which word is at fault, and nothing was read.
+/// - 4: a read failed, or IN is not held; never where an object is made. 5: a write failed; OUT is
+///   as it was, or holds a prefix of the planned file. 6: standard output took a prefix of a
+///   listing, or of how much was made, and then failed; OUT is whole where an object was made.
+///   7: memory ran out, before anything was written or shown.
 ///
 /// There is no other status, and a read or write that fails ends the run. With every status but 0
-/// and 5, and 6 where an object is made, no file is changed. Where telling a text fails, the status
-/// stays. Takes memory for the input, which is also made, for the object with a copy of its contents
-/// and names, and for the plan or the listing; none for the output's bytes. A run is to take at most
-/// 1.5 GiB and 10 seconds on one processor of today, and 4 GiB and 60 seconds for a module of OMF with
-/// millions of symbols that have names of their own; beside that, each word that edits names goes once
-/// over the symbols. No clause speaks of this: it is measured with the worst files known
-/// (`bench/hostile`, docs/SAFETY.md).
+/// and 5, and 6 where an object is made, no file is changed. Where reporting a text fails, the
+/// status stays. Takes memory for the input, which is also made, for the object with a copy of its
+/// contents and names, and for the plan or the listing; none for the output's bytes. A run is to
+/// take at most 1.5 GiB and 10 seconds on one present-day processor, and 4 GiB and 60 seconds for a
+/// module of OMF with millions of symbols that have names of their own; besides that, each word
+/// that edits names goes once over the symbols. No clause of the contract covers this: it is
+/// measured with the worst files known (`bench/hostile`, docs/SAFETY.md).
 pub fn run<F: Files, C: Console>(alloc: Global, words: &Words, files: &mut F, console: &mut C) -> u8
     ensures { IsRun words.now
         (state_of F.held F.read_faults F.write_faults C.shown C.told C.out_faults C.err_faults files.old console.old) result

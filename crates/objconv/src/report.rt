@@ -1,4 +1,4 @@
-//! What is told of words that are no job.
+//! What is reported of words that are no job.
 ghost use Rattle.std.specs.Prelude.{◌≡◌, ℕ, ◌≤◌, ◌⊎◌, ◌+◌, ◌-◌, ◌^◌};
 ghost use Rattle.oc_outside.specs.Texts.{LeavesOther};
 ghost use Rattle.oc_words.specs.Messages.{word_message_of};
@@ -9,8 +9,8 @@ use oc_runs::{report_memory, tell};
 use oc_words::{WordCode, word_message};
 use std::alloc::Global;
 
-/// Tells which word is at fault, and answers 3; where the text finds no memory, tells that and
-/// answers 7.
+/// Reports which word is at fault, and returns 3; where there is no memory for the text, reports
+/// that and returns 7.
 pub fn report_word<C: Console>(alloc: Global, console: &mut C, index: u32, code: WordCode) -> u8
     ensures reported { IsWordReported (word_message_of index code) (C.told console.old) (C.told console.new)
         (C.err_faults console.old) (C.err_faults console.new) result }

@@ -32,7 +32,7 @@ const ELF32: &[u8] = &[0x7F, 0x45, 0x4C, 0x46, 0x01];
 /// The first byte of a module of OMF.
 const OMF: &[u8] = &[0x80];
 
-/// Words that are no job: nothing is read, so that no call is there to fail.
+/// Words that are no job: nothing is read, so that there is no call that could fail.
 const NO_JOB: Case = Case {
     words: &[],
     a: Some(ELF32),
@@ -103,7 +103,7 @@ const CASES: [Case; 20] = [
         told: "",
         ..NO_JOB
     },
-    // the first read fails, the one that tells the end, and there is no file
+    // the first read fails, the one that finds the end, and there is no file
     UNREAD,
     Case {
         failing: 2,
@@ -170,7 +170,7 @@ fn words_of(alloc: Global, list: &[&str]) -> Result<Words, NoMemory> {
     Ok(words)
 }
 
-/// Whether the run of a case ends with its status, tells what it says, and leaves the rest.
+/// Whether the run of a case ends with its status, reports what it says, and leaves the rest.
 fn is_met(alloc: Global, case: &Case) -> Result<bool, NoMemory> {
     let words = words_of(alloc, case.words)?;
     let mut files = MemFiles::new(alloc);

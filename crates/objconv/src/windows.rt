@@ -58,7 +58,7 @@ const GROUP_COFF: &[&str] = &[
     "000001002000020004000000",
 ];
 
-/// A place, in bytes, behind the end of each file; windows begin before it and are shorter.
+/// A place, in bytes, after the end of each file; windows begin before it and are shorter.
 const BEHIND: usize = 250;
 
 /// The number of a digit in lower-case hexadecimal; 0 for any other byte.
@@ -95,8 +95,8 @@ fn plan_of(alloc: Global, lines: &[&str]) -> Result<AnyPlan, Fail> {
     Ok(dispatch(alloc, Format::Coff32, bytes.as_slice(), &edits)?)
 }
 
-/// Whether the window at `at` of a plan fills the front of `len` bytes with that part of the file, as far as
-/// both go, and leaves the rest.
+/// Whether the window at `at` of a plan fills the start of a buffer of `len` bytes with that part
+/// of the file, as far as both go, and leaves the rest.
 fn is_window(plan: &AnyPlan, file: &[u8], at: usize, len: usize) -> bool
     requires { len < 250 }
 {
@@ -124,7 +124,7 @@ fn windows_of_each_length_at_each_place(rt: HostRuntime) -> Result<(), Fail> {
     Ok(())
 }
 
-/// The six bytes of the call, and what is left behind the last two bytes of the file.
+/// The six bytes of the call, and what is left after the last two bytes of the file.
 #[test]
 fn windows_of_a_plan(rt: HostRuntime) -> Result<(), Fail> {
     let plan = plan_of(rt.alloc(), CALL)?;

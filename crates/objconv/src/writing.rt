@@ -21,10 +21,11 @@ fn write_plan<F: Files, P: Emits>(files: &mut F, name: &str, plan: &P) -> Result
     plan.emit(&mut sink)
 }
 
-/// Writes the file `name`, so that it holds the planned file and nothing else. All other files stay.
+/// Writes the file `name`, so that it holds the planned file and nothing else. All other files
+/// stay.
 ///
-/// After Failed the file is as it was or holds some front of the planned one, and the count of
-/// writes rose. Takes no memory.
+/// After Failed the file is as it was or holds a prefix of the planned one, and the count of writes
+/// rose. Takes no memory.
 pub fn write_output<F: Files, P: Emits + Drop>(
     files: &mut F,
     name: &str,

@@ -9,19 +9,22 @@ use oc_outside::{Console, Files};
 use oc_words::Words;
 use std::alloc::Global;
 
-/// Links the object file OBJECT where the text PLACEMENT places it, over these files and this console,
-/// and answers the status of the run. The words are the two names.
+/// Links the object file OBJECT where the text PLACEMENT places it, over these files and this
+/// console, and returns the status of the run. The words are the two names.
 ///
-/// The object may be of any format. It is read with all its sections, and judged before PLACEMENT is
-/// opened. What is shown is what linking it by the rules of its format gives: its bytes and exports, or
-/// the first overflow.
+/// The object may be of any format. It is read with all its sections, and judged before PLACEMENT
+/// is opened. What is shown is what linking it by the rules of its format gives: its bytes and
+/// exports, or the first overflow.
 /// - 0: the text was shown whole. 6: standard output took a prefix of it, and then failed.
-/// - 1, 2, 8: OBJECT has a first refusal, which is malformed, refused or a limit; its message was told.
+/// - 1, 2, 8: OBJECT has a first refusal, which is malformed, refused or a limit; its message was
+///   reported.
 /// - 3: the words are not two. 4: a read failed, or a file that is to be read is not held.
-/// - 9: PLACEMENT is at fault, or has more than 67,108,864 bytes; it was told where. 7: memory ran out.
+/// - 9: PLACEMENT is at fault, or has more than 67,108,864 bytes; it was reported where. 7: memory
+///   ran out.
 ///
-/// There is no other status. With all but 0 and 6 nothing was shown; where telling the cause fails, the
-/// status stays. No file is changed. Takes memory for the two files, the object and the text.
+/// There is no other status. With all but 0 and 6 nothing was shown; where reporting the cause
+/// fails, the status stays. No file is changed. Takes memory for the two files, the object and the
+/// text.
 pub fn run_link<F: Files, C: Console>(
     alloc: Global,
     words: &Words,

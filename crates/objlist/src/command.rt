@@ -8,21 +8,23 @@ use oc_outside::{Console, Files};
 use oc_words::Words;
 use std::alloc::Global;
 
-/// Lists an object file of any format, as `words` ask, over these files and this console, and answers the
-/// status.
+/// Lists an object file of any format, as `words` ask, over these files and this console, and
+/// returns the status.
 ///
-/// `-dh IN` shows the format of IN and how many sections, symbols, relocations and bytes it has, `-dn IN`
-/// its sections, a line each, and `-dr IN` its relocations, each with its residue where all sections lie at
-/// 0. The format is that of the first bytes; debug sections, exception sections and notes are listed too.
-/// - 0: the listing was shown whole, and nothing was told. 6: standard output took some front of it, and
-///   then failed.
-/// - 1, 2, 8: IN has a first refusal, which is malformed, refused or a limit; its message was told.
-/// - 3: the words are none of these three commands; that was told, and nothing was read.
+/// `-dh IN` shows the format of IN and how many sections, symbols, relocations and bytes it has,
+/// `-dn IN` its sections, a line each, and `-dr IN` its relocations, each with its residue where
+/// all sections lie at 0. The format is that of the first bytes; debug sections, exception sections
+/// and notes are listed too.
+/// - 0: the listing was shown whole, and nothing was reported. 6: standard output took a prefix of
+///   it, and then failed.
+/// - 1, 2, 8: IN has a first refusal, which is malformed, refused or a limit; its message was
+///   reported.
+/// - 3: the words are none of these three commands; that was reported, and nothing was read.
 /// - 4: a read failed, or IN is not held. 7: memory ran out, before anything was shown.
 ///
-/// There is no other status, and a call of a device that fails ends the run; where telling a text fails, the
-/// status stays. No file is changed, and with every status but 0 and 6 nothing is shown. Takes memory for
-/// IN, for the object with a copy of its contents and names, and for the text.
+/// There is no other status, and a call of a device that fails ends the run; where reporting a text
+/// fails, the status stays. No file is changed, and with every status but 0 and 6 nothing is shown.
+/// Takes memory for IN, for the object with a copy of its contents and names, and for the text.
 pub fn run_list<F: Files, C: Console>(
     alloc: Global,
     words: &Words,

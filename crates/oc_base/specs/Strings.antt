@@ -27,11 +27,11 @@ with_top names tops name = if is_maximal names name && not (is_given tops name) 
 unfoldable pub tops_of : List (List ℕ) → List (List ℕ)
 tops_of names = fold (with_top names) [] names
 
--- each text with a NUL behind it
+-- each text with a NUL after it
 unfoldable pub text_of : List (List ℕ) → List ℕ
 text_of tops = flat_map (λ top. top ++ 0 ∷ []) tops
 
--- where a name stands in texts that begin at a place: at the tail of the first that it ends
+-- where a name lies in texts that begin at a place: at the tail of the first text that ends with it
 abbrev pub place_from : ℕ → List (List ℕ) → List ℕ → Option ℕ
 place_from at [] name = None
 place_from at (top ∷ tops) name = if ends name top then Some (at + (length top - length name)) else place_from (at + (length top + 1)) tops name
@@ -40,6 +40,6 @@ place_from at (top ∷ tops) name = if ends name top then Some (at + (length top
 unfoldable pub table_text : List (List ℕ) → List ℕ
 table_text names = text_of (tops_of names)
 
--- where a name stands in the table of these names whose first text stands at `head`, if it is one of them
+-- where a name lies in the table of these names whose first text begins at `head`, if it is one of them
 unfoldable pub table_place : ℕ → List (List ℕ) → List ℕ → Option ℕ
 table_place head names name = if is_given names name then place_from head (tops_of names) name else None

@@ -1,7 +1,7 @@
 -- Texts in files: the bytes from a place up to the first NUL.
 use Rattle.std.specs.Prelude.{◌≡◌, ◌≢◌, ℕ, ◌+◌, ◌<◌, ◌≤◌, List, length, slice_index, slice_range}
 
--- no NUL stands at or after the place
+-- there is no NUL at or after the place
 abbrev pub HasNoTextAt : List ℕ → ℕ → Type 0
 HasNoTextAt b at = (k : ℕ) → at ≤ k → k < length b → slice_index b k ≢ 0
 

@@ -23,6 +23,6 @@ pub use fault::{Class, Fault, Phase, Spot};
 pub use format::{Format, Word, plain_of, word_of};
 pub use limits::{MOST_CONTENTS, MOST_INPUT};
 pub use messages::message;
-pub use numbers::{u16_in, u32_in, u64_in, u8_in};
+pub use numbers::{u8_in, u16_in, u32_in, u64_in};
 pub use stop::Stop;
 pub use view::View;

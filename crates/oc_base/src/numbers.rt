@@ -1,4 +1,4 @@
-//! Numbers at places that are there. All are little endian.
+//! Numbers at places that exist. All are little endian.
 ghost use Rattle.std.specs.Prelude.{◌≡◌, ◌+◌, ◌≤◌, length};
 ghost use Rattle.oc_base.specs.Numbers.{number_at};
 

@@ -6,7 +6,7 @@ use crate::fault::Fault;
 use std::alloc::{AllocError, AllocFailed};
 use thiserror::Error;
 
-/// Why a step stops: at a refusal, or for want of memory.
+/// Why a step stops: at a refusal, or for lack of memory.
 #[derive(Clone, Copy, Debug, PartialEq, Eq, Error)]
 pub enum Stop {
     /// The first refusal: its code gives its class.

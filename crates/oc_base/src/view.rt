@@ -10,7 +10,7 @@ use memchr::memchr;
 use std::marker::Model;
 
 /// The bytes of a file, or of a part of one. Contracts see a list of bytes. Numbers are little
-/// endian, places are offsets in bytes from the front, and no call takes memory.
+/// endian, places are offsets in bytes from the start, and no call takes memory.
 #[derive(Debug, Drop)]
 pub struct View<'a> {
     bytes: &'a [u8],
@@ -92,8 +92,8 @@ impl<'a> View<'a> {
         Ok(LittleEndian::read_u64(part))
     }
 
-    /// The bytes from `at` up to the first NUL at or after it; `OutOfView` exactly where no NUL
-    /// stands there. Linear in the bytes that are passed over.
+    /// The bytes from `at` up to the first NUL at or after it; `OutOfView` exactly where there is
+    /// no such NUL. Linear in the bytes that are passed over.
     pub fn text_at(&self, at: u64) -> Result<&'a [u8], OutOfView>
         ensures { MatchResult result (λ text. IsTextAt self.now at text.now) (λ _. HasNoTextAt self.now at) }
     {

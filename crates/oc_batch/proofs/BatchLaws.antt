@@ -159,7 +159,7 @@ module _ (name : List ℕ) (before after : State) where
   unread_long : fault.Unread ≡ fault.TooLong → ⊥
   unread_long e = cc e
 
-  -- a list with a fault, where that or want of memory was told
+  -- a list with a fault, where that or lack of memory was told
   pub refused_list : (f : ListFault) (status : ℕ) → Explains name before.held before.read_faults after.read_faults f
       → IsTold before.told after.told before.err_faults after.err_faults f status
       → after.held ≡ before.held → after.shown ≡ before.shown → after.write_faults ≡ before.write_faults → after.out_faults ≡ before.out_faults

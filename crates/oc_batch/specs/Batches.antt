@@ -13,7 +13,7 @@ use Rattle.oc_batch.specs.Lists.{IsLong, IsNoText, IsText, jobs_in}
 use Rattle.oc_batch.specs.Runs.{HasRunAll, HasStopped, NoCountFalls}
 use Rattle.oc_batch.specs.Texts.{words_text}
 
--- the words are not one name: that was told, and nothing was read
+-- the words are not one name: that was reported, and nothing was read
 abbrev pub IsWordless : State → ℕ → State → Type 0
 IsWordless = ends.IsWordless words_text
 
@@ -28,7 +28,7 @@ pub record IsBytesStatus (b : List ℕ) (status : ℕ) : Type 0 where
   pub text : IsText b → (status ≡ 0) ⊎ (status ≡ 6) ⊎ (status ≡ 10)
 
 module _ (name : List ℕ) where
-  -- these are the jobs of the list: where files are told, it is held, and has these jobs as its text
+  -- these are the jobs of the list: where contracts see the files, it is held, and has these jobs as its text
   pub record HasJobs (files : Option Held) (jobs : List (List (List ℕ))) : Type 0 where
     pub bytes : List ℕ
     pub held : (m : Held) → files ≡ Some m → file_of name m ≡ Some bytes
@@ -48,7 +48,7 @@ module _ (name : List ℕ) where
     pub stopped : HasStopped jobs before after
     pub failed : Rose before.out_faults after.out_faults
 
-  -- none was run, by a fault of the list: its text was told, and all else stays, but that a read may have failed
+  -- none was run, by a fault of the list: its text was reported, and all else stays, except that a read may have failed
   pub record RefusesList (f : ListFault) (before after : State) : Type 0 where
     pub cause : Explains name before.held before.read_faults after.read_faults f
     pub told : Tells (text_of f) before.told after.told before.err_faults after.err_faults

@@ -1,4 +1,4 @@
--- Why no job of a list was run, and what is told of it (our profile).
+-- Why no job of a list was run, and what is reported of it (our profile).
 use Rattle.std.specs.Prelude.{◌≡◌, ℕ, ◌⊎◌, List, Option, Some}
 use Rattle.std.specs.Option.{IsSomeAnd}
 use Rattle.oc_base.specs.Messages.{message_of}
@@ -27,19 +27,19 @@ status_of fault.TooLong = 8
 status_of fault.NotText = 9
 status_of fault.NoMemory = 7
 
--- what is told of it
+-- what is reported of it
 abbrev pub text_of : ListFault → List ℕ
 text_of fault.Unread = input_text
 text_of fault.TooLong = message_of too_long
 text_of fault.NotText = list_text
 text_of fault.NoMemory = memory_text
 
--- where files are told, the list is held, and this holds of its bytes
+-- where contracts see the files, the list is held, and this holds of its bytes
 pub record HoldsOf (name : List ℕ) (files : Option Held) (P : List ℕ → Type 0) : Type 0 where
   pub held : (m : Held) → files ≡ Some m → IsSomeAnd (file_of name m) P
 
 module _ (name : List ℕ) (files : Option Held) (reads_before reads_now : ℕ) where
-  -- the cause of a fault: a failed read, or that the list is not held; its length; its bytes; or want of memory, which says nothing
+  -- the cause of a fault: a failed read, or that the list is not held; its length; its bytes; or lack of memory, which needs no cause
   abbrev pub Explains : ListFault → Type 0
   Explains fault.Unread = Rose reads_before reads_now ⊎ IsAbsent name files
   Explains fault.TooLong = HoldsOf name files IsLong
@@ -47,7 +47,7 @@ module _ (name : List ℕ) (files : Option Held) (reads_before reads_now : ℕ) 
   Explains fault.NoMemory = Unit {0}
 
 module _ (before now : Option (List ℕ)) (faults_before faults_now : ℕ) where
-  -- the status and the text of a fault; where the text of a list that is too long finds no memory, they are those of want of memory
+  -- the status and the text of a fault; where the text of a list that is too long finds no memory, they are those of lack of memory
   abbrev pub IsTold : ListFault → ℕ → Type 0
   IsTold f status =
       ((status ≡ status_of f) × Tells (text_of f) before now faults_before faults_now)

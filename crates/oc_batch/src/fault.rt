@@ -1,4 +1,4 @@
-//! Why no job of a list was run, and what is told of it.
+//! Why no job of a list was run, and what is reported of it.
 ghost use Rattle.std.specs.Prelude.{◌≡◌, ℕ, ◌≤◌, ◌⊎◌};
 ghost use Rattle.oc_outside.specs.Texts.{LeavesOther};
 ghost use Rattle.oc_batch.specs.Faults as faults;

@@ -1,4 +1,4 @@
-//! The texts that only a batch tells.
+//! The texts that only a batch reports.
 ghost use Rattle.std.specs.Prelude.{◌≡◌};
 ghost use Rattle.oc_batch.specs.Texts as texts;
 

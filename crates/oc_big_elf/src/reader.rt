@@ -9,9 +9,9 @@ use oc_neutral::{Keep, Neutral};
 use oc_shows::Reads;
 use std::alloc::Global;
 
-/// The reader of ELF objects of 32 bits with many sections, for i386: the number of section headers and
-/// that of the header of their names may stand in header 0, and the section numbers of symbols in a table
-/// of their own (gABI, "ELF Header", "Sections" and "Symbol Table").
+/// The reader of ELF objects of 32 bits with many sections, for i386: the number of section headers
+/// and that of the header of their names may be in header 0, and the section numbers of symbols in
+/// a table of their own (gABI, "ELF Header", "Sections" and "Symbol Table").
 ///
 /// The time is that of `judge`, and linear in the bytes of the file.
 #[derive(Clone, Copy, Debug)]
@@ -27,8 +27,8 @@ impl Reads for BigElfReader32 {
     ghost law = { elf_is_dialect Big32 };
 }
 
-/// The reader of ELF objects of 64 bits with many sections, for x86-64; numbers stand as in those of 32
-/// bits (gABI, "ELF Header", "Sections" and "Symbol Table").
+/// The reader of ELF objects of 64 bits with many sections, for x86-64; numbers are stored as in
+/// those of 32 bits (gABI, "ELF Header", "Sections" and "Symbol Table").
 ///
 /// The time is that of `judge`, and linear in the bytes of the file.
 #[derive(Clone, Copy, Debug)]

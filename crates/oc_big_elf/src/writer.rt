@@ -10,10 +10,10 @@ use oc_elf_write::{Plan, plan_object};
 use oc_target::{Fitted, Writes};
 use std::alloc::Global;
 
-/// Writes ELF for i386 with many sections: every object that is ready for it, as its canonical file. The
-/// number of section headers stands in header 0, that of the header of their names too where it is a
-/// reserved one, and the section numbers of symbols that are stand in a table of their own (gABI, "ELF
-/// Header", "Sections" and "Symbol Table").
+/// Writes ELF for i386 with many sections: every object that is ready for it, as its canonical
+/// file. The number of section headers is in header 0, as is that of the header of their names
+/// where it is a reserved one, and the section numbers of symbols, where they are reserved ones,
+/// are in a table of their own (gABI, "ELF Header", "Sections" and "Symbol Table").
 ///
 /// A plan takes the time of `plan_object`.
 #[derive(Clone, Copy, Debug)]
@@ -33,8 +33,8 @@ impl Writes for BigElfWriter32 {
     ghost law = { writes_elf Big32 };
 }
 
-/// Writes ELF for x86-64 with many sections; numbers stand as in that for i386 (gABI, "ELF Header",
-/// "Sections" and "Symbol Table").
+/// Writes ELF for x86-64 with many sections; numbers are stored as in that for i386 (gABI, "ELF
+/// Header", "Sections" and "Symbol Table").
 ///
 /// A plan takes the time of `plan_object`.
 #[derive(Clone, Copy, Debug)]

@@ -66,7 +66,7 @@ use Rattle.oc_elf_file.specs.Groups.{is_member_head, member_number, group_words,
 use Rattle.oc_elf_file.specs.Bodies.{number_or, field_number, field_patch, field_patches, raw_of, target_number, type_of, addend_of, rel_of, rels_of}
 use Rattle.oc_elf_file.specs.Layout.{Part, FileHead, Body, HeadTable, parts_of, is_named, head_names, line_names, strings_of, body_size, part_size, part_align, part_begin, laid_parts, is_head_table}
 use Rattle.oc_elf_file.specs.Headers.{shdr_of, part_header, made_headers, told_names, zero_shdr, with_first, stored_headers}
-use Rattle.oc_elf_file.specs.Symbols.{offset_in, Stood, stood_at, stood_elsewhere, stood_by, stood_for, stood_of, bind_by, type_by, st_info_by, other_by, symbol_entry, line_entry}
+use Rattle.oc_elf_file.specs.Symbols.{offset_in, ValueFields, value_fields_at, value_fields_elsewhere, value_fields_by, value_fields_for, value_fields_of, bind_by, type_by, st_info_by, other_by, symbol_entry, line_entry}
 use Rattle.oc_elf_file.specs.Canonical.{shown_count, shown_names, file_header, body_bytes, part_bytes, elf_file}
 use Rattle.oc_elf_file.proofs.CodedLaws.{IsForElf}
 use Rattle.oc_elf_file.proofs.LineLaws.{IsLineAt, line_at, symbol_found, one_outer}
@@ -122,7 +122,7 @@ mark_same n shown (Common size align) mark = refl
 mark_same n shown (Weak f) mark = refl
 
 -- an entry of the symbol table
-abbrev entry_as : ℕ → Stood → ℕ → ℕ → ℕ → Sym
+abbrev entry_as : ℕ → ValueFields → ℕ → ℕ → ℕ → Sym
 entry_as name stood size info other = record { st_name = name; st_value = stood.st_value; st_size = size; st_info = info; st_other = other; st_shndx = stood.st_shndx }
 
 -- a section header
@@ -486,27 +486,27 @@ module _ (class : ElfClass) (n : Object) (is : IsForElf class n) where
 
   -- ... entries of the symbol table
 
-  stood_at_again : (k offset : ℕ) → stood_at a k offset ≡ stood_at n k offset
+  stood_at_again : (k offset : ℕ) → value_fields_at a k offset ≡ value_fields_at n k offset
   stood_at_again k offset = ap (λ (number : ℕ). stood offset number) (section_number_again k)
     where
-      stood : ℕ → ℕ → Stood
+      stood : ℕ → ℕ → ValueFields
       stood at number = record { st_value = at; st_shndx = number }
 
-  value_again : (v : Value) → stood_by a v ≡ stood_by n v
+  value_again : (v : Value) → value_fields_by a v ≡ value_fields_by n v
   value_again (value.Place k offset) = stood_at_again k offset
   value_again (value.Absolute x) = refl
 
-  fallback_again : (f : Fallback) → ((k : ℕ) → f ≡ fallback.Name k → IsSteadyAt n k) → stood_of a (seen_binding elf_manner n (shown n) (Weak f)) ≡ stood_for n f
+  fallback_again : (f : Fallback) → ((k : ℕ) → f ≡ fallback.Name k → IsSteadyAt n k) → value_fields_of a (seen_binding elf_manner n (shown n) (Weak f)) ≡ value_fields_for n f
   fallback_again (fallback.Place k offset) steady = stood_at_again k offset
   fallback_again fallback.Zero steady = refl
   fallback_again (fallback.Name k) steady =
       let st : IsSteadyAt n k = steady k refl in
       let at : place_at n k ≡ Some st.place = ap (option_and_then (λ (s : Symbol). global_place s.binding)) st.there ∙ st.placed in
-      ap (λ o. stood_for a (option_map_or (λ (place : Place). fallback.Place place.0 place.1) o (fallback.Name (new_position (shown n) k)))) at
+      ap (λ o. value_fields_for a (option_map_or (λ (place : Place). fallback.Place place.0 place.1) o (fallback.Name (new_position (shown n) k)))) at
       ∙ stood_at_again st.place.0 st.place.1
-      ∙ sym (ap (λ o. option_map_or (λ (place : Place). stood_at n place.0 place.1) o stood_elsewhere) at)
+      ∙ sym (ap (λ o. option_map_or (λ (place : Place). value_fields_at n place.0 place.1) o value_fields_elsewhere) at)
 
-  binding_again : (b : Binding) → ((k : ℕ) → b ≡ Weak (fallback.Name k) → IsSteadyAt n k) → stood_of a (seen_binding elf_manner n (shown n) b) ≡ stood_of n b
+  binding_again : (b : Binding) → ((k : ℕ) → b ≡ Weak (fallback.Name k) → IsSteadyAt n k) → value_fields_of a (seen_binding elf_manner n (shown n) b) ≡ value_fields_of n b
   binding_again (Local v) steady = value_again v
   binding_again (Global v) steady = value_again v
   binding_again Undefined steady = refl
@@ -518,14 +518,14 @@ module _ (class : ElfClass) (n : Object) (is : IsForElf class n) where
       let b : Binding = s.binding in
       let c : Binding = seen_binding elf_manner n (shown n) b in
       let info : ℕ = st_info_by (bind_by b) (type_by (elf_mark b s.mark)) in
-      ap (λ (x : ℕ). entry_as x (stood_of a c) (elf_size c (elf_size b s.size)) (st_info_by (bind_by c) (type_by (elf_mark c (elf_mark b s.mark)))) (other_by s.vis)) (ap (λ names. offset_in names s.name) line_names_again)
+      ap (λ (x : ℕ). entry_as x (value_fields_of a c) (elf_size c (elf_size b s.size)) (st_info_by (bind_by c) (type_by (elf_mark c (elf_mark b s.mark)))) (other_by s.vis)) (ap (λ names. offset_in names s.name) line_names_again)
       ∙ ap (λ x. entry_as (offset_in (line_names n) s.name) x (elf_size c (elf_size b s.size)) (st_info_by (bind_by c) (type_by (elf_mark c (elf_mark b s.mark)))) (other_by s.vis))
       (binding_again b (λ j e. (is.meets.symbols k s here).steady j e))
-      ∙ ap (λ (x : ℕ). entry_as (offset_in (line_names n) s.name) (stood_of n b) x (st_info_by (bind_by c) (type_by (elf_mark c (elf_mark b s.mark)))) (other_by s.vis)) (size_same n (shown n) b s.size)
-      ∙ ap (λ (x : ℕ). entry_as (offset_in (line_names n) s.name) (stood_of n b) (elf_size b s.size) (st_info_by x (type_by (elf_mark c (elf_mark b s.mark)))) (other_by s.vis)) (bind_same n (shown n) b)
-      ∙ ap (λ x. entry_as (offset_in (line_names n) s.name) (stood_of n b) (elf_size b s.size) (st_info_by (bind_by b) (type_by x)) (other_by s.vis)) (mark_same n (shown n) b s.mark)
+      ∙ ap (λ (x : ℕ). entry_as (offset_in (line_names n) s.name) (value_fields_of n b) x (st_info_by (bind_by c) (type_by (elf_mark c (elf_mark b s.mark)))) (other_by s.vis)) (size_same n (shown n) b s.size)
+      ∙ ap (λ (x : ℕ). entry_as (offset_in (line_names n) s.name) (value_fields_of n b) (elf_size b s.size) (st_info_by x (type_by (elf_mark c (elf_mark b s.mark)))) (other_by s.vis)) (bind_same n (shown n) b)
+      ∙ ap (λ x. entry_as (offset_in (line_names n) s.name) (value_fields_of n b) (elf_size b s.size) (st_info_by (bind_by b) (type_by x)) (other_by s.vis)) (mark_same n (shown n) b s.mark)
 
-  abbrev stood_in : ℕ → Stood
+  abbrev stood_in : ℕ → ValueFields
   stood_in number = record { st_value = 0; st_shndx = number }
 
   entry_of : (i : ℕ) (x : Line) → IsLineAt n i x → line_entry a (line_again x) ≡ line_entry n x

@@ -52,7 +52,7 @@ use Rattle.oc_neutral.specs.Objects.{Object, reloc_at}
 use Rattle.oc_neutral.specs.RelocTables.{rows_of}
 use Rattle.oc_neutral.specs.Rows.{Row, TakesPlace, TakesSection, same_taken, taken_of, same_hint}
 use Rattle.oc_shows.specs.Seen.{place_at, target_place, section_place, new_position, seen, seen_section, seen_symbol, seen_binding, seen_fallback, seen_field, seen_reloc, seen_target}
-use Rattle.oc_neutral.specs.Shifts.{Sectional, said_shift, sectdiff_shift, written_shift}
+use Rattle.oc_neutral.specs.Shifts.{Sectional, entry_target_shift, sectdiff_shift, written_shift}
 use Rattle.oc_neutral.specs.Spelling.{written_row}
 use Rattle.oc_shows.specs.SymbolLines as table
 use Rattle.oc_shows.specs.SymbolLines.{silent, one, is_defined, is_undefined, is_weak_with, mach_lines}
@@ -86,9 +86,9 @@ use Rattle.oc_macho.specs.declared.constants.TheConstants.{COMMAND_COUNT, CPU_SU
 use Rattle.oc_macho.specs.Structures.{magic_of, padded, mach_header_bytes, symtab_bytes, section_bytes, nlist_bytes, relocation_bytes}
 use Rattle.oc_macho_file.specs.Addresses.{Numbered, is_blank, stored_sections, blank_sections, section_begin, size_of, mapped, is_at, address_of, memory_end, stored_end}
 use Rattle.oc_macho_file.specs.Lines.{Line, OwnLine, LocalLine, OuterLine, own_lines, lines_where, local_lines, inner_lines, defined_lines, undefined_lines, lines_of, line_size, numbered_lines, is_own_line, is_symbol_line, own_number, symbol_number, line_name}
-use Rattle.oc_macho_file.specs.Bodies.{Standing, taken_section, end_address, end_section_address, said_of, alone_shift, pair_shift, field_shift, number_or, field_number, standing_at, field_patch, field_patches, raw_of, reference_to, plain_entry, scattered_entry, pair_entries, standing_entries, entries_at, entries_of}
+use Rattle.oc_macho_file.specs.Bodies.{WrittenReloc, taken_section, end_address, end_section_address, entry_target_of, alone_shift, pair_shift, field_shift, number_or, field_number, written_reloc_at, field_patch, field_patches, raw_of, reference_to, plain_entry, scattered_entry, pair_entries, standing_entries, entries_at, entries_of}
 use Rattle.oc_macho_file.specs.Layout.{Part, FileHead, SegmentHead, SectionHeads, SymtabHead, DysymtabHead, Raw, Relocs, SymbolTable, StringTable, raw_part, relocs_part, head_parts, table_parts, parts_of, commands_length, contents_begin, relocs_of, line_names, offset_in, strings_of, filled, string_table, part_size, entries_align, part_begin, laid_parts, part_where, is_raw, is_relocs, is_symbol_table, is_string_table}
-use Rattle.oc_macho_file.specs.Symbols.{exponent_of, Stood, stood_at, stood_by, stood_for, stood_of, external_flag, private_flag, desc_by, symbol_entry, line_entry}
+use Rattle.oc_macho_file.specs.Symbols.{exponent_of, ValueFields, value_fields_at, value_fields_by, value_fields_for, value_fields_of, external_flag, private_flag, desc_by, symbol_entry, line_entry}
 use Rattle.oc_macho_file.specs.Canonical.{file_header, segment_numbers, pointer_to, section_header, section_headers, symtab_command, words, dysymtab_numbers, part_bytes, mach_file}
 use Rattle.oc_macho_file.proofs.CodedLaws.{IsForMach, IsPlaced, word_back, fallback_is}
 use Rattle.oc_macho_file.proofs.LineLaws.{IsLine, line_at}
@@ -645,39 +645,39 @@ module _ (w : Word) (n : Object) (is : IsForMach w n) where
 
   -- ... entries of symbols
 
-  abbrev stand : ℕ → ℕ → ℕ → Stood
+  abbrev stand : ℕ → ℕ → ℕ → ValueFields
   stand k address offset = record { type = N_SECT; n_sect = k + 1; n_value = address + offset }
 
-  stood_at_again : (k offset : ℕ) → stood_at a k offset ≡ stood_at n k offset
+  stood_at_again : (k offset : ℕ) → value_fields_at a k offset ≡ value_fields_at n k offset
   stood_at_again k offset = ap (λ (address : ℕ). stand k address offset) (address_again k)
 
-  stood_by_again : (v : Value) → stood_by a v ≡ stood_by n v
+  stood_by_again : (v : Value) → value_fields_by a v ≡ value_fields_by n v
   stood_by_again (value.Place k offset) = stood_at_again k offset
   stood_by_again (value.Absolute x) = refl
 
-  stood_again : (k : ℕ) (s : Symbol) → slice_get n.symbols k ≡ Some s → (b : Binding) → s.binding ≡ b → stood_of a (bound w n sh b) ≡ stood_of n b
+  stood_again : (k : ℕ) (s : Symbol) → slice_get n.symbols k ≡ Some s → (b : Binding) → s.binding ≡ b → value_fields_of a (bound w n sh b) ≡ value_fields_of n b
   stood_again k s here (Local v) own = stood_by_again v
   stood_again k s here (Global v) own = stood_by_again v
   stood_again k s here Undefined own = refl
   stood_again k s here (Common size align) own = refl
   stood_again k s here (Weak f) own = by (fallback_is w n is k s here f own)
     where
-      by : (f ≡ fallback.Zero) ⊎ IsPlaced w n f → stood_for a (seen_fallback m n sh f) ≡ stood_for n f
-      by (inl z) = ap (λ g. stood_for a (seen_fallback m n sh g)) z ∙ sym (ap (stood_for n) z)
-      by (inr p) = ap (stood_for a) (p.seen sh) ∙ stood_at_again p.place.0 p.place.1 ∙ sym p.stood
+      by : (f ≡ fallback.Zero) ⊎ IsPlaced w n f → value_fields_for a (seen_fallback m n sh f) ≡ value_fields_for n f
+      by (inl z) = ap (λ g. value_fields_for a (seen_fallback m n sh g)) z ∙ sym (ap (value_fields_for n) z)
+      by (inr p) = ap (value_fields_for a) (p.seen sh) ∙ stood_at_again p.place.0 p.place.1 ∙ sym p.stood
 
-  abbrev entry_as : ℕ → Stood → ℕ → ℕ → ℕ → Nlist
+  abbrev entry_as : ℕ → ValueFields → ℕ → ℕ → ℕ → Nlist
   entry_as strx stood external private desc = record { n_strx = strx; n_type = stood.type + external + private; n_sect = stood.n_sect; n_desc = desc; n_value = stood.n_value }
 
   symbol_entry_again : (k number : ℕ) (s : Symbol) → slice_get n.symbols k ≡ Some s → symbol_entry w a (seen_symbol m n sh number s) ≡ symbol_entry w n s
   symbol_entry_again k number s here =
       let c : Binding = bound w n sh s.binding in
       let vis : Visibility = mach_vis c (mach_vis s.binding s.vis) in
-      ap (λ names. entry_as (offset_in names s.name) (stood_of a c) (external_flag c) (private_flag vis) (desc_by c)) line_names_again
+      ap (λ names. entry_as (offset_in names s.name) (value_fields_of a c) (external_flag c) (private_flag vis) (desc_by c)) line_names_again
       ∙ ap (λ stood. entry_as (offset_in (line_names w n) s.name) stood (external_flag c) (private_flag vis) (desc_by c)) (stood_again k s here s.binding refl)
-      ∙ ap (λ (x : ℕ). entry_as (offset_in (line_names w n) s.name) (stood_of n s.binding) x (private_flag vis) (desc_by c)) (external_same w n sh s.binding)
-      ∙ ap (λ v. entry_as (offset_in (line_names w n) s.name) (stood_of n s.binding) (external_flag s.binding) (private_flag v) (desc_by c)) (vis_same w n sh s.binding s.vis)
-      ∙ ap (λ (x : ℕ). entry_as (offset_in (line_names w n) s.name) (stood_of n s.binding) (external_flag s.binding) (private_flag (mach_vis s.binding s.vis)) x) (desc_same w n sh s.binding)
+      ∙ ap (λ (x : ℕ). entry_as (offset_in (line_names w n) s.name) (value_fields_of n s.binding) x (private_flag vis) (desc_by c)) (external_same w n sh s.binding)
+      ∙ ap (λ v. entry_as (offset_in (line_names w n) s.name) (value_fields_of n s.binding) (external_flag s.binding) (private_flag v) (desc_by c)) (vis_same w n sh s.binding s.vis)
+      ∙ ap (λ (x : ℕ). entry_as (offset_in (line_names w n) s.name) (value_fields_of n s.binding) (external_flag s.binding) (private_flag (mach_vis s.binding s.vis)) x) (desc_same w n sh s.binding)
 
   abbrev own_as : ℕ → ℕ → ℕ → Nlist
   own_as k strx address = record { n_strx = strx; n_type = N_SECT; n_sect = k + 1; n_desc = 0; n_value = address }
@@ -708,26 +708,26 @@ module _ (w : Word) (n : Object) (is : IsForMach w n) where
   ln = numbered_lines w n
 
   -- the entries of a relocation, by its second type
-  abbrev entries_with : Word → Object → List (Laid Line) → Standing → Option ℕ → List RelocationInfo
+  abbrev entries_with : Word → Object → List (Laid Line) → WrittenReloc → Option ℕ → List RelocationInfo
   entries_with v o lines z second = elim second [ None ↦ plain_entry z z.row.number (reference_to v lines z.reloc.target) ∷ [] | Some second ↦ pair_entries v o lines z second ]
 
   module _ (k at : ℕ) (r : Reloc) (here : reloc_at n k at ≡ Some r) where
-    abbrev x : Standing
+    abbrev x : WrittenReloc
     x = standing w n is k at r here
 
-    abbrev y : Standing
+    abbrev y : WrittenReloc
     y = record { section = k; at = at; reloc = q r; row = x.row }
 
     abbrev place : Option Place
     place = section_place m n r
 
-    written : standing_at w k at (q r) ≡ Some y
+    written : written_reloc_at w k at (q r) ≡ Some y
     written =
         ap (λ (f : Form). option_map stood (written_row (mach_format w) f (q r).hint)) (form_same r)
         ∙ ap (λ h. option_map stood (written_row (mach_format w) r.form h)) (hint_same r)
         ∙ ap (option_map stood) (row_same w r.form r.hint ∙ (meets w n is k at r here).is.written)
       where
-        stood : Row → Standing
+        stood : Row → WrittenReloc
         stood row = record { section = k; at = at; reloc = q r; row = row }
 
     -- what stands alone is of no section
@@ -778,7 +778,7 @@ module _ (w : Word) (n : Object) (is : IsForMach w n) where
         by None = refl
         by (Some p) = ap (λ (i : ℕ). i + p.1) (address_again p.0)
 
-    said_again : (t : Target) → said_of a (seen_target sh t) ≡ said_of n t
+    said_again : (t : Target) → entry_target_of a (seen_target sh t) ≡ entry_target_of n t
     said_again (target.Section j) = ap Sectional (address_again j)
     said_again (target.Symbol j) = refl
 
@@ -820,8 +820,8 @@ module _ (w : Word) (n : Object) (is : IsForMach w n) where
 
     alone_again : place ≡ None → alone_shift a y ≡ alone_shift n x
     alone_again none =
-        ap (λ (i : ℕ). (cond (same_taken x.row.taken TakesPlace) (pos (i + at)) (pos 0)) +ℤ said_shift (said_of a (q r).target)) (address_again k)
-        ∙ ap (λ s. (cond (same_taken x.row.taken TakesPlace) (pos (address_of n k + at)) (pos 0)) +ℤ said_shift s) (ap (said_of a) (target_same r none) ∙ said_again r.target)
+        ap (λ (i : ℕ). (cond (same_taken x.row.taken TakesPlace) (pos (i + at)) (pos 0)) +ℤ entry_target_shift (entry_target_of a (q r).target)) (address_again k)
+        ∙ ap (λ s. (cond (same_taken x.row.taken TakesPlace) (pos (address_of n k + at)) (pos 0)) +ℤ entry_target_shift s) (ap (entry_target_of a) (target_same r none) ∙ said_again r.target)
 
     taken_address : address_of a (taken_section y) ≡ address_of n (taken_section x)
     taken_address = ap (address_of a) taken_again ∙ address_again (taken_section x)
@@ -873,7 +873,7 @@ module _ (w : Word) (n : Object) (is : IsForMach w n) where
         more : (j : ℕ) → j + 0 ≡ j
         more j = omega arith
 
-        paired : (o : Object) (z : Standing) → w ≡ W32 → place ≡ Some p → z.row ≡ x.row → field_shift w o z ≡ pair_shift o z
+        paired : (o : Object) (z : WrittenReloc) → w ≡ W32 → place ≡ Some p → z.row ≡ x.row → field_shift w o z ≡ pair_shift o z
         paired o z short e same = ap (λ v. field_shift v o z) short ∙ ap (λ (row : Row). option_map_or (λ (second : ℕ). pair_shift o z) row.second (alone_shift o z)) same ∙ by x.row.second refl
           where
             by : (second : Option ℕ) → x.row.second ≡ second → option_map_or (λ (second : ℕ). pair_shift o z) second (alone_shift o z) ≡ pair_shift o z
@@ -890,13 +890,13 @@ module _ (w : Word) (n : Object) (is : IsForMach w n) where
 
     patch_again : field_patch w a k at (q r) ≡ field_patch w n k at r
     patch_again =
-        ap (λ (f : Form). patch f (option_map_or (field_number w a) (standing_at w k at (q r)) 0)) (form_same r)
+        ap (λ (f : Form). patch f (option_map_or (field_number w a) (written_reloc_at w k at (q r)) 0)) (form_same r)
         ∙ ap (patch r.form) (ap (λ o. option_map_or (field_number w a) o 0) written ∙ number_again ∙ sym (ap (λ o. option_map_or (field_number w n) o 0) (standing_is w n is k at r here)))
       where
         patch : Form → ℕ → Patch
         patch f number = record { width = f.width; check = f.check; residue = number }
 
-    at_again : option_map_or (standing_entries w a la) (standing_at w k at (q r)) [] ≡ option_map_or (standing_entries w n ln) (standing_at w k at r) []
+    at_again : option_map_or (standing_entries w a la) (written_reloc_at w k at (q r)) [] ≡ option_map_or (standing_entries w n ln) (written_reloc_at w k at r) []
     at_again = ap (λ o. option_map_or (standing_entries w a la) o []) written ∙ entries_same ∙ sym (ap (λ o. option_map_or (standing_entries w n ln) o []) (standing_is w n is k at r here))
 
   relocs_again : (k : ℕ) → relocs_of w a k ≡ relocs_of w n k

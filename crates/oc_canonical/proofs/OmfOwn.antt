@@ -42,7 +42,7 @@ use Rattle.oc_omf.specs.declared.structures.Subrecord.TheVariants as subrecord
 use Rattle.oc_omf.specs.declared.cut.Cut.{Cut}
 use Rattle.oc_omf.specs.Entries.{Entry, entries_in}
 use Rattle.oc_omf.specs.Fields.{fields_in}
-use Rattle.oc_omf.specs.Fixups.{Placed, placed_by, placed_upto, Fixed, fixed_of, fixed_in}
+use Rattle.oc_omf.specs.Fixups.{PlacedSubrecord, subrecords_by, subrecords_upto, Fixed, fixed_of, fixed_in}
 use Rattle.oc_omf.specs.Targets.{Meaning, meaning_of}
 use Rattle.oc_omf.specs.Tables.{Tables, indexed}
 use Rattle.oc_omf.specs.Structures.{Piece}
@@ -90,7 +90,7 @@ all_judged t x = by x.piece
     by None = refl
     by (Some d) = kept d (indexed t.segments d.segment)
 
-part_fewer : (m : Meaning) (keep : Keep) (earlier : List Placed) (x : Placed) (p : Result Subrecord Cut) → Unbroken (part_conditions m all earlier x p) → Unbroken (part_conditions m keep earlier x p)
+part_fewer : (m : Meaning) (keep : Keep) (earlier : List PlacedSubrecord) (x : PlacedSubrecord) (p : Result Subrecord Cut) → Unbroken (part_conditions m all earlier x p) → Unbroken (part_conditions m keep earlier x p)
 part_fewer m keep earlier x (Ok (subrecord.Thread t)) unbroken = unbroken
 part_fewer m keep earlier x (Err c) unbroken = unbroken
 part_fewer m keep earlier x (Ok (subrecord.Fixup f)) unbroken =
@@ -101,17 +101,17 @@ part_fewer m keep earlier x (Ok (subrecord.Fixup f)) unbroken =
     by true u = u
     by false u = tt
 
-conditions_fewer : (m : Meaning) (keep : Keep) (earlier : List Placed) (x : Placed) → Unbroken (relocation_conditions m all earlier x) → Unbroken (relocation_conditions m keep earlier x)
+conditions_fewer : (m : Meaning) (keep : Keep) (earlier : List PlacedSubrecord) (x : PlacedSubrecord) → Unbroken (relocation_conditions m all earlier x) → Unbroken (relocation_conditions m keep earlier x)
 unfolding relocation_conditions
 conditions_fewer m keep earlier x unbroken = part_fewer m keep earlier x x.part unbroken
 
 stage_fewer : (es : List Entry) (keep : Keep) (x : ℕ × Entry) → IsUnbroken (relocation_stage es all x) → IsUnbroken (relocation_stage es keep x)
-stage_fewer es keep x unbroken i low = by (slice_get (placed_by es x) i) (unbroken i low)
+stage_fewer es keep x unbroken i low = by (slice_get (subrecords_by es x) i) (unbroken i low)
   where
-    by : (o : Option Placed) → Unbroken (option_map_or (relocation_conditions (meaning_of es) all (placed_upto es x.0 ++ take i (placed_by es x))) o [])
-        → Unbroken (option_map_or (relocation_conditions (meaning_of es) keep (placed_upto es x.0 ++ take i (placed_by es x))) o [])
+    by : (o : Option PlacedSubrecord) → Unbroken (option_map_or (relocation_conditions (meaning_of es) all (subrecords_upto es x.0 ++ take i (subrecords_by es x))) o [])
+        → Unbroken (option_map_or (relocation_conditions (meaning_of es) keep (subrecords_upto es x.0 ++ take i (subrecords_by es x))) o [])
     by None u = tt
-    by (Some p) u = conditions_fewer (meaning_of es) keep (placed_upto es x.0 ++ take i (placed_by es x)) p u
+    by (Some p) u = conditions_fewer (meaning_of es) keep (subrecords_upto es x.0 ++ take i (subrecords_by es x)) p u
 
 stages_fewer : (es : List Entry) (keep : Keep) (xs : List (ℕ × Entry)) → AllByRecursion IsUnbroken (map (relocation_stage es all) xs) → AllByRecursion IsUnbroken (map (relocation_stage es keep) xs)
 stages_fewer es keep [] each = tt

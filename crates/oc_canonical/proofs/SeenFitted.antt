@@ -33,7 +33,7 @@ use Rattle.oc_neutral.specs.Stored.{is_stored}
 use Rattle.oc_neutral.specs.TargetSections.{judged, section_counts, section_count, is_debug_kept, is_exception_kept, section_spot, section_conditions, conditions_at, section_stages}
 use Rattle.oc_neutral.specs.TargetSymbols.{bounded, limited, names_length, symbol_count, is_absolute_form, is_common_form, is_weak_form, symbol_conditions, symbol_stages}
 use Rattle.oc_neutral.specs.TargetSections as sections_of_target
-use Rattle.oc_neutral.specs.TargetRelocations.{Standing, standing_in, standing_from, standing, spot_of, reloc_conditions, standing_conditions, relocation_stages}
+use Rattle.oc_neutral.specs.TargetRelocations.{PlacedReloc, placed_relocs_in, placed_relocs_from, placed_relocs, spot_of, reloc_conditions, standing_conditions, relocation_stages}
 use Rattle.oc_target.proofs.MeetsConditions.{AreMet, section_met, symbol_met, symbol_count_met, own_names, same_format-self}
 use Rattle.oc_target.proofs.MeetsCounts.{met_parts, sum_map}
 use Rattle.oc_neutral.proofs.Positions.{each_at, there_at}
@@ -46,16 +46,16 @@ use Rattle.oc_canonical.proofs.SeenSums.{seen_sum, seen_few}
 use Rattle.oc_shows.proofs.FoundLaws.{found_in}
 
 -- what stands among the relocations of sections
-record IsFrom (s : ℕ) (lists : Lists Reloc) (z : Standing) : Type 0 where
+record IsFrom (s : ℕ) (lists : Lists Reloc) (z : PlacedReloc) : Type 0 where
   pub list : ℕ
   pub place : ℕ
   pub field : Field Reloc
   pub there : slice_get (list_of lists list) place ≡ Some field
   pub is : record { section = s + list; at = field.at; reloc = field.item } ≡ z
 
-from_standing : (s : ℕ) (lists : Lists Reloc) (i : ℕ) (z : Standing) → slice_get (standing_from s lists) i ≡ Some z → IsFrom s lists z
+from_standing : (s : ℕ) (lists : Lists Reloc) (i : ℕ) (z : PlacedReloc) → slice_get (placed_relocs_from s lists) i ≡ Some z → IsFrom s lists z
 from_standing s [] i z here = absurd (none-some z here)
-from_standing s (fields ∷ lists) i z here = elim (of_append (standing_in s fields) (standing_from (s + 1) lists) i z here) [
+from_standing s (fields ∷ lists) i z here = elim (of_append (placed_relocs_in s fields) (placed_relocs_from (s + 1) lists) i z here) [
   | inl h ↦
       let x = of_map (λ (x : Field Reloc). record { section = s; at = x.at; reloc = x.item }) fields i z h in
       let e : s + 0 ≡ s = omega arith in
@@ -66,7 +66,7 @@ from_standing s (fields ∷ lists) i z here = elim (of_append (standing_in s fie
       record { list = suc y.list; place = y.place; field = y.field; there = y.there; is = ap (λ (k : ℕ). at k y.field) e ∙ y.is }
 ]
   where
-    at : ℕ → Field Reloc → Standing
+    at : ℕ → Field Reloc → PlacedReloc
     at k x = record { section = k; at = x.at; reloc = x.item }
 
 -- what stays of the conditions of a target's family
@@ -205,9 +205,9 @@ module _ (target : Format) (m : Manner) (n : Object) (shown : List (ℕ × ℕ))
 
   -- ... relocations
 
-  standing_stays : (i : ℕ) → i < length (standing a) → Unbroken (option_map_or (standing_conditions target a) (slice_get (standing a) i) [])
+  standing_stays : (i : ℕ) → i < length (placed_relocs a) → Unbroken (option_map_or (standing_conditions target a) (slice_get (placed_relocs a) i) [])
   standing_stays i low =
-      let z = there_at (standing a) i low in
+      let z = there_at (placed_relocs a) i low in
       let y = from_standing 0 a.relocs i z.0 z.1 in
       let k : ℕ = y.list in
       let x = of_map (seen_field m n shown) (list_of n.relocs k) y.place y.field (ap (λ xs. slice_get xs y.place) (sym (list_map (seen_field m n shown) n.relocs k)) ∙ y.there) in
@@ -219,9 +219,9 @@ module _ (target : Format) (m : Manner) (n : Object) (shown : List (ℕ × ℕ))
       (stays.reloc k x.0.at r (spot_of a k x.0.at) here) in
       let own : record { section = k; at = x.0.at; reloc = seen_reloc m n shown r } ≡ z.0
       = ap (λ (f : Field Reloc). at k f) x.2 ∙ ap (λ (j : ℕ). at j y.field) (sym e) ∙ y.is in
-      subst (λ o. Unbroken (option_map_or (standing_conditions target a) o [])) (sym z.1) (subst (λ (q : Standing). Unbroken (standing_conditions target a q)) own met)
+      subst (λ o. Unbroken (option_map_or (standing_conditions target a) o [])) (sym z.1) (subst (λ (q : PlacedReloc). Unbroken (standing_conditions target a q)) own met)
     where
-      at : ℕ → Field Reloc → Standing
+      at : ℕ → Field Reloc → PlacedReloc
       at k x = record { section = k; at = x.at; reloc = x.item }
 
   expressible_stays : first_unfit target a ≡ None

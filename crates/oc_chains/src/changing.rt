@@ -1,4 +1,4 @@
-//! The items of a list are changed where they stand.
+//! The items of a list are changed in place.
 ghost use Rattle.std.specs.Prelude.{◌≡◌, ◌<◌, ◌≤◌, ℕ, length, slice_get, slice_set, Some};
 ghost use Rattle.oc_chains.specs.declared.entry.Entry.{Entry as EntryOf};
 ghost use Rattle.oc_chains.specs.Changed.{AreOf, AreRenewed, with_item};

@@ -21,7 +21,7 @@ is_comdat h = has h.Characteristics IMAGE_SCN_LNK_COMDAT
 abbrev pub symbols_of : List Entry → ℕ → List Entry
 symbols_of entries k = filter (λ (e : Entry). is_in k e.symbol) entries
 
--- what a section's own symbol says of it: a STATIC symbol of value 0, in its auxiliary entry
+-- what a section's own symbol, a STATIC symbol of value 0, says of it in its auxiliary entry
 abbrev pub own_definition : Entry → Option SectionAux
 own_definition e = if is_class IMAGE_SYM_CLASS_STATIC e.symbol && nat_eq e.symbol.Value 0 then option_map (λ (x : Slot). x.section) e.aux else None
 
@@ -45,7 +45,7 @@ key_symbol entries k = option_and_then (λ (e : Entry). if is_class IMAGE_SYM_CL
 unfoldable pub led_key : Tables → ℕ → Option (List ℕ)
 led_key t k = if selects IMAGE_COMDAT_SELECT_ANY (definition_in t k) then option_map (name_of t.strings) (key_symbol (entries_in t) k) else None
 
--- the key of the group of section number k, of which that is said: it leads the group, or is kept with a section that leads it
+-- the key of the group of section number k with this definition: it leads the group, or is kept with a section that leads it
 abbrev pub key_by : Tables → ℕ → SectionAux → Option (List ℕ)
 key_by t k d = if nat_eq d.Selection IMAGE_COMDAT_SELECT_ASSOCIATIVE then led_key t d.Number else led_key t k
 

@@ -1,4 +1,4 @@
--- Relocated fields (PE/COFF, "COFF Relocations" and "Type Indicators"; our profile). The number that is added stands in the field.
+-- Relocated fields (PE/COFF, "COFF Relocations" and "Type Indicators"; our profile). The number that is added is in the field.
 use Rattle.std.specs.Prelude.{ℕ, Bool, not, ◌&&◌, nat_eq, List, find, slice_get, Option}
 use Rattle.std.specs.Option.{option_map, option_and_then}
 use Rattle.oc_linking.specs.Rules.{Field}
@@ -14,7 +14,7 @@ use Rattle.oc_coff.specs.Tables.{Tables}
 use Rattle.oc_coff.specs.Sections.{Carried, carried_in}
 use Rattle.oc_coff.specs.Targets.{target_in}
 
--- an entry says nothing
+-- an entry has no effect
 abbrev pub says_nothing : Relocation → Bool
 says_nothing r = nat_eq r.Type IMAGE_REL_I386_ABSOLUTE
 
@@ -23,11 +23,11 @@ unfoldable pub field_by : Word → (ℕ → Option Target) → ℕ → List ℕ 
 field_by w targets s contents r =
     option_and_then (λ (row : Row). option_map (field_in_place w row contents s r.VirtualAddress) (targets r.SymbolTableIndex)) (row_of (coff_format w) r.Type)
 
--- the entry is at that offset, and says something
+-- the entry is at that offset, and has an effect
 abbrev pub relocates : ℕ → Relocation → Bool
 relocates at r = nat_eq r.VirtualAddress at && not (says_nothing r)
 
--- the field at an offset of a section: that of the first entry there that says something
+-- the field at an offset of a section: that of the first entry there that has an effect
 abbrev pub field_in : Word → (ℕ → Option Target) → ℕ → ℕ → Carried → Option Field
 field_in w targets s at c = option_and_then (field_by w targets s c.section.contents) (find (relocates at) c.relocs)
 

@@ -23,7 +23,7 @@ header_fault place code = record { phase = Header; index = 0; code = code; place
 abbrev pub passes_end : List ℕ → ℕ → ℕ → Bool
 passes_end file at n = nat_lt (length file) (at + n)
 
--- what the header says is not of an object: an optional header, or a version before the first of objects of many sections
+-- the header is not that of an object: it has an optional header, or a version before the first of objects of many sections
 abbrev pub foreign_condition : Shape → FileHeader → Condition
 foreign_condition Usual h = (not (nat_eq h.SizeOfOptionalHeader 0), header_fault 0 NotRelocatable)
 foreign_condition Big h = (nat_lt h.Version BIG_VERSION, header_fault 0 BadHeader)

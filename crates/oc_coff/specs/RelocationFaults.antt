@@ -30,7 +30,7 @@ pub record Judged : Type 0 where
   pub earlier : List Relocation
   pub entry : Relocation
 
--- the entries of a section from a place on, behind these
+-- the entries of a section from a place on, after these
 abbrev pub judged_from : Carried → ℕ → List Relocation → List Relocation → List Judged
 judged_from c at earlier [] = []
 judged_from c at earlier (r ∷ relocs) = record { of = c; at = at; earlier = earlier; entry = r } ∷ judged_from c (at + RELOCATION_SIZE) (earlier ++ r ∷ []) relocs

@@ -55,6 +55,6 @@ coff_rules f = rules_by (word_of f) (shape_of f)
 abbrev pub coff_dialect : CoffForm → Dialect
 coff_dialect f = dialect_by (word_of f) (shape_of f)
 
--- it says of words and alignments what the formats do
+-- it has the words and alignments of the formats
 abbrev pub CoffIsDialect : Type 0
 CoffIsDialect = (w : Word) (z : Shape) → IsDialect (dialect_by w z)

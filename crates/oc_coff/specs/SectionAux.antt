@@ -1,4 +1,4 @@
--- The auxiliary entry behind a section's own symbol (PE/COFF, "Auxiliary Format 5: Section Definitions"; winnt.h, "IMAGE_AUX_SYMBOL_EX").
+-- The auxiliary entry after a section's own symbol (PE/COFF, "Auxiliary Format 5: Section Definitions"; winnt.h, "IMAGE_AUX_SYMBOL_EX").
 use Rattle.std.specs.Prelude.{ℕ, ◌+◌, ◌*◌, ◌/◌, ◌%◌, List, [], ◌∷◌}
 use Rattle.oc_base.specs.Numbers.{number_at}
 use Rattle.oc_shelf.specs.Writing.Packed.{packed}

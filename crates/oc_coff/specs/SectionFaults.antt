@@ -53,7 +53,7 @@ names_another t k d = option_map_or (λ (a : SectionAux). nat_le 1 a.Number && n
 abbrev pub follows_follower : Tables → Option SectionAux → Bool
 follows_follower t d = option_map_or (λ (a : SectionAux). selects IMAGE_COMDAT_SELECT_ASSOCIATIVE (definition_in t a.Number)) d false
 
--- the conditions on a section of which there are copies, of which that is said
+-- the conditions on a section of which there are copies, with this definition
 abbrev pub copy_conditions : Tables → Numbered → Option SectionAux → List Condition
 copy_conditions t x d =
     (not (is_known d), section_fault x (header_place t x) Group)

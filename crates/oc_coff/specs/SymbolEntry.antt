@@ -30,7 +30,7 @@ symbol_at Big file at = record {
   NumberOfAuxSymbols = number_at file (at + 19) 1;
 }
 
--- its numbers behind the name, each after its width
+-- its numbers after the name, each after its width
 abbrev pub symbol_numbers : Shape → SymbolEntry → List (ℕ × ℕ)
 symbol_numbers Usual s = (4, s.Value) ∷ (2, s.SectionNumber % 2 ^ 16) ∷ (2, s.Type) ∷ (1, s.StorageClass) ∷ (1, s.NumberOfAuxSymbols) ∷ []
 symbol_numbers Big s = (4, s.Value) ∷ (4, s.SectionNumber) ∷ (2, s.Type) ∷ (1, s.StorageClass) ∷ (1, s.NumberOfAuxSymbols) ∷ []

@@ -46,7 +46,7 @@ is_external s = is_class IMAGE_SYM_CLASS_EXTERNAL s || is_class IMAGE_SYM_CLASS_
 abbrev pub is_undefined : SymbolEntry → Bool
 is_undefined s = nat_eq s.SectionNumber IMAGE_SYM_UNDEFINED
 
--- the symbol lies behind the end of its section
+-- the symbol lies past the end of its section
 abbrev pub is_past_end : Tables → SymbolEntry → Bool
 is_past_end t s = has_section s && option_map_or (λ (x : SectionTable). nat_lt x.header.SizeOfRawData s.Value) (section_numbered t s.SectionNumber) false
 
@@ -67,7 +67,7 @@ tag_conditions t e tagged =
     ∷ (not (option_map_or (λ (d : Entry). can_be_tagged (sections_in t) d.symbol) tagged false), symbol_fault t e SymbolKind)
     ∷ []
 
--- the symbol takes part in the test for names that stand twice, and has that name
+-- the symbol takes part in the test for names that occur twice, and has that name
 abbrev pub is_named : List ℕ → List ℕ → Entry → Bool
 is_named strings name e = is_external e.symbol && not (nat_eq e.symbol.SectionNumber IMAGE_SYM_DEBUG) && bytes_eq (name_of strings e) name
 

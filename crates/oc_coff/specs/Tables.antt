@@ -45,11 +45,11 @@ pub record Tables : Type 0 where
   pub entries : List Slot
   pub strings : List ℕ
 
--- the count of a section's relocation entries does not fit its header, and stands in the first of them
+-- the count of a section's relocation entries does not fit its header, and is in the first of them
 abbrev pub is_overflowed : SectionHeader → Bool
 is_overflowed h = has h.Characteristics IMAGE_SCN_LNK_NRELOC_OVFL && nat_eq h.NumberOfRelocations OVERFLOWED_COUNT
 
--- where they begin, behind the one that holds their count
+-- where they begin, after the one that holds their count
 abbrev pub relocs_place : SectionHeader → ℕ
 relocs_place h = if is_overflowed h then h.PointerToRelocations + RELOCATION_SIZE else h.PointerToRelocations
 
@@ -70,15 +70,15 @@ section_table file h = record {
 unfoldable pub slot_at : Shape → List ℕ → ℕ → Slot
 slot_at shape file at = record { symbol = symbol_at shape file at; section = section_aux_at shape file at; weak = weak_aux_at file at }
 
--- where the string table begins: behind the symbols
+-- where the string table begins: after the symbols
 abbrev pub strings_place : Shape → FileHeader → ℕ
 strings_place shape h = h.PointerToSymbolTable + symbol_size shape * h.NumberOfSymbols
 
--- there is a string table: there are symbols, and more behind them
+-- a string table is present: there are symbols, and more bytes after them
 abbrev pub has_strings : Shape → List ℕ → FileHeader → Bool
 has_strings shape file h = not (nat_eq h.PointerToSymbolTable 0) && nat_lt (strings_place shape h) (length file)
 
--- its size, which it says itself
+-- its size, which is stored in it
 abbrev pub strings_size : Shape → List ℕ → FileHeader → ℕ
 strings_size shape file h = number_at file (strings_place shape h) 4
 

@@ -23,7 +23,7 @@ abbrev pub aim_at : Word → Value → Option Aim
 aim_at w (value.Place k offset) = Some (record { target = place_target w k offset; homeless = false })
 aim_at w (value.Absolute n) = None
 
--- a carried symbol as a target: its worth is read off the valuation, by its number
+-- a carried symbol as a target: its value is read off the valuation, by its number
 abbrev pub aim_by : Symbol → Option Aim
 aim_by s = option_map (λ (u : Target). record { target = u; homeless = is_homeless s.binding }) (symbol_target s)
 

@@ -1,4 +1,4 @@
--- The value and the section number of a symbol, and what else its entry says of it (PE/COFF, "COFF Symbol Table", "Section Number Values" and
+-- The value and the section number of a symbol, and what else its entry gives (PE/COFF, "COFF Symbol Table", "Section Number Values" and
 -- "Storage Class"; our profile).
 use Rattle.std.specs.Prelude.{◌≡◌, ℕ, ◌+◌, ◌^◌, ◌<◌}
 use Rattle.oc_linking.specs.declared.terms.Mark.{Mark}
@@ -17,7 +17,7 @@ abbrev pub numbers_of : Value → ℕ × ℕ
 numbers_of (value.Place k offset) = (offset, k + 1)
 numbers_of (value.Absolute n) = (n, IMAGE_SYM_ABSOLUTE)
 
--- what stands for a fallback: its place, or the absolute number 0
+-- the numbers for a fallback: its place, or the absolute number 0
 abbrev pub numbers_for : Fallback → ℕ × ℕ
 numbers_for (fallback.Place k offset) = (offset, k + 1)
 numbers_for fallback.Zero = (0, IMAGE_SYM_ABSOLUTE)

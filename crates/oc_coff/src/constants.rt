@@ -45,8 +45,8 @@ pub const IMAGE_COMDAT_SELECT_ASSOCIATIVE: u8 = 5;
 /// The default of a weak external stands for it (PE/COFF, "Auxiliary Format 3: Weak Externals").
 pub const IMAGE_WEAK_EXTERN_SEARCH_ALIAS: u32 = 3;
 
-/// An entry that says nothing; on x64, `IMAGE_REL_AMD64_ABSOLUTE` is the same number (PE/COFF, "Type
-/// Indicators").
+/// An entry that has no effect; on x64, `IMAGE_REL_AMD64_ABSOLUTE` is the same number (PE/COFF,
+/// "Type Indicators").
 pub const IMAGE_REL_I386_ABSOLUTE: u16 = 0;
 
 /// The count of relocations in the header of a section that has more (PE/COFF, "Section Flags").

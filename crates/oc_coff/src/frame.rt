@@ -1,4 +1,4 @@
-//! A file whose header has no fault: its tables, read where they stand.
+//! A file whose header has no fault: its tables, read in place.
 ghost use Rattle.std.specs.Prelude.{◌≡◌, ◌+◌, ◌*◌, ◌<◌, ◌≤◌, ◌^◌, length, take, drop, slice_get, None, Some, IfErr, IfOk, OnOk};
 ghost use Rattle.oc_base.specs.declared.limits.TheConstants.{MOST_INPUT};
 ghost use Rattle.oc_linking.specs.FirstFault.{stage_fault};
@@ -69,8 +69,8 @@ fn strings_of<'a>(shape: Shape, file: &'a [u8], h: &FileHeader) -> &'a [u8]
     bytes_at(file, place, size)
 }
 
-/// The file with its header. An error exactly where the header has a fault, with the first. Linear in
-/// what stands behind the last NUL of the string table.
+/// The file with its header. An error exactly where the header has a fault, with the first. Linear
+/// in what comes after the last NUL of the string table.
 pub fn read_coff<'a>(shape: Shape, file: &'a [u8]) -> Result<Coff<'a>, Fault>
     requires { length file.now ≤ MOST_INPUT }
     ensures file { IfOk result (λ c. c ≡ record { shape = shape; bytes = file.now }) }
@@ -154,7 +154,7 @@ impl<'a> Coff<'a> {
         symbol_at(self.shape, self.file, self.entry_place(j) as usize)
     }
 
-    /// The eight bytes of the name of entry `j`, where they stand. Constant time.
+    /// The eight bytes of the name of entry `j`, in place. Constant time.
     #[tactic(auto, unfolding(crate::specs::Tables::slot_at, crate::specs::SymbolEntry::symbol_at))]
     pub fn name_field(&self, j: u32) -> &'a [u8]
         requires { j < length (files.tables_in self.now).entries }

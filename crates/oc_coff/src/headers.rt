@@ -102,7 +102,7 @@ fn foreign_fault(shape: Shape, h: &FileHeader) -> Option<Fault>
     }
 }
 
-// the fault of the conditions on what the header says and places, where the header is there
+// the fault of the conditions on what the header says and places, where the header is present
 #[tactic(auto, unfolding(crate::specs::HeaderFaults::header_conditions))]
 fn placed_fault(shape: Shape, file: &[u8], h: &FileHeader) -> Option<Fault>
     ensures { result ≡ first_broken (drop 1 (rules.header_conditions shape file.now h.now)) }

@@ -83,7 +83,7 @@ pub fn is_comdat(h: &SectionHeader) -> bool
     has(h.Characteristics, IMAGE_SCN_LNK_COMDAT)
 }
 
-/// Whether the count of its relocation entries stands in the first of them. Constant time.
+/// Whether the count of its relocation entries is in the first of them. Constant time.
 pub fn is_overflowed(h: &SectionHeader) -> bool
     ensures { result ≡ tables.is_overflowed h.now }
 {

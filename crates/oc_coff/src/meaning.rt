@@ -13,13 +13,13 @@ use oc_neutral::coff::{
 };
 use oc_neutral::{Base, Check, Form, Less, Width};
 
-/// What a type of relocation means: what its value is made of, and from how many bytes behind the
+/// What a type of relocation means: what its value is made of, and from how many bytes after the
 /// field's place a self-relative value is taken.
 #[derive(Clone, Copy, Debug, PartialEq, Eq)]
 pub struct Meaning {
     /// What the value is made of, and which values fit.
     pub form: Form,
-    /// How many bytes behind the field's place a self-relative value is taken from.
+    /// How many bytes after the field's place a self-relative value is taken from.
     pub behind: u8,
 }
 
@@ -38,7 +38,7 @@ fn plain(width: Width, check: Check, base: Base, less: Less) -> Option<Meaning>
     })
 }
 
-// a distance from so many bytes behind the field's place
+// a distance from so many bytes after the field's place
 fn relative(check: Check, behind: u8) -> Option<Meaning>
     ensures { result ≡ Some (record { form = record { base = Base.Address; less = Less.Place; width = Width.Four; check = check }; behind = behind }) }
 {

@@ -1,4 +1,4 @@
-//! Names of up to eight bytes, which stand in their structures.
+//! Names of up to eight bytes, which lie in their structures.
 ghost use Rattle.std.specs.Prelude.{◌≡◌, ◌+◌, ◌≤◌, length, take, drop};
 
 /// The size of a name, in bytes (PE/COFF, "Symbol Name Representation").

@@ -6,7 +6,7 @@ ghost use Rattle.oc_coff.specs.Names as names;
 use crate::strings::Strings;
 use oc_base::u32_in;
 
-// where the first NUL stands
+// where the first NUL lies
 fn nul_place(bytes: &[u8]) -> Option<usize>
     ensures { result ≡ position (λ c. nat_eq c 0) bytes.now }
 {

@@ -1,4 +1,4 @@
-//! The auxiliary entry behind a section's own symbol.
+//! The auxiliary entry after a section's own symbol.
 ghost use Rattle.std.specs.Prelude.{◌≡◌, ◌+◌, ◌≤◌, length};
 ghost use Rattle.oc_coff.specs.Forms.{symbol_size};
 ghost use Rattle.oc_coff.specs.SectionAux.{section_aux_at};
@@ -9,9 +9,9 @@ use oc_base::{u8_in, u16_in, u32_in};
 /// How many section numbers one of `HighNumber` stands for (winnt.h, "IMAGE_AUX_SYMBOL_EX").
 pub const HIGH_NUMBER: u32 = 1 << 16;
 
-/// The auxiliary entry behind a section's own symbol (PE/COFF, "Auxiliary Format 5: Section
-/// Definitions"; winnt.h, "IMAGE_AUX_SYMBOL_EX"). It has the size of a symbol table entry; what is left of
-/// it is unused.
+/// The auxiliary entry after a section's own symbol (PE/COFF, "Auxiliary Format 5: Section
+/// Definitions"; winnt.h, "IMAGE_AUX_SYMBOL_EX"). It has the size of a symbol table entry; what is
+/// left of it is unused.
 #[derive(Clone, Copy, Debug, PartialEq, Eq)]
 pub struct SectionAux {
     /// The size of the contents, in bytes.
@@ -22,8 +22,8 @@ pub struct SectionAux {
     pub NumberOfLinenumbers: u16,
     /// A checksum of the contents, or 0.
     pub CheckSum: u32,
-    /// The number of another section, of which this one depends, or 0. In an object of many sections
-    /// its high 16 bits stand in `HighNumber`.
+    /// The number of another section, on which this one depends, or 0. In an object of many
+    /// sections its high 16 bits are in `HighNumber`.
     pub Number: u32,
     /// Which of many copies a linker keeps, or 0.
     pub Selection: u8,

@@ -27,7 +27,7 @@ impl<'a> Model for Strings<'a> {
     ghost invariant = { λ s. IsEnded s.table.now s.ended };
 }
 
-// how many bytes there are up to the last NUL, with it; linear in those behind it
+// how many bytes there are up to and including the last NUL; linear in those after it
 fn ended_at(table: &[u8]) -> usize
     ensures { IsEnded table.now result }
 {
@@ -38,7 +38,7 @@ fn ended_at(table: &[u8]) -> usize
 }
 
 impl<'a> Strings<'a> {
-    /// The string table of these bytes. Linear in what stands behind their last NUL.
+    /// The string table of these bytes. Linear in what comes after their last NUL.
     pub(crate) fn new(table: &'a [u8]) -> Strings<'a>
         ensures { result ≡ table.now }
     {
@@ -48,7 +48,7 @@ impl<'a> Strings<'a> {
         }
     }
 
-    /// The text at an offset, behind the size of the table; `None` exactly where no NUL ends it.
+    /// The text at an offset, after the size of the table; `None` exactly where no NUL ends it.
     /// Linear in the text, and constant time where there is none.
     #[tactic(auto, unfolding(crate::specs::Names::string_at))]
     pub(crate) fn text(&self, offset: u32) -> Option<&'a [u8]>

@@ -15,7 +15,7 @@ pub const BIG_SYMBOL_SIZE: usize = 20;
 /// A symbol table entry (PE/COFF, "COFF Symbol Table"; winnt.h, "IMAGE_SYMBOL_EX").
 #[derive(Clone, Copy, Debug, PartialEq, Eq)]
 pub struct SymbolEntry {
-    /// The name with NULs behind it, or four zeros and an offset in the string table.
+    /// The name, padded with NULs, or four zeros and an offset in the string table.
     pub Name: [u8; 8],
     /// An offset in the section, a size or a number, by the section number and the class.
     pub Value: u32,

@@ -1,11 +1,11 @@
-//! The auxiliary entry behind a weak external.
+//! The auxiliary entry after a weak external.
 ghost use Rattle.std.specs.Prelude.{◌≡◌, ◌+◌, ◌≤◌, length};
 ghost use Rattle.oc_coff.specs.WeakAux.{weak_aux_at};
 
 use oc_base::u32_in;
 
-/// The auxiliary entry behind a weak external (PE/COFF, "Auxiliary Format 3: Weak Externals"). It has
-/// the size of a symbol table entry; what is behind its first eight bytes is unused.
+/// The auxiliary entry after a weak external (PE/COFF, "Auxiliary Format 3: Weak Externals"). It
+/// has the size of a symbol table entry; what is after its first eight bytes is unused.
 #[derive(Clone, Copy, Debug, PartialEq, Eq)]
 pub struct WeakAux {
     /// The symbol table entry of the symbol that stands for it.

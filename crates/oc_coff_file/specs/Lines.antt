@@ -1,4 +1,4 @@
--- The symbol table of an output: what stands in it, in its order, and with which numbers (PE/COFF, "COFF Symbol Table", "COMDAT Sections" and
+-- The symbol table of an output: what is in it, in its order, and with which numbers (PE/COFF, "COFF Symbol Table", "COMDAT Sections" and
 -- "Auxiliary Format 3: Weak Externals"; our profile).
 use Rattle.std.specs.Prelude.{ℕ, Bool, false, not, ◌&&◌, nat_eq, List, ◌∷◌, ◌++◌, map, flat_map, filter}
 use Rattle.std.specs.List.{enumerate_from}

@@ -16,7 +16,7 @@ use Rattle.oc_coff.specs.Sections.{sections_in}
 use Rattle.oc_coff.specs.Symbols.{binding_of, is_own, symbol_of, symbol_with, value_of}
 use Rattle.oc_coff.specs.Targets as targets
 use Rattle.oc_coff.specs.Targets.{aim_in}
-use Rattle.oc_coff_judge.specs.declared.aims.Aim.{Aim}
+use Rattle.oc_coff_judge.specs.declared.aims.AimKind.{AimKind}
 use Rattle.oc_coff_judge.specs.Aimed.{aim_bound, aim_for, aim_numbered, aim_placed, aim_with, aims_in, face_of}
 use Rattle.oc_coff_judge.specs.Found.{start_of}
 use Rattle.oc_coff.specs.Head.{IsHeaded}
@@ -68,9 +68,9 @@ module _ (file : CoffFile) (head : IsHeaded file) where
       by (Some d) e = let low = (start_there file head j d e).low in absurd (omega (arith, low, past))
 
   -- the table has what any symbol stands for
-  pub aim_anywhere : (w : Word) (aims : List (Option Aim)) (j : ℕ) → aims ≡ aims_in (tables_in file) → get_or aims j None ≡ option_map face_of (aim_in w (tables_in file) j)
+  pub aim_anywhere : (w : Word) (aims : List (Option AimKind)) (j : ℕ) → aims ≡ aims_in (tables_in file) → get_or aims j None ≡ option_map face_of (aim_in w (tables_in file) j)
   aim_anywhere w aims j are =
-      ap (λ (xs : List (Option Aim)). get_or xs j None) are ∙ elim (cases_lt j n) [
+      ap (λ (xs : List (Option AimKind)). get_or xs j None) are ∙ elim (cases_lt j n) [
         | inl low ↦ let e : 0 + j ≡ j = omega arith in get_or-map-range_with_len (aim_numbered (tables_in file)) 0 n j j None low e
         | inr past ↦
             let long = length-map-range_with_len (aim_numbered (tables_in file)) 0 n in
@@ -81,14 +81,14 @@ module _ (file : CoffFile) (head : IsHeaded file) where
       n : ℕ
       n = length (tables_in file).entries
 
-      past_end : (xs : List (Option Aim)) (k : ℕ) → length xs ≤ k → get_or xs k None ≡ None
+      past_end : (xs : List (Option AimKind)) (k : ℕ) → length xs ≤ k → get_or xs k None ≡ None
       past_end [] k le = refl
       past_end (x ∷ xs) zero le = absurd (omega (arith, le))
       past_end (x ∷ xs) (suc k) le = past_end xs k (omega (arith, le))
 
 -- one entry more
-pub aims_more : (t : Tables) (old new : List (Option Aim)) (x : Option Aim) (j : ℕ) → old ≡ map (aim_numbered t) (range_with_len 0 j) → x ≡ aim_numbered t j → new ≡ old ++ x ∷ []
+pub aims_more : (t : Tables) (old new : List (Option AimKind)) (x : Option AimKind) (j : ℕ) → old ≡ map (aim_numbered t) (range_with_len 0 j) → x ≡ aim_numbered t j → new ≡ old ++ x ∷ []
     → new ≡ map (aim_numbered t) (range_with_len 0 (j + 1))
 aims_more t old new x j before is more =
     let e : 0 + j ≡ j = omega arith in
-    more ∙ ap (λ (xs : List (Option Aim)). xs ++ x ∷ []) before ∙ ap (λ (o : Option Aim). map (aim_numbered t) (range_with_len 0 j) ++ o ∷ []) is ∙ sym (map-range_with_len_more (aim_numbered t) 0 j j e)
+    more ∙ ap (λ (xs : List (Option AimKind)). xs ++ x ∷ []) before ∙ ap (λ (o : Option AimKind). map (aim_numbered t) (range_with_len 0 j) ++ o ∷ []) is ∙ sym (map-range_with_len_more (aim_numbered t) 0 j j e)

@@ -34,7 +34,7 @@ use Rattle.oc_coff.specs.Targets.{Aim, aim_in}
 use Rattle.oc_coff.specs.Forms.{coff_format}
 use Rattle.oc_coff.specs.Fields.{says_nothing}
 use Rattle.oc_coff.specs.RelocationFaults.{Judged, is_wrong_aim, judged_from, judged_in, meets_field, needs_home, relocation_conditions, relocation_stage, row_conditions}
-use Rattle.oc_coff_judge.specs.declared.aims.Aim as aims
+use Rattle.oc_coff_judge.specs.declared.aims.AimKind as aims
 use Rattle.oc_coff_judge.specs.declared.relocs.Table.{Table}
 use Rattle.oc_coff_judge.specs.Aimed.{face_of}
 use Rattle.oc_coff_judge.specs.Led.{carried_at}

@@ -16,7 +16,7 @@ use Rattle.oc_shelf.specs.Reading.Bitmaps.{has, is_between, room}
 use Rattle.oc_shelf.proofs.ReadingLaws.BitmapLemmas.{bytes_more, bytes_none, bytes_same}
 use Rattle.oc_shelf.proofs.ReadingLaws.StageLemmas.{all_hold}
 use Rattle.oc_coff.specs.declared.relocation.Relocation.{Relocation}
-use Rattle.oc_coff_judge.specs.declared.aims.Aim.{Aim}
+use Rattle.oc_coff_judge.specs.declared.aims.AimKind.{AimKind}
 use Rattle.oc_coff_judge.specs.declared.relocs.Table.{Table}
 use Rattle.oc_coff_judge.specs.Relocs.{AreTaken, bytes_for, entry_fault, own_conditions, reloc_of, row_for, span_of, stored_size, width_of}
 
@@ -30,7 +30,7 @@ pub record HasRow (w : Word) (r : Relocation) : Type 0 where
   pub row : Row
   pub is : row_for w r ≡ Some row
 
-pub has_row : (w : Word) (i : ℕ) (table : Table) (place : ℕ) (r : Relocation) (aim : Option Aim) → first_broken (own_conditions w i table place r aim) ≡ None → HasRow w r
+pub has_row : (w : Word) (i : ℕ) (table : Table) (place : ℕ) (r : Relocation) (aim : Option AimKind) → first_broken (own_conditions w i table place r aim) ≡ None → HasRow w r
 unfolding own_conditions
 has_row w i table place r aim clean = by (row_for w r) refl (all_hold (own_conditions w i table place r aim) clean).0
   where
@@ -65,7 +65,7 @@ taken_more w file table k begin end old new are is some long taken = record {
 }
 
 -- and its field ends in the room
-pub field_in_room : (w : Word) (file : CoffFile) (i place k : ℕ) (table : Table) (words : List ℕ) (r : Relocation) (aim : Option Aim) → AreTaken w file table k words
+pub field_in_room : (w : Word) (file : CoffFile) (i place k : ℕ) (table : Table) (words : List ℕ) (r : Relocation) (aim : Option AimKind) → AreTaken w file table k words
     → first_broken (own_conditions w i table place r aim) ≡ None → r.VirtualAddress + width_of w r ≤ room words
 unfolding own_conditions
 field_in_room w file i place k table words r aim are clean = by table.stored refl (all_hold (own_conditions w i table place r aim) clean).1.0

@@ -50,7 +50,7 @@ tagged_of t j tagged =
 abbrev pub tags_of : Tables → Entry → List Condition
 tags_of t e = if is_class IMAGE_SYM_CLASS_WEAK_EXTERNAL e.symbol then tagged_of t e.number (tagged_by (entries_in t) e) else []
 
--- those on its section and its name, where it is told whether the name stood before
+-- those on its section and its name, where it is given whether the name came before
 abbrev pub names_of : Tables → ℕ → SymbolEntry → List ℕ → Bool → List Condition
 names_of t j s name again =
     (is_class IMAGE_SYM_CLASS_EXTERNAL s && is_uncarried (sections_in t) s, symbol_fault_at t j SymbolKind)
@@ -68,7 +68,7 @@ parts_of t e again =
 
 -- ... names that other files see
 
--- the name of a symbol that takes part in the test for names that stand twice
+-- the name of a symbol that takes part in the test for names that occur twice
 abbrev pub public_name : List ℕ → Entry → Option (List ℕ)
 public_name strings e = if is_external e.symbol && not (nat_eq e.symbol.SectionNumber IMAGE_SYM_DEBUG) then Some (name_of strings e) else None
 

@@ -23,15 +23,15 @@ use Rattle.oc_coff_judge.specs.Numbered.{entry_by}
 
 -- ... the first symbols of sections
 
--- the symbol has a section that is there
+-- the symbol has a section that exists
 abbrev pub is_owner : Tables → SymbolEntry → Bool
 is_owner t s = has_section s && nat_le s.SectionNumber (length t.sections)
 
--- the first symbols, with entry j behind
+-- the first symbols, once entry j is seen
 abbrev pub firsts_with : Tables → SymbolEntry → ℕ → List (Option ℕ) → List (Option ℕ)
 firsts_with t s j firsts = if is_owner t s && is_none (slice_index_or firsts s.SectionNumber None) then slice_set firsts s.SectionNumber (Some j) else firsts
 
--- the second symbols, with entry j behind
+-- the second symbols, once entry j is seen
 abbrev pub seconds_with : Tables → SymbolEntry → ℕ → List (Option ℕ) → List (Option ℕ) → List (Option ℕ)
 seconds_with t s j firsts seconds =
     if is_owner t s && not (is_none (slice_index_or firsts s.SectionNumber None)) && is_none (slice_index_or seconds s.SectionNumber None)

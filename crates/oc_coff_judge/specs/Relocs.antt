@@ -28,8 +28,8 @@ use Rattle.oc_coff.specs.Forms.{coff_format}
 use Rattle.oc_coff.specs.RelocationFaults.{judged_from, needs_home, relocation_conditions, relocation_stage}
 use Rattle.oc_coff.specs.SectionFaults.{section_stage}
 use Rattle.oc_coff.specs.SymbolFaults.{symbol_stage}
-use Rattle.oc_coff_judge.specs.declared.aims.Aim.{Aim}
-use Rattle.oc_coff_judge.specs.declared.aims.Aim.TheVariants.{Nothing, Home, Homeless}
+use Rattle.oc_coff_judge.specs.declared.aims.AimKind.{AimKind}
+use Rattle.oc_coff_judge.specs.declared.aims.AimKind.TheVariants.{Nothing, Home, Homeless}
 use Rattle.oc_coff_judge.specs.declared.relocs.Table.{Table}
 use Rattle.oc_coff_judge.specs.Led.{carried_at}
 
@@ -65,7 +65,7 @@ pub record IsTable (file : CoffFile) (i : ℕ) (table : Table) : Type 0 where
   pub lies : table.place + RELOCATION_SIZE * table.count ≤ length file.bytes
   pub small : length file.bytes ≤ 67108864
 
--- entry k, and where it stands
+-- entry k, and where it lies
 abbrev pub reloc_place : Table → ℕ → ℕ
 reloc_place table k = table.place + RELOCATION_SIZE * k
 
@@ -97,13 +97,13 @@ abbrev pub reloc_fault : Code → ℕ → ℕ → Fault
 reloc_fault code i place = record { phase = phase.Relocation; index = i + 1; code = code; place = place }
 
 -- no field can have what a symbol stands for, or none that takes the home
-abbrev pub is_wrong : Bool → Aim → Bool
+abbrev pub is_wrong : Bool → AimKind → Bool
 is_wrong home Nothing = true
 is_wrong home Home = false
 is_wrong home Homeless = home
 
 -- the conditions that an entry at a place meets by itself, where its symbol stands for that
-unfoldable pub own_conditions : Word → ℕ → Table → ℕ → Relocation → Option Aim → List Condition
+unfoldable pub own_conditions : Word → ℕ → Table → ℕ → Relocation → Option AimKind → List Condition
 own_conditions w i table place r aim =
     (is_none (row_for w r), reloc_fault RelocKind i place)
     ∷ (passes_bytes w table r, reloc_fault BadOffset i place)
@@ -111,7 +111,7 @@ own_conditions w i table place r aim =
     ∷ (option_map_or (is_wrong (takes_home w r)) aim false, reloc_fault TargetKind i place)
     ∷ []
 
--- the bytes of the field of an entry, from the first to behind the last
+-- the bytes of the field of an entry, from the first to the place after the last
 abbrev pub bytes_for : Word → Relocation → ℕ × ℕ
 bytes_for w r = (r.VirtualAddress, r.VirtualAddress + width_of w r)
 
@@ -128,7 +128,7 @@ pub record AreTaken (w : Word) (file : CoffFile) (table : Table) (n : ℕ) (word
   pub fields : AreBytesOf (span_of w file table) n words
   pub room : stored_size table ≤ room words
 
--- ... all that stands behind the file header
+-- ... all that comes after the file header
 
 abbrev pub rest_stages : Word → CoffFile → Keep → List Stage
 rest_stages w file keep = section_stage file.bytes (tables_in file) ∷ symbol_stage (tables_in file) ∷ relocation_stage w (tables_in file) keep ∷ []

@@ -1,4 +1,4 @@
--- Symbols that weak externals tag, and where carried symbols stand (PE/COFF, "Auxiliary Format 3: Weak Externals"; our profile).
+-- Symbols that weak externals tag, and the positions of carried symbols (PE/COFF, "Auxiliary Format 3: Weak Externals"; our profile).
 use Rattle.oc_coff.specs.Files.{CoffFile, tables_in}
 use Rattle.std.specs.Prelude.{◌≡◌, ℕ, ◌<◌, nat_eq, nat_lt, if◌then◌else◌, is_some, false, List, length, slice_get, slice_index_or, slice_set, Option, Some, None}
 use Rattle.std.specs.Option.{option_and_then, option_map, unwrap_or}
@@ -18,7 +18,7 @@ use Rattle.oc_coff.specs.Sections.{sections_in}
 use Rattle.oc_coff.specs.Symbols.{is_tagged, symbol_of, symbols_in, tag_of}
 use Rattle.oc_coff_judge.specs.Numbered.{entry_by}
 
--- entry j is a symbol: it stands at a place among all
+-- entry j is a symbol: it has a place among all
 pub record IsSymbolEntry (file : CoffFile) (j : ℕ) : Type 0 where
   pub place : ℕ
   pub there : slice_get (entries_in (tables_in file)) place ≡ Some (entry_by file j)
@@ -37,7 +37,7 @@ pub record AreTagged (t : Tables) (slots : List (Option ℕ)) : Type 0 where
   pub long : length slots ≡ length t.entries
   pub each : (j : ℕ) → j < length t.entries → is_some (slice_index_or slots j None) ≡ is_tagged (entries_in t) j
 
--- where a symbol stands among the carried ones, where it is one
+-- the position of a symbol among the carried ones, if it is one
 abbrev pub carried_position : Tables → Entry → Option ℕ
 carried_position t e = option_map (λ (x : parts.Symbol). position_of (symbols_in t) x.number) (symbol_of t.strings (sections_in t) (entries_in t) e)
 

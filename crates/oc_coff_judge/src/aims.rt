@@ -17,7 +17,7 @@ use std::alloc::Global;
 
 /// What a field can have of the symbol of its relocation entry.
 #[derive(Clone, Copy)]
-pub(crate) enum Aim {
+pub(crate) enum AimKind {
     /// Nothing: no field can name the symbol.
     Nothing,
     /// An address that lies in a section, or may.
@@ -27,34 +27,34 @@ pub(crate) enum Aim {
 }
 
 // what a carried symbol stands for
-fn aim_bound(binding: Binding) -> Aim
+fn aim_bound(binding: Binding) -> AimKind
     ensures { result ≡ aimed.aim_bound binding }
 {
     match binding {
-        Binding::Local(Value::Absolute(_)) => Aim::Nothing,
-        Binding::Global(Value::Absolute(_)) => Aim::Homeless,
-        Binding::Weak(Fallback::Zero) => Aim::Homeless,
+        Binding::Local(Value::Absolute(_)) => AimKind::Nothing,
+        Binding::Global(Value::Absolute(_)) => AimKind::Homeless,
+        Binding::Weak(Fallback::Zero) => AimKind::Homeless,
         Binding::Local(Value::Place { .. })
         | Binding::Global(Value::Place { .. })
         | Binding::Undefined
         | Binding::Common { .. }
-        | Binding::Weak(Fallback::Place { .. } | Fallback::Name(_)) => Aim::Home,
+        | Binding::Weak(Fallback::Place { .. } | Fallback::Name(_)) => AimKind::Home,
     }
 }
 
-// what a symbol of that value stands for that is not carried
-fn aim_placed(value: Option<Value>) -> Aim
+// what a symbol of that value that is not carried stands for
+fn aim_placed(value: Option<Value>) -> AimKind
     ensures { result ≡ aimed.aim_placed value }
 {
     match value {
-        Some(Value::Place { .. }) => Aim::Home,
-        Some(Value::Absolute(_)) | None => Aim::Nothing,
+        Some(Value::Place { .. }) => AimKind::Home,
+        Some(Value::Absolute(_)) | None => AimKind::Nothing,
     }
 }
 
 // what the symbol of entry `j` stands for; `None` where no entry can name it
 #[tactic(auto, unfolding(crate::specs::Numbered::entry_by))]
-fn aim_of(coff: &Coff, found: &Found, j: u32) -> Option<Aim>
+fn aim_of(coff: &Coff, found: &Found, j: u32) -> Option<AimKind>
     requires clean { stage_fault (symbol_stage (files.tables_in coff.now)) ≡ None }
     requires found { IsFound coff.now found.now }
     requires there { j < length (files.tables_in coff.now).entries }
@@ -75,7 +75,7 @@ fn aim_of(coff: &Coff, found: &Found, j: u32) -> Option<Aim>
 }
 
 // the same of entry `j`, which may be an auxiliary one
-fn numbered_aim(coff: &Coff, found: &Found, j: u32) -> Option<Aim>
+fn numbered_aim(coff: &Coff, found: &Found, j: u32) -> Option<AimKind>
     requires clean { stage_fault (symbol_stage (files.tables_in coff.now)) ≡ None }
     requires found { IsFound coff.now found.now }
     requires there { j < length (files.tables_in coff.now).entries }
@@ -94,7 +94,7 @@ pub(crate) fn aims_of(
     alloc: Global,
     coff: &Coff,
     found: &Found,
-) -> Result<Vec<Option<Aim>>, NoMemory>
+) -> Result<Vec<Option<AimKind>>, NoMemory>
     requires clean { stage_fault (symbol_stage (files.tables_in coff.now)) ≡ None }
     requires found { IsFound coff.now found.now }
     ensures { IfOk result (λ aims. aims.items ≡ aimed.aims_in (files.tables_in coff.now)) }
@@ -108,7 +108,7 @@ pub(crate) fn aims_of(
 }
 
 /// What symbol `j` stands for. Constant time.
-pub(crate) fn aim_at(aims: &[Option<Aim>], j: u32) -> Option<Aim>
+pub(crate) fn aim_at(aims: &[Option<AimKind>], j: u32) -> Option<AimKind>
     ensures { result ≡ slice_index_or aims.now j None }
 {
     match aims.get(j as usize) {

@@ -111,7 +111,7 @@ fn fallback_at(value: Value) -> Fallback
     }
 }
 
-/// What a symbol is said to name. Constant time.
+/// What a symbol is declared to name. Constant time.
 pub fn mark_of(s: &SymbolEntry) -> Mark
     ensures { result ≡ (if nat_eq s.now.Type IMAGE_SYM_TYPE_FUNCTION then Mark.Function else Mark.NoType) }
 {

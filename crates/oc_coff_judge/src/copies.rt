@@ -51,7 +51,7 @@ pub(crate) fn own_definition(coff: &Coff, j: u32) -> Option<SectionAux>
     definition_behind(coff, j)
 }
 
-/// Whether that is said of the copies of a section. Constant time.
+/// Whether that selection is declared for the copies of a section. Constant time.
 pub(crate) fn selects(selection: u8, d: Option<SectionAux>) -> bool
     ensures { result ≡ comdat.selects selection d }
 {
@@ -61,7 +61,7 @@ pub(crate) fn selects(selection: u8, d: Option<SectionAux>) -> bool
     }
 }
 
-/// Whether what is said of the copies of a section is known. Constant time.
+/// Whether what is declared for the copies of a section is known. Constant time.
 pub(crate) fn is_known(d: Option<SectionAux>) -> bool
     ensures { result ≡ rules.is_known d }
 {

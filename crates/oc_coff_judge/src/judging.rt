@@ -23,7 +23,7 @@ use oc_coff::{Coff, RELOCATION_SIZE, SectionHeader, Shape, is_overflowed, is_sto
 use oc_neutral::{Keep, Kind};
 use std::alloc::Global;
 
-// where the relocation entries of a section begin in the file, behind the one that has their count
+// where the relocation entries of a section begin in the file, after the one that has their count
 fn relocs_place(h: &SectionHeader) -> u64
     ensures { result ≡ tables.relocs_place h.now }
 {
@@ -118,13 +118,14 @@ fn check_headers(coff: &Coff, found: &Found) -> Result<(), Stop>
     }
 }
 
-/// Judges what stands behind the file header, under `keep`, and gives what was found on the way.
+/// Judges what comes after the file header, under `keep`, and gives what was found on the way.
 ///
-/// Stops exactly where there is a fault, with the first; or where memory ran out. The time is that of
-/// n log2(n) steps for n symbols or relocations, in any order of names and offsets. Each name is read
-/// a few times for each section and symbol that has it, and compared as `first_repeat` says. Where no
-/// NUL ends a name, that is known in constant time. Names that weigh more than 1 GiB, and tables of
-/// more than 2^23 relocations, are want of memory before any is judged (`oc_weight`).
+/// Stops exactly where there is a fault, with the first; or where memory ran out. The time is that
+/// of n log2(n) steps for n symbols or relocations, in any order of names and offsets. Each name is
+/// read a few times for each section and symbol that has it, and compared as `first_repeat` says.
+/// Where no NUL ends a name, that is known in constant time. Names that weigh more than 1 GiB, and
+/// tables of more than 2^23 relocations, count as lack of memory before any is judged
+/// (`oc_weight`).
 pub fn check_rest(alloc: Global, word: Word, coff: &Coff, keep: &Keep) -> Result<Found, Stop>
     ensures clean { OnOk result (first_fault (relocs.rest_stages word coff.now keep.now) ≡ None) }
     ensures stop { IfErr result (IsStop (first_fault (relocs.rest_stages word coff.now keep.now))) }

@@ -6,8 +6,8 @@ use oc_base::NoMemory;
 use oc_coff::Coff;
 use std::alloc::Global;
 
-// takes up entry `j`, which says that so many auxiliary entries follow it, where it is none of the `auxiliary` ones that are
-// still left; gives how many are left behind it
+// records entry `j`, which says that so many auxiliary entries follow it, where it is none of the
+// `auxiliary` ones that are still left; gives how many are left after it
 fn take_entry(numbers: &mut Vec<u32>, auxiliary: u8, j: u32, follow: u8) -> Result<u8, NoMemory>
     ensures numbers { OnOk result (numbers.new.items ≡ (if nat_eq auxiliary 0 then numbers.old.items ++ j ∷ [] else numbers.old.items)) }
     ensures left { IfOk result (λ left. left ≡ (if nat_eq auxiliary 0 then follow else auxiliary - 1)) }

@@ -30,7 +30,7 @@ pub struct OwnerTables {
     pub seconds: Slots,
 }
 
-// whether a symbol has a section that is there
+// whether a symbol has a section that exists
 fn is_owner(coff: &Coff, s: &SymbolEntry) -> bool
     ensures { result ≡ judged.is_owner (files.tables_in coff.now) s.now }
 {
@@ -54,7 +54,7 @@ fn is_free(slots: &Slots, k: u32) -> bool
     slots.get(u32::from(k)).is_none()
 }
 
-// takes up entry `j`, which is that symbol
+// records entry `j`, which is that symbol
 fn take_entry(coff: &Coff, firsts: &mut Slots, seconds: &mut Slots, s: &SymbolEntry, j: u32)
     requires first { length firsts.old ≡ length (files.tables_in coff.now).sections + 1 }
     requires second { length seconds.old ≡ length (files.tables_in coff.now).sections + 1 }
@@ -69,7 +69,7 @@ fn take_entry(coff: &Coff, firsts: &mut Slots, seconds: &mut Slots, s: &SymbolEn
     put(seconds, owns && !first && second, k, j);
 }
 
-// takes up entry `j`
+// records entry `j`
 #[tactic(auto, unfolding(crate::specs::Numbered::entry_by))]
 fn take_symbol(coff: &Coff, firsts: &mut Slots, seconds: &mut Slots, j: u32)
     requires there { j < length (files.tables_in coff.now).entries }

@@ -1,4 +1,4 @@
-//! Where carried sections and symbols stand.
+//! The positions of carried sections and symbols.
 ghost use Rattle.std.specs.Prelude.{◌≡◌, ◌+◌, ◌<◌, length, is_some, slice_set, None, Some, if◌then◌else◌, IfOk};
 ghost use Rattle.oc_linking.specs.FirstFault.{stage_fault};
 ghost use Rattle.oc_shelf.specs.Reading.Slots.{AreSlots};
@@ -58,7 +58,7 @@ fn is_carried_symbol(coff: &Coff, sections: &Slots, tagged: &Slots, j: u32) -> b
     binding_of(coff, sections, tagged, j, &s).is_some()
 }
 
-// puts the next position into the slot of entry `j`, where that is carried; gives the one behind
+// puts the next position into the slot of entry `j`, where that is carried; gives the next one
 fn place(slots: &mut Slots, carried: bool, j: u32, position: u32) -> u32
     requires low { j < length slots.old }
     requires room { position < 4294967295 }

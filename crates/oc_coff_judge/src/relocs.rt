@@ -9,7 +9,7 @@ ghost use Rattle.oc_coff.specs.Files as files;
 ghost use Rattle.oc_coff_judge.specs.Aimed as aimed;
 ghost use Rattle.oc_coff_judge.specs.Relocs as rules;
 
-use crate::aims::{Aim, aim_at};
+use crate::aims::{AimKind, aim_at};
 use oc_base::{Code, Fault, Phase, Stop, Word};
 use oc_coff::{
     Coff, IMAGE_REL_I386_ABSOLUTE, RELOCATION_SIZE, Relocation, meaning_of, relocation_at,
@@ -25,7 +25,7 @@ pub struct Table {
     pub size: u32,
     /// Whether they are in the file.
     pub stored: bool,
-    /// Where the entries begin in the file, behind the one that has their count.
+    /// Where the entries begin in the file, after the one that has their count.
     pub place: u64,
     /// How many entries there are.
     pub count: u32,
@@ -37,10 +37,10 @@ pub(crate) struct Aims<'a> {
     /// The word of the format.
     pub(crate) word: Word,
     /// What each entry of the symbol table stands for.
-    pub(crate) symbols: &'a [Option<Aim>],
+    pub(crate) symbols: &'a [Option<AimKind>],
 }
 
-/// Where entry `k` of a table stands, in bytes from the start of the file. Constant time.
+/// Where entry `k` of a table lies, in bytes from the start of the file. Constant time.
 pub(crate) fn reloc_place(table: &Table, k: u32) -> u64
     requires there { k < table.now.count }
     requires lies { table.now.place + RELOCATION_SIZE * table.now.count ≤ MOST_INPUT }
@@ -60,7 +60,7 @@ pub fn reloc_of(coff: &Coff, i: u32, table: &Table, k: u32) -> Relocation
     relocation_at(coff.file(), place as usize)
 }
 
-/// Whether an entry says nothing. Constant time.
+/// Whether an entry has no effect. Constant time.
 pub fn says_nothing(r: &Relocation) -> bool
     ensures { result ≡ fields.says_nothing r.now }
 {
@@ -98,13 +98,13 @@ fn takes_home(word: Word, r: &Relocation) -> bool
 }
 
 // whether no field can have what a symbol stands for, or none that takes the home
-fn is_wrong(home: bool, aim: Aim) -> bool
+fn is_wrong(home: bool, aim: AimKind) -> bool
     ensures { result ≡ rules.is_wrong home aim }
 {
     match aim {
-        Aim::Nothing => true,
-        Aim::Home => false,
-        Aim::Homeless => home,
+        AimKind::Nothing => true,
+        AimKind::Home => false,
+        AimKind::Homeless => home,
     }
 }
 

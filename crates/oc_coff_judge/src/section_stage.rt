@@ -46,7 +46,7 @@ fn number_of(count: u32, i: u32) -> u32
     i + 1
 }
 
-// the fault of the conditions on section `i`, of which there are copies and of which that is said
+// the fault of the conditions on section `i`, of which there are copies and whose definition is `d`
 #[tactic(auto, unfolding(oc_coff::specs::Tables::tables_of))]
 fn copy_fault(
     coff: &Coff,
@@ -119,7 +119,7 @@ fn form_fault(coff: &Coff, i: u32, h: &SectionHeader) -> Option<Fault>
     None
 }
 
-/// What the sections so far are worth against the limits.
+/// How much the sections so far count against the limits.
 #[derive(Clone, Copy)]
 pub(crate) struct Sums {
     /// The bytes that they take.

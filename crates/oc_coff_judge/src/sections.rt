@@ -30,7 +30,7 @@ pub(crate) fn section_fault(i: u32, place: u64, code: Code) -> Option<Fault>
     })
 }
 
-/// Where the header of section `i`, counted from 0, stands in the file. Constant time.
+/// Where the header of section `i`, counted from 0, lies in the file. Constant time.
 pub(crate) fn header_place(shape: Shape, i: u32) -> u64
     ensures { result ≡ header_size shape + SECTION_HEADER_SIZE * i }
 {

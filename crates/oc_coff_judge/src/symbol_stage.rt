@@ -16,9 +16,14 @@ ghost use Rattle.oc_coff_judge.specs.Numbered.{AreNumbers, entry_by};
 use crate::copies::has_section;
 use crate::found::{Found, tagged_by};
 use crate::owners::number_at;
-use crate::symbols::{class_fault, has_home, is_external, is_weak, name_of, place_fault, symbol_fault};
+use crate::symbols::{
+    class_fault, has_home, is_external, is_weak, name_of, place_fault, symbol_fault,
+};
 use oc_base::{Code, Fault, NoMemory, Stop};
-use oc_coff::{Coff, IMAGE_SYM_ABSOLUTE, IMAGE_SYM_CLASS_EXTERNAL, IMAGE_SYM_CLASS_STATIC, IMAGE_SYM_DEBUG, SymbolEntry};
+use oc_coff::{
+    Coff, IMAGE_SYM_ABSOLUTE, IMAGE_SYM_CLASS_EXTERNAL, IMAGE_SYM_CLASS_STATIC, IMAGE_SYM_DEBUG,
+    SymbolEntry,
+};
 use oc_shelf::{Slots, earlier};
 use oc_strings::{Repeat, first_repeat};
 use std::alloc::Global;
@@ -57,8 +62,8 @@ fn tag_fault(coff: &Coff, found: &Found, j: u32) -> Option<Fault>
     }
 }
 
-// the fault of the conditions on the section and the name of symbol `j`, whose name stood before or
-// did not
+// the fault of the conditions on the section and the name of symbol `j`, whose name occurred before
+// or did not
 fn name_fault(coff: &Coff, positions: &Slots, j: u32, s: &SymbolEntry, again: bool) -> Option<Fault>
     requires positions { AreSlots (sections.position_of (sections.sections_in (files.tables_in coff.now))) (length (files.tables_in coff.now).sections + 1) positions.now }
     requires there { j < length (files.tables_in coff.now).entries }
@@ -77,7 +82,7 @@ fn name_fault(coff: &Coff, positions: &Slots, j: u32, s: &SymbolEntry, again: bo
     None
 }
 
-// the fault of symbol `j`, whose name stood before or did not
+// the fault of symbol `j`, whose name occurred before or did not
 fn judge_symbol(coff: &Coff, found: &Found, j: u32, again: bool) -> Option<Fault>
     requires found { IsFound coff.now found.now }
     requires there { j < length (files.tables_in coff.now).entries }
@@ -90,7 +95,7 @@ fn judge_symbol(coff: &Coff, found: &Found, j: u32, again: bool) -> Option<Fault
     earlier(place_fault(coff, j, &s), class)
 }
 
-// the name of symbol `j`, where it takes part in the test for names that stand twice
+// the name of symbol `j`, where it takes part in the test for names that occur twice
 #[tactic(auto, unfolding(crate::specs::Numbered::entry_by))]
 fn public_name<'a>(coff: &Coff<'a>, j: u32) -> Option<&'a [u8]>
     requires { j < length (files.tables_in coff.now).entries }

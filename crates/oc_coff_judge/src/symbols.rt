@@ -80,7 +80,7 @@ pub(crate) fn is_external(s: &SymbolEntry) -> bool
     s.StorageClass == IMAGE_SYM_CLASS_EXTERNAL || s.StorageClass == IMAGE_SYM_CLASS_WEAK_EXTERNAL
 }
 
-// whether section number `k` is there, and has fewer bytes
+// whether section number `k` exists, and has fewer bytes
 fn ends_before(coff: &Coff, k: u32, offset: u32) -> bool
     ensures { result ≡ option_map_or (λ (x : tables.SectionTable). nat_lt x.header.SizeOfRawData offset) (comdat.section_numbered (files.tables_in coff.now) k) false }
 {
@@ -95,7 +95,7 @@ fn ends_before(coff: &Coff, k: u32, offset: u32) -> bool
     h.SizeOfRawData < offset
 }
 
-// whether the symbol lies behind the end of its section
+// whether the symbol lies past the end of its section
 fn is_past_end(coff: &Coff, s: &SymbolEntry) -> bool
     ensures { result ≡ rules.is_past_end (files.tables_in coff.now) s.now }
 {

@@ -42,7 +42,7 @@ fn symbol_cost(coff: &Coff, j: u32) -> u64 {
     name_of(coff, j).len() as u64
 }
 
-// what the names of symbols weigh behind others
+// what the names of symbols weigh, added to the weight of others
 fn with_symbols(coff: &Coff, numbers: &[u32], weight: u64) -> Result<u64, NoMemory> {
     let mut weight = weight;
     for j in numbers {
@@ -62,9 +62,11 @@ fn key_cost(coff: &Coff, found: &Found, k: u32) -> u64
     }
 }
 
-/// Weighs the names of symbols and the keys of groups, behind names of sections that weigh so much.
+/// Weighs the names of symbols and the keys of groups, added to names of sections that weigh so
+/// much.
 ///
-/// `NoMemory` where all are above 1 GiB. Linear in symbols and sections and in what they weigh.
+/// `NoMemory` where all together are above 1 GiB. Linear in symbols and sections and in what they
+/// weigh.
 pub(crate) fn weigh_symbols(coff: &Coff, found: &Found, names: u64) -> Result<(), NoMemory>
     requires { IsFound coff.now found.now }
 {

@@ -17,7 +17,7 @@ use Rattle.oc_neutral.specs.Building.{Draft}
 use Rattle.oc_shows.specs.Built.{HasAdded}
 use Rattle.oc_neutral.specs.Invariants.{AreBytes}
 use Rattle.oc_neutral.specs.Rows.{Row}
-use Rattle.oc_shelf.specs.declared.reading.order.Placed.{Placed}
+use Rattle.oc_shelf.specs.declared.reading.order.PlacedEntry.{PlacedEntry}
 use Rattle.oc_shelf.specs.Reading.Collected.{collected}
 use Rattle.oc_shelf.proofs.ReadingLaws.CollectedLemmas.{collected-at, collected-none, collected-same}
 use Rattle.oc_shelf.proofs.ReadingLaws.RowLemmas.{length-rows, row_at}
@@ -160,18 +160,18 @@ module _ (w : Word) (file : CoffFile) (head : IsHeaded file) (bytes : AreBytes f
       let here = entry_at c.relocs a (omega (arith, less, low)) in
       differ_at w t keep ready.relocs_clean p c place.there kept_it a b (entry_in c.relocs a) (entry_in c.relocs b) (good_at a (entry_in c.relocs a) here first) (good_at b (entry_in c.relocs b) (entry_at c.relocs b low) second) less here same
 
-  module _ (entries : List Placed) (are : IsPermutation (collected (placed_at file table) table.count) entries) where
+  module _ (entries : List PlacedEntry) (are : IsPermutation (collected (placed_at file table) table.count) entries) where
     listed : IsPermutation (collected (placed c.relocs) (length c.relocs)) entries
-    listed = subst (λ (xs : List Placed). IsPermutation xs entries) (placed_same file i table place.table_is) are
+    listed = subst (λ (xs : List PlacedEntry). IsPermutation xs entries) (placed_same file i table place.table_is) are
 
     -- entry j, as it is read
-    pub record IsEntry (j : ℕ) (e : Placed) : Type 0 where
+    pub record IsEntry (j : ℕ) (e : PlacedEntry) : Type 0 where
       pub low : (get_or entries j e).index < table.count
       pub busy : says_nothing (reloc_of file table (get_or entries j e).index) ≡ false
       pub offset : (reloc_of file table (get_or entries j e).index).VirtualAddress ≡ (get_or entries j e).place
       pub there : slice_get c.relocs (get_or entries j e).index ≡ Some (reloc_of file table (get_or entries j e).index)
 
-    pub entry_of : (j : ℕ) (e : Placed) → j < length entries → IsEntry j e
+    pub entry_of : (j : ℕ) (e : PlacedEntry) → j < length entries → IsEntry j e
     entry_of j e below = by (entry_placed c.relocs entries listed j e below)
       where
         by : IsPlacedEntry c.relocs (get_or entries j e) → IsEntry j e
@@ -189,13 +189,13 @@ module _ (w : Word) (file : CoffFile) (head : IsHeaded file) (bytes : AreBytes f
             }
 
     -- what is asked before its relocation is made
-    pub entry_aimed : (j : ℕ) (e : Placed) → j < length entries → IsAimed w t (reloc_of file table (get_or entries j e).index).SymbolTableIndex
+    pub entry_aimed : (j : ℕ) (e : PlacedEntry) → j < length entries → IsAimed w t (reloc_of file table (get_or entries j e).index).SymbolTableIndex
     entry_aimed j e below =
         let m = entry_of j e below in
         let good = good_at (get_or entries j e).index (reloc_of file table (get_or entries j e).index) m.there m.busy in
         record { aim = good.aim; is = good.aimed }
 
-    pub entry_inside : (j : ℕ) (e : Placed) → j < length entries
+    pub entry_inside : (j : ℕ) (e : PlacedEntry) → j < length entries
         → (reloc_of file table (get_or entries j e).index).VirtualAddress + width_of w (reloc_of file table (get_or entries j e).index) ≤ length contents
     entry_inside j e below =
         let m = entry_of j e below in
@@ -206,12 +206,12 @@ module _ (w : Word) (file : CoffFile) (head : IsHeaded file) (bytes : AreBytes f
         omega (arith, inside, width, long)
 
     -- it is given, and made of the contents
-    pub record IsNext (j : ℕ) (e : Placed) : Type 0 where
+    pub record IsNext (j : ℕ) (e : PlacedEntry) : Type 0 where
       pub reloc : Reloc
       pub given : given_at w t keep p (reloc_of file table (get_or entries j e).index).VirtualAddress ≡ Some reloc
       pub made : reloc_by w t p contents (reloc_of file table (get_or entries j e).index) ≡ Some reloc
 
-    pub next_of : (j : ℕ) (e : Placed) → j < length entries → IsNext j e
+    pub next_of : (j : ℕ) (e : PlacedEntry) → j < length entries → IsNext j e
     next_of j e below = by (entry_given w file head keep (started w file).object ready.start.symbols ready.relocs_clean p c place.there kept_it (get_or entries j e).index r m.there m.busy)
       where
         r : Relocation
@@ -249,7 +249,7 @@ module _ (w : Word) (file : CoffFile) (head : IsHeaded file) (bytes : AreBytes f
                 ]
 
     -- its relocation, as it was read, is added
-    pub ready_next : (j : ℕ) (e : Placed) → j < length entries → (d : Draft) → HasAdded (started w file) d (given_with w t keep p (take j entries)) → (r : Relocation) → r ≡ reloc_of file table (get_or entries j e).index
+    pub ready_next : (j : ℕ) (e : PlacedEntry) → j < length entries → (d : Draft) → HasAdded (started w file) d (given_with w t keep p (take j entries)) → (r : Relocation) → r ≡ reloc_of file table (get_or entries j e).index
         → (o : Reloc) → reloc_by w t p contents r ≡ Some o → IsTaken (started w file) d p r.VirtualAddress o (given_with w t keep p (take (j + 1) entries))
     ready_next j e below d has r read o made =
         let m = entry_of j e below in

@@ -35,7 +35,7 @@ pub record IsReady (w : Word) (file : CoffFile) (keep : Keep) (sections symbols 
   pub symbols_are : AreSlots (symbol_position (tables_in file)) (length (tables_in file).entries) symbols
   pub start : IsStarted (dialect_by w file.shape) file.bytes keep (started w file)
 
--- section i, counted from 0, is carried, and stands at position p; this is its kind, this its table, and these its bytes, where they are in the
+-- section i, counted from 0, is carried, and is at position p; this is its kind, this its table, and these its bytes, where they are in the
 -- file
 pub record IsPlace (file : CoffFile) (i p : ℕ) (kind : Kind) (table : Table) (contents : List ℕ) : Type 0 where
   pub table_is : IsTable file i table

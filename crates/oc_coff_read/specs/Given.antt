@@ -14,7 +14,7 @@ use Rattle.oc_linking.specs.Parts as parts
 use Rattle.oc_linking.specs.Targets.{Target, symbol_target}
 use Rattle.oc_algebra.specs.Fields.{from_field_of}
 use Rattle.oc_algebra.specs.Residues.{reduced_number}
-use Rattle.oc_shows.specs.Built.{Given}
+use Rattle.oc_shows.specs.Built.{RelocMap}
 use Rattle.oc_shows.specs.Computed.{position_of}
 use Rattle.oc_neutral.specs.declared.reloc.Reloc.{Reloc}
 use Rattle.oc_neutral.specs.declared.reloc.Target.{Target as RelocTarget}
@@ -24,7 +24,7 @@ use Rattle.oc_neutral.specs.RelocTables.{row_of}
 use Rattle.oc_shows.specs.RowFields.{number_in}
 use Rattle.oc_shows.specs.RowValues.{row_reloc}
 use Rattle.oc_neutral.specs.Rows.{Row}
-use Rattle.oc_shelf.specs.declared.reading.order.Placed.{Placed}
+use Rattle.oc_shelf.specs.declared.reading.order.PlacedEntry.{PlacedEntry}
 use Rattle.oc_coff.specs.declared.relocation.Relocation.{Relocation}
 use Rattle.oc_coff.specs.Tables.{Tables}
 use Rattle.oc_coff.specs.Entries.{Entry, entries_in, entry_numbered}
@@ -40,7 +40,7 @@ use Rattle.oc_coff_judge.specs.Relocs.{reloc_of}
 use Rattle.oc_coff_judge.specs.Tagged.{symbol_position}
 use Rattle.oc_shelf.specs.Reading.Order.{is_among}
 
--- the relocation of a row against a value: a place is a section's, with the offset added; a is the number that stands in the field, at position s
+-- the relocation of a row against a value: a place is a section's, with the offset added; a is the number in the field, and s the position of its section
 abbrev pub reloc_at : Word → Row → ℕ → ℤ → Value → Option Reloc
 reloc_at w row s a (value.Place k offset) = Some (row_reloc w row s (moved_addend row.base a offset) (target.Section k))
 reloc_at w row s a (value.Absolute n) = None
@@ -64,22 +64,22 @@ reloc_with w t s contents r row =
 unfoldable pub reloc_by : Word → Tables → ℕ → List ℕ → Relocation → Option Reloc
 reloc_by w t s contents r = option_and_then (reloc_with w t s contents r) (row_of (coff_format w) r.Type)
 
--- that of the first entry at an offset that says something
+-- that of the first entry at an offset that has an effect
 abbrev pub reloc_in : Word → Tables → ℕ → ℕ → Carried → Option Reloc
 reloc_in w t s at c = option_and_then (reloc_by w t s c.section.contents) (find (relocates at) c.relocs)
 
 -- what is given for the field at an offset of the section at position s, where that is kept
-unfoldable pub given_at : Word → Tables → Keep → Given
+unfoldable pub given_at : Word → Tables → Keep → RelocMap
 given_at w t keep s at = option_and_then (λ (c : Carried). if keeps keep c.section.kind then reloc_in w t s at c else None) (slice_get (carried_in t) s)
 
 -- ... by meanings
 
--- an entry's symbol is there, and a field can have it
+-- an entry's symbol exists, and a field can have it
 pub record IsAimed (w : Word) (t : Tables) (j : ℕ) : Type 0 where
   pub aim : Aim
   pub is : aim_in w t j ≡ Some (Some aim)
 
--- the number that is added, reduced: it stands in the field, and the value is counted from behind that
+-- the number that is added, reduced: it is in the field, and the value is counted from a place after that
 abbrev pub addend_by : Word → Meaning → List ℕ → ℕ → ℤ
 addend_by w m contents at = from_field_of w m.form.width (neg_ℤ (pos m.behind)) (number_at contents at (bytes_of m.form.width))
 
@@ -92,7 +92,7 @@ abbrev pub place_meant : Word → Meaning → ℤ → Value → Option Reloc
 place_meant w m a (value.Place k offset) = Some (reloc_as m (target.Section k) (reduced_number w (moved_addend m.form.base a offset)))
 place_meant w m a (value.Absolute n) = None
 
--- against a symbol that stands at a position among the carried ones, or has that value
+-- against a symbol that has a position among the carried ones, or has that value
 abbrev pub symbol_meant : Word → Meaning → ℤ → Option Value → Option ℕ → Option Reloc
 symbol_meant w m a v None = option_and_then (place_meant w m a) v
 symbol_meant w m a v (Some k) = Some (reloc_as m (target.Symbol k) a)
@@ -104,25 +104,25 @@ reloc_meant w file contents r m =
 
 -- ... entry by entry
 
--- an entry with its number and the offset of its field, where it says something
-abbrev pub placed_as : Relocation → ℕ → Option Placed
+-- an entry with its number and the offset of its field, where it has an effect
+abbrev pub placed_as : Relocation → ℕ → Option PlacedEntry
 placed_as r k = if says_nothing r then None else Some (record { place = r.VirtualAddress; index = k })
 
--- entry k of a table; past the last, one that says nothing
+-- entry k of a table; past the last, one that has no effect
 abbrev pub entry_in : List Relocation → ℕ → Relocation
 entry_in relocs k = slice_index_or relocs k (record { VirtualAddress = 0; SymbolTableIndex = 0; «Type» = 0 })
 
-abbrev pub placed : List Relocation → ℕ → Option Placed
+abbrev pub placed : List Relocation → ℕ → Option PlacedEntry
 placed relocs k = placed_as (entry_in relocs k) k
 
--- the same, where the table stands in the file
-abbrev pub placed_at : CoffFile → Table → ℕ → Option Placed
+-- the same, where the table lies in the file
+abbrev pub placed_at : CoffFile → Table → ℕ → Option PlacedEntry
 placed_at file table k = placed_as (reloc_of file table k) k
 
 -- what is given for the sections at the positions below p
-abbrev pub given_before : Word → Tables → Keep → ℕ → Given
+abbrev pub given_before : Word → Tables → Keep → ℕ → RelocMap
 given_before w t keep p s at = if nat_lt s p then given_at w t keep s at else None
 
 -- and for some entries of the table of the section at position p
-abbrev pub given_with : Word → Tables → Keep → ℕ → List Placed → Given
+abbrev pub given_with : Word → Tables → Keep → ℕ → List PlacedEntry → RelocMap
 given_with w t keep p entries s at = if nat_lt s p || nat_eq s p && is_among entries at then given_at w t keep s at else None

@@ -20,7 +20,7 @@ CleanIsShown = (w : Word) (file : CoffFile) (keep : Keep) (d : Draft) → length
     → HasAdded (symboled w (tables_in file) (length (entries_in (tables_in file)))) d (given_at w (tables_in file) keep)
     → Shows (dialect_by w file.shape) file.bytes keep d.object
 
--- the rules of COFF have the word and the alignments that are told of its format
+-- the rules of COFF have the word and the alignments that are given for its format
 pub coff_is_dialect : CoffIsDialect
 coff_is_dialect W32 Usual = record { word = refl; output_align = λ align. refl; common_align = λ size align. refl }
 coff_is_dialect W32 Big = record { word = refl; output_align = λ align. refl; common_align = λ size align. refl }

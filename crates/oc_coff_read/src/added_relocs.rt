@@ -19,12 +19,12 @@ use oc_base::{NoMemory, Word};
 use oc_coff::{Coff, SectionHeader};
 use oc_coff_judge::{Table, kind_in, reloc_of, table_of};
 use oc_neutral::{Builder, Keep, Kind, are_bytes};
-use oc_shelf::Placed;
+use oc_shelf::PlacedEntry;
 use std::alloc::Global;
 
 // a section whose relocations are added
 #[derive(Clone, Copy)]
-struct Place<'a> {
+struct RelocSection<'a> {
     // its number, counted from 0
     number: u32,
     // its position among the carried sections
@@ -57,8 +57,8 @@ fn add_entry(
     keep: &Keep,
     positions: &Positions,
     builder: &mut Builder,
-    place: &Place,
-    entries: &[Placed],
+    place: &RelocSection,
+    entries: &[PlacedEntry],
     j: usize,
 ) -> Result<(), NoMemory>
     requires ready { adding.IsReady word coff.now keep.now positions.now.sections.now positions.now.symbols.now }
@@ -85,7 +85,7 @@ fn add_table(
     keep: &Keep,
     positions: &Positions,
     builder: &mut Builder,
-    place: &Place,
+    place: &RelocSection,
 ) -> Result<(), NoMemory>
     requires ready { adding.IsReady word coff.now keep.now positions.now.sections.now positions.now.symbols.now }
     requires place { adding.IsPlace coff.now place.now.number place.now.position place.now.kind place.now.table place.now.contents.now }
@@ -113,8 +113,14 @@ fn add_table(
     Ok(())
 }
 
-// section `i`, counted from 0, of that header and kind, which stands at that position
-fn place_of<'a>(coff: &Coff<'a>, i: u32, h: &SectionHeader, kind: Kind, position: u32) -> Place<'a>
+// section `i`, counted from 0, of that header and kind, which is at that position
+fn place_of<'a>(
+    coff: &Coff<'a>,
+    i: u32,
+    h: &SectionHeader,
+    kind: Kind,
+    position: u32,
+) -> RelocSection<'a>
     requires clean { stage_fault (section_stage coff.now.bytes (files.tables_in coff.now)) ≡ None }
     requires here { slice_get (files.tables_in coff.now).sections i ≡ Some (tables.section_table coff.now.bytes h.now) }
     requires carried { sections.kind_in (files.tables_in coff.now).strings h.now ≡ Some kind }
@@ -124,7 +130,7 @@ fn place_of<'a>(coff: &Coff<'a>, i: u32, h: &SectionHeader, kind: Kind, position
     ensures position { result.position ≡ position }
 {
     let table = table_of(coff, i, h, kind);
-    Place {
+    RelocSection {
         number: i,
         position,
         kind,

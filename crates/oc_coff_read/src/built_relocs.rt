@@ -17,10 +17,11 @@ use oc_base::{NoMemory, Word};
 use oc_coff::{Coff, Meaning, Relocation, meaning_of};
 use oc_coff_judge::{Table, reloc_of, says_nothing, value_of};
 use oc_neutral::{Hint, Reloc, Target, Value, moved_addend};
-use oc_shelf::{Placed, sort_by_place};
+use oc_shelf::{PlacedEntry, sort_by_place};
 use std::alloc::Global;
 
-// the number that is added, reduced: it stands in the field, and the value is counted from behind that
+// the number that is added, reduced: it is stored in the field, and the value is counted from a
+// place after that
 fn addend_of(word: Word, contents: &[u8], at: u32, meaning: Meaning) -> i64
     requires { at + bytes_of meaning.form.width ≤ length contents.now }
     ensures { result ≡ given.addend_by word meaning contents.now at }
@@ -94,7 +95,7 @@ pub(crate) fn reloc_for(
 }
 
 // the entries of the table of section `i` that say something, each with the offset of its field
-fn gathered(alloc: Global, coff: &Coff, i: u32, table: &Table) -> Result<Vec<Placed>, NoMemory>
+fn gathered(alloc: Global, coff: &Coff, i: u32, table: &Table) -> Result<Vec<PlacedEntry>, NoMemory>
     requires { IsTable coff.now i table.now }
     ensures { IfOk result (λ entries. entries.items ≡ collected (given.placed_at coff.now table.now) table.now.count) }
 {
@@ -102,7 +103,7 @@ fn gathered(alloc: Global, coff: &Coff, i: u32, table: &Table) -> Result<Vec<Pla
     for k in 0..table.count {
         let r = reloc_of(coff, i, table, k);
         if !says_nothing(&r) {
-            entries.push(Placed {
+            entries.push(PlacedEntry {
                 place: r.VirtualAddress.into(),
                 index: k,
             })?;
@@ -119,7 +120,7 @@ pub(crate) fn in_order(
     coff: &Coff,
     i: u32,
     table: &Table,
-) -> Result<Vec<Placed>, NoMemory>
+) -> Result<Vec<PlacedEntry>, NoMemory>
     requires { IsTable coff.now i table.now }
     ensures { IfOk result (λ entries. IsPermutation (collected (given.placed_at coff.now table.now) table.now.count) entries.items) }
 {

@@ -17,7 +17,7 @@ use oc_neutral::{Binding, Builder, Fallback, Symbol, Visibility, are_bytes};
 use oc_shelf::Slots;
 use std::alloc::Global;
 
-/// Where the sections and symbols of a file stand among the carried ones.
+/// The positions of the sections and symbols of a file among the carried ones.
 #[derive(Clone, Copy)]
 pub(crate) struct Positions<'a> {
     /// The position of each section, by its number.

@@ -12,11 +12,11 @@ use Rattle.oc_neutral.specs.declared.coff.TheConstants.{STRINGS_HEAD}
 use Rattle.oc_coff.specs.Forms.{format_of}
 use Rattle.oc_coff_file.specs.Lines.{Line, SectionLine, LocalLine, DefaultLine, OuterLine, lines_of}
 
--- the table of an object's names, whose first text stands behind its size
+-- the table of an object's names, whose first text comes after its size
 abbrev pub table_for : CoffForm → Object → StringTable
 table_for w n = record { head = STRINGS_HEAD; names = strings_of (format_of w) n }
 
--- where a name stands in a table, 0 where it does not
+-- where a name lies in a table, 0 where it is not there
 abbrev pub place_in : StringTable → List ℕ → ℕ
 place_in t name = unwrap_or (table_place t.head t.names name) 0
 

@@ -24,9 +24,9 @@ ghost use Rattle.oc_coff_write.specs.Strings.{table_for};
 ghost use Rattle.oc_coff.specs.Values.{HasRoom};
 
 use crate::lines::Line;
+use crate::name_cursor::NameCursor;
 use crate::names::{default_name, symbol_field};
 use crate::numbers::Numbers;
-use crate::passed::Passed;
 use oc_base::NoMemory;
 use oc_coff::{
     IMAGE_COMDAT_SELECT_ANY, IMAGE_COMDAT_SELECT_ASSOCIATIVE, IMAGE_SYM_CLASS_STATIC,
@@ -51,7 +51,7 @@ pub(crate) enum Entry {
 
 /// What is made of an object before its entries.
 #[derive(Clone, Copy)]
-pub(crate) struct Made<'a> {
+pub(crate) struct EntryInputs<'a> {
     /// For each section the position of the key symbol that lies in it.
     pub(crate) keys: &'a [Option<u32>],
     /// For each group the position of the section that leads it.
@@ -171,7 +171,7 @@ fn reloc_count(neutral: &Neutral, position: u32) -> usize
 }
 
 // the auxiliary entry of the symbol of the section at a position
-fn section_aux(neutral: &Neutral, made: Made<'_>, position: u32) -> SectionAux
+fn section_aux(neutral: &Neutral, made: EntryInputs<'_>, position: u32) -> SectionAux
     requires there { position < length neutral.now.sections }
     requires few { length neutral.now.sections < 2 ^ 31 }
     requires made { IsMadeOf (form_for neutral.now.format) neutral.now made }
@@ -194,7 +194,7 @@ fn section_aux(neutral: &Neutral, made: Made<'_>, position: u32) -> SectionAux
 fn add_section(
     entries: &mut Vec<Entry>,
     neutral: &Neutral,
-    made: Made<'_>,
+    made: EntryInputs<'_>,
     near: usize,
     position: u32,
 ) -> Result<(), NoMemory>
@@ -275,7 +275,7 @@ fn add_line(
     alloc: Global,
     entries: &mut Vec<Entry>,
     neutral: &Neutral,
-    made: Made<'_>,
+    made: EntryInputs<'_>,
     near: usize,
     line: Line,
 ) -> Result<(), NoMemory>
@@ -300,13 +300,13 @@ fn add_line(
     }
 }
 
-/// The entries of these lines of an object, of which the rest was made. `NoMemory` where memory ran out.
-/// Linear in the lines and relocations, but for looking up names in the string table, each where the
-/// next given one stands.
+/// The entries of these lines of an object, of which the rest was made. `NoMemory` where memory ran
+/// out. Linear in the lines and relocations, but for looking up names in the string table, each at
+/// the position of the next given one.
 pub(crate) fn entries_of(
     alloc: Global,
     neutral: &Neutral,
-    made: Made<'_>,
+    made: EntryInputs<'_>,
     lines: &[Line],
 ) -> Result<Vec<Entry>, NoMemory>
     requires coff { container_of neutral.now.format ≡ IsCoff }
@@ -318,7 +318,7 @@ pub(crate) fn entries_of(
 {
     neutral.is_object();
     let mut entries = Vec::with_capacity(alloc, made.numbers.count() as usize)?;
-    let mut passed = Passed::none(neutral.sections());
+    let mut passed = NameCursor::none(neutral.sections());
     for line in lines {
         let near = passed.near(*line);
         add_line(alloc, &mut entries, neutral, made, near, *line)?;

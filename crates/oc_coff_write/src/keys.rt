@@ -67,7 +67,7 @@ fn key_place(neutral: &Neutral, symbol: &Symbol) -> Option<u32>
     }
 }
 
-// gives a value to the entry at a position, where that is there and has none yet
+// gives a value to the entry at a position, where that exists and has none yet
 fn note(table: &mut Vec<Option<u32>>, at: Option<u32>, value: u32)
     ensures noted { (k : ℕ) → k < length table.old.items → slice_index_or table.new.items k None ≡ option_or (slice_index_or table.old.items k None) (if option_map_or (nat_eq k) at false then Some value else None) }
     ensures counted { length table.new.items ≡ length table.old.items }

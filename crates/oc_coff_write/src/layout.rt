@@ -22,7 +22,7 @@ use oc_shelf::Layout;
 use oc_strings::Table;
 use std::alloc::Global;
 
-// lays a part of so many bytes behind the last
+// lays a part of so many bytes after the last
 fn lay(layout: &mut Layout, size: usize) -> Result<(), NoMemory>
     requires { layout.old.end + size < 2 ^ 32 }
     ensures { OnOk result ((w : Width) (n : Object) (xs : List Part) (x : Part) → AreLaid w n layout.old xs → part_size w n x ≡ size → AreLaid w n layout.new (xs ++ x ∷ [])) }
@@ -31,7 +31,7 @@ fn lay(layout: &mut Layout, size: usize) -> Result<(), NoMemory>
     Ok(())
 }
 
-// lays the parts of the sections behind the headers
+// lays the parts of the sections after the headers
 fn lay_sections(
     layout: &mut Layout,
     form: CoffForm,

@@ -1,4 +1,4 @@
-//! The lines of the symbol table: what stands in it, in its order (PE/COFF, "COFF Symbol Table"; our
+//! The lines of the symbol table: what it contains, in its order (PE/COFF, "COFF Symbol Table"; our
 //! profile).
 ghost use Rattle.std.specs.Prelude.{◌≡◌, ◌++◌, [], ◌∷◌, if◌then◌else◌, flat_map, map, Some, IfOk, OnOk};
 ghost use Rattle.std.specs.List.{enumerate_from};

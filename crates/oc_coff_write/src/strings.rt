@@ -40,7 +40,7 @@ pub(crate) fn is_given(neutral: &Neutral, line: Line) -> bool
     }
 }
 
-// gives the name of a line that is not a section's, where it stands in the table
+// gives the name of a line that is not a section's, if it is in the table
 fn give_line(
     alloc: Global,
     given: &mut Vec<Bytes>,
@@ -63,7 +63,7 @@ fn give_line(
     }
 }
 
-// gives the names of the sections that stand in the table
+// gives the names of the sections that are in the table
 fn give_sections(
     alloc: Global,
     given: &mut Vec<Bytes>,

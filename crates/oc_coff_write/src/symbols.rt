@@ -14,7 +14,7 @@ ghost use Rattle.oc_coff_write.specs.Lines.{AreLines};
 ghost use Rattle.oc_coff_write.specs.Numbers.{IsNumbered};
 ghost use Rattle.oc_coff_write.specs.Strings.{table_for};
 
-use crate::entries::{Entry, Made, entries_of};
+use crate::entries::{Entry, EntryInputs, entries_of};
 use crate::keys::{keys_of, leaders_of};
 use crate::lines::{Line, lines_of};
 use crate::numbers::Numbers;
@@ -55,7 +55,7 @@ fn numbered_entries(
 {
     let leaders = leaders_of(alloc, neutral)?;
     let numbers = Numbers::of(alloc, neutral, lines)?;
-    let made = Made {
+    let made = EntryInputs {
         keys,
         leaders: &leaders,
         names,

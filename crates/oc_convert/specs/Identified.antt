@@ -14,7 +14,7 @@ abbrev pub elf64_bytes : List ℕ
 elf64_bytes = 0x7F ∷ 0x45 ∷ 0x4C ∷ 0x46 ∷ 2 ∷ []
 
 -- a header of ELF of so many bytes, with e_shoff at a place and e_shnum and e_shstrndx at another: it is whole, there is a table of section
--- headers, and the number of headers or that of the header of their names stands in the table
+-- headers, and the number of headers or that of the header of their names is in the table
 abbrev pub is_extended : ℕ → ℕ → ℕ → ℕ → List ℕ → Bool
 is_extended size shoff width shnum file =
     nat_le size (length file) && not (nat_eq (number_at file shoff width) 0)

@@ -1,5 +1,5 @@
-//! Sections that are not kept are dropped from an object, with the Locals in them, or it is told
-//! why they cannot be.
+//! Sections that are not kept are dropped from an object, with the Locals in them, or the reason
+//! why they cannot be is returned.
 #![tactic(auto)]
 
 mod dropping;

@@ -38,7 +38,7 @@ shown_byte byte = if is_plain byte then byte ∷ [] else codes "\\x" ++ hex 2 by
 abbrev pub shown_name : List ℕ → List ℕ
 shown_name name = flat_map shown_byte name
 
--- ... what is said of a binding
+-- ... what is shown of a binding
 
 -- its letter
 abbrev pub letter : Binding → List ℕ
@@ -72,7 +72,7 @@ abbrev pub holder_shown : List Section → Value → List ℕ
 holder_shown sections (value.Place k offset) = section_shown sections k
 holder_shown sections (value.Absolute x) = codes "abs"
 
--- where it lies: in a section, at an absolute number, or nowhere that the object tells
+-- where it lies: in a section, at an absolute number, or nowhere that the object gives
 abbrev pub place_shown : List Section → Binding → List ℕ
 place_shown sections (Local v) = holder_shown sections v
 place_shown sections (Global v) = holder_shown sections v
@@ -84,7 +84,7 @@ place_shown sections (Weak (fallback.Name k)) = codes "-"
 
 -- ... the lines
 
--- what stands before the name: letter, value and section, each with a blank behind it
+-- what comes before the name: letter, value and section, each with a blank after it
 abbrev pub front_of : Word → List Section → Binding → List ℕ
 front_of word sections binding =
     letter binding ++ codes " " ++ hex (digit_count word) (value_shown binding) ++ codes " " ++ place_shown sections binding ++ codes " "

@@ -44,7 +44,7 @@ fn value_shown(binding: Binding) -> u64
     }
 }
 
-// puts the number of the section at a position behind the text
+// appends the number of the section at a position to the text
 fn put_section(out: &mut String, neutral: &Neutral, section: u32) -> Result<(), NoMemory>
     requires { section < length neutral.now.sections }
     ensures { OnOk result (string_bytes out.new ≡ string_bytes out.old ++ lines.section_shown neutral.now.sections section) }
@@ -54,7 +54,7 @@ fn put_section(out: &mut String, neutral: &Neutral, section: u32) -> Result<(), 
     Ok(())
 }
 
-// puts the place of a value behind the text
+// appends the place of a value to the text
 fn put_holder(out: &mut String, neutral: &Neutral, value: Value) -> Result<(), NoMemory>
     requires { IsValue neutral.now value }
     ensures { OnOk result (string_bytes out.new ≡ string_bytes out.old ++ lines.holder_shown neutral.now.sections value) }
@@ -65,7 +65,7 @@ fn put_holder(out: &mut String, neutral: &Neutral, value: Value) -> Result<(), N
     }
 }
 
-// puts the place of a binding behind the text
+// appends the place of a binding to the text
 fn put_place(out: &mut String, neutral: &Neutral, binding: Binding) -> Result<(), NoMemory>
     requires { IsBinding neutral.now binding }
     ensures { OnOk result (string_bytes out.new ≡ string_bytes out.old ++ lines.place_shown neutral.now.sections binding) }
@@ -79,7 +79,7 @@ fn put_place(out: &mut String, neutral: &Neutral, binding: Binding) -> Result<()
     }
 }
 
-// puts letter, value and section of a symbol behind the text
+// appends the letter, value and section of a symbol to the text
 fn put_front(out: &mut String, neutral: &Neutral, binding: Binding) -> Result<(), NoMemory>
     requires { IsBinding neutral.now binding }
     ensures { OnOk result (string_bytes out.new ≡ string_bytes out.old ++ lines.front_of (word_for neutral.now.format) neutral.now.sections binding) }
@@ -93,7 +93,7 @@ fn put_front(out: &mut String, neutral: &Neutral, binding: Binding) -> Result<()
     Ok(())
 }
 
-/// Puts the line of a symbol behind the text. Linear in its name.
+/// Appends the line of a symbol to the text. Linear in its name.
 #[tactic(auto, unfolding(crate::specs::Lines::line_of))]
 pub(crate) fn put_line(out: &mut String, neutral: &Neutral, symbol: &Symbol) -> Result<(), NoMemory>
     requires { IsBinding neutral.now symbol.now.binding }

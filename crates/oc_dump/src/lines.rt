@@ -21,13 +21,13 @@ fn name_bytes(neutral: &Neutral) -> Result<u64, NoMemory> {
 /// them and a newline at the end.
 ///
 /// The letter is L, G, U, C or W. The value is an offset in bytes, an absolute number, or the size
-/// of a common, in lower-case hexadecimal of 8 digits, or of 16 in an object of 64 bits; it is 0 for
-/// U and for a W without a place. The section is its number in the input, `abs`, or `-` for U, C and
-/// a W without a place. Bytes of a name that are no graphic characters of ASCII, and the backslash,
-/// are shown as `\x` and two digits. Linear in the number of symbols and the bytes of their names;
-/// takes memory for the text.
+/// of a common, in lower-case hexadecimal of 8 digits, or of 16 in an object of 64 bits; it is 0
+/// for U and for a W without a place. The section is its number in the input, `abs`, or `-` for U,
+/// C and a W without a place. Bytes of a name that are no graphic characters of ASCII, and the
+/// backslash, are shown as `\x` and two digits. Linear in the number of symbols and the bytes of
+/// their names; takes memory for the text.
 ///
-/// `NoMemory` where memory ran out, or where the names have more than 2^29 bytes, or as many stand
+/// `NoMemory` where memory ran out, or where the names have more than 2^29 bytes, or as many come
 /// before a name that is shown.
 #[tactic(auto, unfolding(crate::specs::Lines::symbol_lines_of))]
 pub fn symbol_lines(alloc: Global, neutral: &Neutral) -> Result<Bytes, NoMemory>

@@ -9,7 +9,7 @@ use Rattle.oc_neutral.specs.Dialects.{Dialect, IsDialect}
 use Rattle.oc_elf.specs.declared.class.ElfClass.{ElfClass}
 use Rattle.oc_elf.specs.declared.class.ElfClass.TheVariants.{Class32, Class64, Big32, Big64}
 use Rattle.oc_elf.specs.Classes.{word_of, format_of}
-use Rattle.oc_elf.specs.Frames.{Framed, framed}
+use Rattle.oc_elf.specs.Frames.{FileFrame, framed}
 use Rattle.oc_elf.specs.Headers.{header_stages}
 use Rattle.oc_elf.specs.CarriedSections.{sections_of}
 use Rattle.oc_elf.specs.SectionRules.{section_stage}
@@ -18,8 +18,8 @@ use Rattle.oc_elf.specs.SymbolRules.{symbol_stage}
 use Rattle.oc_elf.specs.RelocRules.{reloc_stages}
 use Rattle.oc_elf.specs.Fields.{field_at}
 
--- the stages of reading behind the file header, in their order
-abbrev pub rest_stages : Framed → Keep → List Stage
+-- the stages of reading after the file header, in their order
+abbrev pub rest_stages : FileFrame → Keep → List Stage
 rest_stages f keep = section_stage f ∷ symbol_stage f ∷ reloc_stages f keep
 
 -- all stages

@@ -10,15 +10,15 @@ use Rattle.oc_elf.specs.declared.constants.TheConstants.{SHN_UNDEF, STB_LOCAL, S
 use Rattle.oc_elf.specs.declared.sym.Sym.{Sym}
 use Rattle.oc_elf.specs.Sym.{bind_of, type_of}
 use Rattle.oc_elf.specs.Names.{name_in}
-use Rattle.oc_elf.specs.Frames.{Framed, header_at}
+use Rattle.oc_elf.specs.Frames.{FileFrame, header_at}
 use Rattle.oc_elf.specs.Tables.{symtab_of}
 
--- the name of a symbol, if it is there
-unfoldable pub name_at : Framed → Sym → Option (List ℕ)
+-- the name of a symbol, if it is present
+unfoldable pub name_at : FileFrame → Sym → Option (List ℕ)
 name_at f s = name_in f.file (header_at f.headers (symtab_of f).sh_link) s.st_name
 
 -- the name of a symbol
-abbrev pub name_of : Framed → Sym → List ℕ
+abbrev pub name_of : FileFrame → Sym → List ℕ
 name_of f s = unwrap_or (name_at f s) []
 
 -- it is LOCAL

@@ -16,31 +16,31 @@ use Rattle.oc_base.specs.declared.format.Word.TheVariants.{W32, W64}
 use Rattle.oc_elf.specs.declared.constants.TheConstants.{R_NONE}
 use Rattle.oc_elf.specs.declared.rel.Rel.{Rel}
 use Rattle.oc_elf.specs.Classes.{word_of, format_of}
-use Rattle.oc_elf.specs.Frames.{Framed}
+use Rattle.oc_elf.specs.Frames.{FileFrame}
 use Rattle.oc_elf.specs.Tables.{symbol_count, entry_of, reloc_count, reloc_of}
 use Rattle.oc_elf.specs.Entries.{is_section_symbol}
 use Rattle.oc_elf.specs.CarriedSections.{sections_of}
 use Rattle.oc_elf.specs.CarriedSymbols.{symbol_of, home_of}
 
--- an entry that says nothing
+-- an entry that has no effect
 abbrev pub is_idle : Rel → Bool
 is_idle r = nat_eq r.r_type R_NONE
 
 -- the row of its type
-abbrev pub row_for : Framed → Rel → Option Row
+abbrev pub row_for : FileFrame → Rel → Option Row
 row_for f r = row_of (format_of f.class) r.r_type
 
 -- how many bytes its field has
-abbrev pub width_of : Framed → Rel → ℕ
+abbrev pub width_of : FileFrame → Rel → ℕ
 width_of f r = option_map_or (λ (row : Row). bytes_of row.width) (row_for f r) 0
 
--- the number that is added: it stands in the field, or in the entry
+-- the number that is added: it is in the field, or in the entry
 abbrev pub addend_in : Word → Row → List ℕ → Rel → ℤ
 addend_in W32 row contents r = number_in row contents r.r_offset
 addend_in W64 row contents r = extended Eight r.r_addend
 
 -- what symbol j stands for: a section's own symbol for a place in its section, a carried one for itself; entry 0 for nothing
-unfoldable pub target_of : Framed → ℕ → Option Target
+unfoldable pub target_of : FileFrame → ℕ → Option Target
 target_of f j =
     if nat_eq j 0 || not (nat_lt j (symbol_count f)) then None
     else (
@@ -49,21 +49,21 @@ target_of f j =
     )
 
 -- the field of an entry with that row, for the section at position s with these contents; no row of ELF takes a section
-abbrev pub field_with : Framed → ℕ → List ℕ → Rel → Row → Target → Field
+abbrev pub field_with : FileFrame → ℕ → List ℕ → Rel → Row → Target → Field
 field_with f s contents r row target = row_field (word_of f.class) row 0 (addend_in (word_of f.class) row contents r) s r.r_offset target
 
 -- where its type has a row, and its symbol can be a target
-unfoldable pub field_by : Framed → ℕ → List ℕ → Rel → Option Field
+unfoldable pub field_by : FileFrame → ℕ → List ℕ → Rel → Option Field
 field_by f s contents r = option_and_then (λ row. option_map (field_with f s contents r row) (target_of f r.r_sym)) (row_for f r)
 
 -- entry k of the relocation table of section i, where its field begins at an offset
-abbrev pub entry_at : Framed → ℕ → ℕ → ℕ → Option Rel
+abbrev pub entry_at : FileFrame → ℕ → ℕ → ℕ → Option Rel
 entry_at f i at k = if nat_eq (reloc_of f i k).r_offset at && not (is_idle (reloc_of f i k)) then Some (reloc_of f i k) else None
 
 -- the first entry whose field begins there
-unfoldable pub rel_at : Framed → ℕ → ℕ → Option Rel
+unfoldable pub rel_at : FileFrame → ℕ → ℕ → Option Rel
 rel_at f i at = first_upto (entry_at f i at) (reloc_count f i)
 
 -- the field at an offset of the section at position s
-unfoldable pub field_at : Framed → ℕ → ℕ → Option Field
+unfoldable pub field_at : FileFrame → ℕ → ℕ → Option Field
 field_at f s at = option_and_then (λ (x : parts.Section). option_and_then (field_by f s x.contents) (rel_at f x.number at)) (slice_get (sections_of f) s)

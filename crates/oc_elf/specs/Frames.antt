@@ -10,7 +10,7 @@ use Rattle.oc_elf.specs.Classes.{is_big, word_of}
 use Rattle.oc_elf.specs.Ehdr.{ehdr_in}
 use Rattle.oc_elf.specs.Shdr.{shdr_in, shdr_size, null_shdr}
 
--- header 0 as it stands: where sections are many, it has the numbers for which the file header has no room
+-- header 0 as it is stored: where sections are many, it has the numbers for which the file header has no room
 abbrev pub zero_in : Word → List ℕ → Shdr
 zero_in word file = shdr_in word file (ehdr_in word file).e_shoff
 
@@ -36,11 +36,11 @@ names_by class h zero = if is_big class then big_names h zero else h.e_shstrndx
 abbrev pub names_number : ElfClass → List ℕ → ℕ
 names_number class file = names_by class (ehdr_in (word_of class) file) (zero_in (word_of class) file)
 
--- where section header k stands
+-- where section header k lies
 abbrev pub header_place : Word → List ℕ → ℕ → ℕ
 header_place word file k = (ehdr_in word file).e_shoff + shdr_size word * k
 
--- section header k; the first is that of no section, whatever stands there
+-- section header k; the first is that of no section, whatever is stored there
 unfoldable pub header_of : Word → List ℕ → ℕ → Shdr
 header_of word file k = if nat_eq k 0 then null_shdr else shdr_in word file (header_place word file k)
 
@@ -53,14 +53,14 @@ abbrev pub header_at : List Shdr → ℕ → Shdr
 header_at headers k = slice_index_or headers k null_shdr
 
 -- a file with its section headers, and the one of the names of sections
-pub record Framed : Type 0 where
+pub record FileFrame : Type 0 where
   pub class : ElfClass
   pub file : List ℕ
   pub headers : List Shdr
   pub names : Shdr
 
 -- the file as one
-unfoldable pub framed : ElfClass → List ℕ → Framed
+unfoldable pub framed : ElfClass → List ℕ → FileFrame
 framed class file = record {
   class = class;
   file = file;

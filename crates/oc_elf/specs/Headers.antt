@@ -45,7 +45,7 @@ plain_conditions word size h =
     ∷ []
     ) else []
 
--- where sections are many: header 0 is there, and tells a number
+-- where sections are many: header 0 is present, and gives a number
 abbrev pub big_conditions : Word → ℕ → Ehdr → Shdr → List Condition
 big_conditions word size h zero =
     (not (nat_eq h.e_shentsize (shdr_size word)), header_fault BadHeader 0)

@@ -22,7 +22,7 @@ use Rattle.oc_elf.specs.Classes.{is_big, reloc_type, foreign_type, word_of}
 use Rattle.oc_elf.specs.Sym.{sym_size}
 use Rattle.oc_elf.specs.Rel.{rel_size}
 use Rattle.oc_elf.specs.Names.{name_in}
-use Rattle.oc_elf.specs.Frames.{Framed, header_at, header_place}
+use Rattle.oc_elf.specs.Frames.{FileFrame, header_at, header_place}
 use Rattle.oc_elf.specs.Sections.{is_type, is_carried, kind_of, shndx_number, table_among, symtab_among}
 use Rattle.oc_elf.specs.Tables.{entry_count}
 use Rattle.oc_elf.specs.Groups.{group_word, member_count, member_at, has_member, owner_among}
@@ -50,25 +50,25 @@ abbrev pub has_entries : ℕ → Shdr → Bool
 has_entries size s = nat_eq s.sh_entsize size && nat_eq (s.sh_size % size) 0
 
 -- a number that no section can be a member by, or that is a member of a group before, or twice: member i of the group with header k
-unfoldable pub is_bad_member : Framed → ℕ → Shdr → ℕ → Bool
+unfoldable pub is_bad_member : FileFrame → ℕ → Shdr → ℕ → Bool
 is_bad_member f k s i =
     nat_eq (member_at f s i) 0 || nat_le (length f.headers) (member_at f s i) || has_member f s i (member_at f s i) || is_some (owner_among f k (member_at f s i))
 
 -- words of four bytes, at least one, with a symbol of a symbol table for a signature
-unfoldable pub is_good_group : Framed → Shdr → Bool
+unfoldable pub is_good_group : FileFrame → Shdr → Bool
 is_good_group f s =
     has_entries GRP_ENTRY_SIZE s && nat_le GRP_ENTRY_SIZE s.sh_size && is_type SHT_SYMTAB (header_at f.headers s.sh_link) && not (nat_eq s.sh_info 0)
     && nat_lt s.sh_info (entry_count f (header_at f.headers s.sh_link))
 
 -- a kind of section that is left out: thread-local, compressed, ordered by another, zeros that are not allocated, relocations in the
 -- form of the other word, and what is allocated and of a type that has no name here
-unfoldable pub is_left_out : Framed → Shdr → Bool
+unfoldable pub is_left_out : FileFrame → Shdr → Bool
 is_left_out f s =
     has_flag s SHF_TLS || has_flag s SHF_COMPRESSED || has_flag s SHF_LINK_ORDER || is_type SHT_NOBITS s && not (has_flag s SHF_ALLOC)
     || is_type (foreign_type (word_of f.class)) s || not (list_any (nat_eq s.sh_type) known_types) && has_flag s SHF_ALLOC
 
 -- the conditions on each header
-unfoldable pub form_conditions : Framed → ℕ → ℕ → Shdr → List Condition
+unfoldable pub form_conditions : FileFrame → ℕ → ℕ → Shdr → List Condition
 form_conditions f k place s =
     (has_bytes s && nat_lt (length f.file) (s.sh_offset + s.sh_size), section_fault Short k s.sh_offset)
     ∷ (not (is_some (name_in f.file f.names s.sh_name)), section_fault BadName k place)
@@ -78,7 +78,7 @@ form_conditions f k place s =
 -- ... groups
 
 -- the conditions on groups; a first word other than 0 and COMDAT has a meaning that is not known here
-unfoldable pub group_conditions : Framed → ℕ → ℕ → Shdr → List Condition
+unfoldable pub group_conditions : FileFrame → ℕ → ℕ → Shdr → List Condition
 group_conditions f k place s =
     if is_type SHT_GROUP s then (
     (not (is_good_group f s), section_fault BadTable k place)
@@ -90,24 +90,24 @@ group_conditions f k place s =
 -- ... tables
 
 -- a symbol table with whole entries, its names in a string table, and none before it
-unfoldable pub is_good_symtab : Framed → ℕ → Shdr → Bool
+unfoldable pub is_good_symtab : FileFrame → ℕ → Shdr → Bool
 is_good_symtab f k s = has_entries (sym_size (word_of f.class)) s && is_type SHT_STRTAB (header_at f.headers s.sh_link) && not (is_some (symtab_among f k))
 
--- a relocation table with whole entries, its symbols in a symbol table, of a section that is there and has none before it
-unfoldable pub is_good_table : Framed → ℕ → Shdr → Bool
+-- a relocation table with whole entries, its symbols in a symbol table, of a section that exists and has no such table before it
+unfoldable pub is_good_table : FileFrame → ℕ → Shdr → Bool
 is_good_table f k s =
     has_entries (rel_size (word_of f.class)) s && is_type SHT_SYMTAB (header_at f.headers s.sh_link) && nat_lt s.sh_info (length f.headers)
     && not (is_some (table_among f k s.sh_info))
 
 -- a table of section numbers with whole entries, one for each symbol of a symbol table, and none before it
-unfoldable pub is_good_shndx : Framed → ℕ → Shdr → Bool
+unfoldable pub is_good_shndx : FileFrame → ℕ → Shdr → Bool
 is_good_shndx f k s =
     has_entries SHNDX_SIZE s && is_type SHT_SYMTAB (header_at f.headers s.sh_link)
     && nat_le ((header_at f.headers s.sh_link).sh_size / sym_size (word_of f.class)) (s.sh_size / SHNDX_SIZE)
     && option_map_or (λ j. nat_eq j k) (shndx_number f.class f.headers) false
 
 -- the conditions on kinds and on tables
-unfoldable pub table_conditions : Framed → ℕ → ℕ → Shdr → List Condition
+unfoldable pub table_conditions : FileFrame → ℕ → ℕ → Shdr → List Condition
 table_conditions f k place s =
     (is_left_out f s, section_fault SectionKind k place)
     ∷ (is_type SHT_SYMTAB s && not (is_good_symtab f k s), section_fault BadTable k place)
@@ -126,10 +126,10 @@ abbrev pub is_alignment : ℕ → Bool
 is_alignment a = nat_eq a 0 || is_power 63 a
 
 -- what a section counts against the limit on sizes, and against that on bytes
-abbrev pub size_counted : Framed → ℕ → ℕ
+abbrev pub size_counted : FileFrame → ℕ → ℕ
 size_counted f k = if is_carried (header_at f.headers k) then (header_at f.headers k).sh_size else 0
 
-abbrev pub bytes_counted : Framed → ℕ → ℕ
+abbrev pub bytes_counted : FileFrame → ℕ → ℕ
 bytes_counted f k =
     if is_carried (header_at f.headers k) && not (is_zero (kind_of f (header_at f.headers k))) then (header_at f.headers k).sh_size else 0
 
@@ -146,7 +146,7 @@ limits_by k size sizes bytes =
     ∷ []
 
 -- the conditions on carried sections
-unfoldable pub carried_conditions : Framed → ℕ → ℕ → Shdr → List Condition
+unfoldable pub carried_conditions : FileFrame → ℕ → ℕ → Shdr → List Condition
 carried_conditions f k place s =
     if is_carried s then (
     (not (is_alignment s.sh_addralign), section_fault BadAlign k place)
@@ -157,13 +157,13 @@ carried_conditions f k place s =
 -- ... all
 
 -- the conditions on a section, in four lists
-unfoldable pub conditions_on : Framed → ℕ → ℕ → Shdr → List Condition
+unfoldable pub conditions_on : FileFrame → ℕ → ℕ → Shdr → List Condition
 conditions_on f k place s = form_conditions f k place s ++ (group_conditions f k place s ++ (table_conditions f k place s ++ carried_conditions f k place s))
 
 -- the conditions on section k; header 0 is that of no section
-unfoldable pub section_conditions : Framed → ℕ → List Condition
+unfoldable pub section_conditions : FileFrame → ℕ → List Condition
 section_conditions f k = if nat_eq k 0 then [] else conditions_on f k (header_place (word_of f.class) f.file k) (header_at f.headers k)
 
 -- the stage of section headers
-abbrev pub section_stage : Framed → Stage
+abbrev pub section_stage : FileFrame → Stage
 section_stage f = record { count = length f.headers; conditions = section_conditions f }

@@ -11,7 +11,7 @@ use Rattle.oc_elf.specs.Classes.{is_big, reloc_type, word_of}
 use Rattle.oc_elf.specs.declared.class.ElfClass.{ElfClass}
 use Rattle.oc_elf.specs.Shdr.{null_shdr}
 use Rattle.oc_elf.specs.Names.{name_in}
-use Rattle.oc_elf.specs.Frames.{Framed, header_at}
+use Rattle.oc_elf.specs.Frames.{FileFrame, header_at}
 
 -- the section is of that type
 abbrev pub is_type : ℕ → Shdr → Bool
@@ -22,27 +22,27 @@ abbrev pub is_carried : Shdr → Bool
 is_carried s = is_carried_type s.sh_type
 
 -- the name of a section
-abbrev pub section_name : Framed → Shdr → List ℕ
+abbrev pub section_name : FileFrame → Shdr → List ℕ
 section_name f s = unwrap_or (name_in f.file f.names s.sh_name) []
 
 -- its kind, where it is carried
-abbrev pub kind_of : Framed → Shdr → Kind
+abbrev pub kind_of : FileFrame → Shdr → Kind
 kind_of f s = elf_kind (section_name f s) s.sh_type s.sh_flags
 
 -- its contents: zeros where it takes no bytes of the file
-abbrev pub contents_of : Framed → Shdr → List ℕ
+abbrev pub contents_of : FileFrame → Shdr → List ℕ
 contents_of f s = if is_type SHT_NOBITS s then replicate s.sh_size 0 else take s.sh_size (drop s.sh_offset f.file)
 
 -- the section whose relocations section k has, where it is a relocation table
-abbrev pub relocated_by : Framed → ℕ → Option ℕ
+abbrev pub relocated_by : FileFrame → ℕ → Option ℕ
 relocated_by f k = if is_type (reloc_type (word_of f.class)) (header_at f.headers k) then Some (header_at f.headers k).sh_info else None
 
 -- the first relocation table of section j, among the first n headers
-abbrev pub table_among : Framed → ℕ → ℕ → Option ℕ
+abbrev pub table_among : FileFrame → ℕ → ℕ → Option ℕ
 table_among f n j = first_keyed (relocated_by f) n j
 
 -- the first symbol table among the first n headers
-abbrev pub symtab_among : Framed → ℕ → Option ℕ
+abbrev pub symtab_among : FileFrame → ℕ → Option ℕ
 symtab_among f n = first_place (λ k. is_type SHT_SYMTAB (header_at f.headers k)) n
 
 -- the first table of section numbers among the first n of these headers

@@ -44,11 +44,11 @@ shdr_numbers word s =
 unfoldable pub shdr_bytes : Word → Shdr → List ℕ
 shdr_bytes word s = packed (shdr_numbers word s)
 
--- the section number stands elsewhere
+-- the section number is stored elsewhere
 abbrev pub is_told : ℕ → Bool
 is_told m = not (nat_lt m FIRST_TOLD) && nat_lt m SHN_LORESERVE
 
--- in the entry of a symbol: the number, or that it stands elsewhere
+-- in the entry of a symbol: the number, or that it is stored elsewhere
 abbrev pub stored_index : ElfClass → ℕ → ℕ
 stored_index class m = if is_big class && is_told m then SHN_XINDEX else m % 2 ^ 16
 

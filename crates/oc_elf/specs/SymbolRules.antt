@@ -15,7 +15,7 @@ use Rattle.oc_elf.specs.declared.constants.TheConstants.{SHN_LORESERVE}
 use Rattle.oc_elf.specs.declared.constants.TheConstants.{ZERO_TOLD, SHN_UNDEF, SHN_ABS, SHN_COMMON, STB_WEAK, STT_FILE, STT_COMMON}
 use Rattle.oc_elf.specs.declared.sym.Sym.{Sym}
 use Rattle.oc_elf.specs.Sym.{bind_of, type_of}
-use Rattle.oc_elf.specs.Frames.{Framed, header_at}
+use Rattle.oc_elf.specs.Frames.{FileFrame, header_at}
 use Rattle.oc_elf.specs.Sections.{is_carried}
 use Rattle.oc_elf.specs.SectionRules.{is_power}
 use Rattle.oc_elf.specs.Tables.{symtab_of, symbol_count, symbol_place, entry_of}
@@ -44,7 +44,7 @@ is_odd_symbol s =
     || is_section_symbol s && not (is_local_entry s) || is_reserved s
 
 -- the conditions that a symbol meets by its name, binding, type and section
-abbrev pub kind_conditions : Framed → ℕ → ℕ → Sym → List Condition
+abbrev pub kind_conditions : FileFrame → ℕ → ℕ → Sym → List Condition
 kind_conditions f k place s =
     (not (is_some (name_at f s)), symbol_fault BadName k place)
     ∷ (not (agree (is_local_entry s) (nat_lt k (symtab_of f).sh_info)), symbol_fault BadSymbol k place)
@@ -53,7 +53,7 @@ kind_conditions f k place s =
     ∷ []
 
 -- and by its value
-abbrev pub value_conditions : Framed → ℕ → ℕ → Sym → List Condition
+abbrev pub value_conditions : FileFrame → ℕ → ℕ → Sym → List Condition
 value_conditions f k place s =
     (is_sectional s && not (is_local_entry s) && not (is_carried (header_at f.headers s.st_shndx)), symbol_fault SymbolKind k place)
     ∷ (is_sectional s && nat_lt (header_at f.headers s.st_shndx).sh_size s.st_value, symbol_fault SymbolPastEnd k place)
@@ -62,15 +62,15 @@ value_conditions f k place s =
     ∷ []
 
 -- the conditions that a symbol meets by itself
-unfoldable pub entry_conditions : Framed → ℕ → ℕ → Sym → List Condition
+unfoldable pub entry_conditions : FileFrame → ℕ → ℕ → Sym → List Condition
 entry_conditions f k place s = kind_conditions f k place s ++ value_conditions f k place s
 
 -- the name of symbol k, where it is nonlocal; entry 0 is no symbol
-abbrev pub public_name : Framed → ℕ → Option (List ℕ)
+abbrev pub public_name : FileFrame → ℕ → Option (List ℕ)
 public_name f k = if nat_eq k 0 || is_local_entry (entry_of f k) then None else Some (name_of f (entry_of f k))
 
 -- those of all symbols
-abbrev pub public_names : Framed → NameList
+abbrev pub public_names : FileFrame → NameList
 public_names f = map (public_name f) (range_with_len 0 (symbol_count f))
 
 -- a repeat ends at a position
@@ -78,25 +78,25 @@ abbrev pub ends_at : Option Repeat → ℕ → Bool
 ends_at found k = option_map_or (λ (r : Repeat). nat_eq r.later k) found false
 
 -- header g is a one-definition group without a key, or with that of one before
-abbrev pub is_bad_key : Framed → ℕ → Bool
+abbrev pub is_bad_key : FileFrame → ℕ → Bool
 is_bad_key f g = option_map_or (λ key. bytes_eq key []) (comdat_key f g) false || is_some (repeat_at (comdat_keys f) g)
 
 -- symbol k is the signature of such a group, among the first n headers
-abbrev pub is_bad_signature : Framed → ℕ → ℕ → Bool
+abbrev pub is_bad_signature : FileFrame → ℕ → ℕ → Bool
 is_bad_signature f n k = any_upto (λ g. is_comdat f g && nat_eq (header_at f.headers g).sh_info k && is_bad_key f g) n
 
 -- the conditions that a symbol meets beside others: its name is no other's, and it names no group in vain
-abbrev pub other_conditions : Framed → ℕ → ℕ → List Condition
+abbrev pub other_conditions : FileFrame → ℕ → ℕ → List Condition
 other_conditions f k place =
     (is_some (repeat_at (public_names f) k), symbol_fault DuplicateName k place)
     ∷ (is_bad_signature f (length f.headers) k, symbol_fault Group k place)
     ∷ []
 
 -- the conditions on symbol k
-unfoldable pub symbol_conditions : Framed → ℕ → List Condition
+unfoldable pub symbol_conditions : FileFrame → ℕ → List Condition
 symbol_conditions f k =
     if nat_eq k 0 then [] else entry_conditions f k (symbol_place f k) (entry_of f k) ++ other_conditions f k (symbol_place f k)
 
 -- the stage of symbols
-abbrev pub symbol_stage : Framed → Stage
+abbrev pub symbol_stage : FileFrame → Stage
 symbol_stage f = record { count = symbol_count f; conditions = symbol_conditions f }

@@ -40,21 +40,22 @@ pub const GRP_ENTRY_SIZE: u64 = 4;
 
 /// No section (gABI, "Special Section Indexes").
 pub const SHN_UNDEF: u32 = 0;
-/// The first of the numbers that are no section's; those of 16 bits stand with their sign in 32 (gABI,
+/// The first of the numbers that are no section's; those of 16 bits are sign-extended to 32 (gABI,
 /// "Special Section Indexes").
 pub const SHN_LORESERVE: u32 = 0xFFFF_FF00;
 /// The value is absolute (gABI, "Special Section Indexes").
 pub const SHN_ABS: u32 = 0xFFFF_FFF1;
 /// The symbol is a common (gABI, "Special Section Indexes").
 pub const SHN_COMMON: u32 = 0xFFFF_FFF2;
-/// The number stands elsewhere (gABI, "Special Section Indexes").
+/// The number is stored elsewhere (gABI, "Special Section Indexes").
 pub const SHN_XINDEX: u16 = 0xFFFF;
 
 /// That number with its sign in 32 bits.
 pub const INDEX_TOLD: u32 = 0xFFFF_FFFF;
-/// The number of no section header, for a number that is told and that no header can have.
+/// The number of no section header, for a number that is stored elsewhere and that no header can
+/// have.
 pub const NO_INDEX: u32 = 0xFFFF_FEFF;
-/// The number for header 0, where that is told.
+/// The number for header 0, where that number is stored elsewhere.
 pub const ZERO_TOLD: u32 = 0xFFFF_FEFE;
 /// The size of an entry of the table of section numbers, in bytes (gABI, "Sections").
 pub const SHNDX_SIZE: u64 = 4;
@@ -74,7 +75,7 @@ pub const STT_FILE: u8 = 4;
 /// A common (gABI, "Symbol Table").
 pub const STT_COMMON: u8 = 5;
 
-/// A relocation that says nothing: R_386_NONE and R_X86_64_NONE (i386 and x86-64 psABI,
+/// A relocation that has no effect: R_386_NONE and R_X86_64_NONE (i386 and x86-64 psABI,
 /// "Relocation Types").
 pub const R_NONE: u32 = 0;
 
@@ -93,8 +94,8 @@ pub const SHF_INFO_LINK: u64 = 0x40;
 /// The section is a member of a group (gABI, "Section Groups").
 pub const SHF_GROUP: u64 = 0x200;
 
-/// The first section number that is a reserved one in 16 bits, so that a section's stands elsewhere from
-/// there on (gABI, "Special Section Indexes").
+/// The first section number that is a reserved one in 16 bits, so that a section's number is stored
+/// elsewhere from it on (gABI, "Special Section Indexes").
 pub const FIRST_TOLD: u32 = oc_neutral::elf::SHN_LORESERVE as u32;
 
 /// A symbol that all files see (gABI, "Symbol Table").
@@ -102,6 +103,6 @@ pub const STB_GLOBAL: u8 = 1;
 /// A symbol of no type (gABI, "Symbol Table").
 pub const STT_NOTYPE: u8 = 0;
 
-/// The contents of a section stand at a multiple of its alignment, but of no more than this (our
+/// The contents of a section lie at a multiple of its alignment, but of no more than this (our
 /// profile).
 pub const MOST_FILE_ALIGN: u32 = 16;

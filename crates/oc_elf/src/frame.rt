@@ -35,10 +35,10 @@ pub struct Frame<'a> {
 }
 
 impl<'a> Model for Frame<'a> {
-    ghost use Rattle.oc_elf.specs.Frames.{Framed};
+    ghost use Rattle.oc_elf.specs.Frames.{FileFrame};
     ghost use Rattle.oc_elf.specs.Laid.{IsLaid};
 
-    ghost Value = { Framed };
+    ghost Value = { FileFrame };
 
     ghost view = { λ f. record { class = f.class; file = f.file.now; headers = f.headers.items; names = f.names } };
 
@@ -110,7 +110,7 @@ impl<'a> Frame<'a> {
         }
     }
 
-    /// Where a section header stands, in bytes from the start of the file. Constant time.
+    /// Where a section header lies, in bytes from the start of the file. Constant time.
     pub fn place(&self, k: u32) -> u64
         requires { k < length self.now.headers }
         ensures { result ≡ frames.header_place (word_of self.now.class) self.now.file k }
@@ -172,7 +172,8 @@ fn header_among(headers: &[Shdr], k: u32) -> Shdr
     headers[k as usize]
 }
 
-/// The first of two numbers that is there, where the second is there if a test passes. Constant time.
+/// The first of two numbers that is present, where the second is present if a test passes. Constant
+/// time.
 pub fn first_of(before: Option<u32>, passes: bool, k: u32) -> Option<u32>
     ensures { result ≡ or_else before (if passes then Some k else None) }
 {

@@ -16,7 +16,14 @@ mod structures;
 mod sym;
 
 pub use class::{ElfClass, foreign_type, machine_of, reloc_type};
-pub use constants::{ELFCLASS32, ELFCLASS64, ELFDATA2LSB, ET_REL, EV_CURRENT, FIRST_TOLD, GRP_COMDAT, GRP_ENTRY_SIZE, INDEX_TOLD, MOST_FILE_ALIGN, MOST_SIZE, MOST_SIZES, NO_INDEX, R_NONE, SHF_COMPRESSED, SHF_GROUP, SHF_INFO_LINK, SHF_LINK_ORDER, SHF_TLS, SHNDX_SIZE, SHN_ABS, SHN_COMMON, SHN_LORESERVE, SHN_UNDEF, SHN_XINDEX, SHT_GROUP, SHT_NULL, SHT_REL, SHT_RELA, SHT_STRTAB, SHT_SYMTAB, SHT_SYMTAB_SHNDX, STB_GLOBAL, STB_LOCAL, STB_WEAK, STT_COMMON, STT_FILE, STT_FUNC, STT_NOTYPE, STT_OBJECT, STT_SECTION, ZERO_TOLD};
+pub use constants::{
+    ELFCLASS32, ELFCLASS64, ELFDATA2LSB, ET_REL, EV_CURRENT, FIRST_TOLD, GRP_COMDAT,
+    GRP_ENTRY_SIZE, INDEX_TOLD, MOST_FILE_ALIGN, MOST_SIZE, MOST_SIZES, NO_INDEX, R_NONE,
+    SHF_COMPRESSED, SHF_GROUP, SHF_INFO_LINK, SHF_LINK_ORDER, SHF_TLS, SHN_ABS, SHN_COMMON,
+    SHN_LORESERVE, SHN_UNDEF, SHN_XINDEX, SHNDX_SIZE, SHT_GROUP, SHT_NULL, SHT_REL, SHT_RELA,
+    SHT_STRTAB, SHT_SYMTAB, SHT_SYMTAB_SHNDX, STB_GLOBAL, STB_LOCAL, STB_WEAK, STT_COMMON,
+    STT_FILE, STT_FUNC, STT_NOTYPE, STT_OBJECT, STT_SECTION, ZERO_TOLD,
+};
 pub use ehdr::{Ehdr, ehdr_of, ehdr_size};
 pub use frame::{Frame, first_of, read_frame};
 pub use kind::{has, is_carried_type, kind_by};
@@ -24,5 +31,7 @@ pub use meaning::{Meaning, meaning_of};
 pub use names::{name_cost, name_in};
 pub use rel::{Rel, rel_at, rel_size};
 pub use shdr::{Shdr, null_shdr, shdr_at, shdr_size};
-pub use structures::{has_room, pack_ehdr, pack_index, pack_rel, pack_shdr, pack_sym, pack_word, word_bytes};
+pub use structures::{
+    has_room, pack_ehdr, pack_index, pack_rel, pack_shdr, pack_sym, pack_word, word_bytes,
+};
 pub use sym::{Sym, sym_at, sym_size};

@@ -21,8 +21,8 @@ fn table_of<'a>(file: &'a [u8], table: &Shdr) -> &'a [u8]
     &rest[..table.sh_size as usize]
 }
 
-/// The name at `at`, an offset in a string table; `None` exactly where no NUL stands at or after it
-/// in the table and in the file (gABI, "String Table"). Linear in the name.
+/// The name at `at`, an offset in a string table; `None` exactly where there is no NUL at or after
+/// it in the table and in the file (gABI, "String Table"). Linear in the name.
 pub fn name_in<'a>(file: &'a [u8], table: &Shdr, at: u32) -> Option<&'a [u8]>
     ensures { MatchOption result (name_in file.now table.now at ≡ None) (λ name. name_in file.now table.now at ≡ Some name.now) }
 {
@@ -30,8 +30,8 @@ pub fn name_in<'a>(file: &'a [u8], table: &Shdr, at: u32) -> Option<&'a [u8]>
     text_at(bytes, at as usize, bytes.len())
 }
 
-/// How many bytes are looked through for the name at `at`, an offset in a string table: the name's, or
-/// all behind `at` where no NUL stands there. Linear in them.
+/// How many bytes are looked through for the name at `at`, an offset in a string table: the name's,
+/// or all after `at` where no NUL lies there. Linear in them.
 pub fn name_cost(file: &[u8], table: &Shdr, at: u32) -> u64 {
     let bytes = table_of(file, table);
     match text_at(bytes, at as usize, bytes.len()) {

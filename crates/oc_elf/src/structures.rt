@@ -24,7 +24,7 @@ pub fn has_room(number: u32) -> bool
     number < FIRST_TOLD
 }
 
-/// The size of an address and an offset, in bytes: tables stand at multiples of it. Constant time.
+/// The size of an address and an offset, in bytes: tables lie at multiples of it. Constant time.
 pub fn word_bytes(word: Word) -> u64
     ensures bytes { result ≡ structures.word_bytes word }
     ensures low { result ≤ 8 }
@@ -163,7 +163,7 @@ fn put_section(out: &mut Packed, word: Word, shdr: &Shdr)
     put_word(out, word, shdr.sh_offset);
 }
 
-// puts the size of a section and what else is said of it
+// puts the size of a section and the rest of its header
 fn put_rest(out: &mut Packed, word: Word, shdr: &Shdr)
     requires { length out.old + 8 + 3 * structures.word_bytes word ≤ ROW }
     ensures { out.new ≡ out.old ++ packed ((structures.word_bytes word, shdr.now.sh_size) ∷ (4, shdr.now.sh_link) ∷ (4, shdr.now.sh_info) ∷ (structures.word_bytes word, shdr.now.sh_addralign) ∷ (structures.word_bytes word, shdr.now.sh_entsize) ∷ []) }
@@ -186,14 +186,14 @@ pub fn pack_shdr(word: Word, shdr: &Shdr) -> Packed
     out
 }
 
-// the section number stands elsewhere than in the entry
+// the section number is stored elsewhere than in the entry
 fn is_told(number: u32) -> bool
     ensures { result ≡ structures.is_told number }
 {
     !has_room(number) && number < SHN_LORESERVE
 }
 
-// the section number in an entry: the number, or that it stands elsewhere
+// the section number in an entry: the number, or that it is stored elsewhere
 fn stored_index(class: ElfClass, number: u32) -> u16
     ensures { result ≡ structures.stored_index class number }
 {
@@ -266,7 +266,7 @@ pub fn pack_sym(class: ElfClass, sym: &Sym) -> Packed
     pack_row(class.word(), sym, index)
 }
 
-// a relocation entry of ELF32: the symbol stands above eight bits of the type
+// a relocation entry of ELF32: the symbol lies above eight bits of the type
 #[tactic(auto, unfolding(crate::specs::Structures::rel_bytes))]
 fn pack_rel32(rel: Rel) -> Packed
     ensures { result ≡ structures.rel_bytes Word.W32 rel }

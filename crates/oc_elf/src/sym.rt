@@ -8,7 +8,7 @@ use oc_neutral::elf;
 /// A symbol table entry (gABI, "Symbol Table"). Fields are as wide as in ELF64.
 #[derive(Clone, Copy, Debug, PartialEq, Eq)]
 pub struct Sym {
-    /// Where the name stands in the string table, in bytes.
+    /// Where the name lies in the string table, in bytes.
     pub st_name: u32,
     /// An offset in the section `st_shndx`, an absolute number or an alignment.
     pub st_value: u64,

@@ -19,7 +19,7 @@ use Rattle.oc_elf.specs.declared.class.ElfClass.{ElfClass}
 use Rattle.oc_elf.specs.declared.shdr.Shdr.{Shdr}
 use Rattle.oc_elf.specs.declared.sym.Sym.{Sym}
 use Rattle.oc_elf.specs.Sym.{bind_of, type_of}
-use Rattle.oc_elf.specs.Frames.{Framed, header_at}
+use Rattle.oc_elf.specs.Frames.{FileFrame, header_at}
 use Rattle.oc_elf.specs.Sections.{is_carried}
 use Rattle.oc_elf.specs.SectionRules.{is_power}
 use Rattle.oc_elf.specs.Entries.{is_local_entry, is_sectional}
@@ -27,7 +27,7 @@ use Rattle.oc_elf.specs.SymbolRules.{is_odd_symbol}
 use Rattle.oc_elf_file.specs.Heads.{Head, GroupHead, SectionHead, heads_of, group_number, section_number}
 use Rattle.oc_elf_file.specs.Lines.{Line, NullLine, SectionLine, SignatureLine, LocalLine, OuterLine, lines_of}
 use Rattle.oc_elf_file.specs.Headers.{shdr_of}
-use Rattle.oc_elf_file.specs.Symbols.{Stood, stood_for, type_by, local_entry, line_entry, bind_by}
+use Rattle.oc_elf_file.specs.Symbols.{ValueFields, value_fields_for, type_by, local_entry, line_entry, bind_by}
 use Rattle.oc_elf_file.proofs.HeadLaws.{group_number-is, section_number-is, group_at, section_at}
 use Rattle.oc_elf_file.proofs.FrameLaws.{IsCodable, made_frame}
 use Rattle.oc_elf_file.proofs.CodedLaws.{IsForElf, IsPlaced, meets_section, symbol_is, fallback_is}
@@ -71,7 +71,7 @@ odd_place (Weak f) ObjectMark = refl
 odd_place (Weak f) Function = refl
 
 -- what an entry meets by its section and value
-pub record IsFine (n : Object) (f : Framed) (y : Sym) : Type 0 where
+pub record IsFine (n : Object) (f : FileFrame) (y : Sym) : Type 0 where
   pub odd : is_odd_symbol y ≡ false
   pub inside : (is_sectional y && not (nat_lt y.st_shndx (length f.headers) || eqb y.st_shndx 0xFFFF_FEFE)) ≡ false
   pub carried : (is_sectional y && not (is_local_entry y) && not (is_carried (header_at f.headers y.st_shndx))) ≡ false
@@ -79,7 +79,7 @@ pub record IsFine (n : Object) (f : Framed) (y : Sym) : Type 0 where
   pub common : (eqb y.st_shndx 0xFFFF_FFF2 && not (is_power 20 y.st_value)) ≡ false
 
 module _ (class : ElfClass) (n : Object) (is : IsForElf class n) (fits : IsCodable class n) where
-  abbrev f : Framed
+  abbrev f : FileFrame
   f = made_frame class n
 
   -- ... section indexes
@@ -192,9 +192,9 @@ module _ (class : ElfClass) (n : Object) (is : IsForElf class n) (fits : IsCodab
     where
       by : (g ≡ fallback.Zero) ⊎ IsPlaced n g → IsFine n f (entry_with n s (Weak g))
       by (inl e) =
-          other_fine 0 (entry_with n s (Weak g)) 2 (type_by s.mark) refl (ap (λ h. (stood_for n h).st_shndx) e) (bind_is n s (Weak g)) (type_is n s (Weak g)) (elsewhere_odd 2 s.mark (inr refl)) refl
+          other_fine 0 (entry_with n s (Weak g)) 2 (type_by s.mark) refl (ap (λ h. (value_fields_for n h).st_shndx) e) (bind_is n s (Weak g)) (type_is n s (Weak g)) (elsewhere_odd 2 s.mark (inr refl)) refl
       by (inr p) =
-          place_fine p.place.0 p.place.1 (entry_with n s (Weak g)) (Weak g) s.mark p.there (ap (λ (x : Stood). x.st_shndx) p.stood) (ap (λ (x : Stood). x.st_value) p.stood) (bind_is n s (Weak g)) (type_is n s (Weak g))
+          place_fine p.place.0 p.place.1 (entry_with n s (Weak g)) (Weak g) s.mark p.there (ap (λ (x : ValueFields). x.st_shndx) p.stood) (ap (λ (x : ValueFields). x.st_value) p.stood) (bind_is n s (Weak g)) (type_is n s (Weak g))
 
   -- the entry of a line behind the first
   pub line_fine : (i : ℕ) (x : Line) → slice_get (lines_of n) i ≡ Some x → 1 ≤ i → IsLineAt n i x → IsFine n f (line_entry n x)

@@ -19,7 +19,7 @@ use Rattle.oc_elf.specs.declared.class.ElfClass.{ElfClass}
 use Rattle.oc_elf.specs.declared.constants.TheConstants.{SHT_SYMTAB, SHT_STRTAB}
 use Rattle.oc_elf.specs.declared.shdr.Shdr.{Shdr}
 use Rattle.oc_elf.specs.Classes.{reloc_type, foreign_type, word_of}
-use Rattle.oc_elf.specs.Frames.{Framed, header_at}
+use Rattle.oc_elf.specs.Frames.{FileFrame, header_at}
 use Rattle.oc_elf.specs.Rel.{rel_size}
 use Rattle.oc_elf.specs.Sections.{is_type, shndx_number, symtab_among, table_among, relocated_by}
 use Rattle.oc_elf.specs.Sym.{sym_size}
@@ -74,7 +74,7 @@ is_reloc StrtabHead = false
 is_reloc ShstrtabHead = false
 
 module _ (class : ElfClass) (n : Object) (is : IsForElf class n) (fits : IsCodable class n) where
-  abbrev f : Framed
+  abbrev f : FileFrame
   f = made_frame class n
 
   -- ... each table stands once

@@ -6,7 +6,7 @@ use Rattle.oc_neutral.specs.Objects.{Object}
 use Rattle.oc_shelf.proofs.ReadingLaws.StageLemmas.{Unbroken, IsUnbroken, no_first_fault}
 use Rattle.oc_elf.specs.declared.class.ElfClass.{ElfClass}
 use Rattle.oc_elf.specs.Elf.{elf_is_dialect, rest_stages, stages_of, fault_in}
-use Rattle.oc_elf.specs.Frames.{Framed, zero_in}
+use Rattle.oc_elf.specs.Frames.{FileFrame, zero_in}
 use Rattle.oc_elf.specs.Headers.{header_stage, names_stage, header_conditions, names_conditions}
 use Rattle.oc_elf.specs.Classes.{word_of}
 use Rattle.oc_elf_file.specs.Canonical.{file_header, elf_file}
@@ -30,7 +30,7 @@ module _ (class : ElfClass) (n : Object) (is : IsForElf class n) (fits : IsCodab
       (subst (λ z. Unbroken (header_conditions class (length file) (file_header class n) z)) (sym (zero_read class n fits)) (header_clean class n is fits))
 
   names_stage_clean : IsUnbroken (names_stage class file)
-  names_stage_clean i low = subst (λ (f : Framed). Unbroken (names_conditions (length f.headers) f.names)) (sym (frame_read class n fits)) (names_clean class n is fits)
+  names_stage_clean i low = subst (λ (f : FileFrame). Unbroken (names_conditions (length f.headers) f.names)) (sym (frame_read class n fits)) (names_clean class n is fits)
 
   rest_clean : AllByRecursion IsUnbroken (rest_stages (made_frame class n) all)
   rest_clean = (sections_clean class n is fits, (symbols_clean class n is fits, relocations_clean class n is fits))
@@ -39,7 +39,7 @@ module _ (class : ElfClass) (n : Object) (is : IsForElf class n) (fits : IsCodab
   unfolding fault_in
   well_formed =
       no_first_fault (stages_of class file all)
-      (header_stage_clean, (names_stage_clean, subst (λ (f : Framed). AllByRecursion IsUnbroken (rest_stages f all)) (sym (frame_read class n fits)) rest_clean))
+      (header_stage_clean, (names_stage_clean, subst (λ (f : FileFrame). AllByRecursion IsUnbroken (rest_stages f all)) (sym (frame_read class n fits)) rest_clean))
 
 pub elf_is_written : ElfIsWritten
 elf_is_written class = record {

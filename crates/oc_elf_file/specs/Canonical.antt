@@ -18,7 +18,7 @@ use Rattle.oc_elf_file.specs.Layout.{Part, FileHead, Body, HeadTable, head_names
 use Rattle.oc_elf_file.specs.Headers.{stored_headers}
 use Rattle.oc_elf_file.specs.Symbols.{line_entry}
 
--- how many headers there are, by the file header: where sections are many, header 0 says it
+-- how many headers there are, by the file header: where sections are many, header 0 has the number
 abbrev pub shown_count : ElfClass → ℕ → ℕ
 shown_count class count = if is_big class then 0 else count
 

@@ -18,7 +18,7 @@ use Rattle.oc_elf_file.specs.Groups.{member_flag}
 use Rattle.oc_elf_file.specs.Layout.{Part, FileHead, Body, HeadTable, body_size, head_names, laid_parts}
 use Rattle.oc_elf_file.specs.Symbols.{offset_in}
 
--- the section header of a string table that stands at a place; others differ from it
+-- the section header of a string table that lies at a place; others differ from it
 abbrev pub plain_header : ElfClass → Object → ℕ → Head → Shdr
 plain_header class n at h = record {
   sh_name = offset_in (head_names class n) (head_name class h);
@@ -32,7 +32,7 @@ plain_header class n at h = record {
   sh_entsize = 0;
 }
 
--- the section header of what stands at a place
+-- the section header of what lies at a place
 unfoldable pub shdr_of : ElfClass → Object → ℕ → Head → Shdr
 shdr_of class n at NullHead = null_shdr
 shdr_of class n at (GroupHead k g) = record (plain_header class n at (GroupHead k g)) {
@@ -76,7 +76,7 @@ shdr_of class n at ShstrtabHead = plain_header class n at ShstrtabHead
 abbrev pub part_header : ElfClass → Object → Laid Part → Option Shdr
 part_header class n l = elim l.part [ FileHead ↦ None | Body h ↦ Some (shdr_of class n l.at h) | HeadTable ↦ None ]
 
--- the section headers, in the order of the parts, as they are read: the first says nothing of a section
+-- the section headers, in the order of the parts, as they are read: the first is that of no section
 unfoldable pub made_headers : ElfClass → Object → List Shdr
 made_headers class n = filter_map (part_header class n) (laid_parts class n)
 

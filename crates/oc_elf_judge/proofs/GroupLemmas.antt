@@ -11,13 +11,13 @@ use Rattle.oc_shelf.proofs.ReadingLaws.FirstsLemmas.{any_more, first_more}
 use Rattle.oc_shelf.proofs.ReadingLaws.SlotLemmas.{slots_filled, slots_same}
 use Rattle.oc_elf.specs.declared.constants.TheConstants.{SHT_GROUP}
 use Rattle.oc_elf.specs.declared.shdr.Shdr.{Shdr}
-use Rattle.oc_elf.specs.Frames.{Framed, header_at}
+use Rattle.oc_elf.specs.Frames.{FileFrame, header_at}
 use Rattle.oc_elf.specs.Groups.{has_member, is_member, member_at, member_count, owner_among}
 use Rattle.oc_elf.specs.Sections.{is_type}
 use Rattle.oc_elf.specs.SectionRules.{is_bad_member, is_good_group}
 use Rattle.oc_shelf.proofs.ReadingLaws.StageLemmas.{both_hold}
 
-module _ (f : Framed) (k : ℕ) (s : Shdr) where
+module _ (f : FileFrame) (k : ℕ) (s : Shdr) where
   -- the owners of sections where i members of group k were taken up
   abbrev pub taken_by : ℕ → ℕ → Option ℕ
   taken_by i j = or_else (owner_among f k j) (if has_member f s i j then Some k else None)
@@ -116,7 +116,7 @@ module _ (f : Framed) (k : ℕ) (s : Shdr) where
           ∙ ap (λ b. or_else (owner_among f k j) (cond (b && has_member f s (member_count s) j) (Some k) None)) group
 
 -- what is no group has no members
-pub taking_passed : (f : Framed) (k : ℕ) (owners : List (Option ℕ)) → is_type SHT_GROUP (header_at f.headers k) ≡ false → AreSlots (owner_among f k) (length f.headers) owners
+pub taking_passed : (f : FileFrame) (k : ℕ) (owners : List (Option ℕ)) → is_type SHT_GROUP (header_at f.headers k) ≡ false → AreSlots (owner_among f k) (length f.headers) owners
     → AreSlots (owner_among f (k + 1)) (length f.headers) owners
 taking_passed f k owners other are = slots_same (owner_among f k) (owner_among f (k + 1)) (length f.headers) owners are all
   where
@@ -134,7 +134,7 @@ at_least : (a b : ℕ) → nat_le a b ≡ true → a ≤ b
 at_least a b e = grind (arith, nat_tests)
 
 -- a good group has its first word
-pub good_first : (f : Framed) (s : Shdr) → is_good_group f s ≡ true → 4 ≤ s.sh_size
+pub good_first : (f : FileFrame) (s : Shdr) → is_good_group f s ≡ true → 4 ≤ s.sh_size
 unfolding is_good_group
 good_first f s good =
     let four = both_hold _ _ good in

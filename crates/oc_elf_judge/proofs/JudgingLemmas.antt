@@ -11,7 +11,7 @@ use Rattle.oc_linking.specs.Numbers.{first_upto, or_else}
 use Rattle.oc_shelf.proofs.ReadingLaws.StageLemmas.{both_hold, clean_at, first_fault-append}
 use Rattle.oc_elf.specs.declared.class.ElfClass.{ElfClass}
 use Rattle.oc_elf.specs.Elf.{fault_in, rest_stages}
-use Rattle.oc_elf.specs.Frames.{Framed, framed, header_at}
+use Rattle.oc_elf.specs.Frames.{FileFrame, framed, header_at}
 use Rattle.oc_elf.specs.Headers.{header_stages}
 use Rattle.oc_elf.specs.Laid.{IsFrame}
 use Rattle.oc_elf.specs.RelocRules.{entry_fault, is_kept_section, reloc_stage}
@@ -21,11 +21,11 @@ use Rattle.oc_elf.specs.Tables.{reloc_count}
 use Rattle.oc_elf_judge.proofs.SectionLemmas.{here, null_first, sound_at}
 
 -- the stage of a section that is kept, and of one that is not
-pub kept_stage : (f : Framed) (keep : Keep) (i : ℕ) → is_kept_section f keep i ≡ true → stage_fault (reloc_stage f keep i) ≡ first_upto (entry_fault f i) (reloc_count f i)
+pub kept_stage : (f : FileFrame) (keep : Keep) (i : ℕ) → is_kept_section f keep i ≡ true → stage_fault (reloc_stage f keep i) ≡ first_upto (entry_fault f i) (reloc_count f i)
 kept_stage f keep i is = ap (λ b. first_upto (entry_fault f i) (cond b (reloc_count f i) 0)) is
 
 -- a kept section is small
-pub kept_small : (f : Framed) (keep : Keep) (i : ℕ) → IsFrame f → stage_fault (section_stage f) ≡ None → i < length f.headers → is_kept_section f keep i ≡ true → (header_at f.headers i).sh_size < 2 ^ 32
+pub kept_small : (f : FileFrame) (keep : Keep) (i : ℕ) → IsFrame f → stage_fault (section_stage f) ≡ None → i < length f.headers → is_kept_section f keep i ≡ true → (header_at f.headers i).sh_size < 2 ^ 32
 kept_small f keep i frame clean low is =
     let carried = (both_hold _ _ is).0 in
     elim (sound_at f i (clean_at (fault_of (section_stage f)) (length f.headers) i clean low)) as (λ _. (here f i).sh_size < 2 ^ 32) [

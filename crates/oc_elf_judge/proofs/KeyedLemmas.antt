@@ -4,10 +4,10 @@ use Rattle.std.specs.Option.{option_flatten}
 use Rattle.std.proofs.lemmas.List.FromFn.{length-map-range_with_len, get_or-map-range_with_len}
 use Rattle.std.proofs.lemmas.Option.{slice_get-get_or}
 use Rattle.oc_strings.specs.Repeats.{name_at}
-use Rattle.oc_elf.specs.Frames.{Framed}
+use Rattle.oc_elf.specs.Frames.{FileFrame}
 use Rattle.oc_elf.specs.Groups.{comdat_key, comdat_keys}
 
-pub keyed_at : (f : Framed) (g : ℕ) → g < length f.headers → name_at (comdat_keys f) g ≡ comdat_key f g
+pub keyed_at : (f : FileFrame) (g : ℕ) → g < length f.headers → name_at (comdat_keys f) g ≡ comdat_key f g
 keyed_at f g low =
     let long = length-map-range_with_len (comdat_key f) 0 (length f.headers) in
     ap option_flatten (slice_get-get_or (comdat_keys f) g None (omega (arith, long, low)))

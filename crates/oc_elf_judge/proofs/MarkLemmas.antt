@@ -3,28 +3,28 @@ use Rattle.std.proofs.Common.{◌≡◌, ℕ, zero, suc, ◌+◌, ◌<◌, inl, 
 use Rattle.std.specs.Prelude.{◌&&◌, ◌||◌}
 use Rattle.std.proofs.lemmas.Bool.{cases_eq, eq-eqb, ne_eqb}
 use Rattle.oc_shelf.proofs.ReadingLaws.FirstsLemmas.{any_more}
-use Rattle.oc_elf.specs.Frames.{Framed}
+use Rattle.oc_elf.specs.Frames.{FileFrame}
 use Rattle.oc_elf.specs.Groups.{is_comdat}
 use Rattle.oc_elf_judge.specs.Marks.{AreMarks}
 use Rattle.oc_elf.specs.SymbolRules.{is_bad_key, is_bad_signature}
 use Rattle.oc_elf_judge.proofs.SectionLemmas.{here}
 
 -- header g is a group without a key of its own, and symbol k its signature
-abbrev is_signed : Framed → ℕ → ℕ → Bool
+abbrev is_signed : FileFrame → ℕ → ℕ → Bool
 is_signed f k g = is_comdat f g && eqb (here f g).sh_info k && is_bad_key f g
 
 -- any other header marks nothing
-pub marks_kept : (f : Framed) (g : ℕ) (marks : List (Option ℕ)) → AreMarks f g marks → ((k : ℕ) → is_signed f k g ≡ false) → AreMarks f (g + 1) marks
+pub marks_kept : (f : FileFrame) (g : ℕ) (marks : List (Option ℕ)) → AreMarks f g marks → ((k : ℕ) → is_signed f k g ≡ false) → AreMarks f (g + 1) marks
 marks_kept f g marks are none = record { long = are.long; each = λ k low. are.each k low ∙ sym (any_more (is_signed f k) g ∙ ap (λ b. is_bad_signature f g k || b) (none k) ∙ or_none (is_bad_signature f g k)) }
   where
     or_none : (b : Bool) → (b || false) ≡ b
     or_none true = refl
     or_none false = refl
 
-pub other_group : (f : Framed) (g : ℕ) → is_comdat f g ≡ false → (k : ℕ) → is_signed f k g ≡ false
+pub other_group : (f : FileFrame) (g : ℕ) → is_comdat f g ≡ false → (k : ℕ) → is_signed f k g ≡ false
 other_group f g other k = ap (λ b. b && eqb (here f g).sh_info k && is_bad_key f g) other
 
-pub good_key : (f : Framed) (g : ℕ) → is_bad_key f g ≡ false → (k : ℕ) → is_signed f k g ≡ false
+pub good_key : (f : FileFrame) (g : ℕ) → is_bad_key f g ≡ false → (k : ℕ) → is_signed f k g ≡ false
 good_key f g good k = ap (λ b. is_comdat f g && eqb (here f g).sh_info k && b) good ∙ by (is_comdat f g && eqb (here f g).sh_info k)
   where
     by : (b : Bool) → (b && false) ≡ false
@@ -49,7 +49,7 @@ set_length (y ∷ xs) zero x = refl
 set_length (y ∷ xs) (suc i) x = omega (arith, set_length xs i x)
 
 -- the signature of such a group is marked
-pub marks_more : (f : Framed) (g : ℕ) (marks : List (Option ℕ)) → AreMarks f g marks → is_comdat f g ≡ true → is_bad_key f g ≡ true → AreMarks f (g + 1) (set marks (here f g).sh_info (Some g))
+pub marks_more : (f : FileFrame) (g : ℕ) (marks : List (Option ℕ)) → AreMarks f g marks → is_comdat f g ≡ true → is_bad_key f g ≡ true → AreMarks f (g + 1) (set marks (here f g).sh_info (Some g))
 marks_more f g marks are comdat bad = record {
   long = set_length marks (here f g).sh_info (Some g) ∙ are.long;
   each = λ k low. elim (cases_eq (here f g).sh_info k) [

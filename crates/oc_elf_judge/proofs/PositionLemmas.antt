@@ -4,7 +4,7 @@ use Rattle.oc_shelf.specs.Reading.Collected.{collected, position_in, with_option
 use Rattle.oc_shelf.specs.Reading.Slots.{AreSlots}
 use Rattle.oc_shelf.proofs.ReadingLaws.CollectedLemmas.{collected-more}
 use Rattle.oc_shelf.proofs.ReadingLaws.SlotLemmas.{slots_pushed}
-use Rattle.oc_elf.specs.Frames.{Framed, header_at}
+use Rattle.oc_elf.specs.Frames.{FileFrame, header_at}
 use Rattle.oc_elf.specs.Sections.{is_carried}
 use Rattle.oc_elf.specs.CarriedSections.{section_of, section_with}
 use Rattle.oc_elf.specs.declared.shdr.Shdr.{Shdr}
@@ -40,7 +40,7 @@ module _ {X : Type 0} (item : ℕ → Option X) where
         omega (arith, count, before, amount);
   }
 
-pub section_carried : (f : Framed) (k : ℕ) → is_carried (header_at f.headers k) ≡ is_some (section_of f k)
+pub section_carried : (f : FileFrame) (k : ℕ) → is_carried (header_at f.headers k) ≡ is_some (section_of f k)
 unfolding section_of
 section_carried f k = by (is_carried (header_at f.headers k))
   where
@@ -49,7 +49,7 @@ section_carried f k = by (is_carried (header_at f.headers k))
     by false = refl
 
 -- a file has few symbols
-pub few_symbols : (f : Framed) (table : Shdr) → IsSymtab f table → symbol_count f ≤ 67108864
+pub few_symbols : (f : FileFrame) (table : Shdr) → IsSymtab f table → symbol_count f ≤ 67108864
 few_symbols f table is =
     let lies = is.lies in
     let small = is.small in

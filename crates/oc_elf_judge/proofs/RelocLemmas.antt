@@ -19,7 +19,7 @@ use Rattle.oc_shelf.specs.Reading.Bitmaps.{has, is_between, room}
 use Rattle.oc_shelf.proofs.ReadingLaws.BitmapLemmas.{bytes_more, bytes_none, bytes_same}
 use Rattle.oc_shelf.proofs.ReadingLaws.StageLemmas.{all_hold, first_broken-append, not_false, both_hold}
 use Rattle.oc_elf.specs.declared.rel.Rel.{Rel}
-use Rattle.oc_elf.specs.Frames.{Framed, header_at}
+use Rattle.oc_elf.specs.Frames.{FileFrame, header_at}
 use Rattle.oc_elf.specs.Fields.{is_idle, row_for, width_of}
 use Rattle.oc_elf.specs.RelocRules.{entry_fault, is_nameable, is_target_for, lies_within, meets_upto, own_conditions, rel_conditions, reloc_conditions, reloc_fault, span_of, stored_size}
 use Rattle.oc_elf.specs.CarriedSymbols.{symbol_of}
@@ -27,17 +27,17 @@ use Rattle.oc_elf.specs.Entries.{is_section_symbol}
 use Rattle.oc_elf.specs.Tables.{entry_of, reloc_of, reloc_place, symbol_count}
 
 -- the entries so far have no fault, and the bytes taken are those of their fields
-pub record IsJudging (f : Framed) (i k : ℕ) (words : List ℕ) : Type 0 where
+pub record IsJudging (f : FileFrame) (i k : ℕ) (words : List ℕ) : Type 0 where
   pub clean : first_upto (entry_fault f i) k ≡ None
   pub taken : AreTaken f i k words
 
 -- an entry that says nothing has no fault
-pub idle_clean : (f : Framed) (i k : ℕ) → is_idle (reloc_of f i k) ≡ true → entry_fault f i k ≡ None
+pub idle_clean : (f : FileFrame) (i k : ℕ) → is_idle (reloc_of f i k) ≡ true → entry_fault f i k ≡ None
 unfolding reloc_conditions
 idle_clean f i k idle = ap (λ b. first_broken (cond b [] (rel_conditions f i k (reloc_place f i k) (reloc_of f i k)))) idle
 
 -- what the fault of another is made of
-pub busy_fault : (f : Framed) (i k : ℕ) → is_idle (reloc_of f i k) ≡ false
+pub busy_fault : (f : FileFrame) (i k : ℕ) → is_idle (reloc_of f i k) ≡ false
     → entry_fault f i k ≡ or_else (first_broken (own_conditions f i (reloc_place f i k) (reloc_of f i k))) (first_broken ((meets_upto f i k (reloc_of f i k), reloc_fault Overlap i (reloc_place f i k)) ∷ []))
 unfolding reloc_conditions rel_conditions
 busy_fault f i k busy =
@@ -45,7 +45,7 @@ busy_fault f i k busy =
     ∙ first_broken-append (own_conditions f i (reloc_place f i k) (reloc_of f i k)) ((meets_upto f i k (reloc_of f i k), reloc_fault Overlap i (reloc_place f i k)) ∷ [])
 
 -- an entry that meets its own conditions
-pub record IsGood (f : Framed) (i : ℕ) (r : Rel) : Type 0 where
+pub record IsGood (f : FileFrame) (i : ℕ) (r : Rel) : Type 0 where
   pub row : Row
   pub listed : row_for f r ≡ Some row
   pub stored : is_type SHT_NOBITS (header_at f.headers i) ≡ false
@@ -53,7 +53,7 @@ pub record IsGood (f : Framed) (i : ℕ) (r : Rel) : Type 0 where
   pub nameable : is_nameable f r.r_sym ≡ true
   pub target : is_target_for f r ≡ true
 
-pub good_entry : (f : Framed) (i place : ℕ) (r : Rel) → first_broken (own_conditions f i place r) ≡ None → IsGood f i r
+pub good_entry : (f : FileFrame) (i place : ℕ) (r : Rel) → first_broken (own_conditions f i place r) ≡ None → IsGood f i r
 unfolding own_conditions
 good_entry f i place r clean =
     let holds = all_hold (own_conditions f i place r) clean in
@@ -76,7 +76,7 @@ good_entry f i place r clean =
         fits a size h w = grind (arith, nat_tests)
 
 -- a field has a byte
-pub wide_field : (f : Framed) (i : ℕ) (r : Rel) → IsGood f i r → 1 ≤ width_of f r
+pub wide_field : (f : FileFrame) (i : ℕ) (r : Rel) → IsGood f i r → 1 ≤ width_of f r
 wide_field f i r good = subst (λ (o : Option Row). 1 ≤ option_map_or (λ (x : Row). bytes_of x.width) o 0) (sym good.listed) (by good.row.width)
   where
     by : (w : Width) → 1 ≤ bytes_of w
@@ -86,35 +86,35 @@ wide_field f i r good = subst (λ (o : Option Row). 1 ≤ option_map_or (λ (x :
     by Eight = omega arith
 
 -- and ends in its section
-pub field_inside : (f : Framed) (i : ℕ) (r : Rel) → IsGood f i r → r.r_offset + width_of f r ≤ (header_at f.headers i).sh_size
+pub field_inside : (f : FileFrame) (i : ℕ) (r : Rel) → IsGood f i r → r.r_offset + width_of f r ≤ (header_at f.headers i).sh_size
 field_inside f i r good = subst (λ (o : Option Row). r.r_offset + option_map_or (λ (x : Row). bytes_of x.width) o 0 ≤ (header_at f.headers i).sh_size) (sym good.listed) good.inside
 
 -- a symbol that can be named is there
-pub nameable_there : (f : Framed) (j : ℕ) → is_nameable f j ≡ true → j < symbol_count f
+pub nameable_there : (f : FileFrame) (j : ℕ) → is_nameable f j ≡ true → j < symbol_count f
 unfolding is_nameable
 nameable_there f j is =
     let low : nat_lt j (symbol_count f) ≡ true = (both_hold (nat_lt j (symbol_count f)) (eqb j 0 || is_some (symbol_of f j) || is_section_symbol (entry_of f j)) is).0 in
     grind (arith, nat_tests)
 
 -- where the field meets none before, the entry has no fault but its own
-pub met_fault : (f : Framed) (i k : ℕ) → is_idle (reloc_of f i k) ≡ false → first_broken (own_conditions f i (reloc_place f i k) (reloc_of f i k)) ≡ None
+pub met_fault : (f : FileFrame) (i k : ℕ) → is_idle (reloc_of f i k) ≡ false → first_broken (own_conditions f i (reloc_place f i k) (reloc_of f i k)) ≡ None
     → entry_fault f i k ≡ cond (meets_upto f i k (reloc_of f i k)) (Some (reloc_fault Overlap i (reloc_place f i k))) None
 met_fault f i k busy own =
     busy_fault f i k busy ∙ ap (λ (o : Option Fault). or_else o (first_broken ((meets_upto f i k (reloc_of f i k), reloc_fault Overlap i (reloc_place f i k)) ∷ []))) own
 
-pub own_stops : (f : Framed) (i k : ℕ) (fault : Fault) → is_idle (reloc_of f i k) ≡ false → first_broken (own_conditions f i (reloc_place f i k) (reloc_of f i k)) ≡ Some fault → entry_fault f i k ≡ Some fault
+pub own_stops : (f : FileFrame) (i k : ℕ) (fault : Fault) → is_idle (reloc_of f i k) ≡ false → first_broken (own_conditions f i (reloc_place f i k) (reloc_of f i k)) ≡ Some fault → entry_fault f i k ≡ Some fault
 own_stops f i k fault busy own =
     busy_fault f i k busy ∙ ap (λ (o : Option Fault). or_else o (first_broken ((meets_upto f i k (reloc_of f i k), reloc_fault Overlap i (reloc_place f i k)) ∷ []))) own
 
 -- ... the bytes of fields
 
-pub taken_none : (f : Framed) (i : ℕ) (words : List ℕ) → ((q : ℕ) → has words q ≡ false) → stored_size (header_at f.headers i) ≤ room words → AreTaken f i 0 words
+pub taken_none : (f : FileFrame) (i : ℕ) (words : List ℕ) → ((q : ℕ) → has words q ≡ false) → stored_size (header_at f.headers i) ≤ room words → AreTaken f i 0 words
 taken_none f i words none enough = record { fields = bytes_none (span_of f i) words none; room = enough }
 
-pub taken_same : (f : Framed) (i k : ℕ) (words : List ℕ) → AreTaken f i k words → span_of f i k ≡ None → AreTaken f i (k + 1) words
+pub taken_same : (f : FileFrame) (i k : ℕ) (words : List ℕ) → AreTaken f i k words → span_of f i k ≡ None → AreTaken f i (k + 1) words
 taken_same f i k words are none = record { fields = bytes_same (span_of f i) k words are.fields none; room = are.room }
 
-pub taken_more : (f : Framed) (i k begin end : ℕ) (old new : List ℕ) → AreTaken f i k old → span_of f i k ≡ Some (begin, end) → begin < end → length new ≡ length old
+pub taken_more : (f : FileFrame) (i k begin end : ℕ) (old new : List ℕ) → AreTaken f i k old → span_of f i k ≡ Some (begin, end) → begin < end → length new ≡ length old
     → ((q : ℕ) → has new q ≡ (is_between begin end q || has old q)) → AreTaken f i (k + 1) new
 taken_more f i k begin end old new are is some long taken = record {
   fields = bytes_more (span_of f i) k begin end old new are.fields is some taken;
@@ -122,7 +122,7 @@ taken_more f i k begin end old new are is some long taken = record {
 }
 
 -- where it is good, its field ends in the room
-pub field_in_room : (f : Framed) (i k : ℕ) (words : List ℕ) (r : Rel) → AreTaken f i k words → IsGood f i r → r.r_offset + width_of f r ≤ room words
+pub field_in_room : (f : FileFrame) (i k : ℕ) (words : List ℕ) (r : Rel) → AreTaken f i k words → IsGood f i r → r.r_offset + width_of f r ≤ room words
 field_in_room f i k words r are good =
     let inside = field_inside f i r good in
     let size : stored_size (header_at f.headers i) ≡ (header_at f.headers i).sh_size = ap (λ b. cond b 0 (header_at f.headers i).sh_size) good.stored in

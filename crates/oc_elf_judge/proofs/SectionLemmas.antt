@@ -19,7 +19,7 @@ use Rattle.oc_elf.specs.declared.constants.TheConstants.{SHT_SYMTAB, SHT_SYMTAB_
 use Rattle.oc_elf.specs.declared.shdr.Shdr.{Shdr}
 use Rattle.oc_elf.specs.Shdr.{null_shdr}
 use Rattle.oc_elf.specs.Names.{name_in}
-use Rattle.oc_elf.specs.Frames.{Framed, shdr_count, header_at, header_place, framed, headers_of, header_of}
+use Rattle.oc_elf.specs.Frames.{FileFrame, shdr_count, header_at, header_place, framed, headers_of, header_of}
 use Rattle.oc_elf.specs.Laid.{IsFrame}
 use Rattle.oc_elf.specs.Classes.{reloc_type, word_of}
 use Rattle.oc_elf.specs.Groups.{owner_among, member_count, group_word}
@@ -29,7 +29,7 @@ use Rattle.oc_base.specs.declared.format.Word.{Word}
 use Rattle.oc_base.specs.declared.format.Word.TheVariants.{W32, W64}
 
 -- a carried section is aligned, and passes no limit
-pub record IsCounted (f : Framed) (k : ℕ) (s : Shdr) : Type 0 where
+pub record IsCounted (f : FileFrame) (k : ℕ) (s : Shdr) : Type 0 where
   pub aligned : is_alignment s.sh_addralign ≡ true
   pub range : s.sh_addralign ≤ 2 ^ 20
   pub size : s.sh_size ≤ 2147483647
@@ -37,13 +37,13 @@ pub record IsCounted (f : Framed) (k : ℕ) (s : Shdr) : Type 0 where
   pub bytes : sum_with (bytes_counted f) k ≤ 67108864
 
 -- what a group has that has no fault
-pub record IsSoundGroup (f : Framed) (k : ℕ) (s : Shdr) : Type 0 where
+pub record IsSoundGroup (f : FileFrame) (k : ℕ) (s : Shdr) : Type 0 where
   pub good : is_good_group f s ≡ true
   pub members : any_upto (is_bad_member f k s) (member_count s) ≡ false
   pub flags : (eqb (group_word f s 0) 0 || eqb (group_word f s 0) GRP_COMDAT) ≡ true
 
 -- what section k has whose header has no fault
-pub record IsSound (f : Framed) (k : ℕ) (s : Shdr) : Type 0 where
+pub record IsSound (f : FileFrame) (k : ℕ) (s : Shdr) : Type 0 where
   pub lies : has_bytes s ≡ true → s.sh_offset + s.sh_size ≤ length f.file
   pub named : is_some (name_in f.file f.names s.sh_name) ≡ true
   pub group : is_type SHT_GROUP s ≡ true → IsSoundGroup f k s
@@ -60,10 +60,10 @@ abbrev aligned_conditions : ℕ → ℕ → Shdr → List Condition
 aligned_conditions k place s = (not (is_alignment s.sh_addralign), section_fault BadAlign k place) ∷ (nat_lt (2 ^ 20) s.sh_addralign, section_fault AlignRange k place) ∷ []
 
 -- section header k
-abbrev pub here : Framed → ℕ → Shdr
+abbrev pub here : FileFrame → ℕ → Shdr
 here f k = header_at f.headers k
 
-counted_is : (f : Framed) (k place : ℕ) (s : Shdr) → first_broken (carried_conditions f k place s) ≡ None → is_carried s ≡ true → IsCounted f k s
+counted_is : (f : FileFrame) (k place : ℕ) (s : Shdr) → first_broken (carried_conditions f k place s) ≡ None → is_carried s ≡ true → IsCounted f k s
 unfolding carried_conditions
 counted_is f k place s clean is =
     let holds = all_hold (aligned_conditions k place s ++ limits_by k s.sh_size (sum_with (size_counted f) k) (sum_with (bytes_counted f) k)) (sym (ap (λ b. first_broken (cond b (aligned_conditions k place s ++ limits_by k s.sh_size (sum_with (size_counted f) k) (sum_with (bytes_counted f) k)) [])) is) ∙ clean) in
@@ -75,21 +75,21 @@ counted_is f k place s clean is =
       bytes = at_most 67108864 (sum_with (bytes_counted f) k) holds.1.1.1.1.0;
     }
 
-abbrev group_list : Framed → ℕ → ℕ → Shdr → List Condition
+abbrev group_list : FileFrame → ℕ → ℕ → Shdr → List Condition
 group_list f k place s =
     (not (is_good_group f s), section_fault BadTable k place)
     ∷ (any_upto (is_bad_member f k s) (member_count s), section_fault BadTable k place)
     ∷ (not (eqb (group_word f s 0) 0 || eqb (group_word f s 0) GRP_COMDAT), section_fault Group k place)
     ∷ []
 
-sound_group : (f : Framed) (k place : ℕ) (s : Shdr) → first_broken (group_conditions f k place s) ≡ None → is_type SHT_GROUP s ≡ true → IsSoundGroup f k s
+sound_group : (f : FileFrame) (k place : ℕ) (s : Shdr) → first_broken (group_conditions f k place s) ≡ None → is_type SHT_GROUP s ≡ true → IsSoundGroup f k s
 unfolding group_conditions
 sound_group f k place s clean is =
     let holds = all_hold (group_list f k place s) (sym (ap (λ b. first_broken (cond b (group_list f k place s) [])) is) ∙ clean) in
     record { good = not_false _ holds.0; members = holds.1.0; flags = not_false _ holds.1.1.0 }
 
 -- the bytes of a header without a fault of its own lie in the file
-pub form_lies : (f : Framed) (k place : ℕ) (s : Shdr) → first_broken (form_conditions f k place s) ≡ None → has_bytes s ≡ true → s.sh_offset + s.sh_size ≤ length f.file
+pub form_lies : (f : FileFrame) (k place : ℕ) (s : Shdr) → first_broken (form_conditions f k place s) ≡ None → has_bytes s ≡ true → s.sh_offset + s.sh_size ≤ length f.file
 unfolding form_conditions
 form_lies f k place s clean has =
     let forms = all_hold (form_conditions f k place s) clean in
@@ -100,13 +100,13 @@ form_lies f k place s clean has =
     unmet false b e h = absurd (true≢false (sym h))
 
 -- none of the four lists of conditions on a section is broken
-pub record AreClean (f : Framed) (k place : ℕ) (s : Shdr) : Type 0 where
+pub record AreClean (f : FileFrame) (k place : ℕ) (s : Shdr) : Type 0 where
   pub form : first_broken (form_conditions f k place s) ≡ None
   pub group : first_broken (group_conditions f k place s) ≡ None
   pub table : first_broken (table_conditions f k place s) ≡ None
   pub carried : first_broken (carried_conditions f k place s) ≡ None
 
-pub all_clean : (f : Framed) (k place : ℕ) (s : Shdr) → first_broken (conditions_on f k place s) ≡ None → AreClean f k place s
+pub all_clean : (f : FileFrame) (k place : ℕ) (s : Shdr) → first_broken (conditions_on f k place s) ≡ None → AreClean f k place s
 unfolding conditions_on
 all_clean f k place s clean =
     let a = clean_both (form_conditions f k place s) (group_conditions f k place s ++ (table_conditions f k place s ++ carried_conditions f k place s)) clean in
@@ -114,7 +114,7 @@ all_clean f k place s clean =
     let c = clean_both (table_conditions f k place s) (carried_conditions f k place s) b.1 in
     record { form = a.0; group = b.0; table = c.0; carried = c.1 }
 
-pub sound : (f : Framed) (k place : ℕ) (s : Shdr) → first_broken (conditions_on f k place s) ≡ None → IsSound f k s
+pub sound : (f : FileFrame) (k place : ℕ) (s : Shdr) → first_broken (conditions_on f k place s) ≡ None → IsSound f k s
 unfolding form_conditions table_conditions
 sound f k place s clean =
     let are = all_clean f k place s clean in
@@ -132,7 +132,7 @@ sound f k place s clean =
     }
 
 -- while headers are checked: those so far have no fault, and the tables and the sums are theirs
-pub record IsChecking (f : Framed) (k : ℕ) (symtab : Option ℕ) (relocs owners : List (Option ℕ)) (sizes bytes : ℕ) : Type 0 where
+pub record IsChecking (f : FileFrame) (k : ℕ) (symtab : Option ℕ) (relocs owners : List (Option ℕ)) (sizes bytes : ℕ) : Type 0 where
   pub clean : first_upto (fault_of (section_stage f)) k ≡ None
   pub symtab_is : symtab ≡ symtab_among f k
   pub relocs_are : AreSlots (table_among f k) (length f.headers) relocs
@@ -143,20 +143,20 @@ pub record IsChecking (f : Framed) (k : ℕ) (symtab : Option ℕ) (relocs owner
   pub bytes_small : bytes ≤ 67108864
 
 -- header 0 is that of no section
-pub null_first : (f : Framed) → IsFrame f → header_at f.headers 0 ≡ null_shdr
+pub null_first : (f : FileFrame) → IsFrame f → header_at f.headers 0 ≡ null_shdr
 unfolding framed headers_of header_of
-null_first f is = ap (λ (g : Framed). header_at g.headers 0) is.is ∙ by (shdr_count f.class f.file)
+null_first f is = ap (λ (g : FileFrame). header_at g.headers 0) is.is ∙ by (shdr_count f.class f.file)
   where
     by : (n : ℕ) → header_at (map (header_of (word_of f.class) f.file) (range_with_len 0 n)) 0 ≡ null_shdr
     by zero = refl
     by (suc n) = refl
 
-pub section_broken : (f : Framed) (k : ℕ) → eqb k 0 ≡ false → first_broken (section_conditions f k) ≡ first_broken (conditions_on f k (header_place (word_of f.class) f.file k) (header_at f.headers k))
+pub section_broken : (f : FileFrame) (k : ℕ) → eqb k 0 ≡ false → first_broken (section_conditions f k) ≡ first_broken (conditions_on f k (header_place (word_of f.class) f.file k) (header_at f.headers k))
 unfolding section_conditions
 section_broken f k some = rw some refl
 
 -- where neither the form nor the group is at fault, the rest is
-pub rest_broken : (f : Framed) (k place : ℕ) (s : Shdr) → first_broken (form_conditions f k place s) ≡ None → first_broken (group_conditions f k place s) ≡ None
+pub rest_broken : (f : FileFrame) (k place : ℕ) (s : Shdr) → first_broken (form_conditions f k place s) ≡ None → first_broken (group_conditions f k place s) ≡ None
     → first_broken (conditions_on f k place s) ≡ or_else (first_broken (table_conditions f k place s)) (first_broken (carried_conditions f k place s))
 unfolding conditions_on
 rest_broken f k place s form group =
@@ -166,13 +166,13 @@ rest_broken f k place s form group =
     ∙ first_broken-append (table_conditions f k place s) (carried_conditions f k place s)
 
 -- a fault of the form is the fault, and so is one of the group where the form has none
-pub form_broken : (f : Framed) (k place : ℕ) (s : Shdr) (fault : Fault) → first_broken (form_conditions f k place s) ≡ Some fault → first_broken (conditions_on f k place s) ≡ Some fault
+pub form_broken : (f : FileFrame) (k place : ℕ) (s : Shdr) (fault : Fault) → first_broken (form_conditions f k place s) ≡ Some fault → first_broken (conditions_on f k place s) ≡ Some fault
 unfolding conditions_on
 form_broken f k place s fault e =
     first_broken-append (form_conditions f k place s) (group_conditions f k place s ++ (table_conditions f k place s ++ carried_conditions f k place s))
     ∙ ap (λ (o : Option Fault). or_else o (first_broken (group_conditions f k place s ++ (table_conditions f k place s ++ carried_conditions f k place s)))) e
 
-pub group_broken : (f : Framed) (k place : ℕ) (s : Shdr) (fault : Fault) → first_broken (form_conditions f k place s) ≡ None → first_broken (group_conditions f k place s) ≡ Some fault
+pub group_broken : (f : FileFrame) (k place : ℕ) (s : Shdr) (fault : Fault) → first_broken (form_conditions f k place s) ≡ None → first_broken (group_conditions f k place s) ≡ Some fault
     → first_broken (conditions_on f k place s) ≡ Some fault
 unfolding conditions_on
 group_broken f k place s fault form e =
@@ -181,14 +181,14 @@ group_broken f k place s fault form e =
     ∙ ap (λ (o : Option Fault). or_else o (first_broken (table_conditions f k place s ++ carried_conditions f k place s))) e
 
 -- a section header without a fault is that of no section, or sound
-pub sound_at : (f : Framed) (k : ℕ) → first_broken (section_conditions f k) ≡ None → (k ≡ 0) ⊎ IsSound f k (header_at f.headers k)
+pub sound_at : (f : FileFrame) (k : ℕ) → first_broken (section_conditions f k) ≡ None → (k ≡ 0) ⊎ IsSound f k (header_at f.headers k)
 sound_at f k clean = elim (eqb k 0) as (λ b. eqb k 0 ≡ b → (k ≡ 0) ⊎ IsSound f k (header_at f.headers k)) [
   | true ↦ λ e. inl (eqb-true k 0 e)
   | false ↦ λ e. inr (sound f k (header_place (word_of f.class) f.file k) (header_at f.headers k) (sym (section_broken f k e) ∙ clean))
 ] refl
 
 -- what the loop makes of a header without a fault
-pub record IsStep (f : Framed) (k : ℕ) : Type 0 where
+pub record IsStep (f : FileFrame) (k : ℕ) : Type 0 where
   pub inside : is_type (reloc_type (word_of f.class)) (header_at f.headers k) ≡ true → (header_at f.headers k).sh_info < length f.headers
   pub new : is_type (reloc_type (word_of f.class)) (header_at f.headers k) ≡ true → table_among f k (header_at f.headers k).sh_info ≡ None
   pub sizes : sum_upto (size_counted f) k ≤ 2147483648 → sum_with (size_counted f) k ≤ 2147483648
@@ -202,7 +202,7 @@ no_table : (w : Word) → is_type (reloc_type w) null_shdr ≡ false
 no_table W32 = refl
 no_table W64 = refl
 
-step_first : (f : Framed) → header_at f.headers 0 ≡ null_shdr → IsStep f 0
+step_first : (f : FileFrame) → header_at f.headers 0 ≡ null_shdr → IsStep f 0
 step_first f null = record {
   inside = λ is. absurd (true≢false (sym is ∙ ap (is_type (reloc_type (word_of f.class))) null ∙ no_table (word_of f.class)));
   new = λ is. absurd (true≢false (sym is ∙ ap (is_type (reloc_type (word_of f.class))) null ∙ no_table (word_of f.class)));
@@ -210,7 +210,7 @@ step_first f null = record {
   bytes = λ before. let none : bytes_counted f 0 ≡ 0 = ap (λ (s : Shdr). cond (is_carried s && not (is_zero (kind_of f s))) s.sh_size 0) null in omega (arith, none);
 }
 
-step_sound : (f : Framed) (k : ℕ) → IsSound f k (header_at f.headers k) → IsStep f k
+step_sound : (f : FileFrame) (k : ℕ) → IsSound f k (header_at f.headers k) → IsStep f k
 unfolding is_good_table
 step_sound f k is = record {
   inside = λ t. let good = both_hold _ _ (is.table t) in let inner = both_hold _ _ good.0 in below inner.1;
@@ -228,14 +228,14 @@ step_sound f k is = record {
     below : nat_lt (here f k).sh_info (length f.headers) ≡ true → (here f k).sh_info < length f.headers
     below e = grind (arith, nat_tests)
 
-pub step_at : (f : Framed) (k : ℕ) → IsFrame f → first_broken (section_conditions f k) ≡ None → IsStep f k
+pub step_at : (f : FileFrame) (k : ℕ) → IsFrame f → first_broken (section_conditions f k) ≡ None → IsStep f k
 step_at f k frame clean = elim (sound_at f k clean) as (λ _. IsStep f k) [
   | inl none ↦ subst (λ (j : ℕ). IsStep f j) (sym none) (step_first f (null_first f frame))
   | inr is ↦ step_sound f k is
 ]
 
 -- one header more
-pub checking_more : (f : Framed) (k : ℕ) (symtab symtab' : Option ℕ) (relocs relocs' owners owners' : List (Option ℕ)) (sizes sizes' bytes bytes' : ℕ) → IsChecking f k symtab relocs owners sizes bytes → IsStep f k
+pub checking_more : (f : FileFrame) (k : ℕ) (symtab symtab' : Option ℕ) (relocs relocs' owners owners' : List (Option ℕ)) (sizes sizes' bytes bytes' : ℕ) → IsChecking f k symtab relocs owners sizes bytes → IsStep f k
     → first_broken (section_conditions f k) ≡ None
     → symtab' ≡ or_else symtab (if is_type SHT_SYMTAB (header_at f.headers k) then Some k else None)
     → relocs' ≡ (if is_type (reloc_type (word_of f.class)) (header_at f.headers k) then set relocs (header_at f.headers k).sh_info (Some k) else relocs)

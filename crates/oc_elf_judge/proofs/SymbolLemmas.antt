@@ -16,24 +16,24 @@ use Rattle.oc_linking.proofs.FirstFaultLaws.{first_upto_none}
 use Rattle.oc_strings.specs.declared.repeats.Repeat.{Repeat}
 use Rattle.oc_strings.specs.Repeats.{NameList, name_at, names_of, place_of, repeat_at, first_repeat}
 use Rattle.oc_shelf.proofs.ReadingLaws.StageLemmas.{all_hold, first_broken-append}
-use Rattle.oc_elf.specs.Frames.{Framed}
+use Rattle.oc_elf.specs.Frames.{FileFrame}
 use Rattle.oc_elf.specs.Tables.{symbol_count, symbol_place, entry_of}
 use Rattle.oc_elf.specs.SymbolRules.{kind_conditions, value_conditions, entry_conditions, other_conditions, symbol_conditions, symbol_stage, public_names, public_name, ends_at}
 use Rattle.oc_elf.specs.declared.sym.Sym.{Sym}
 use Rattle.oc_shows.proofs.RepeatLaws as laws
 
-pub entry_broken : (f : Framed) (k place : ℕ) (s : Sym) → first_broken (entry_conditions f k place s) ≡ or_else (first_broken (kind_conditions f k place s)) (first_broken (value_conditions f k place s))
+pub entry_broken : (f : FileFrame) (k place : ℕ) (s : Sym) → first_broken (entry_conditions f k place s) ≡ or_else (first_broken (kind_conditions f k place s)) (first_broken (value_conditions f k place s))
 unfolding entry_conditions
 entry_broken f k place s = first_broken-append (kind_conditions f k place s) (value_conditions f k place s)
 
 -- the fault of what symbol k meets by itself, and beside others
-abbrev pub own_fault : Framed → ℕ → Option Fault
+abbrev pub own_fault : FileFrame → ℕ → Option Fault
 own_fault f k = cond (eqb k 0) None (first_broken (entry_conditions f k (symbol_place f k) (entry_of f k)))
 
-abbrev pub other_fault : Framed → ℕ → Option Fault
+abbrev pub other_fault : FileFrame → ℕ → Option Fault
 other_fault f k = cond (eqb k 0) None (first_broken (other_conditions f k (symbol_place f k)))
 
-pub symbol_broken : (f : Framed) (k : ℕ) → fault_of (symbol_stage f) k ≡ or_else (own_fault f k) (other_fault f k)
+pub symbol_broken : (f : FileFrame) (k : ℕ) → fault_of (symbol_stage f) k ≡ or_else (own_fault f k) (other_fault f k)
 unfolding symbol_conditions
 symbol_broken f k = elim (eqb k 0) as (λ b. first_broken (cond b [] (entry_conditions f k (symbol_place f k) (entry_of f k) ++ other_conditions f k (symbol_place f k)))
     ≡ or_else (cond b None (first_broken (entry_conditions f k (symbol_place f k) (entry_of f k)))) (cond b None (first_broken (other_conditions f k (symbol_place f k))))) [
@@ -52,7 +52,7 @@ first_new names = by (name_at names 0)
     by (Some name) = refl
 
 -- a symbol without a fault has a name of its own
-pub no_repeat : (f : Framed) (k : ℕ) → eqb k 0 ≡ false → fault_of (symbol_stage f) k ≡ None → is_some (repeat_at (public_names f) k) ≡ false
+pub no_repeat : (f : FileFrame) (k : ℕ) → eqb k 0 ≡ false → fault_of (symbol_stage f) k ≡ None → is_some (repeat_at (public_names f) k) ≡ false
 no_repeat f k some clean =
     let own : other_fault f k ≡ None = later (own_fault f k) (other_fault f k) (sym (symbol_broken f k) ∙ clean) in
     (all_hold (other_conditions f k (symbol_place f k)) (sym (ap (λ b. cond b None (first_broken (other_conditions f k (symbol_place f k)))) some) ∙ own)).0
@@ -62,7 +62,7 @@ no_repeat f k some clean =
     later (Some x) b e = absurd (none-some x (sym e))
 
 -- while no symbol has a fault, the first repeat ends at a symbol exactly where its name stood before
-pub repeat_ends : (f : Framed) (found : Option Repeat) (k : ℕ) → found ≡ first_repeat (public_names f) → k < symbol_count f → first_upto (fault_of (symbol_stage f)) k ≡ None
+pub repeat_ends : (f : FileFrame) (found : Option Repeat) (k : ℕ) → found ≡ first_repeat (public_names f) → k < symbol_count f → first_upto (fault_of (symbol_stage f)) k ≡ None
     → ends_at found k ≡ is_some (repeat_at (public_names f) k)
 repeat_ends f found k is low clean =
     laws.repeat_ends (public_names f) found k is (omega (arith, low, length-map-range_with_len (public_name f) 0 (symbol_count f))) own

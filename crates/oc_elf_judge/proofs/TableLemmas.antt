@@ -13,7 +13,7 @@ use Rattle.oc_shelf.proofs.ReadingLaws.StageLemmas.{both_hold, clean_at}
 use Rattle.oc_elf.specs.declared.constants.TheConstants.{SHT_SYMTAB, SHT_SYMTAB_SHNDX, SHT_GROUP}
 use Rattle.oc_elf.specs.declared.shdr.Shdr.{Shdr}
 use Rattle.oc_elf.specs.Classes.{reloc_type, word_of}
-use Rattle.oc_elf.specs.Frames.{Framed, header_at}
+use Rattle.oc_elf.specs.Frames.{FileFrame, header_at}
 use Rattle.oc_elf_judge.specs.Known.{IsSymtab, IsTable, AreSigned}
 use Rattle.oc_elf.specs.Laid.{IsFrame}
 use Rattle.oc_elf.specs.Sections.{is_carried, is_type, relocated_by, shndx_number, symtab_among, table_among}
@@ -39,7 +39,7 @@ at_least : (a b : ℕ) → nat_le a b ≡ true → a ≤ b
 at_least a b e = grind (arith, nat_tests)
 
 -- a good table of section numbers is that of a symbol table, and has enough
-shndx_enough : (f : Framed) (k : ℕ) (s : Shdr) → is_good_shndx f k s ≡ true → (is_type SHT_SYMTAB (here f s.sh_link) ≡ true) × ((here f s.sh_link).sh_size / sym_size (word_of f.class) ≤ s.sh_size / 4)
+shndx_enough : (f : FileFrame) (k : ℕ) (s : Shdr) → is_good_shndx f k s ≡ true → (is_type SHT_SYMTAB (here f s.sh_link) ≡ true) × ((here f s.sh_link).sh_size / sym_size (word_of f.class) ≤ s.sh_size / 4)
 unfolding is_good_shndx
 shndx_enough f k s is =
     let a = both_hold _ _ is in
@@ -57,13 +57,13 @@ header_past (h ∷ hs) zero le = absurd (omega arith)
 header_past (h ∷ hs) (suc j) le = header_past hs j (omega arith)
 
 -- a carried section is there
-pub carried_there : (f : Framed) (j : ℕ) → is_carried (here f j) ≡ true → j < length f.headers
+pub carried_there : (f : FileFrame) (j : ℕ) → is_carried (here f j) ≡ true → j < length f.headers
 carried_there f j is = elim (cases_lt j (length f.headers)) [
   | inl low ↦ low
   | inr past ↦ absurd (true≢false (sym is ∙ ap is_carried (header_past f.headers j past)))
 ]
 
-module _ (f : Framed) (frame : IsFrame f) (clean : stage_fault (section_stage f) ≡ None) where
+module _ (f : FileFrame) (frame : IsFrame f) (clean : stage_fault (section_stage f) ≡ None) where
   -- a header of a type other than 0 is there and sound
   pub typed_sound : (k : ℕ) (b : ℕ) → eqb b 0 ≡ false → is_type b (here f k) ≡ true → (k < length f.headers) × IsSound f k (here f k)
   typed_sound k b other is =

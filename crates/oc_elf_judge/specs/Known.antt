@@ -6,7 +6,7 @@ use Rattle.oc_elf.specs.RelocRules.{span_of, stored_size}
 use Rattle.oc_elf.specs.declared.constants.TheConstants.{SHN_COMMON, SHT_SYMTAB_SHNDX, SHNDX_SIZE}
 use Rattle.oc_elf.specs.declared.shdr.Shdr.{Shdr}
 use Rattle.oc_elf.specs.declared.sym.Sym.{Sym}
-use Rattle.oc_elf.specs.Frames.{Framed, header_at}
+use Rattle.oc_elf.specs.Frames.{FileFrame, header_at}
 use Rattle.oc_elf.specs.Groups.{is_comdat, owner_among}
 use Rattle.oc_elf.specs.Sections.{is_type, symtab_among, table_among}
 use Rattle.oc_elf.specs.Tables.{shndx_of, symtab_of, symbol_count, table_of}
@@ -14,36 +14,36 @@ use Rattle.oc_elf.specs.CarriedSections.{position_of}
 use Rattle.oc_elf.specs.CarriedSymbols.{home_of, symbol_position}
 
 -- the header is that of the symbol table, which lies in the file
-pub record IsSymtab (f : Framed) (table : Shdr) : Type 0 where
+pub record IsSymtab (f : FileFrame) (table : Shdr) : Type 0 where
   pub is : table ≡ symtab_of f
   pub lies : table.sh_offset + table.sh_size ≤ length f.file
   pub indexes : is_type SHT_SYMTAB_SHNDX (shndx_of f) ≡ true → (shndx_of f).sh_offset + SHNDX_SIZE * symbol_count f ≤ length f.file
   pub small : length f.file ≤ 67108864
 
--- the groups of one definition lie in the file, and their signatures are symbols behind the first
-abbrev pub AreSigned : Framed → Type 0
+-- the groups of one definition lie in the file, and their signatures are symbols after the first
+abbrev pub AreSigned : FileFrame → Type 0
 AreSigned f = (g : ℕ) → is_comdat f g ≡ true → (header_at f.headers g).sh_info < symbol_count f
 
 -- an offset in a carried section, and the alignment of a common, are small
-pub record IsValued (f : Framed) (s : Sym) : Type 0 where
+pub record IsValued (f : FileFrame) (s : Sym) : Type 0 where
   pub offset : (p : ℕ) → home_of f s ≡ Some p → s.st_value < 2 ^ 32
   pub align : s.st_shndx ≡ SHN_COMMON → s.st_value < 2 ^ 32
 
 -- the header is that of the relocation table of section i, which lies in the file
-pub record IsTable (f : Framed) (i : ℕ) (table : Shdr) : Type 0 where
+pub record IsTable (f : FileFrame) (i : ℕ) (table : Shdr) : Type 0 where
   pub is : table ≡ table_of f i
   pub lies : table.sh_offset + table.sh_size ≤ length f.file
   pub small : length f.file ≤ 67108864
 
 -- the symbol table, and the positions of sections and of symbols, are those of the file
-pub record IsAimed (f : Framed) (table : Shdr) (sections symbols : List (Option ℕ)) : Type 0 where
+pub record IsAimed (f : FileFrame) (table : Shdr) (sections symbols : List (Option ℕ)) : Type 0 where
   pub table_is : IsSymtab f table
   pub sections_are : AreSlots (position_of f) (length f.headers) sections
   pub symbols_are : AreSlots (symbol_position f) (symbol_count f) symbols
 
 -- what is found in a file without faults: its symbol table, the relocation table and the group of each section, and the positions of sections
 -- and of symbols
-pub record IsFound (f : Framed) (symtab : Option ℕ) (relocs owners sections symbols : List (Option ℕ)) : Type 0 where
+pub record IsFound (f : FileFrame) (symtab : Option ℕ) (relocs owners sections symbols : List (Option ℕ)) : Type 0 where
   pub symtab_is : symtab ≡ symtab_among f (length f.headers)
   pub relocs_are : AreSlots (table_among f (length f.headers)) (length f.headers) relocs
   pub owners_are : AreSlots (owner_among f (length f.headers)) (length f.headers) owners
@@ -51,6 +51,6 @@ pub record IsFound (f : Framed) (symtab : Option ℕ) (relocs owners sections sy
   pub symbols_are : AreSlots (symbol_position f) (symbol_count f) symbols
 
 -- the bytes taken are those of the fields of the first n entries of the relocation table of section i, and there is room for all of the section
-pub record AreTaken (f : Framed) (i n : ℕ) (words : List ℕ) : Type 0 where
+pub record AreTaken (f : FileFrame) (i n : ℕ) (words : List ℕ) : Type 0 where
   pub fields : AreBytesOf (span_of f i) n words
   pub room : stored_size (header_at f.headers i) ≤ room words

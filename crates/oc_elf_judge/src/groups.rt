@@ -60,7 +60,8 @@ fn is_refused(frame: &Frame, owners: &Slots, member: u32) -> bool
     member == 0 || frame.count() <= member || owners.get(member).is_some()
 }
 
-// takes up the members of the group with header `k`, in their order, until one is bad; whether one is
+// records the members of the group with header `k`, in their order, until one is bad; whether one
+// is
 fn take_members(frame: &Frame, owners: &mut Slots, k: u32, s: &Shdr) -> bool
     requires lies { s.now.sh_offset + s.now.sh_size ≤ length frame.now.file }
     requires here { s.now ≡ header_at frame.now.headers k }

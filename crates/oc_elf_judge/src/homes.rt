@@ -1,4 +1,4 @@
-//! Where the sections of symbols stand among the carried ones.
+//! The positions of the sections of symbols among the carried ones.
 ghost use Rattle.std.specs.Prelude.{◌≡◌, length};
 ghost use Rattle.oc_shelf.specs.Reading.Slots.{AreSlots};
 ghost use Rattle.oc_elf.specs.CarriedSections.{position_of};

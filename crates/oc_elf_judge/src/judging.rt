@@ -94,7 +94,7 @@ pub struct Found {
     pub symbols: Slots,
 }
 
-/// Judges what stands behind the file header, and gives what was found on the way.
+/// Judges what comes after the file header, and gives what was found on the way.
 ///
 /// Stops exactly where there is a fault, with the first; or where memory ran out. The time is that
 /// of `judge`.
@@ -133,13 +133,13 @@ pub fn check_rest(alloc: Global, frame: &Frame, keep: &Keep) -> Result<Found, St
 }
 
 /// Whether a file of at most 67,108,864 bytes is a well formed object of a class, when it is read
-/// under `keep`: an error exactly where it is not, with its first fault; `NoMemory` where memory ran
-/// out, or where the names weigh more than 1 GiB, or all relocation tables have more than 2^23 entries
-/// (`oc_weight`).
+/// under `keep`: an error exactly where it is not, with its first fault; `NoMemory` where memory
+/// ran out, or where the names weigh more than 1 GiB, or all relocation tables have more than 2^23
+/// entries (`oc_weight`).
 ///
-/// The time is linear in the sections, their bytes and their relocations, in any order of offsets, and
-/// that of n log2(n) steps for n symbols, in any order of names; each name is read as often as headers
-/// and symbols have it. What the worst files known take is told in docs/SAFETY.md.
+/// The time is linear in the sections, their bytes and their relocations, in any order of offsets,
+/// and that of n log2(n) steps for n symbols, in any order of names; each name is read as often as
+/// headers and symbols have it. What the worst files known take is written in docs/SAFETY.md.
 pub fn judge(alloc: Global, class: ElfClass, bytes: &[u8], keep: &Keep) -> Result<(), Stop>
     requires { length bytes.now ≤ MOST_INPUT }
     ensures well_formed { OnOk result (fault_in class bytes.now keep.now ≡ None) }

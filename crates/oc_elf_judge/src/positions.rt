@@ -1,4 +1,4 @@
-//! Which sections and symbols are carried, and where they stand.
+//! Which sections and symbols are carried, and their positions.
 ghost use Rattle.std.specs.Prelude.{◌≡◌, ◌+◌, ◌<◌, ◌≤◌, length, is_some, None, Some, if◌then◌else◌, IfOk};
 ghost use Rattle.oc_linking.specs.FirstFault.{stage_fault};
 ghost use Rattle.oc_shelf.specs.Reading.Collected.{collected, position_in};

@@ -26,7 +26,7 @@ pub fn reloc_count(frame: &Frame, i: u32, table: &Shdr) -> u32
     (table.sh_size / rel_size(frame.word())) as u32
 }
 
-/// Where entry `k` of it stands, in bytes from the start of the file. Constant time.
+/// Where entry `k` of it lies, in bytes from the start of the file. Constant time.
 pub(crate) fn reloc_place(frame: &Frame, i: u32, table: &Shdr, k: u32) -> u64
     requires table { IsTable frame.now i table.now }
     requires there { k < tables.reloc_count frame.now i }
@@ -46,7 +46,7 @@ pub fn reloc_of(frame: &Frame, i: u32, table: &Shdr, k: u32) -> Rel
     rel_at(frame.word(), frame.file(), place as usize)
 }
 
-/// Whether an entry says nothing. Constant time.
+/// Whether an entry has no effect. Constant time.
 pub fn is_idle(r: &Rel) -> bool
     ensures { result ≡ fields.is_idle r.now }
 {
@@ -136,7 +136,7 @@ fn is_nameable(frame: &Frame, aims: &Aims, j: u32) -> bool
     j == 0 || aims.symbols.get(j).is_some() || is_section_symbol(&entry_of(frame, aims.table, j))
 }
 
-// whether its symbol, which is there, can be the target of an entry
+// whether its symbol, which exists, can be the target of an entry
 #[tactic(auto, unfolding(oc_elf::specs::RelocRules::is_target_for))]
 fn is_target_for(frame: &Frame, aims: &Aims, r: &Rel) -> bool
     requires aims { IsAimed frame.now aims.now.table.now aims.now.sections.now aims.now.symbols.now }

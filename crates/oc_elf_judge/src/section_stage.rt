@@ -30,8 +30,9 @@ pub struct Tables {
     pub owners: Slots,
 }
 
-// the fault of the conditions on section `k`, where `first` is the first symbol table before, and `before` the relocation table
-// of the same section before; takes up the members of a group without a fault
+// the fault of the conditions on section `k`, where `first` is the first symbol table before, and
+// `before` the relocation table of the same section before; records the members of a group without
+// a fault
 #[tactic(auto, unfolding(oc_elf::specs::SectionRules::section_conditions, oc_elf::specs::SectionRules::conditions_on))]
 fn judge_section(
     frame: &Frame,
@@ -69,7 +70,7 @@ fn judge_section(
     earlier(table, carried)
 }
 
-// takes up a relocation table
+// records a relocation table
 fn take_table(frame: &Frame, tables: &mut Slots, k: u32)
     requires long { length tables.old ≡ length frame.now.headers }
     requires inside { sections.is_type (reloc_type frame.now.class) (header_at frame.now.headers k) ≡ true

@@ -157,7 +157,7 @@ fn is_good_shndx(frame: &Frame, k: u32, s: &Shdr) -> bool
         && is_number(frame.shndx_number(), k)
 }
 
-// whether a number is there, and is this one
+// whether a number is present, and is this one
 fn is_number(number: Option<u32>, k: u32) -> bool
     ensures { result ≡ option_map_or (λ j. nat_eq j k) number false }
 {

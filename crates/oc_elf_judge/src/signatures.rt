@@ -15,7 +15,7 @@ ghost use Rattle.oc_linking.specs.FirstFault.{stage_fault};
 use crate::groups::group_word;
 use crate::sections::section_name;
 use crate::stood::{is_repeated, name_at};
-use crate::symbols::{entry_of, is_section_symbol, is_sectional, self, symbol_count};
+use crate::symbols::{self, entry_of, is_section_symbol, is_sectional, symbol_count};
 use oc_base::NoMemory;
 use oc_elf::{Frame, GRP_COMDAT, SHT_GROUP, Shdr};
 use oc_shelf::Slots;
@@ -81,7 +81,7 @@ fn comdat_keys<'a>(
     Ok(keys)
 }
 
-// whether a group has no key of its own, where it is told whether its key stood before
+// whether a group has no key of its own, given whether its key occurred before
 fn is_bad_key(keys: &[Option<&[u8]>], again: bool, g: u32) -> bool
     requires there { g < length keys.now }
     requires again { again ≡ is_some (repeats.repeat_at (repeats.names_of keys.now) g) }

@@ -1,4 +1,4 @@
-//! Which keys of groups stood before.
+//! Which keys of groups occurred before.
 ghost use Rattle.std.specs.Prelude.{◌≡◌, ◌+◌, ◌<◌, List, ℕ, length, bytes_eq, is_some, None, Some, IfOk, OnOk, MatchOption};
 ghost use Rattle.std.specs.Map.{update};
 ghost use Rattle.oc_strings.specs.Repeats as repeats;
@@ -19,7 +19,7 @@ pub(crate) fn name_at<'a>(names: &[Option<&'a [u8]>], k: usize) -> Option<&'a [u
     }
 }
 
-// takes up the key of header `g`, and tells whether it was there
+// records the key of header `g`, and returns whether it was present
 fn take_up<'a>(stood: &mut BTreeMap<&'a [u8], u32>, key: &'a [u8], g: u32) -> Result<bool, NoMemory>
     ensures again { IfOk result (λ again. again ≡ is_some (value_at stood.old key.now)) }
     ensures taken { OnOk result ((other : List ℕ) → value_at stood.new other ≡ update bytes_eq (value_at stood.old) key.now (Some g) other) }
@@ -48,9 +48,10 @@ fn stands_again<'a>(
     }
 }
 
-/// Whether the key at position `g` stood before, where `found` is the first repeat of the keys; if
-/// there is one, `stood` has the keys before, and takes up this one. `NoMemory` where memory ran
-/// out. The time is that of a look into an ordered map, if there is a repeat, and else constant.
+/// Whether the key at position `g` occurred before, where `found` is the first repeat of the keys;
+/// if there is one, `stood` has the keys before, and this one is recorded in it. `NoMemory` where
+/// memory ran out. The time is that of a look-up in an ordered map, if there is a repeat, and else
+/// constant.
 pub(crate) fn is_repeated<'a>(
     stood: &mut BTreeMap<&'a [u8], u32>,
     keys: &[Option<&'a [u8]>],

@@ -11,7 +11,9 @@ ghost use Rattle.oc_elf.specs.SymbolRules as rules;
 ghost use Rattle.oc_elf.specs.Tables as tables;
 
 use crate::signatures::bad_signatures;
-use crate::symbols::{entry_fault, entry_of, is_local, name_of, symbol_count, symbol_fault, symbol_place};
+use crate::symbols::{
+    entry_fault, entry_of, is_local, name_of, symbol_count, symbol_fault, symbol_place,
+};
 use oc_base::{Code, Fault, NoMemory, Stop};
 use oc_elf::{Frame, Shdr};
 use oc_shelf::{Slots, earlier};

@@ -26,7 +26,7 @@ pub fn symbol_count(frame: &Frame, table: &Shdr) -> u32
     (table.sh_size / sym_size(frame.word())) as u32
 }
 
-/// Where symbol `k` stands, in bytes from the start of the file. Constant time.
+/// Where symbol `k` lies, in bytes from the start of the file. Constant time.
 pub(crate) fn symbol_place(frame: &Frame, table: &Shdr, k: u32) -> u64
     requires table { IsSymtab frame.now table.now }
     requires there { k < tables.symbol_count frame.now }
@@ -35,7 +35,7 @@ pub(crate) fn symbol_place(frame: &Frame, table: &Shdr, k: u32) -> u64
     table.sh_offset + sym_size(frame.word()) * u64::from(k)
 }
 
-// a number that is told, where a header can have it
+// a number that is stored elsewhere, where a header can have it
 fn told(number: u32) -> u32
     ensures { result ≡ tables.told number }
 {
@@ -48,7 +48,7 @@ fn told(number: u32) -> u32
     }
 }
 
-// the section number of symbol `k` that is told
+// the section number of symbol `k` in the table of section numbers
 fn index_of(frame: &Frame, table: &Shdr, k: u32) -> u32
     requires table { IsSymtab frame.now table.now }
     requires there { k < tables.symbol_count frame.now }
@@ -87,7 +87,7 @@ pub fn entry_of(frame: &Frame, table: &Shdr, k: u32) -> Sym
     s
 }
 
-/// The name of a symbol, where it is there. Linear in the name.
+/// The name of a symbol, where it exists. Linear in the name.
 #[tactic(auto, unfolding(oc_elf::specs::Entries::name_at))]
 pub(crate) fn name_at<'a>(frame: &Frame<'a>, table: &Shdr, s: &Sym) -> Option<&'a [u8]>
     requires { IsSymtab frame.now table.now }

@@ -8,7 +8,7 @@ use oc_base::NoMemory;
 use oc_elf::{Frame, SHT_GROUP, Shdr, name_cost, rel_size, reloc_type};
 use oc_weight::{with_entries, with_name};
 
-// whether the contents of a section end behind the file
+// whether the contents of a section end past the end of the file
 fn passes_end(frame: &Frame, s: &Shdr) -> bool {
     let size = frame.file().len() as u64;
     size < s.sh_offset || size - s.sh_offset < s.sh_size
@@ -49,7 +49,7 @@ fn symbol_cost(frame: &Frame, table: &Shdr, k: u32) -> u64
     name_cost(frame.file(), &frame.header(table.sh_link), s.st_name)
 }
 
-// what the names of symbols weigh behind others
+// what the names of symbols weigh, added to the weight of others
 fn with_symbols(frame: &Frame, table: &Shdr, weight: u64) -> Result<u64, NoMemory>
     requires { IsSymtab frame.now table.now }
 {
@@ -86,9 +86,11 @@ fn key_cost(frame: &Frame, table: &Shdr, g: u32) -> u64
     symbol_cost(frame, table, s.sh_info).saturating_add(home_cost(frame, table, s.sh_info))
 }
 
-/// Weighs the names of symbols and the keys of groups, behind names of sections that weigh so much.
+/// Weighs the names of symbols and the keys of groups, added to names of sections that weigh so
+/// much.
 ///
-/// `NoMemory` where all are above 1 GiB. Linear in symbols and headers and in what they weigh.
+/// `NoMemory` where all together are above 1 GiB. Linear in symbols and headers and in what they
+/// weigh.
 pub(crate) fn weigh_symbols(frame: &Frame, table: &Shdr, names: u64) -> Result<(), NoMemory>
     requires { IsSymtab frame.now table.now }
 {

@@ -31,7 +31,7 @@ use Rattle.oc_elf_read.specs.Built.{keys_of, symboled}
 use Rattle.oc_elf.specs.CarriedSections.{section_with, sections_of}
 use Rattle.oc_elf.specs.CarriedSymbols.{symbols_of}
 use Rattle.oc_elf.specs.Elf.{elf_dialect}
-use Rattle.oc_elf.specs.Frames.{Framed, header_at}
+use Rattle.oc_elf.specs.Frames.{FileFrame, header_at}
 use Rattle.oc_elf_read.specs.Given.{given_at}
 use Rattle.oc_elf.specs.Laid.{IsFrame}
 use Rattle.oc_elf.specs.Sections.{is_type, section_name}
@@ -71,7 +71,7 @@ stored_kind name type flags other =
     ∷ []) ReadOnly
     ((λ e. refl), ((λ e. refl), ((λ e. refl), ((λ e. refl), ((λ e. refl), ((λ e. refl), ((λ e. absurd (true≢false (sym e ∙ other))), ((λ e. refl), ((λ e. refl), tt))))))))) refl
 
-size_here : (f : Framed) (frame : IsFrame f) (s : ℕ) (x : parts.Section) (m : IsHere f s x) → x.size ≡ (here f m.k).sh_size
+size_here : (f : FileFrame) (frame : IsFrame f) (s : ℕ) (x : parts.Section) (m : IsHere f s x) → x.size ≡ (here f m.k).sh_size
 unfolding section_with
 size_here f frame s x m = ap (λ (y : parts.Section). y.size) (sym m.is)
 
@@ -84,7 +84,7 @@ stored_place all Undefined place e = absurd (none-some place e)
 stored_place all (Common size align) place e = absurd (none-some place e)
 stored_place all (Weak g) place e = absurd (none-some place e)
 
-module _ (f : Framed) (keep : Keep) (frame : IsFrame f) (clean : IsClean f keep) (started : IsStarted (elf_dialect f.class) f.file keep (symboled f (symbol_count f))) where
+module _ (f : FileFrame) (keep : Keep) (frame : IsFrame f) (clean : IsClean f keep) (started : IsStarted (elf_dialect f.class) f.file keep (symboled f (symbol_count f))) where
   abbrev base : Draft
   base = symboled f (symbol_count f)
 

@@ -33,7 +33,7 @@ use Rattle.oc_elf.specs.CarriedSections.{sections_of}
 use Rattle.oc_elf.specs.CarriedSymbols.{binding_of, defined_as, is_passed, public_binding, symbol_by, symbol_of, symbol_with, symbols_of, value_of}
 use Rattle.oc_elf.specs.Classes.{format_of}
 use Rattle.oc_elf.specs.Entries.{is_local_entry, name_of}
-use Rattle.oc_elf.specs.Frames.{Framed}
+use Rattle.oc_elf.specs.Frames.{FileFrame}
 use Rattle.oc_elf.specs.SymbolRules.{public_name, public_names, symbol_stage}
 use Rattle.oc_elf.specs.Tables.{entry_of, symbol_count}
 use Rattle.oc_elf_read.proofs.KeyLemmas.{differs}
@@ -46,7 +46,7 @@ pub record IsPlain (all : List parts.Symbol) (s : Sym) (b : Binding) : Type 0 wh
   pub placed : placed_binding all b ≡ b
   pub local : is_local b ≡ is_local_entry s
 
-pub binding_plain : (f : Framed) (s : Sym) (all : List parts.Symbol) (b : Binding) → binding_of f s ≡ Some b → IsPlain all s b
+pub binding_plain : (f : FileFrame) (s : Sym) (all : List parts.Symbol) (b : Binding) → binding_of f s ≡ Some b → IsPlain all s b
 unfolding binding_of
 binding_plain f s all b is = by (is_local_entry s) refl is
   where
@@ -76,13 +76,13 @@ binding_plain f s all b is = by (is_local_entry s) refl is
 -- ... carried symbols
 
 -- entry k is a carried symbol
-pub record IsEntered (f : Framed) (k : ℕ) (x : parts.Symbol) : Type 0 where
+pub record IsEntered (f : FileFrame) (k : ℕ) (x : parts.Symbol) : Type 0 where
   pub some : eqb k 0 ≡ false
   pub binding : Binding
   pub bound : binding_of f (entry_of f k) ≡ Some binding
   pub is : symbol_with f k (entry_of f k) binding ≡ x
 
-pub entered : (f : Framed) (k : ℕ) (x : parts.Symbol) → symbol_of f k ≡ Some x → IsEntered f k x
+pub entered : (f : FileFrame) (k : ℕ) (x : parts.Symbol) → symbol_of f k ≡ Some x → IsEntered f k x
 unfolding symbol_of symbol_by
 entered f k x e = by (eqb k 0) (is_passed f (entry_of f k)) (binding_of f (entry_of f k)) refl refl e
   where
@@ -93,10 +93,10 @@ entered f k x e = by (eqb k 0) (is_passed f (entry_of f k)) (binding_of f (entry
     by false false (Some b) h g e = record { some = h; binding = b; bound = g; is = same_Some (symbol_with f k (entry_of f k) b) x e }
 
 -- the binding of an entry that is carried
-abbrev pub carried_binding : Framed → Sym → Option Binding
+abbrev pub carried_binding : FileFrame → Sym → Option Binding
 carried_binding f s = cond (is_passed f s) None (binding_of f s)
 
-pub symbol_some : (f : Framed) (k : ℕ) (b : Binding) → eqb k 0 ≡ false → carried_binding f (entry_of f k) ≡ Some b → symbol_of f k ≡ Some (symbol_with f k (entry_of f k) b)
+pub symbol_some : (f : FileFrame) (k : ℕ) (b : Binding) → eqb k 0 ≡ false → carried_binding f (entry_of f k) ≡ Some b → symbol_of f k ≡ Some (symbol_with f k (entry_of f k) b)
 unfolding symbol_of symbol_by
 symbol_some f k b some is = rw some (by (is_passed f (entry_of f k)) (binding_of f (entry_of f k)) is)
   where
@@ -106,16 +106,16 @@ symbol_some f k b some is = rw some (by (is_passed f (entry_of f k)) (binding_of
 
 -- ... names
 
-name_is : (f : Framed) (k : ℕ) (s : Sym) (b : Binding) → (symbol_with f k s b).name ≡ name_of f s
+name_is : (f : FileFrame) (k : ℕ) (s : Sym) (b : Binding) → (symbol_with f k s b).name ≡ name_of f s
 unfolding symbol_with
 name_is f k s b = refl
 
-pub binding_is : (f : Framed) (k : ℕ) (s : Sym) (b : Binding) → (symbol_with f k s b).binding ≡ b
+pub binding_is : (f : FileFrame) (k : ℕ) (s : Sym) (b : Binding) → (symbol_with f k s b).binding ≡ b
 unfolding symbol_with
 binding_is f k s b = refl
 
 -- the name of a nonlocal symbol
-public_at : (f : Framed) (k : ℕ) → k < symbol_count f → eqb k 0 ≡ false → is_local_entry (entry_of f k) ≡ false → name_at (public_names f) k ≡ Some (name_of f (entry_of f k))
+public_at : (f : FileFrame) (k : ℕ) → k < symbol_count f → eqb k 0 ≡ false → is_local_entry (entry_of f k) ≡ false → name_at (public_names f) k ≡ Some (name_of f (entry_of f k))
 public_at f k low some own =
     let long = length-map-range_with_len (public_name f) 0 (symbol_count f) in
     ap option_flatten (slice_get-get_or (public_names f) k None (omega (arith, long, low)))
@@ -123,7 +123,7 @@ public_at f k low some own =
     ∙ ap (λ b. cond (b || is_local_entry (entry_of f k)) None (Some (name_of f (entry_of f k)))) some
     ∙ ap (λ b. cond b None (Some (name_of f (entry_of f k)))) own
 
-module _ (f : Framed) (clean : stage_fault (symbol_stage f) ≡ None) (k : ℕ) (low : k < symbol_count f) where
+module _ (f : FileFrame) (clean : stage_fault (symbol_stage f) ≡ None) (k : ℕ) (low : k < symbol_count f) where
   module _ (some : eqb k 0 ≡ false) (b : Binding) (is : carried_binding f (entry_of f k) ≡ Some b) where
     abbrev pub y : parts.Symbol
     y = symbol_with f k (entry_of f k) b
@@ -180,6 +180,6 @@ module _ (f : Framed) (clean : stage_fault (symbol_stage f) ≡ None) (k : ℕ) 
     with_entry d x s before same made = ap (λ (e : Draft). symbol_added e x) before ∙ ap (symbol_added (symboled f k)) (made ∙ ap (λ (t : Sym). symbol_as (symbol_with f k t b)) same) ∙ symbol_taken
 
 -- in the words of what adds it
-pub can_symbol : (f : Framed) → stage_fault (symbol_stage f) ≡ None → (k : ℕ) → k < symbol_count f → eqb k 0 ≡ false → (b : Binding) (d : Draft) (x : Symbol) (s : Sym)
+pub can_symbol : (f : FileFrame) → stage_fault (symbol_stage f) ≡ None → (k : ℕ) → k < symbol_count f → eqb k 0 ≡ false → (b : Binding) (d : Draft) (x : Symbol) (s : Sym)
     → d ≡ symboled f k → s ≡ entry_of f k → x ≡ symbol_as (symbol_with f k s b) → carried_binding f s ≡ Some b → symbol_added d x ≡ Ok (symboled f (k + 1))
 can_symbol f clean k low some b d x s before same made is = with_entry f clean k low some b (sym (ap (carried_binding f) same) ∙ is) d x s before same made

@@ -14,7 +14,7 @@ use Rattle.oc_neutral.specs.declared.reloc.Reloc.{Reloc}
 use Rattle.oc_neutral.specs.declared.elf.TheConstants.{SHT_NOBITS}
 use Rattle.oc_neutral.specs.Building.{Draft}
 use Rattle.oc_shows.specs.Built.{HasAdded, IsStarted}
-use Rattle.oc_shelf.specs.declared.reading.order.Placed.{Placed}
+use Rattle.oc_shelf.specs.declared.reading.order.PlacedEntry.{PlacedEntry}
 use Rattle.oc_shelf.specs.Reading.Collected.{collected}
 use Rattle.oc_shelf.proofs.ReadingLaws.CollectedLemmas.{collected-at}
 use Rattle.oc_shelf.proofs.ReadingLaws.StageLemmas.{both_hold}
@@ -23,7 +23,7 @@ use Rattle.oc_elf_read.specs.Built.{IsPlaced, symboled}
 use Rattle.oc_elf.specs.CarriedSections.{position_of, section_of, section_with, sections_of}
 use Rattle.oc_elf.specs.Elf.{elf_dialect}
 use Rattle.oc_elf.specs.Fields.{is_idle, rel_at, width_of}
-use Rattle.oc_elf.specs.Frames.{Framed}
+use Rattle.oc_elf.specs.Frames.{FileFrame}
 use Rattle.oc_elf_read.specs.Given.{given_at, given_before, given_with, is_before, placed, reloc_by}
 use Rattle.oc_elf.specs.Laid.{IsFrame}
 use Rattle.oc_elf.specs.RelocRules.{entry_fault, is_kept_section}
@@ -44,7 +44,7 @@ use Rattle.oc_shelf.proofs.ReadingLaws.PlacedLemmas.{among_all, not_among}
 use Rattle.oc_shelf.specs.Reading.Order.{is_among}
 
 -- the first entry at the offset of an entry is that entry
-rel_is : (f : Framed) (i k : ℕ) → first_upto (entry_fault f i) (reloc_count f i) ≡ None → k < reloc_count f i → is_idle (reloc_of f i k) ≡ false → rel_at f i (reloc_of f i k).r_offset ≡ Some (reloc_of f i k)
+rel_is : (f : FileFrame) (i k : ℕ) → first_upto (entry_fault f i) (reloc_count f i) ≡ None → k < reloc_count f i → is_idle (reloc_of f i k) ≡ false → rel_at f i (reloc_of f i k).r_offset ≡ Some (reloc_of f i k)
 rel_is f i k clean low busy = by (rel_at f i (reloc_of f i k).r_offset) refl
   where
     by : (o : Option Rel) → rel_at f i (reloc_of f i k).r_offset ≡ o → o ≡ Some (reloc_of f i k)
@@ -70,35 +70,35 @@ rel_is f i k clean low busy = by (rel_at f i (reloc_of f i k).r_offset) refl
                 ne_lt a b le ne = elim (cases_eq a b) [ inl same ↦ absurd (ne same) | inr other ↦ omega (arith, le, other) ]
 
 -- the section at the position of section i
-at_position : (f : Framed) (i p : ℕ) → i < length f.headers → is_carried (here f i) ≡ true → position_of f i ≡ Some p → slice_get (sections_of f) p ≡ Some (section_with f i (here f i))
+at_position : (f : FileFrame) (i p : ℕ) → i < length f.headers → is_carried (here f i) ≡ true → position_of f i ≡ Some p → slice_get (sections_of f) p ≡ Some (section_with f i (here f i))
 at_position f i p low carried position =
     subst (λ (q : ℕ). slice_get (sections_of f) q ≡ Some (section_with f i (here f i)))
     (same_Some (length (collected (section_of f) i)) p (sym (ap (λ (o : Option parts.Section). cond (is_some o) (Some (length (collected (section_of f) i))) None) (section_some f i carried)) ∙ position))
     (collected-at (section_of f) i (length f.headers) (section_with f i (here f i)) (section_some f i carried) low)
 
-number_of : (f : Framed) (i : ℕ) → (section_with f i (here f i)).number ≡ i
+number_of : (f : FileFrame) (i : ℕ) → (section_with f i (here f i)).number ≡ i
 unfolding section_with
 number_of f i = refl
 
-kind_of_it : (f : Framed) (i : ℕ) → (section_with f i (here f i)).kind ≡ kind_of f (here f i)
+kind_of_it : (f : FileFrame) (i : ℕ) → (section_with f i (here f i)).kind ≡ kind_of f (here f i)
 unfolding section_with
 kind_of_it f i = refl
 
-contents_of_it : (f : Framed) (i : ℕ) → (section_with f i (here f i)).contents ≡ contents_of f (here f i)
+contents_of_it : (f : FileFrame) (i : ℕ) → (section_with f i (here f i)).contents ≡ contents_of f (here f i)
 unfolding section_with
 contents_of_it f i = refl
 
-kept_parts : (f : Framed) (keep : Keep) (i : ℕ) → is_kept_section f keep i ≡ true → (is_carried (here f i) ≡ true) × (keeps keep (kind_of f (here f i)) ≡ true)
+kept_parts : (f : FileFrame) (keep : Keep) (i : ℕ) → is_kept_section f keep i ≡ true → (is_carried (here f i) ≡ true) × (keeps keep (kind_of f (here f i)) ≡ true)
 kept_parts f keep i kept = both_hold (is_carried (here f i)) (keeps keep (kind_of f (here f i))) kept
 
 -- a section that is kept has a position
-pub kept_position : (f : Framed) (keep : Keep) (i : ℕ) → is_kept_section f keep i ≡ true → is_some (position_of f i) ≡ true
+pub kept_position : (f : FileFrame) (keep : Keep) (i : ℕ) → is_kept_section f keep i ≡ true → is_some (position_of f i) ≡ true
 kept_position f keep i kept =
     ap (λ (o : Option parts.Section). is_some (cond (is_some o) (Some (length (collected (section_of f) i))) None)) (section_some f i (kept_parts f keep i kept).0)
 
 -- ... sections
 
-module _ (f : Framed) (keep : Keep) (frame : IsFrame f) where
+module _ (f : FileFrame) (keep : Keep) (frame : IsFrame f) where
   -- nothing is given for no sections
   pub given_none : (t x : ℕ) → given_before f keep 0 t x ≡ None
   unfolding given_at
@@ -160,7 +160,7 @@ module _ (f : Framed) (keep : Keep) (frame : IsFrame f) where
 
 -- ... entries
 
-module _ (f : Framed) (keep : Keep) (frame : IsFrame f) (clean : IsClean f keep) (started : IsStarted (elf_dialect f.class) f.file keep (symboled f (symbol_count f)))
+module _ (f : FileFrame) (keep : Keep) (frame : IsFrame f) (clean : IsClean f keep) (started : IsStarted (elf_dialect f.class) f.file keep (symboled f (symbol_count f)))
     (i p : ℕ) (low : i < length f.headers) (kept : is_kept_section f keep i ≡ true) (position : position_of f i ≡ Some p) where
   entries_are : first_upto (entry_fault f i) (reloc_count f i) ≡ None
   entries_are = entries_clean f keep i clean.relocs low kept
@@ -243,13 +243,13 @@ module _ (f : Framed) (keep : Keep) (frame : IsFrame f) (clean : IsClean f keep)
           let offset : (reloc_of f i m.k).r_offset ≡ (reloc_of f i k).r_offset = subst (λ (q : ℕ). (reloc_of f q m.k).r_offset ≡ (reloc_of f i k).r_offset) number m.offset in
           same_Some (reloc_of f i m.k) (reloc_of f i k) (sym (rel_is f i m.k entries_are lower busier) ∙ ap (rel_at f i) offset ∙ rel_is f i k entries_are below busy)
 
-  module _ (entries : List Placed) (are : IsPermutation (collected (placed f i) (reloc_count f i)) entries) where
+  module _ (entries : List PlacedEntry) (are : IsPermutation (collected (placed f i) (reloc_count f i)) entries) where
     -- entry j stands at its offset
-    pub next_of : (j : ℕ) (e : Placed) → j < length entries → IsNext (get_or entries j e).index
+    pub next_of : (j : ℕ) (e : PlacedEntry) → j < length entries → IsNext (get_or entries j e).index
     next_of j e below = let is : IsPlacedEntry f i (get_or entries j e) = entry_placed f i entries are j e below in next_at (get_or entries j e).index is.low is.busy
 
     -- its relocation, as it was read, is added
-    pub ready : (j : ℕ) (e : Placed) → j < length entries → (d : Draft) → HasAdded (symboled f (symbol_count f)) d (given_with f keep i p (take j entries)) → (r : Rel) → r ≡ reloc_of f i (get_or entries j e).index
+    pub ready : (j : ℕ) (e : PlacedEntry) → j < length entries → (d : Draft) → HasAdded (symboled f (symbol_count f)) d (given_with f keep i p (take j entries)) → (r : Rel) → r ≡ reloc_of f i (get_or entries j e).index
         → (o : Reloc) → reloc_by f (contents_of f (here f i)) r ≡ Some o → IsTaken (symboled f (symbol_count f)) d p r.r_offset o (given_with f keep i p (take (j + 1) entries))
     ready j e below d has r read o made =
         let is : IsPlacedEntry f i (get_or entries j e) = entry_placed f i entries are j e below in

@@ -22,7 +22,7 @@ use Rattle.oc_elf.specs.declared.shdr.Shdr.{Shdr}
 use Rattle.oc_elf_read.specs.Built.{IsPlaced, keys_of, sectioned}
 use Rattle.oc_elf.specs.CarriedSections.{section_with, section_of}
 use Rattle.oc_elf.specs.Classes.{format_of}
-use Rattle.oc_elf.specs.Frames.{Framed}
+use Rattle.oc_elf.specs.Frames.{FileFrame}
 use Rattle.oc_elf.specs.Laid.{IsFrame}
 use Rattle.oc_elf.specs.Sections.{is_type, is_carried, kind_of, contents_of}
 use Rattle.oc_elf.specs.SectionRules.{has_bytes, size_counted, bytes_counted, section_stage}
@@ -42,7 +42,7 @@ sum_same : (f g : ℕ → ℕ) (n : ℕ) → ((k : ℕ) → f k ≡ g k) → sum
 sum_same f g zero same = refl
 sum_same f g (suc n) same = rw (sum_same f g n same, same n) refl
 
-module _ (f : Framed) where
+module _ (f : FileFrame) where
   abbrev pub stored_as : parts.Section → Section
   stored_as s = stored_section (keys_of f) s
 

@@ -13,7 +13,7 @@ use Rattle.oc_shows.proofs.BuiltWhole.{built_is_complete, built_is_readable}
 use Rattle.oc_elf.specs.declared.class.ElfClass.{ElfClass}
 use Rattle.oc_elf_read.specs.Built.{symboled}
 use Rattle.oc_elf.specs.Elf.{elf_dialect, rest_stages}
-use Rattle.oc_elf.specs.Frames.{Framed, framed, header_at}
+use Rattle.oc_elf.specs.Frames.{FileFrame, framed, header_at}
 use Rattle.oc_elf_read.specs.Given.{given_at}
 use Rattle.oc_elf_judge.specs.Known.{IsSymtab}
 use Rattle.oc_elf.specs.Laid.{IsFrame}
@@ -26,7 +26,7 @@ use Rattle.oc_elf_read.proofs.ShowableLemmas.{is_started}
 use Rattle.oc_elf_read.proofs.ShownFile.{are_final, clean_is_shown, leaves_blanks}
 use Rattle.oc_elf_judge.proofs.TableLemmas.{symtab_is}
 
-module _ (f : Framed) (keep : Keep) (frame : IsFrame f) (none : first_fault (rest_stages f keep) ≡ None) (draft : IsDraft (symboled f (symbol_count f))) (d : Draft)
+module _ (f : FileFrame) (keep : Keep) (frame : IsFrame f) (none : first_fault (rest_stages f keep) ≡ None) (draft : IsDraft (symboled f (symbol_count f))) (d : Draft)
     (added : HasAdded (symboled f (symbol_count f)) d (given_at f keep)) where
   started : IsStarted (elf_dialect f.class) f.file keep (symboled f (symbol_count f))
   started = is_started f frame keep draft
@@ -47,10 +47,10 @@ module _ (f : Framed) (keep : Keep) (frame : IsFrame f) (none : first_fault (res
   read_shows = clean_is_shown f keep d frame none started added
 
 -- the symbol table that was found
-pub symtab_found : (f : Framed) (keep : Keep) → IsFrame f → first_fault (rest_stages f keep) ≡ None → (o : Option ℕ) → o ≡ symtab_among f (length f.headers) → IsSymtab f (header_at f.headers (unwrap_or o 0))
+pub symtab_found : (f : FileFrame) (keep : Keep) → IsFrame f → first_fault (rest_stages f keep) ≡ None → (o : Option ℕ) → o ≡ symtab_among f (length f.headers) → IsSymtab f (header_at f.headers (unwrap_or o 0))
 symtab_found f keep frame none = symtab_is f frame (stages_clean f keep none).sections
 
 -- a file that is framed shows what its frame does
-pub framed_shows : (class : ElfClass) (file : List ℕ) (keep : Keep) (f : Framed) (n : Object) → f ≡ framed class file → Shows (elf_dialect f.class) f.file keep n → Shows (elf_dialect class) file keep n
+pub framed_shows : (class : ElfClass) (file : List ℕ) (keep : Keep) (f : FileFrame) (n : Object) → f ≡ framed class file → Shows (elf_dialect f.class) f.file keep n → Shows (elf_dialect class) file keep n
 unfolding framed
-framed_shows class file keep f n is = subst (λ (g : Framed). Shows (elf_dialect g.class) g.file keep n) is
+framed_shows class file keep f n is = subst (λ (g : FileFrame). Shows (elf_dialect g.class) g.file keep n) is

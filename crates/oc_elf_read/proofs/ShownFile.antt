@@ -33,7 +33,7 @@ use Rattle.oc_elf_read.specs.Built.{keys_of, symboled}
 use Rattle.oc_elf.specs.CarriedSections.{section_with, sections_of}
 use Rattle.oc_elf.specs.CarriedSymbols.{symbols_of}
 use Rattle.oc_elf.specs.Elf.{elf_dialect}
-use Rattle.oc_elf.specs.Frames.{Framed, header_at}
+use Rattle.oc_elf.specs.Frames.{FileFrame, header_at}
 use Rattle.oc_elf_read.specs.Given.{given_at}
 use Rattle.oc_elf.specs.Laid.{IsFrame}
 use Rattle.oc_elf.specs.Sections.{is_type}
@@ -93,7 +93,7 @@ call_row row is hint =
     of_width Two e = absurd (true≢false (sym e))
     of_width Eight e = absurd (true≢false (sym e))
 
-module _ (f : Framed) (keep : Keep) (frame : IsFrame f) (clean : IsClean f keep) (started : IsStarted (elf_dialect f.class) f.file keep (symboled f (symbol_count f))) where
+module _ (f : FileFrame) (keep : Keep) (frame : IsFrame f) (clean : IsClean f keep) (started : IsStarted (elf_dialect f.class) f.file keep (symboled f (symbol_count f))) where
   standing : (s at : ℕ) (r : Reloc) → given_at f keep s at ≡ Some r → Standing f keep frame clean started s at
   standing s at r e = given_standing f keep frame clean (symboled f (symbol_count f)).object started.symbols s at r e
 

@@ -22,7 +22,7 @@ use Rattle.oc_elf.specs.declared.rel.Rel.{Rel}
 use Rattle.oc_elf.specs.CarriedSections.{sections_of}
 use Rattle.oc_elf.specs.Elf.{elf_dialect}
 use Rattle.oc_elf.specs.Fields.{field_by, is_idle, rel_at, row_for, width_of}
-use Rattle.oc_elf.specs.Frames.{Framed}
+use Rattle.oc_elf.specs.Frames.{FileFrame}
 use Rattle.oc_elf_read.specs.Given.{given_at, reloc_by}
 use Rattle.oc_elf.specs.Laid.{IsFrame}
 use Rattle.oc_elf.specs.RelocRules.{entry_fault}
@@ -50,10 +50,10 @@ no_section row k is e = by row.taken is.alone e
     by TakesSection n e = true≢false n
 
 -- the width of a field is that of its row
-row_width : (f : Framed) (r : Rel) (row : Row) → row_for f r ≡ Some row → width_of f r ≡ bytes_of row.width
+row_width : (f : FileFrame) (r : Rel) (row : Row) → row_for f r ≡ Some row → width_of f r ≡ bytes_of row.width
 row_width f r row e = ap (λ (o : Option Row). option_map_or (λ (x : Row). bytes_of x.width) o 0) e
 
-module _ (f : Framed) (keep : Keep) (frame : IsFrame f) (clean : IsClean f keep) (n : Object) (symbols : shown_symbols n ≡ (elf_dialect f.class).rules.symbols f.file keep) where
+module _ (f : FileFrame) (keep : Keep) (frame : IsFrame f) (clean : IsClean f keep) (n : Object) (symbols : shown_symbols n ≡ (elf_dialect f.class).rules.symbols f.file keep) where
   -- an entry stands at an offset of the section at position s
   pub record IsStanding (s at : ℕ) : Type 0 where
     pub x : parts.Section

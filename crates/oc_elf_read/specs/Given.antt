@@ -13,13 +13,13 @@ use Rattle.std.specs.Option.{option_map, option_map_or, option_and_then}
 use Rattle.oc_linking.specs.declared.terms.Keep.{Keep}
 use Rattle.oc_linking.specs.Keeping.{keeps}
 use Rattle.oc_linking.specs.Parts as parts
-use Rattle.oc_shows.specs.Built.{Given}
+use Rattle.oc_shows.specs.Built.{RelocMap}
 use Rattle.oc_neutral.specs.declared.reloc.Reloc.{Reloc}
 use Rattle.oc_neutral.specs.declared.reloc.Target.TheVariants as target
 use Rattle.oc_neutral.specs.Normal.{moved_addend}
 use Rattle.oc_neutral.specs.Rows.{Row}
 use Rattle.oc_shows.specs.RowValues.{row_reloc}
-use Rattle.oc_shelf.specs.declared.reading.order.Placed.{Placed}
+use Rattle.oc_shelf.specs.declared.reading.order.PlacedEntry.{PlacedEntry}
 use Rattle.oc_elf.specs.declared.meaning.Meaning.{Meaning}
 use Rattle.oc_elf.specs.declared.rel.Rel.{Rel}
 use Rattle.oc_elf.specs.CarriedSymbols.{home_of, symbol_position}
@@ -27,19 +27,19 @@ use Rattle.oc_elf.specs.Classes.{word_of}
 use Rattle.oc_elf.specs.Entries.{is_section_symbol}
 use Rattle.oc_elf.specs.CarriedSections.{sections_of}
 use Rattle.oc_elf.specs.Fields.{addend_in, is_idle, rel_at, row_for}
-use Rattle.oc_elf.specs.Frames.{Framed}
+use Rattle.oc_elf.specs.Frames.{FileFrame}
 use Rattle.oc_elf.specs.Tables.{entry_of, reloc_of}
 use Rattle.oc_shelf.specs.Reading.Order.{is_among}
 
 -- the relocation of an entry with that row: against the section for its own symbol, with the offset added, else against the symbol
-abbrev pub reloc_with : Framed → List ℕ → Rel → Row → Option Reloc
+abbrev pub reloc_with : FileFrame → List ℕ → Rel → Row → Option Reloc
 reloc_with f contents r row =
     if is_section_symbol (entry_of f r.r_sym)
     then option_map (λ k. row_reloc (word_of f.class) row 0 (moved_addend row.base (addend_in (word_of f.class) row contents r) (entry_of f r.r_sym).st_value) (target.Section k)) (home_of f (entry_of f r.r_sym))
     else option_map (λ k. row_reloc (word_of f.class) row 0 (addend_in (word_of f.class) row contents r) (target.Symbol k)) (symbol_position f r.r_sym)
 
 -- where its type has a row
-unfoldable pub reloc_by : Framed → List ℕ → Rel → Option Reloc
+unfoldable pub reloc_by : FileFrame → List ℕ → Rel → Option Reloc
 reloc_by f contents r = option_and_then (reloc_with f contents r) (row_for f r)
 
 -- the number that is added, reduced, for a field of that width
@@ -48,29 +48,29 @@ addend_by W32 width contents r = from_field_of W32 width (pos 0) (number_at cont
 addend_by W64 width contents r = from_field_of W64 Eight (pos 0) r.r_addend
 
 -- the relocation of an entry with that meaning
-abbrev pub reloc_meant : Framed → List ℕ → Rel → Meaning → Option Reloc
+abbrev pub reloc_meant : FileFrame → List ℕ → Rel → Meaning → Option Reloc
 reloc_meant f contents r m =
     if is_section_symbol (entry_of f r.r_sym)
     then option_map (λ k. record { target = target.Section k; form = m.form; addend = reduced_number (word_of f.class) (moved_addend m.form.base (addend_by (word_of f.class) m.form.width contents r) (entry_of f r.r_sym).st_value); hint = m.hint }) (home_of f (entry_of f r.r_sym))
     else option_map (λ k. record { target = target.Symbol k; form = m.form; addend = addend_by (word_of f.class) m.form.width contents r; hint = m.hint }) (symbol_position f r.r_sym)
 
--- entry k of the table of section i with the offset of its field, where it says something
-abbrev pub placed : Framed → ℕ → ℕ → Option Placed
+-- entry k of the table of section i with the offset of its field, where it has an effect
+abbrev pub placed : FileFrame → ℕ → ℕ → Option PlacedEntry
 placed f i k = if is_idle (reloc_of f i k) then None else Some (record { place = (reloc_of f i k).r_offset; index = k })
 
 -- what is given for the field at an offset of the section at position s, where that is kept
-unfoldable pub given_at : Framed → Keep → Given
+unfoldable pub given_at : FileFrame → Keep → RelocMap
 given_at f keep s at =
     option_and_then (λ (x : parts.Section). if keeps keep x.kind then option_and_then (reloc_by f x.contents) (rel_at f x.number at) else None) (slice_get (sections_of f) s)
 
 -- the section at a position has a number below i; so has one that is not there
-abbrev pub is_before : Framed → ℕ → ℕ → Bool
+abbrev pub is_before : FileFrame → ℕ → ℕ → Bool
 is_before f i s = option_map_or (λ (x : parts.Section). nat_lt x.number i) (slice_get (sections_of f) s) true
 
 -- what is given for the sections with numbers below i
-abbrev pub given_before : Framed → Keep → ℕ → Given
+abbrev pub given_before : FileFrame → Keep → ℕ → RelocMap
 given_before f keep i s at = if is_before f i s then given_at f keep s at else None
 
 -- and for some entries of the table of section i, which is at position p
-abbrev pub given_with : Framed → Keep → ℕ → ℕ → List Placed → Given
+abbrev pub given_with : FileFrame → Keep → ℕ → ℕ → List PlacedEntry → RelocMap
 given_with f keep i p entries s at = if is_before f i s || nat_eq s p && is_among entries at then given_at f keep s at else None

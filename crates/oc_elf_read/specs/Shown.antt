@@ -7,13 +7,13 @@ use Rattle.oc_shows.specs.Built.{HasAdded, IsStarted}
 use Rattle.oc_shows.specs.Shows.{Shows}
 use Rattle.oc_elf_read.specs.Built.{symboled}
 use Rattle.oc_elf.specs.Elf.{elf_dialect, rest_stages}
-use Rattle.oc_elf.specs.Frames.{Framed}
+use Rattle.oc_elf.specs.Frames.{FileFrame}
 use Rattle.oc_elf_read.specs.Given.{given_at}
 use Rattle.oc_elf.specs.Laid.{IsFrame}
 use Rattle.oc_elf.specs.Tables.{symbol_count}
 
 -- a file without a fault shows what is built of its sections and symbols, with the relocations of its entries
 abbrev pub CleanIsShown : Type 0
-CleanIsShown = (f : Framed) (keep : Keep) (d : Draft) → IsFrame f → first_fault (rest_stages f keep) ≡ None
+CleanIsShown = (f : FileFrame) (keep : Keep) (d : Draft) → IsFrame f → first_fault (rest_stages f keep) ≡ None
     → IsStarted (elf_dialect f.class) f.file keep (symboled f (symbol_count f)) → HasAdded (symboled f (symbol_count f)) d (given_at f keep)
     → Shows (elf_dialect f.class) f.file keep d.object

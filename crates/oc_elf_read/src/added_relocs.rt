@@ -20,12 +20,12 @@ use oc_base::NoMemory;
 use oc_elf::{Frame, Shdr};
 use oc_elf_judge::{Aims, is_kept, reloc_of};
 use oc_neutral::{Builder, Keep};
-use oc_shelf::{Placed, Slots};
+use oc_shelf::{PlacedEntry, Slots};
 use std::alloc::Global;
 
 // a section whose relocations are added
 #[derive(Clone, Copy)]
-struct Place<'a> {
+struct RelocSection<'a> {
     // the number of its header
     number: u32,
     // its position among the carried sections
@@ -51,8 +51,8 @@ fn add_entry(
     keep: &Keep,
     aims: &Aims,
     builder: &mut Builder,
-    place: &Place,
-    entries: &[Placed],
+    place: &RelocSection,
+    entries: &[PlacedEntry],
     j: usize,
 ) -> Result<(), NoMemory>
     requires clean { first_fault (rest_stages frame.now keep.now) ≡ None }
@@ -83,7 +83,7 @@ fn add_table(
     keep: &Keep,
     aims: &Aims,
     builder: &mut Builder,
-    place: &Place,
+    place: &RelocSection,
 ) -> Result<(), NoMemory>
     requires clean { first_fault (rest_stages frame.now keep.now) ≡ None }
     requires aims { IsAimed frame.now aims.now.table.now aims.now.sections.now aims.now.symbols.now }
@@ -126,7 +126,7 @@ fn add_relocs_of(
         return Ok(());
     }
     let table = frame.header(tables.get(i).unwrap_or(0));
-    let place = Place {
+    let place = RelocSection {
         number: i,
         position: aims.sections.get(i).unwrap(),
         table: &table,

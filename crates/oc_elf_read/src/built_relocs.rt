@@ -13,10 +13,10 @@ use oc_base::{NoMemory, Word};
 use oc_elf::{Frame, Meaning, Rel, Shdr, meaning_of};
 use oc_elf_judge::{Aims, entry_of, home_of, is_idle, is_section_symbol, reloc_count, reloc_of};
 use oc_neutral::{Reloc, Target, Width, moved_addend};
-use oc_shelf::{Placed, sort_by_place};
+use oc_shelf::{PlacedEntry, sort_by_place};
 use std::alloc::Global;
 
-// the number that is added, reduced: it stands in the field of these contents, or in the entry
+// the number that is added, reduced: it is stored in the field of these contents, or in the entry
 fn addend_of(word: Word, contents: &[u8], width: Width, r: &Rel) -> i64
     requires { r.now.r_offset + bytes_of width ≤ length contents.now }
     ensures { result ≡ given.addend_by word width contents.now r.now }
@@ -88,7 +88,12 @@ pub(crate) fn reloc_for(frame: &Frame, aims: &Aims, contents: &[u8], r: &Rel) ->
 }
 
 // the entries of the table of section `i` that say something, each with the offset of its field
-fn gathered(alloc: Global, frame: &Frame, i: u32, table: &Shdr) -> Result<Vec<Placed>, NoMemory>
+fn gathered(
+    alloc: Global,
+    frame: &Frame,
+    i: u32,
+    table: &Shdr,
+) -> Result<Vec<PlacedEntry>, NoMemory>
     requires { IsTable frame.now i table.now }
     ensures { IfOk result (λ entries. entries.items ≡ collected (given.placed frame.now i) (tables.reloc_count frame.now i)) }
 {
@@ -97,7 +102,7 @@ fn gathered(alloc: Global, frame: &Frame, i: u32, table: &Shdr) -> Result<Vec<Pl
     for k in 0..count {
         let r = reloc_of(frame, i, table, k);
         if !is_idle(&r) {
-            entries.push(Placed {
+            entries.push(PlacedEntry {
                 place: r.r_offset,
                 index: k,
             })?;
@@ -114,7 +119,7 @@ pub(crate) fn in_order(
     frame: &Frame,
     i: u32,
     table: &Shdr,
-) -> Result<Vec<Placed>, NoMemory>
+) -> Result<Vec<PlacedEntry>, NoMemory>
     requires { IsTable frame.now i table.now }
     ensures { IfOk result (λ entries. IsPermutation (collected (given.placed frame.now i) (tables.reloc_count frame.now i)) entries.items) }
 {

@@ -95,7 +95,7 @@ fn binding_of(frame: &Frame, positions: &Slots, s: &Sym) -> Option<Binding>
     }
 }
 
-// what a symbol is said to name
+// what a symbol is declared to name
 fn mark_of(s: &Sym) -> Mark
     ensures { result ≡ entries.mark_of s.now }
 {

@@ -18,7 +18,7 @@ ghost use Rattle.oc_elf_file.specs.Lines as elf_lines;
 ghost use Rattle.oc_elf_write.specs.Heads.{AreHeads, head_in, IsListed};
 ghost use Rattle.oc_elf_write.specs.LaidParts.{begins_by};
 ghost use Rattle.oc_elf_write.specs.Keys.{AreKeys};
-ghost use Rattle.oc_elf_write.specs.Made.{IsMadeOf};
+ghost use Rattle.oc_elf_write.specs.HeaderInputs.{IsMadeOf};
 ghost use Rattle.oc_elf_write.specs.Numbers.{IsNumbered};
 ghost use Rattle.oc_elf_write.specs.Ready.{IsReady};
 ghost use Rattle.oc_neutral.specs.declared.group.Group.{Group as Keyed};
@@ -88,7 +88,7 @@ pub(crate) fn symtab_number(class: ElfClass, heads: u32) -> u32
 
 /// What is made of an object before its section headers.
 #[derive(Clone, Copy)]
-pub(crate) struct Made<'a> {
+pub(crate) struct HeaderInputs<'a> {
     /// For each group the position of the symbol that has its key for its name.
     pub(crate) keys: &'a [Option<u32>],
     /// The numbers of symbols.
@@ -236,7 +236,7 @@ fn with_first(first: Shdr, shdrs: Vec<Shdr>) -> Vec<Shdr>
 }
 
 // the number of the signature of the group at a position
-fn signature_of(neutral: &Neutral, made: Made<'_>, group: u32) -> u32
+fn signature_of(neutral: &Neutral, made: HeaderInputs<'_>, group: u32) -> u32
     requires ready { IsReady neutral.now }
     requires keys { AreKeys neutral.now made.keys.now }
     requires numbers { IsNumbered neutral.now made.numbers.now }
@@ -246,8 +246,14 @@ fn signature_of(neutral: &Neutral, made: Made<'_>, group: u32) -> u32
     made.numbers.of_signature(group, made.keys[group as usize])
 }
 
-// the section header of what stands at a place, with its name and its size
-fn header_by(class: ElfClass, neutral: &Neutral, made: Made<'_>, head: Head, plain: Shdr) -> Shdr
+// the section header of what lies at a place, with its name and its size
+fn header_by(
+    class: ElfClass,
+    neutral: &Neutral,
+    made: HeaderInputs<'_>,
+    head: Head,
+    plain: Shdr,
+) -> Shdr
     requires fitted { IsFitted (format_of class) neutral.now }
     requires made { IsMadeOf class neutral.now made }
     requires there { IsSome (head_in neutral.now head) }
@@ -272,13 +278,13 @@ fn header_by(class: ElfClass, neutral: &Neutral, made: Made<'_>, head: Head, pla
     }
 }
 
-// the section header of what stands at a place, whose name is looked for first at the position `near`
+// the section header of what lies at a place, whose name is looked for first at the position `near`
 // among the given names
 fn header_of(
     alloc: Global,
     class: ElfClass,
     neutral: &Neutral,
-    made: Made<'_>,
+    made: HeaderInputs<'_>,
     near: usize,
     head: Head,
     place: u64,
@@ -295,12 +301,12 @@ fn header_of(
     Ok(header_by(class, neutral, made, head, plain))
 }
 
-// the section headers of a file whose parts begin at these places, the first of which says nothing
+// the section headers of a file whose parts begin at these places, the first of which is empty
 fn shdrs_of(
     alloc: Global,
     class: ElfClass,
     neutral: &Neutral,
-    made: Made<'_>,
+    made: HeaderInputs<'_>,
     heads: &[Head],
     places: &[u64],
 ) -> Result<Vec<Shdr>, NoMemory>
@@ -321,14 +327,14 @@ fn shdrs_of(
 }
 
 /// The section headers of a file whose parts begin at these places, as they are written. `NoMemory`
-/// where memory ran out. Linear in the headers, but for looking up names in the string table, each where
-/// the next given one stands.
+/// where memory ran out. Linear in the headers, but for looking up names in the string table, each
+/// at the position of the next given one.
 #[tactic(auto, unfolding(oc_elf_file::specs::Headers::stored_headers))]
 pub(crate) fn stored_shdrs(
     alloc: Global,
     class: ElfClass,
     neutral: &Neutral,
-    made: Made<'_>,
+    made: HeaderInputs<'_>,
     heads: &[Head],
     places: &[u64],
 ) -> Result<Vec<Shdr>, NoMemory>

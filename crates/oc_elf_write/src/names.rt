@@ -1,4 +1,4 @@
-//! The names of section headers, and where names stand in a string table.
+//! The names of section headers, and where names lie in a string table.
 ghost use Rattle.std.specs.Prelude.{◌≡◌, ◌++◌, ℕ, List, IfOk, IsSome, Some};
 ghost use Rattle.oc_elf_file.specs.Heads as elf_heads;
 ghost use Rattle.oc_elf_file.specs.Symbols as symbols;
@@ -12,7 +12,7 @@ use oc_neutral::Neutral;
 use oc_strings::Table;
 use std::alloc::Global;
 
-/// The offset of a name in a string table; 0, where the empty name stands, if it was not given. It is
+/// The offset of a name in a string table; 0, where the empty name lies, if it was not given. It is
 /// looked for first at the position `near` among the given names: time as for `Table::offset_near`.
 pub(crate) fn offset_in(names: &Table, near: usize, name: &[u8]) -> u32
     ensures { (given : List (List ℕ)) → names.now ≡ table_with given → result ≡ symbols.offset_in given name.now }
@@ -20,7 +20,7 @@ pub(crate) fn offset_in(names: &Table, near: usize, name: &[u8]) -> u32
     names.offset_near(near, name).unwrap_or(0)
 }
 
-// what stands before the name of a section in that of its relocation table
+// what comes before the name of a section in that of its relocation table
 fn reloc_prefix(word: Word) -> &'static [u8]
     ensures { result.now ≡ elf_heads.reloc_prefix word }
 {

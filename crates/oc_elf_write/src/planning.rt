@@ -9,7 +9,7 @@ ghost use Rattle.oc_elf_write.specs.Plans.{AreMade};
 ghost use Rattle.oc_elf_write.specs.Raws.{all_raws};
 
 use crate::bodies::bodies_of;
-use crate::headers::{Made, file_header, stored_shdrs, symtab_number};
+use crate::headers::{HeaderInputs, file_header, stored_shdrs, symtab_number};
 use crate::heads::heads_of;
 use crate::keys::keys_of;
 use crate::layout::layout_of;
@@ -48,7 +48,7 @@ fn made_of(alloc: Global, class: ElfClass, fitted: Fitted) -> Result<(ElfParts, 
     let bodies = bodies_of(alloc, class, neutral, &heads, &lines.all, &numbers)?;
     let layout = layout_of(alloc, class, neutral, &bodies, &heads)?;
     let count = heads.len() as u32;
-    let made = Made {
+    let made = HeaderInputs {
         keys: &keys,
         numbers: &numbers,
         inner: lines.inner as u32,

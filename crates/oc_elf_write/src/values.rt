@@ -6,7 +6,7 @@ ghost use Rattle.oc_neutral.specs.KeySymbols as keys;
 ghost use Rattle.oc_shows.specs.Manners.{elf_mark, elf_size};
 ghost use Rattle.oc_neutral.specs.Normal.{Place as Held};
 ghost use Rattle.oc_elf_file.specs.Symbols as symbols;
-ghost use Rattle.oc_elf_write.specs.Values.{AreStood};
+ghost use Rattle.oc_elf_write.specs.Values.{AreValueFields};
 
 use crate::heads::section_number;
 use oc_elf::{
@@ -17,7 +17,7 @@ use oc_neutral::{Binding, Fallback, Mark, Neutral, Value, Visibility};
 
 /// A value, and the section header that it counts from.
 #[derive(Clone, Copy)]
-pub(crate) struct Stood {
+pub(crate) struct ValueFields {
     /// An offset in the section, an absolute number or an alignment.
     pub(crate) st_value: u64,
     /// The number of the section header, or one of the constants `SHN_*`.
@@ -25,30 +25,30 @@ pub(crate) struct Stood {
 }
 
 /// What is defined elsewhere.
-const ELSEWHERE: Stood = Stood {
+const ELSEWHERE: ValueFields = ValueFields {
     st_value: 0,
     st_shndx: SHN_UNDEF,
 };
 
 // a place in a section
-fn at_place(neutral: &Neutral, section: u32, offset: u32) -> Stood
+fn at_place(neutral: &Neutral, section: u32, offset: u32) -> ValueFields
     requires there { section < length neutral.now.sections }
-    ensures { AreStood result (symbols.stood_at neutral.now section offset) }
+    ensures { AreValueFields result (symbols.value_fields_at neutral.now section offset) }
 {
-    Stood {
+    ValueFields {
         st_value: u64::from(offset),
         st_shndx: section_number(neutral, section),
     }
 }
 
 // a value
-fn of_value(neutral: &Neutral, value: Value) -> Stood
+fn of_value(neutral: &Neutral, value: Value) -> ValueFields
     requires there { IsValue neutral.now value }
-    ensures { AreStood result (symbols.stood_by neutral.now value) }
+    ensures { AreValueFields result (symbols.value_fields_by neutral.now value) }
 {
     match value {
         Value::Place { section, offset } => at_place(neutral, section, offset),
-        Value::Absolute(number) => Stood {
+        Value::Absolute(number) => ValueFields {
             st_value: number,
             st_shndx: SHN_ABS,
         },
@@ -70,9 +70,9 @@ fn global_place(binding: Binding) -> Option<(u32, u32)>
 }
 
 // the place of the Global that a fallback names
-fn of_named(neutral: &Neutral, place: Option<(u32, u32)>) -> Stood
+fn of_named(neutral: &Neutral, place: Option<(u32, u32)>) -> ValueFields
     requires there { IfSome place (λ p. p.0 < length neutral.now.sections) }
-    ensures { AreStood result (option_map_or (λ (p : Held). symbols.stood_at neutral.now p.0 p.1) place symbols.stood_elsewhere) }
+    ensures { AreValueFields result (option_map_or (λ (p : Held). symbols.value_fields_at neutral.now p.0 p.1) place symbols.value_fields_elsewhere) }
 {
     match place {
         Some((section, offset)) => at_place(neutral, section, offset),
@@ -80,10 +80,10 @@ fn of_named(neutral: &Neutral, place: Option<(u32, u32)>) -> Stood
     }
 }
 
-// a fallback; a Name stands where its Global does
-fn of_fallback(neutral: &Neutral, fallback: Fallback) -> Stood
+// a fallback; a Name lies where its Global does
+fn of_fallback(neutral: &Neutral, fallback: Fallback) -> ValueFields
     requires there { IsFallback neutral.now fallback }
-    ensures { AreStood result (symbols.stood_for neutral.now fallback) }
+    ensures { AreValueFields result (symbols.value_fields_for neutral.now fallback) }
 {
     neutral.is_object();
     match fallback {
@@ -94,14 +94,14 @@ fn of_fallback(neutral: &Neutral, fallback: Fallback) -> Stood
 }
 
 /// The value of a symbol. Constant time.
-pub(crate) fn of_binding(neutral: &Neutral, binding: Binding) -> Stood
+pub(crate) fn of_binding(neutral: &Neutral, binding: Binding) -> ValueFields
     requires there { IsBinding neutral.now binding }
-    ensures { AreStood result (symbols.stood_of neutral.now binding) }
+    ensures { AreValueFields result (symbols.value_fields_of neutral.now binding) }
 {
     match binding {
         Binding::Local(value) | Binding::Global(value) => of_value(neutral, value),
         Binding::Undefined => ELSEWHERE,
-        Binding::Common { align, .. } => Stood {
+        Binding::Common { align, .. } => ValueFields {
             st_value: u64::from(align),
             st_shndx: SHN_COMMON,
         },

@@ -50,7 +50,7 @@ fn far_places(
     Ok(far)
 }
 
-// whether one of these names of sections stands in the string table
+// whether one of these names of sections is in the string table
 fn is_any_tabled(names: &[Bytes]) -> bool
     ensures { result ≡ list_any strings.is_tabled names.now }
 {
@@ -58,7 +58,7 @@ fn is_any_tabled(names: &[Bytes]) -> bool
 }
 
 // for each section whether its name lies too far in the string table of a COFF output; the table is
-// laid out only where one of these names stands in it
+// laid out only where one of these names is in it
 fn far_in_table(
     alloc: Global,
     target: Format,
@@ -77,11 +77,12 @@ fn far_in_table(
 }
 
 /// For each section, which have these names in the output, whether its name lies too far in the
-/// target's string table; no section past the last one is told of. `NoMemory` where memory ran out.
+/// target's string table; that of a section past the end of the result does not. `NoMemory` where
+/// memory ran out.
 ///
-/// Where the target is COFF and one of the names stands in the table, the table is laid out once: the
-/// time is that of sorting the names of the symbols and sections from their last bytes on. Where none
-/// does, it is linear in the sections; with another target it is constant.
+/// Where the target is COFF and one of the names is in the table, the table is laid out once: the
+/// time is that of sorting the names of the symbols and sections from their last bytes on. Where
+/// none does, it is linear in the sections; with another target it is constant.
 pub(crate) fn far_names(
     alloc: Global,
     target: Format,

@@ -21,7 +21,10 @@ ghost use Rattle.oc_target.specs.Cut.{is_cut_key};
 
 use oc_base::{Bytes, Code, Fault, Format, Phase, Spot};
 use oc_neutral::{Kind, Neutral, Section, coff, elf};
-use oc_target::{has_nul, is_marked, is_relocated, keeps_debug, key_of, most_align, same_format, takes_exceptions};
+use oc_target::{
+    has_nul, is_marked, is_relocated, keeps_debug, key_of, most_align, same_format,
+    takes_exceptions,
+};
 
 // whether two kinds are the same
 fn same_kind(a: Kind, b: Kind) -> bool
@@ -65,7 +68,7 @@ fn is_unavailable(target: Format, kind: Kind) -> bool
     }
 }
 
-// whether the section is a member of a group whose key has a NUL; `cut` tells of each group
+// whether the section is a member of a group whose key has a NUL; `cut` tells this for each group
 fn has_cut_key(neutral: &Neutral, section: &Section, cut: &[bool]) -> bool
     requires { (g : ℕ) → slice_index_or cut.now g false ≡ is_cut_key neutral.now g }
     ensures { result ≡ option_map_or rules.has_nul (option_and_then (faces.key_of neutral.now.groups) section.now.group) false }
@@ -120,8 +123,8 @@ fn is_name_form(
     }
 }
 
-// whether the target cannot write a member of that group; `keyed` tells of each group whether it has
-// its key symbol
+// whether the target cannot write a member of that group; `keyed` tells for each group whether it
+// has its key symbol
 fn lacks_member(target: Format, neutral: &Neutral, group: u32, keyed: &[bool]) -> bool
     requires { (g : ℕ) → slice_index_or keyed.now g false ≡ has_key_symbol neutral.now g }
     ensures { result ≡ (family_of target).lacks_member neutral.now group }
@@ -203,10 +206,10 @@ fn section_spot(section: &Section) -> Spot
     }
 }
 
-/// The first fault of the sections of an object in a target, in the order of the list; `names` are their
-/// names in the output, `far` tells of each whether it lies too far in the string table, and of each
-/// group `keyed` tells whether it has its key symbol, and `cut` whether its key has a NUL. Linear time but
-/// for the names, no memory.
+/// The first fault of the sections of an object in a target, in the order of the list; `names` are
+/// their names in the output, `far` tells for each whether it lies too far in the string table, and
+/// for each group `keyed` tells whether it has its key symbol, and `cut` whether its key has a NUL.
+/// Linear time but for the names, no memory.
 #[tactic(auto, using(oc_linking::proofs::Upto::first_upto_stop))]
 pub(crate) fn sections_fault(
     target: Format,

@@ -16,10 +16,10 @@ use oc_neutral::{Binding, Neutral};
 use oc_target::{is_written, needed_count, signature_count};
 use std::alloc::Global;
 
-/// The most symbols that an entry of 24 bits tells apart.
+/// The most symbols that an entry of 24 bits can distinguish.
 const MOST_SYMBOLS: u64 = 0xFF_FFFF;
 
-/// The most externals that an index of 15 bits tells apart (TIS OMF 1.1, "EXTDEF").
+/// The most externals that an index of 15 bits can distinguish (TIS OMF 1.1, "EXTDEF").
 const MOST_EXTERNALS: u64 = 32_767;
 
 // whether the symbol is Undefined or Common

@@ -112,7 +112,7 @@ fn is_steady(neutral: &Neutral, symbol: &Symbol) -> bool
     }
 }
 
-// whether the symbol at a position is there, and such a Global
+// whether the symbol at a position exists, and is such a Global
 fn is_steady_at(neutral: &Neutral, at: u32) -> bool
     ensures { result ≡ option_map_or (tests.is_steady neutral.now) (slice_get neutral.now.symbols at) false }
 {

@@ -7,10 +7,10 @@ ghost use Rattle.oc_link.specs.Values as values;
 
 use oc_linking::{Fallback, Value};
 use oc_neutral::Neutral;
-use oc_place::Placed;
+use oc_place::Placements;
 
 /// Whether a section is discarded. Constant time, no memory.
-pub(crate) fn is_discarded(object: &Neutral, placed: &Placed, section: u32) -> bool
+pub(crate) fn is_discarded(object: &Neutral, placed: &Placements, section: u32) -> bool
     requires there { section < length object.now.sections }
     requires placing { IsPlacingOf object.now placed.now }
     ensures { result ≡ (values.laid object.now placed.now).discarded section }
@@ -23,7 +23,7 @@ pub(crate) fn is_discarded(object: &Neutral, placed: &Placed, section: u32) -> b
 }
 
 /// Whether a value is a place in a section that is discarded. Constant time, no memory.
-pub(crate) fn is_gone(object: &Neutral, placed: &Placed, value: Value) -> bool
+pub(crate) fn is_gone(object: &Neutral, placed: &Placements, value: Value) -> bool
     requires value { IsValue object.now value }
     requires placing { IsPlacingOf object.now placed.now }
     ensures { result ≡ placing.is_gone (values.laid object.now placed.now) value }
@@ -35,7 +35,7 @@ pub(crate) fn is_gone(object: &Neutral, placed: &Placed, value: Value) -> bool
 }
 
 /// Whether a fallback is a place in a section that is discarded. Constant time, no memory.
-pub(crate) fn is_fallback_gone(object: &Neutral, placed: &Placed, fallback: Fallback) -> bool
+pub(crate) fn is_fallback_gone(object: &Neutral, placed: &Placements, fallback: Fallback) -> bool
     requires fallback { IsFallback object.now fallback }
     requires placing { IsPlacingOf object.now placed.now }
     ensures { result ≡ placing.is_fallback_gone (values.laid object.now placed.now) fallback }

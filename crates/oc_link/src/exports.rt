@@ -16,7 +16,7 @@ use oc_base::{NoMemory, word_of};
 use oc_dump::{put_hex, put_name};
 use oc_linking::Binding;
 use oc_neutral::Neutral;
-use oc_place::{Named, Placed, index_of};
+use oc_place::{Named, Placements, index_of};
 use std::alloc::Global;
 
 // puts ` NAME` and a newline
@@ -52,7 +52,12 @@ fn put_size(out: &mut String, size: u64, name: &[u8]) -> Result<(), NoMemory>
 }
 
 // puts what a symbol exports; nothing where it is lost, or exports nothing
-fn put_symbol(out: &mut String, object: &Neutral, placed: &Placed, k: u32) -> Result<(), NoMemory>
+fn put_symbol(
+    out: &mut String,
+    object: &Neutral,
+    placed: &Placements,
+    k: u32,
+) -> Result<(), NoMemory>
     requires there { k < length object.now.symbols }
     requires placing { IsPlacingOf object.now placed.now }
     ensures { OnOk result (string_bytes out.new ≡ string_bytes out.old ++ pieces.symbol_text_of object.now placed.now k) }
@@ -84,7 +89,7 @@ fn put_symbol(out: &mut String, object: &Neutral, placed: &Placed, k: u32) -> Re
 fn put_names(
     out: &mut String,
     object: &Neutral,
-    placed: &Placed,
+    placed: &Placements,
     names: &[Named<'_>],
 ) -> Result<(), NoMemory>
     requires index { IsIndex (names_of (shown_symbols object.now)) names.now }
@@ -103,7 +108,7 @@ pub(crate) fn put_exports(
     alloc: Global,
     out: &mut String,
     object: &Neutral,
-    placed: &Placed,
+    placed: &Placements,
 ) -> Result<(), NoMemory>
     requires { IsPlacingOf object.now placed.now }
     ensures { OnOk result (string_bytes out.new ≡ string_bytes out.old ++ pieces.exports_text_of object.now placed.now) }

@@ -14,10 +14,10 @@ use oc_base::{Word, word_of};
 use oc_chains::Field;
 use oc_linking::{Patch, modulus};
 use oc_neutral::{Base, Less, Neutral, Reloc};
-use oc_place::Placed;
+use oc_place::Placements;
 
 // what a value begins with
-fn base_of(placed: &Placed, target: TargetValue, base: Base) -> u64
+fn base_of(placed: &Placements, target: TargetValue, base: Base) -> u64
     ensures { (n : Object) → result ≡ objects.base_of (values.laid n placed.now) (values.as_valued target) base }
 {
     match base {
@@ -29,7 +29,7 @@ fn base_of(placed: &Placed, target: TargetValue, base: Base) -> u64
 }
 
 // what is taken from it, for a field at an offset of a section
-fn less_of(placed: &Placed, section: u32, at: u32, target: TargetValue, less: Less) -> u128
+fn less_of(placed: &Placements, section: u32, at: u32, target: TargetValue, less: Less) -> u128
     requires there { section < length placed.now.spots }
     requires less { IsLessIn (length placed.now.spots) less }
     ensures { (n : Object) → result ≡ objects.less_of (values.laid n placed.now) section at (values.as_valued target) less }
@@ -56,7 +56,7 @@ fn sum_less(word: Word, base: u64, addend: u64, less: u128) -> u64
 /// A field of a section with its value. Constant time, no memory.
 pub(crate) fn patch_of(
     object: &Neutral,
-    placed: &Placed,
+    placed: &Placements,
     section: u32,
     field: Field<Reloc>,
 ) -> Patch

@@ -7,7 +7,7 @@ ghost use Rattle.oc_link.specs.Values as values;
 use crate::fields::patch_of;
 use oc_base::{Bytes, NoMemory};
 use oc_neutral::{Neutral, put};
-use oc_place::Placed;
+use oc_place::Placements;
 use std::alloc::Global;
 
 /// The bytes of a section that has some in the object, each field replaced by its value. Linear in
@@ -15,7 +15,7 @@ use std::alloc::Global;
 pub(crate) fn image_of(
     alloc: Global,
     object: &Neutral,
-    placed: &Placed,
+    placed: &Placements,
     section: u32,
 ) -> Result<Bytes, NoMemory>
     requires there { section < length object.now.sections }

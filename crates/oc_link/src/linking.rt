@@ -11,7 +11,7 @@ use crate::room::room_for;
 use crate::sections::put_sections;
 use oc_base::{Bytes, NoMemory};
 use oc_neutral::Neutral;
-use oc_place::Placed;
+use oc_place::Placements;
 use std::alloc::Global;
 
 // puts the line of an overflow
@@ -30,7 +30,7 @@ fn put_linked(
     alloc: Global,
     out: &mut String,
     object: &Neutral,
-    placed: &Placed,
+    placed: &Placements,
 ) -> Result<(), NoMemory>
     requires { IsPlacingOf object.now placed.now }
     ensures { OnOk result (string_bytes out.new ≡ string_bytes out.old ++ pieces.linked_text_of object.now placed.now) }
@@ -53,7 +53,7 @@ fn put_linked(
 /// `NoMemory` where memory ran out. Time is linear in the bytes, relocations and names, but for a sort
 /// of the names; memory is that of the text, of one section and of a slice and a number for each name.
 #[tactic(auto, unfolding(crate::specs::Linked::link_text_of))]
-pub fn link_text(alloc: Global, object: &Neutral, placed: &Placed) -> Result<Bytes, NoMemory>
+pub fn link_text(alloc: Global, object: &Neutral, placed: &Placements) -> Result<Bytes, NoMemory>
     requires { IsPlacingOf object.now placed.now }
     ensures { IfOk result (λ text. text ≡ link_text_of object.now placed.now) }
 {

@@ -11,10 +11,10 @@ use crate::fields::patch_of;
 use oc_base::word_of;
 use oc_linking::fits;
 use oc_neutral::Neutral;
-use oc_place::Placed;
+use oc_place::Placements;
 
 // the first field of a section that overflows
-fn first_field(object: &Neutral, placed: &Placed, section: u32) -> Option<u32>
+fn first_field(object: &Neutral, placed: &Placements, section: u32) -> Option<u32>
     requires there { section < length object.now.sections }
     requires placing { IsPlacingOf object.now placed.now }
     ensures { result ≡ values.first_of (values.overflows_at object.now placed.now section) (list_of object.now.relocs section) }
@@ -31,7 +31,7 @@ fn first_field(object: &Neutral, placed: &Placed, section: u32) -> Option<u32>
 }
 
 // the same, and none where the section is discarded
-fn first_in(object: &Neutral, placed: &Placed, section: u32) -> Option<u32>
+fn first_in(object: &Neutral, placed: &Placements, section: u32) -> Option<u32>
     requires there { section < length object.now.sections }
     requires placing { IsPlacingOf object.now placed.now }
     ensures { result ≡ values.first_in object.now placed.now section }
@@ -45,7 +45,7 @@ fn first_in(object: &Neutral, placed: &Placed, section: u32) -> Option<u32>
 
 /// The first field of all sections that overflows: the least section, and in it the least offset.
 /// Linear in the sections and the relocations, no memory.
-pub(crate) fn first_overflow(object: &Neutral, placed: &Placed) -> Option<(u32, u32)>
+pub(crate) fn first_overflow(object: &Neutral, placed: &Placements) -> Option<(u32, u32)>
     requires { IsPlacingOf object.now placed.now }
     ensures there { IfSome result (λ k. k.0 < length object.now.sections) }
     ensures first { result ≡ images.first_field (images.overflows (word_for object.now.format)) (values.patches object.now placed.now) 0

@@ -6,7 +6,7 @@ use crate::discarded::is_discarded;
 use crate::sections::is_zero;
 use oc_linking::Binding;
 use oc_neutral::{Neutral, Section, Symbol};
-use oc_place::Placed;
+use oc_place::Placements;
 
 /// At least as many bytes as the line of a section and `zeros` have.
 const SECTION_LINES: usize = 64;
@@ -37,7 +37,7 @@ fn symbol_room(symbol: &Symbol) -> usize {
 }
 
 // room for the text of all sections that are not discarded
-fn sections_room(object: &Neutral, placed: &Placed) -> usize
+fn sections_room(object: &Neutral, placed: &Placements) -> usize
     requires { IsPlacingOf object.now placed.now }
 {
     let mut room: usize = 0;
@@ -61,7 +61,7 @@ fn symbols_room(object: &Neutral) -> usize {
 /// How many bytes the text of an object has at most, where its names print as they are: room that is
 /// taken at once, so that a long text is not moved while it grows. No clause rests on it. Linear in
 /// the sections and symbols, no memory.
-pub(crate) fn room_for(object: &Neutral, placed: &Placed) -> usize
+pub(crate) fn room_for(object: &Neutral, placed: &Placements) -> usize
     requires { IsPlacingOf object.now placed.now }
 {
     sections_room(object, placed).saturating_add(symbols_room(object))

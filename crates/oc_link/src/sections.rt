@@ -12,7 +12,7 @@ use crate::image::image_of;
 use oc_base::{NoMemory, Word, word_of};
 use oc_dump::put_hex;
 use oc_neutral::{Kind, Neutral};
-use oc_place::Placed;
+use oc_place::Placements;
 use std::alloc::Global;
 
 // puts `section S ADDRESS SIZE`
@@ -56,7 +56,7 @@ fn put_image(
     alloc: Global,
     out: &mut String,
     object: &Neutral,
-    placed: &Placed,
+    placed: &Placements,
     section: u32,
 ) -> Result<(), NoMemory>
     requires there { section < length object.now.sections }
@@ -80,7 +80,7 @@ fn put_section(
     alloc: Global,
     out: &mut String,
     object: &Neutral,
-    placed: &Placed,
+    placed: &Placements,
     section: u32,
 ) -> Result<(), NoMemory>
     requires there { section < length object.now.sections }
@@ -109,7 +109,7 @@ pub(crate) fn put_sections(
     alloc: Global,
     out: &mut String,
     object: &Neutral,
-    placed: &Placed,
+    placed: &Placements,
 ) -> Result<(), NoMemory>
     requires { IsPlacingOf object.now placed.now }
     ensures { OnOk result (string_bytes out.new ≡ string_bytes out.old ++ pieces.sections_text_of object.now placed.now) }

@@ -15,7 +15,7 @@ use crate::discarded::is_gone;
 use oc_base::{Word, word_of};
 use oc_linking::{Binding, Fallback, Value, modulus, reduced};
 use oc_neutral::Neutral;
-use oc_place::{Placed, Spot};
+use oc_place::{Placements, Spot};
 
 // the spot of a place: the section's, with the offset added to the address
 fn place_spot(word: Word, spot: Spot, offset: u32) -> Spot
@@ -29,7 +29,7 @@ fn place_spot(word: Word, spot: Spot, offset: u32) -> Spot
 }
 
 // where a value lies
-fn own_spot(object: &Neutral, placed: &Placed, value: Value) -> Spot
+fn own_spot(object: &Neutral, placed: &Placements, value: Value) -> Spot
     requires value { IsValue object.now value }
     requires placing { IsPlacingOf object.now placed.now }
     ensures { as_site result ≡ linking.own_site (word_for object.now.format) (values.laid object.now placed.now) value }
@@ -60,7 +60,7 @@ fn given_or_zeros(given: Option<Spot>) -> Spot
 }
 
 // where a Global lies, which the outside gives a spot where it is lost
-fn global_spot(object: &Neutral, placed: &Placed, value: Value, given: Option<Spot>) -> Spot
+fn global_spot(object: &Neutral, placed: &Placements, value: Value, given: Option<Spot>) -> Spot
     requires value { IsValue object.now value }
     requires placing { IsPlacingOf object.now placed.now }
     ensures { as_site result ≡ linking.global_site (word_for object.now.format) (values.laid object.now placed.now) (option_map as_site given) value }
@@ -72,7 +72,7 @@ fn global_spot(object: &Neutral, placed: &Placed, value: Value, given: Option<Sp
 }
 
 // where a symbol lies that is not Weak, by what the outside gives its name
-fn strong_spot(object: &Neutral, placed: &Placed, binding: Binding, given: Option<Spot>) -> Spot
+fn strong_spot(object: &Neutral, placed: &Placements, binding: Binding, given: Option<Spot>) -> Spot
     requires binding { IsBinding object.now binding }
     requires placing { IsPlacingOf object.now placed.now }
     ensures { as_site result ≡ linking.strong_site (word_for object.now.format) (values.laid object.now placed.now) (option_map as_site given)
@@ -88,7 +88,7 @@ fn strong_spot(object: &Neutral, placed: &Placed, binding: Binding, given: Optio
 }
 
 // where a symbol lies to which a fallback leads
-fn named_spot(object: &Neutral, placed: &Placed, k: u32) -> Spot
+fn named_spot(object: &Neutral, placed: &Placements, k: u32) -> Spot
     requires named { IsFallback object.now (Fallback.Name k) }
     requires placing { IsPlacingOf object.now placed.now }
     ensures { as_site result ≡ linking.fallback_site (word_for object.now.format) (values.laid object.now placed.now) (values.given object.now placed.now)
@@ -100,7 +100,7 @@ fn named_spot(object: &Neutral, placed: &Placed, k: u32) -> Spot
 }
 
 // where a fallback lies
-fn fallback_spot(object: &Neutral, placed: &Placed, fallback: Fallback) -> Spot
+fn fallback_spot(object: &Neutral, placed: &Placements, fallback: Fallback) -> Spot
     requires fallback { IsFallback object.now fallback }
     requires placing { IsPlacingOf object.now placed.now }
     ensures { as_site result ≡ linking.fallback_site (word_for object.now.format) (values.laid object.now placed.now) (values.given object.now placed.now)
@@ -116,7 +116,7 @@ fn fallback_spot(object: &Neutral, placed: &Placed, fallback: Fallback) -> Spot
 }
 
 // where a Weak lies: what the outside gives its name, or else its fallback
-fn weak_spot(object: &Neutral, placed: &Placed, fallback: Fallback, given: Option<Spot>) -> Spot
+fn weak_spot(object: &Neutral, placed: &Placements, fallback: Fallback, given: Option<Spot>) -> Spot
     requires fallback { IsFallback object.now fallback }
     requires placing { IsPlacingOf object.now placed.now }
     ensures { as_site result ≡ unwrap_or (option_map as_site given)
@@ -130,7 +130,7 @@ fn weak_spot(object: &Neutral, placed: &Placed, fallback: Fallback, given: Optio
 }
 
 // where a symbol of that binding lies, by what the outside gives its name
-fn spot_by(object: &Neutral, placed: &Placed, binding: Binding, given: Option<Spot>) -> Spot
+fn spot_by(object: &Neutral, placed: &Placements, binding: Binding, given: Option<Spot>) -> Spot
     requires binding { IsBinding object.now binding }
     requires placing { IsPlacingOf object.now placed.now }
     ensures { (name : List ℕ) → (is_local binding ≡ false → (values.given object.now placed.now).site name ≡ option_map as_site given)
@@ -146,7 +146,7 @@ fn spot_by(object: &Neutral, placed: &Placed, binding: Binding, given: Option<Sp
 }
 
 /// Where the symbol at a position lies. Constant time, no memory.
-pub(crate) fn spot_of(object: &Neutral, placed: &Placed, k: u32) -> Spot
+pub(crate) fn spot_of(object: &Neutral, placed: &Placements, k: u32) -> Spot
     requires there { k < length object.now.symbols }
     requires placing { IsPlacingOf object.now placed.now }
     ensures { (s : SymbolValue) → slice_get object.now.symbols k ≡ Some s → as_site result ≡ values.site_in object.now placed.now s.name s.binding }

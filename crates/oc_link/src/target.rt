@@ -9,7 +9,7 @@ ghost use Rattle.oc_link.specs.Values as values;
 use crate::spots::spot_of;
 use oc_linking::Binding;
 use oc_neutral::{Neutral, Target};
-use oc_place::{Placed, Spot};
+use oc_place::{Placements, Spot};
 
 /// The value of a target.
 #[derive(Clone, Copy, Debug)]
@@ -21,7 +21,7 @@ pub(crate) struct TargetValue {
 }
 
 // the slot of a symbol; a Local has none
-fn slot_of(object: &Neutral, placed: &Placed, k: u32) -> u64
+fn slot_of(object: &Neutral, placed: &Placements, k: u32) -> u64
     requires there { k < length object.now.symbols }
     requires placing { IsPlacingOf object.now placed.now }
     ensures { (s : SymbolValue) → slice_get object.now.symbols k ≡ Some s → result ≡ (values.value_in object.now placed.now s).slot }
@@ -37,7 +37,7 @@ fn slot_of(object: &Neutral, placed: &Placed, k: u32) -> u64
 }
 
 /// The value of a target. Constant time, no memory.
-pub(crate) fn value_of(object: &Neutral, placed: &Placed, target: Target) -> TargetValue
+pub(crate) fn value_of(object: &Neutral, placed: &Placements, target: Target) -> TargetValue
     requires there { IsThere object.now target }
     requires original { NamesOriginal object.now.symbols target }
     requires placing { IsPlacingOf object.now placed.now }

@@ -1,4 +1,4 @@
--- Why nothing was linked, and what is told of it (our profile).
+-- Why nothing was linked, and what is reported of it (our profile).
 use Rattle.std.specs.Prelude.{◌≡◌, ℕ, ◌<◌, ◌⊎◌, List, length, Option, None, Some, Result, Ok, Err}
 use Rattle.std.specs.Option.{ForSome, IsSomeAnd}
 use Rattle.oc_linking.specs.Keeping.{all}
@@ -37,7 +37,7 @@ text_outcome n (Err bad) = Misplacement (placement_text bad.line bad.code)
 abbrev pub outcome_with : Object → List ℕ → Outcome
 outcome_with n t = text_outcome n (placed_in (footprint_of n) t)
 
--- the cause of a fault of an object at a placement, of those that may be; want of memory says nothing
+-- the cause of a fault of an object at a placement, of those that may be; lack of memory needs no cause
 abbrev pub ExplainsText : Object → List ℕ → LinkFault → Type 0
 ExplainsText n t (fault.Input (input.Refused f)) = ⊥
 ExplainsText n t (fault.Input input.Unread) = ⊥
@@ -64,10 +64,10 @@ module _ (object placement : List ℕ) (files : Option Held) (before after : ℕ
   Explains fault.TooLong = ForSome files (ComesOf object placement (Misplacement long_text))
   Explains (fault.Placement line code) = ForSome files (ComesOf object placement (Misplacement (placement_text line code)))
 
--- ... what is told
+-- ... what is reported
 
 module _ (before now : Option (List ℕ)) (faults_before faults_now : ℕ) where
-  -- the status and the text of a fault; where the text finds no memory, they are those of want of memory
+  -- the status and the text of a fault; where the text finds no memory, they are those of lack of memory
   abbrev pub IsLinkReported : LinkFault → ℕ → Type 0
   IsLinkReported (fault.Input f) status = IsReported before now faults_before faults_now f status
   IsLinkReported fault.TooLong status = (status ≡ 9) × Tells long_text before now faults_before faults_now

@@ -24,7 +24,7 @@ pub data Outcome : Type 0 where
   Absent : Outcome
   -- the object has this first refusal
   Refusal : Fault → Outcome
-  -- the placement is at fault, as this text tells
+  -- the placement is at fault, for the reason in this text
   Misplacement : List ℕ → Outcome
   -- the text of linking
   LinkText : List ℕ → Outcome

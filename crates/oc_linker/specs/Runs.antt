@@ -18,17 +18,17 @@ module _ (object placement : List ℕ) where
   abbrev pub ComesOf : Outcome → Held → Type 0
   ComesOf x m = outcome_of (file_of object m) (file_of placement m) ≡ x
 
-  -- files are told, and one of the two is not held where it is to be read
+  -- the files are known, and one of the two is not held where it is to be read
   abbrev pub IsAbsence : Option Held → Type 0
   IsAbsence files = IsSomeAnd files (ComesOf Absent)
 
-  -- it was told why the placement gives nothing: where files are told, that is so
+  -- it was reported why the placement gives nothing: where contracts see the files, that is so
   pub record TellsMisplacement (before after : State) : Type 0 where
     pub text : List ℕ
     pub misplaced : ForSome before.held (ComesOf (Misplacement text))
     pub told : Tells text before.told after.told before.err_faults after.err_faults
 
-  -- a text was shown, which is that of linking where files are told
+  -- a text was shown, which is that of linking where contracts see the files
   pub record ShowsText (before after : State) : Type 0 where
     pub text : List ℕ
     pub linked : ForSome before.held (ComesOf (LinkText text))
@@ -40,7 +40,7 @@ module _ (object placement : List ℕ) where
     pub linked : ForSome before.held (ComesOf (LinkText text))
     pub shown : TakesPrefix text before.shown after.shown
 
-  -- where files are told, the status is that of what comes of the two, or 7
+  -- where contracts see the files, the status is that of what comes of the two, or 7
   abbrev pub IsExact : Option Held → ℕ → Type 0
   IsExact files status = ForSome files (λ m. (status ≡ 7) ⊎ (status ≡ status_for (outcome_of (file_of object m) (file_of placement m))))
 

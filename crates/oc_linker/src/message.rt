@@ -1,4 +1,4 @@
-//! What is told of words and of placements.
+//! What is reported of words and of placements.
 ghost use Rattle.std.specs.Prelude.{◌≡◌, IfOk};
 ghost use Rattle.oc_linker.specs.Texts as texts;
 

@@ -1,4 +1,4 @@
-//! What is told where nothing was linked, and the status of the run.
+//! What is reported where nothing was linked, and the status of the run.
 ghost use Rattle.std.specs.Prelude.{◌≡◌, ℕ, ◌≤◌, ◌+◌, ◌-◌, ◌^◌};
 ghost use Rattle.oc_outside.specs.Texts.{LeavesOther};
 ghost use Rattle.oc_linker.specs.Causes.{IsLinkReported};
@@ -11,7 +11,7 @@ use oc_place::PlaceCode;
 use oc_runs::{report, report_memory, tell};
 use std::alloc::Global;
 
-// tells what is at fault in a placement; where the text finds no memory, the text for that
+// reports what is at fault in a placement; where there is no memory for the text, the text for that
 fn report_placement<C: Console>(alloc: Global, console: &mut C, line: u32, code: PlaceCode) -> u8
     ensures reported { IsLinkReported (C.told console.old) (C.told console.new)
         (C.err_faults console.old) (C.err_faults console.new) (LinkFault.Placement line code) result }

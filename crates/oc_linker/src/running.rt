@@ -42,21 +42,21 @@ fn link_files<R: ReadsAny, F: Files, C: Console>(
 }
 
 /// Links the object of a file at the placement of another, over these files and this console, and
-/// answers the status of the run. The words are the two names, OBJECT and PLACEMENT.
+/// returns the status of the run. The words are the two names, OBJECT and PLACEMENT.
 ///
-/// The object is read by `reader`, with all kept, and judged before the placement is opened. What is
-/// shown is the text of linking it by the rules of its format: its bytes and exports, or the first
-/// overflow.
+/// The object is read by `reader`, with all kept, and judged before the placement is opened. What
+/// is shown is the text of linking it by the rules of its format: its bytes and exports, or the
+/// first overflow.
 /// - 0: the text was shown whole. 6: standard output took a prefix of it, and then failed.
-/// - 1, 2, 8: the object has a first refusal, which is malformed, refused or a limit. 9: it has none, and
-///   the placement is at fault, or has more than 67,108,864 bytes.
-/// - 3: the words are not two. 4: a read failed, or a file that is to be read is not held. 7: memory ran
-///   out.
+/// - 1, 2, 8: the object has a first refusal, which is malformed, refused or a limit. 9: it has
+///   none, and the placement is at fault, or has more than 67,108,864 bytes.
+/// - 3: the words are not two. 4: a read failed, or a file that is to be read is not held.
+///   7: memory ran out.
 ///
-/// There is no other status. With all but 0 and 6 nothing was shown, and the cause was told; where
-/// telling it fails, the status stays. Where no call fails, only want of memory comes in place of the
-/// status of the first cause, and never of 3. No file is changed. Takes memory for the two files, the
-/// object and the text.
+/// There is no other status. With all but 0 and 6 nothing was shown, and the cause was reported;
+/// where reporting it fails, the status stays. Where no call fails, only lack of memory comes in
+/// place of the status of the first cause, and never of 3. No file is changed. Takes memory for the
+/// two files, the object and the text.
 pub fn run_link_by<R: ReadsAny, F: Files, C: Console>(
     alloc: Global,
     reader: &R,

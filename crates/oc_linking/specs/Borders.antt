@@ -48,7 +48,7 @@ borders_64 =
     ∷ at One Wrap 256 true ∷ at Four Wrap (2 ^ 32) true ∷ at Eight Wrap (2 ^ 64 - 1) true
     ∷ []
 
--- each line of a table says what the check says
+-- each line of a table agrees with the check
 abbrev pub Holds : Word → List Border → Type 0
 Holds w borders = map (λ b. fits w b.width b.check b.residue) borders ≡ map (λ b. b.fits) borders
 

@@ -16,12 +16,12 @@ reduced w a = a % modulus w
 abbrev pub minus : Word → ℕ → ℕ → ℕ
 minus w a b = (a + (modulus w - b % modulus w)) % modulus w
 
--- the first of two that is there
+-- the first of two that exists
 abbrev pub or_else : {X : Type 0} → Option X → Option X → Option X
 or_else None y = y
 or_else (Some x) y = Some x
 
--- the first that is there, of the first n
+-- the first that exists, of the first n
 abbrev pub first_upto : {X : Type 0} → (ℕ → Option X) → ℕ → Option X
 first_upto item zero = None
 first_upto item (suc n) = or_else (first_upto item n) (item n)

@@ -1,4 +1,4 @@
--- What the plain program links, and what its answer says (our profile).
+-- What the plain program links, and what its answer means (our profile).
 use Rattle.std.specs.Prelude.{ℕ, ◌&&◌, eqb, if◌then◌else◌, List, [], ◌∷◌, Option, Some, None, map}
 use Rattle.std.specs.Global.{Vec}
 use Rattle.oc_linking.specs.declared.terms.Patch.{Patch}

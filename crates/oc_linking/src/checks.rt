@@ -18,7 +18,7 @@ fn half_of(width: Width) -> u64
     }
 }
 
-/// Whether a residue fits as a signed number: one that is negative stands near 2^W.
+/// Whether a residue fits as a signed number: one that is negative is near 2^W.
 ///
 /// `residue` is modulo 2^W, and below it. Constant time, no memory.
 pub fn fits_signed(word: Word, width: Width, residue: u64) -> bool

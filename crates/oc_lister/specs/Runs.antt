@@ -34,7 +34,7 @@ module _ (listing : Listing) where
     pub lines : text ≡ listing_of (built.reader from) b listing
 
   module _ (input : List ℕ) where
-    -- the text is the listing of the input: where files are told, the input is held and is not refused, and the text is its listing
+    -- the text is the listing of the input: where contracts see the files, the input is held and is not refused, and the text is its listing
     pub record IsListing (files : Option Held) (text : List ℕ) : Type 0 where
       pub accepted : HasRefusal list_refusal input files None
       pub listed : (m : Held) → files ≡ Some m → IsSomeAnd (file_of input m) (λ b. IsListed b text)
@@ -45,7 +45,7 @@ module _ (listing : Listing) where
       pub lists : IsListing files text
       pub shown : now ≡ grown text before
 
-    -- some front of it was
+    -- a prefix of it was shown
     pub record IsPartlyShown (files : Option Held) (before now : Option (List ℕ)) : Type 0 where
       pub text : List ℕ
       pub lists : IsListing files text

@@ -112,15 +112,15 @@ fn list_input<R: ReadsAny, F: Files, C: Console>(
     }
 }
 
-/// Lists an object file, read by `reader`, over these files and this console, and answers the status of
-/// the run. The words are `-dh`, `-dn` or `-dr`, and the name of the file.
-/// - 0: the listing was shown whole. 6: standard output took some front of it, and then failed.
-/// - 1, 2, 8: the file has a first refusal, whose message was told.
+/// Lists an object file, read by `reader`, over these files and this console, and returns the
+/// status of the run. The words are `-dh`, `-dn` or `-dr`, and the name of the file.
+/// - 0: the listing was shown whole. 6: standard output took a prefix of it, and then failed.
+/// - 1, 2, 8: the file has a first refusal, whose message was reported.
 /// - 3: the words ask for no listing; nothing was read. 4: a read failed, or the file is not held.
 ///   7: memory ran out, before anything was shown.
 ///
-/// No file is changed. Takes the time of reading and listing, and memory for the file, the object and the
-/// text.
+/// No file is changed. Takes the time of reading and listing, and memory for the file, the object
+/// and the text.
 pub fn run_list_by<R: ReadsAny, F: Files, C: Console>(
     alloc: Global,
     reader: &R,

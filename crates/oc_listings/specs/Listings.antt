@@ -14,13 +14,13 @@ use Rattle.oc_listings.specs.declared.listing.Listing.{Listing}
 use Rattle.oc_listings.specs.declared.listing.Listing.TheVariants.{Header, Sections, Relocations}
 use Rattle.oc_listings.specs.Texts.{field_text, header_text, numbered_text, section_text, symbol_text}
 
--- an outside map that gives no site to any name, and the slot 0 to each: an Undefined and a Common are worth zeros, as where they lie at the address 0, and a
--- Weak is worth its fallback
+-- an outside map that gives no site to any name, and the slot 0 to each: an Undefined and a Common have zeros as their values, as where they lie at the
+-- address 0, and a Weak has the value of its fallback
 abbrev pub silent : Outside
 silent = record { site = λ name. None; slot = λ name. 0 }
 
 module _ (f : Dialect) (b : List ℕ) where
-  -- what the symbols of the file are worth there, where all numbers of the placement are 0 and nothing is discarded
+  -- the values of the symbols of the file there, where all numbers of the placement are 0 and nothing is discarded
   abbrev pub resting_values : Valuation
   resting_values = values f.rules.word (f.rules.symbols b all) (f.rules.symbols b all) zeros silent
 

@@ -26,7 +26,7 @@ use Rattle.oc_macho.specs.Sections.{kind_of, contents_of, holder_of}
 use Rattle.oc_macho.specs.Symbols.{name_at, is_own, binding_of, symbol_of}
 use Rattle.oc_macho.specs.Entries.{row_for, item_at}
 use Rattle.oc_macho.specs.Aims.{aim_in}
-use Rattle.oc_macho.specs.Fields.{found_by, added_by, field_of}
+use Rattle.oc_macho.specs.Fields.{field_parts_by, added_by, field_of}
 use Rattle.oc_macho.specs.HeaderFaults.{is_bad, least_size, header_conditions}
 use Rattle.oc_macho.specs.SectionFaults as sections
 use Rattle.oc_macho.specs.SymbolFaults as symbols
@@ -280,25 +280,25 @@ abbrev AreTold : Word → List ℕ → List FaultRow → Type 0
 AreTold w file rows = map (λ (r : FaultRow). fault_by w (patched r.0 file)) rows ≡ map (λ (r : FaultRow). r.1) rows
 
 header-faults : AreTold W64 called header_rows
-unfolding number_at residue_of extended mach_kind mach_tag mach_header_of load_command_at segment_command_at symtab_command_at section_header_at nlist_at relocation_info_at relocation_info_of reference_of scattered_of section_table tables_of kind_of contents_of holder_of name_at is_own binding_of symbol_of row_for item_at aim_in found_by added_by field_of least_size is_bad header_conditions sections.own_conditions sections.limit_conditions sections.section_conditions symbols.symbol_conditions is_unknown is_no_pair refers_to_nothing refers_wrongly form_conditions target_conditions is_too_wide entry_conditions fault_of
+unfolding number_at residue_of extended mach_kind mach_tag mach_header_of load_command_at segment_command_at symtab_command_at section_header_at nlist_at relocation_info_at relocation_info_of reference_of scattered_of section_table tables_of kind_of contents_of holder_of name_at is_own binding_of symbol_of row_for item_at aim_in field_parts_by added_by field_of least_size is_bad header_conditions sections.own_conditions sections.limit_conditions sections.section_conditions symbols.symbol_conditions is_unknown is_no_pair refers_to_nothing refers_wrongly form_conditions target_conditions is_too_wide entry_conditions fault_of
 header-faults = refl
 
 section-faults : AreTold W64 called section_rows
-unfolding number_at residue_of extended mach_kind mach_tag mach_header_of load_command_at segment_command_at symtab_command_at section_header_at nlist_at relocation_info_at relocation_info_of reference_of scattered_of section_table tables_of kind_of contents_of holder_of name_at is_own binding_of symbol_of row_for item_at aim_in found_by added_by field_of least_size is_bad header_conditions sections.own_conditions sections.limit_conditions sections.section_conditions symbols.symbol_conditions is_unknown is_no_pair refers_to_nothing refers_wrongly form_conditions target_conditions is_too_wide entry_conditions fault_of
+unfolding number_at residue_of extended mach_kind mach_tag mach_header_of load_command_at segment_command_at symtab_command_at section_header_at nlist_at relocation_info_at relocation_info_of reference_of scattered_of section_table tables_of kind_of contents_of holder_of name_at is_own binding_of symbol_of row_for item_at aim_in field_parts_by added_by field_of least_size is_bad header_conditions sections.own_conditions sections.limit_conditions sections.section_conditions symbols.symbol_conditions is_unknown is_no_pair refers_to_nothing refers_wrongly form_conditions target_conditions is_too_wide entry_conditions fault_of
 section-faults = refl
 
 symbol-faults : AreTold W64 called symbol_rows
-unfolding number_at residue_of extended mach_kind mach_tag mach_header_of load_command_at segment_command_at symtab_command_at section_header_at nlist_at relocation_info_at relocation_info_of reference_of scattered_of section_table tables_of kind_of contents_of holder_of name_at is_own binding_of symbol_of row_for item_at aim_in found_by added_by field_of least_size is_bad header_conditions sections.own_conditions sections.limit_conditions sections.section_conditions symbols.symbol_conditions is_unknown is_no_pair refers_to_nothing refers_wrongly form_conditions target_conditions is_too_wide entry_conditions fault_of
+unfolding number_at residue_of extended mach_kind mach_tag mach_header_of load_command_at segment_command_at symtab_command_at section_header_at nlist_at relocation_info_at relocation_info_of reference_of scattered_of section_table tables_of kind_of contents_of holder_of name_at is_own binding_of symbol_of row_for item_at aim_in field_parts_by added_by field_of least_size is_bad header_conditions sections.own_conditions sections.limit_conditions sections.section_conditions symbols.symbol_conditions is_unknown is_no_pair refers_to_nothing refers_wrongly form_conditions target_conditions is_too_wide entry_conditions fault_of
 symbol-faults = refl
 
 entry-faults : AreTold W64 called entry_rows
-unfolding number_at residue_of extended mach_kind mach_tag mach_header_of load_command_at segment_command_at symtab_command_at section_header_at nlist_at relocation_info_at relocation_info_of reference_of scattered_of section_table tables_of kind_of contents_of holder_of name_at is_own binding_of symbol_of row_for item_at aim_in found_by added_by field_of least_size is_bad header_conditions sections.own_conditions sections.limit_conditions sections.section_conditions symbols.symbol_conditions is_unknown is_no_pair refers_to_nothing refers_wrongly form_conditions target_conditions is_too_wide entry_conditions fault_of
+unfolding number_at residue_of extended mach_kind mach_tag mach_header_of load_command_at segment_command_at symtab_command_at section_header_at nlist_at relocation_info_at relocation_info_of reference_of scattered_of section_table tables_of kind_of contents_of holder_of name_at is_own binding_of symbol_of row_for item_at aim_in field_parts_by added_by field_of least_size is_bad header_conditions sections.own_conditions sections.limit_conditions sections.section_conditions symbols.symbol_conditions is_unknown is_no_pair refers_to_nothing refers_wrongly form_conditions target_conditions is_too_wide entry_conditions fault_of
 entry-faults = refl
 
 pair-faults : AreTold W64 difference pair_rows
-unfolding number_at residue_of extended mach_kind mach_tag mach_header_of load_command_at segment_command_at symtab_command_at section_header_at nlist_at relocation_info_at relocation_info_of reference_of scattered_of section_table tables_of kind_of contents_of holder_of name_at is_own binding_of symbol_of row_for item_at aim_in found_by added_by field_of least_size is_bad header_conditions sections.own_conditions sections.limit_conditions sections.section_conditions symbols.symbol_conditions is_unknown is_no_pair refers_to_nothing refers_wrongly form_conditions target_conditions is_too_wide entry_conditions fault_of
+unfolding number_at residue_of extended mach_kind mach_tag mach_header_of load_command_at segment_command_at symtab_command_at section_header_at nlist_at relocation_info_at relocation_info_of reference_of scattered_of section_table tables_of kind_of contents_of holder_of name_at is_own binding_of symbol_of row_for item_at aim_in field_parts_by added_by field_of least_size is_bad header_conditions sections.own_conditions sections.limit_conditions sections.section_conditions symbols.symbol_conditions is_unknown is_no_pair refers_to_nothing refers_wrongly form_conditions target_conditions is_too_wide entry_conditions fault_of
 pair-faults = refl
 
 scattered-faults : AreTold W32 folded scattered_rows
-unfolding number_at residue_of extended mach_kind mach_tag mach_header_of load_command_at segment_command_at symtab_command_at section_header_at nlist_at relocation_info_at relocation_info_of reference_of scattered_of section_table tables_of kind_of contents_of holder_of name_at is_own binding_of symbol_of row_for item_at aim_in found_by added_by field_of least_size is_bad header_conditions sections.own_conditions sections.limit_conditions sections.section_conditions symbols.symbol_conditions is_unknown is_no_pair refers_to_nothing refers_wrongly form_conditions target_conditions is_too_wide entry_conditions fault_of
+unfolding number_at residue_of extended mach_kind mach_tag mach_header_of load_command_at segment_command_at symtab_command_at section_header_at nlist_at relocation_info_at relocation_info_of reference_of scattered_of section_table tables_of kind_of contents_of holder_of name_at is_own binding_of symbol_of row_for item_at aim_in field_parts_by added_by field_of least_size is_bad header_conditions sections.own_conditions sections.limit_conditions sections.section_conditions symbols.symbol_conditions is_unknown is_no_pair refers_to_nothing refers_wrongly form_conditions target_conditions is_too_wide entry_conditions fault_of
 scattered-faults = refl

@@ -40,7 +40,7 @@ use Rattle.oc_macho.specs.Sections.{kind_of, contents_of, section_of, sections_i
 use Rattle.oc_macho.specs.Symbols.{name_at, is_own, binding_of, symbol_of, symbols_by}
 use Rattle.oc_macho.specs.Entries.{row_for, item_at, is_pinned}
 use Rattle.oc_macho.specs.Aims.{aim_in}
-use Rattle.oc_macho.specs.Fields.{found_by, added_by, field_of, item_for, fields_in}
+use Rattle.oc_macho.specs.Fields.{field_parts_by, added_by, field_of, item_for, fields_in}
 use Rattle.oc_macho.specs.Rules.{mach_rules, symbols_in}
 use Rattle.oc_macho.proofs.FaultRows.{patched}
 use Rattle.oc_macho.proofs.WorkedFiles.{called, called32, behind, signed, difference, foreign, folded, compiled}
@@ -105,34 +105,34 @@ outer-faces = refl
 
 -- the field of the call is 0: the value is -5, as it lies at 1 and four bytes follow
 called-field : look_at W64 called 0 1 ≡ Some (Four, Signed, Address, less.Place, Symbolic 1, Plain, 2 ^ 64 - 5)
-unfolding number_at residue_of extended mach_kind mach_header_of load_command_at segment_command_at symtab_command_at section_header_at nlist_at relocation_info_at relocation_info_of reference_of scattered_of section_table tables_of kind_of contents_of section_of sections_in holder_of name_at is_own binding_of symbol_of row_for item_at aim_in found_by added_by field_of item_for fields_in
+unfolding number_at residue_of extended mach_kind mach_header_of load_command_at segment_command_at symtab_command_at section_header_at nlist_at relocation_info_at relocation_info_of reference_of scattered_of section_table tables_of kind_of contents_of section_of sections_in holder_of name_at is_own binding_of symbol_of row_for item_at aim_in field_parts_by added_by field_of item_for fields_in
 called-field = refl
 
 -- in mac32 the field is -5 itself, whatever it lies at
 called32-field : look_at W32 called32 0 1 ≡ Some (Four, Wrap, Address, less.Place, Symbolic 1, Plain, 2 ^ 32 - 5)
-unfolding number_at residue_of extended mach_kind mach_header_of load_command_at segment_command_at symtab_command_at section_header_at nlist_at relocation_info_at relocation_info_of reference_of scattered_of section_table tables_of kind_of contents_of section_of sections_in holder_of name_at is_own binding_of symbol_of row_for item_at aim_in found_by added_by field_of item_for fields_in
+unfolding number_at residue_of extended mach_kind mach_header_of load_command_at segment_command_at symtab_command_at section_header_at nlist_at relocation_info_at relocation_info_of reference_of scattered_of section_table tables_of kind_of contents_of section_of sections_in holder_of name_at is_own binding_of symbol_of row_for item_at aim_in field_parts_by added_by field_of item_for fields_in
 called32-field = refl
 
 -- in the second section the field is -21, and its section is moved from 16 to 0
 behind-field : look_at W32 behind 1 1 ≡ Some (Four, Wrap, Address, less.Place, Symbolic 0, Plain, 2 ^ 32 - 5)
-unfolding number_at residue_of extended mach_kind mach_header_of load_command_at segment_command_at symtab_command_at section_header_at nlist_at relocation_info_at relocation_info_of reference_of scattered_of section_table tables_of kind_of contents_of section_of sections_in holder_of name_at is_own binding_of symbol_of row_for item_at aim_in found_by added_by field_of item_for fields_in
+unfolding number_at residue_of extended mach_kind mach_header_of load_command_at segment_command_at symtab_command_at section_header_at nlist_at relocation_info_at relocation_info_of reference_of scattered_of section_table tables_of kind_of contents_of section_of sections_in holder_of name_at is_own binding_of symbol_of row_for item_at aim_in field_parts_by added_by field_of item_for fields_in
 behind-field = refl
 
 -- SIGNED_1 counts from the end of its field, as SIGNED does; the field is -1
 signed-field : look_at W64 signed 0 2 ≡ Some (Four, Signed, Address, less.Place, Symbolic 0, Plain, 2 ^ 64 - 7)
-unfolding number_at residue_of extended mach_kind mach_header_of load_command_at segment_command_at symtab_command_at section_header_at nlist_at relocation_info_at relocation_info_of reference_of scattered_of section_table tables_of kind_of contents_of section_of sections_in holder_of name_at is_own binding_of symbol_of row_for item_at aim_in found_by added_by field_of item_for fields_in
+unfolding number_at residue_of extended mach_kind mach_header_of load_command_at segment_command_at symtab_command_at section_header_at nlist_at relocation_info_at relocation_info_of reference_of scattered_of section_table tables_of kind_of contents_of section_of sections_in holder_of name_at is_own binding_of symbol_of row_for item_at aim_in field_parts_by added_by field_of item_for fields_in
 signed-field = refl
 
 -- a difference from a symbol takes its section; the first field is 16
 difference-fields : map (look_at W64 difference 1) (8 ∷ 16 ∷ 12 ∷ []) ≡ Some (Four, Signed, Address, less.Section 1, Symbolic 1, Plain, 16) ∷ Some (Eight, Wrap, Address, less.Section 1, Symbolic 1, Plain, 0) ∷ None ∷ []
-unfolding number_at residue_of extended mach_kind mach_header_of load_command_at segment_command_at symtab_command_at section_header_at nlist_at relocation_info_at relocation_info_of reference_of scattered_of section_table tables_of kind_of contents_of section_of sections_in holder_of name_at is_own binding_of symbol_of row_for item_at aim_in found_by added_by field_of item_for fields_in
+unfolding number_at residue_of extended mach_kind mach_header_of load_command_at segment_command_at symtab_command_at section_header_at nlist_at relocation_info_at relocation_info_of reference_of scattered_of section_table tables_of kind_of contents_of section_of sections_in holder_of name_at is_own binding_of symbol_of row_for item_at aim_in field_parts_by added_by field_of item_for fields_in
 difference-fields = refl
 
 foreign-field : look_at W64 foreign 1 8 ≡ Some (Four, Signed, Address, less.Section 0, Symbolic 1, Plain, 16)
-unfolding number_at residue_of extended mach_kind mach_header_of load_command_at segment_command_at symtab_command_at section_header_at nlist_at relocation_info_at relocation_info_of reference_of scattered_of section_table tables_of kind_of contents_of section_of sections_in holder_of name_at is_own binding_of symbol_of row_for item_at aim_in found_by added_by field_of item_for fields_in
+unfolding number_at residue_of extended mach_kind mach_header_of load_command_at segment_command_at symtab_command_at section_header_at nlist_at relocation_info_at relocation_info_of reference_of scattered_of section_table tables_of kind_of contents_of section_of sections_in holder_of name_at is_own binding_of symbol_of row_for item_at aim_in field_parts_by added_by field_of item_for fields_in
 foreign-field = refl
 
 -- a difference of one section is a constant: it is folded
 folded-field : look_at W32 folded 1 4 ≡ Some (Four, Wrap, Address, less.Section 0, Sectional 0, Plain, 8)
-unfolding number_at residue_of extended mach_kind mach_header_of load_command_at segment_command_at symtab_command_at section_header_at nlist_at relocation_info_at relocation_info_of reference_of scattered_of section_table tables_of kind_of contents_of section_of sections_in holder_of name_at is_own binding_of symbol_of row_for item_at aim_in found_by added_by field_of item_for fields_in
+unfolding number_at residue_of extended mach_kind mach_header_of load_command_at segment_command_at symtab_command_at section_header_at nlist_at relocation_info_at relocation_info_of reference_of scattered_of section_table tables_of kind_of contents_of section_of sections_in holder_of name_at is_own binding_of symbol_of row_for item_at aim_in field_parts_by added_by field_of item_for fields_in
 folded-field = refl

@@ -41,12 +41,12 @@ abbrev pub is_second : Word → RelocationInfo → Bool
 is_second W32 e = is_scattered e.refers && nat_eq e.r_type GENERIC_RELOC_PAIR
 is_second W64 e = not (is_scattered e.refers) && nat_eq e.r_type X86_64_RELOC_UNSIGNED
 
--- and it has what else a second has: a PAIR four bytes, and it is not self-relative; an UNSIGNED is one that could stand alone
+-- and it has all else that a second has: a PAIR has four bytes, and is not self-relative; an UNSIGNED is one that could stand alone
 abbrev pub is_known_second : Word → RelocationInfo → Bool
 is_known_second W32 e = nat_eq e.r_length 2 && nat_eq e.r_pcrel 0
 is_known_second W64 e = is_some (row_for W64 e)
 
--- entry k is there, and is the first of a pair
+-- entry k exists, and is the first of a pair
 abbrev pub is_first_at : Word → List RelocationInfo → ℕ → Bool
 is_first_at w entries k = option_map_or (is_first w) (slice_get entries k) false
 

@@ -23,14 +23,14 @@ use Rattle.oc_macho.specs.Entries.{row_for, item_at, target_entry, taken_entry}
 use Rattle.oc_macho.specs.Aims.{Aim, target_in}
 
 -- what is known of a field: its type, its target, and, of a pair, what is taken
-pub record Found : Type 0 where
+pub record FieldParts : Type 0 where
   pub row : MachRow
   pub target : Aim
   pub taken : Option Aim
 
 -- the field of entries, where its type is known, and they refer to what a field can refer to
-unfoldable pub found_by : Tables → Item → Option Found
-found_by t i =
+unfoldable pub field_parts_by : Tables → Item → Option FieldParts
+field_parts_by t i =
     option_and_then
     (λ m. option_map (λ target. record { row = m; target = target; taken = option_and_then (target_in t) (taken_entry t.word i) }) (target_in t (target_entry t.word i)))
     (row_for t.word i.first)
@@ -40,11 +40,11 @@ abbrev pub counted_of : Aim → ℕ
 counted_of a = unwrap_or a.counted 0
 
 -- a self-relative field takes how far its own section is moved, and not its place
-abbrev pub takes_move : Found → Bool
+abbrev pub takes_move : FieldParts → Bool
 takes_move x = x.row.by_move || is_some x.target.counted
 
 -- what the file itself gives to what is taken, of a field at an offset of section s: to the place from which it counts, or to the section
-abbrev pub given_back : Tables → ℕ → ℕ → Found → ℕ
+abbrev pub given_back : Tables → ℕ → ℕ → FieldParts → ℕ
 given_back t s at x = elim x.row.row.taken [
   | TakesZero ↦ 0
   | TakesPlace ↦ if takes_move x then address_of t (s + 1) + at + x.row.row.behind else 0
@@ -55,11 +55,11 @@ given_back t s at x = elim x.row.row.taken [
 ]
 
 -- the number that is added to the address of the target, from the number in the field
-unfoldable pub added_by : Tables → ℕ → ℕ → ℤ → Found → ℤ
+unfoldable pub added_by : Tables → ℕ → ℕ → ℤ → FieldParts → ℤ
 added_by t s at F x = F -ℤ pos (counted_of x.target) +ℤ pos (given_back t s at x)
 
 -- the section at the position of what is taken
-abbrev pub taken_section : Found → ℕ
+abbrev pub taken_section : FieldParts → ℕ
 taken_section x = option_map_or (λ (a : Aim). option_map_or (λ (place : Place). place.0) a.place 0) x.taken 0
 
 -- the address of what is taken: that of a symbol is read off the valuation, unless its section is discarded and another file defines it. No section of
@@ -69,12 +69,12 @@ taken_address w p v a =
     option_map_or (λ (place : Place). if p.discarded place.0 then (place_site w p place.0 place.1).address else (a.target.worth p v).site.address) a.place
     (a.target.worth p v).site.address
 
--- what is taken of a field at an offset of section s: of a pair, what that says
-abbrev pub taken_at : Word → ℕ → ℕ → Found → Placement → Valuation → ℕ
+-- what is taken of a field at an offset of section s: of a pair, what the pair gives
+abbrev pub taken_at : Word → ℕ → ℕ → FieldParts → Placement → Valuation → ℕ
 taken_at w s at x p v = option_map_or (taken_address w p v) x.taken (worth.less_of p s at (x.target.target.worth p v) (less_of x.row.row.taken (taken_section x)))
 
 -- the field at an offset of section s, which adds this number
-abbrev pub field_with : Tables → ℕ → ℕ → ℤ → Found → Field
+abbrev pub field_with : Tables → ℕ → ℕ → ℤ → FieldParts → Field
 field_with t s at a x = record {
   width = x.row.row.width;
   check = x.row.row.check;
@@ -86,11 +86,11 @@ field_with t s at a x = record {
 }
 
 -- the number in a field at an offset of a section
-abbrev pub number_of : SectionTable → ℕ → Found → ℤ
+abbrev pub number_of : SectionTable → ℕ → FieldParts → ℤ
 number_of c at x = number_in x.row.row (contents_of c) at
 
 -- the field at an offset of section s
-unfoldable pub field_of : Tables → ℕ → ℕ → SectionTable → Found → Field
+unfoldable pub field_of : Tables → ℕ → ℕ → SectionTable → FieldParts → Field
 field_of t s at c x = field_with t s at (added_by t s at (number_of c at x) x) x
 
 -- the entries of the first field of a section that begins at an offset
@@ -99,9 +99,9 @@ item_for t c at =
     first_upto (λ k. option_and_then (λ (i : Item). if nat_eq i.first.r_address at then Some i else None) (item_at t.word c.relocs k)) (length c.relocs)
 
 -- the field of a section at an offset
-abbrev pub found_in : Tables → SectionTable → ℕ → Option Found
-found_in t c at = option_and_then (found_by t) (item_for t c at)
+abbrev pub field_parts_in : Tables → SectionTable → ℕ → Option FieldParts
+field_parts_in t c at = option_and_then (field_parts_by t) (item_for t c at)
 
 -- the fields of a file, by the position of a section and the offset in it
 unfoldable pub fields_in : Tables → ℕ → ℕ → Option Field
-fields_in t s at = option_and_then (λ c. option_map (field_of t s at c) (found_in t c at)) (slice_get t.sections s)
+fields_in t s at = option_and_then (λ c. option_map (field_of t s at c) (field_parts_in t c at)) (slice_get t.sections s)

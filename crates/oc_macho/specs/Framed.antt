@@ -10,7 +10,7 @@ use Rattle.oc_macho.specs.Nlist.{nlist_size, nlist_at}
 use Rattle.oc_macho.specs.Tables.{SectionTable, Tables, section_table, tables_of}
 use Rattle.oc_macho.specs.Sections.{is_zerofill}
 
--- texts begin before a place, and none at it or behind it
+-- texts begin before a place, and none at it or after it
 pub record EndsTexts (strings : List ℕ) (end : ℕ) : Type 0 where
   pub inside : end ≤ length strings
   pub some : (at : ℕ) → at < end → is_some (text_at strings at) ≡ true

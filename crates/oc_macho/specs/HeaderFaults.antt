@@ -80,7 +80,7 @@ has_bad_commands w file =
 abbrev pub is_no_object : Word → List ℕ → Bool
 is_no_object w file = not (nat_eq (mach_header_of file).cputype (cpu_type w)) || not (nat_eq (mach_header_of file).filetype MH_OBJECT)
 
--- the conditions on symbols and strings that are there
+-- the conditions on symbols and strings that are present
 abbrev pub symtab_conditions : Word → ℕ → SymtabCommand → List Condition
 symtab_conditions w size c =
     (passes_end size c.symoff (nlist_size w * c.nsyms), header_fault c.symoff Short)

@@ -8,7 +8,7 @@ use Rattle.oc_macho.specs.declared.meaning.Meaning.{Meaning}
 use Rattle.oc_macho.specs.declared.relocation_info.RelocationInfo.{RelocationInfo}
 use Rattle.oc_macho.specs.Entries.{row_for}
 
--- the meaning of a row; of one that takes a section, the first stands for the one that the entries say
+-- the meaning of a row; of one that takes a section, the first section stands for the one that the entries name
 abbrev pub meant_by : MachRow → Meaning
 meant_by m = record {
   form = record { base = m.row.base; less = less_of m.row.taken 0; width = m.row.width; check = m.row.check };

@@ -25,7 +25,7 @@ use Rattle.oc_macho.specs.Sections.{is_zerofill, is_kept}
 use Rattle.oc_macho.specs.Entries.{row_for, is_first, is_second, is_known_second, item_at, target_entry, taken_reference}
 use Rattle.oc_macho.specs.Aims.{Aim}
 use Rattle.oc_macho.specs.Referents.{referent_in, is_nothing, reads_slot, cannot_be_target, cannot_be_taken}
-use Rattle.oc_macho.specs.Fields.{Found, found_by, added_by, number_of, field_of}
+use Rattle.oc_macho.specs.Fields.{FieldParts, field_parts_by, added_by, number_of, field_of}
 
 -- a fault of a field of section i, counted from 0: the place is that of its first entry
 abbrev pub relocation_fault : ℕ → SectionTable → ℕ → Code → Fault
@@ -33,7 +33,7 @@ relocation_fault i x k code = record { phase = Relocation; index = i + 1; code =
 
 -- ... pairs
 
--- an entry is the second of a pair, and stands where no first is before it
+-- an entry is the second of a pair, and no first comes before it
 abbrev pub is_lone_second : Word → RelocationInfo → Bool
 is_lone_second W32 e = is_second W32 e && is_known_second W32 e
 is_lone_second W64 e = false
@@ -101,11 +101,11 @@ abbrev pub beyond : Aim → ℕ
 beyond a = option_map_or (λ (place : Place). place.1) a.place 0
 
 -- the value of a difference of one section, which no placement changes
-abbrev pub constant_of : Tables → ℕ → SectionTable → ℕ → Found → Aim → ℤ
+abbrev pub constant_of : Tables → ℕ → SectionTable → ℕ → FieldParts → Aim → ℤ
 constant_of t s c at x a = added_by t s at (number_of c at x) x +ℤ (pos (beyond x.target) -ℤ pos (beyond a))
 
 -- a field is the address of a section less that of the same section, and its constant does not fit
-abbrev pub folds_too_wide : Tables → ℕ → SectionTable → ℕ → Found → Bool
+abbrev pub folds_too_wide : Tables → ℕ → SectionTable → ℕ → FieldParts → Bool
 folds_too_wide t s c at x =
     is_difference (field_of t s at c x)
     && option_map_or (λ a. not (fits t.word x.row.row.width x.row.row.check (residue_of t.word (constant_of t s c at x a)))) x.taken false
@@ -127,7 +127,7 @@ target_conditions t i x k item =
 
 -- the field of entries folds too wide
 unfoldable pub is_too_wide : Tables → ℕ → SectionTable → Item → Bool
-is_too_wide t i x item = option_map_or (folds_too_wide t i x item.first.r_address) (found_by t item) false
+is_too_wide t i x item = option_map_or (folds_too_wide t i x item.first.r_address) (field_parts_by t item) false
 
 -- by the fields before, and by its value
 abbrev pub last_conditions : Tables → ℕ → SectionTable → ℕ → Item → List Condition

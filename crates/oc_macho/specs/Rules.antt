@@ -19,7 +19,7 @@ use Rattle.oc_macho.specs.SectionFaults.{section_stage}
 use Rattle.oc_macho.specs.SymbolFaults.{symbol_stage}
 use Rattle.oc_macho.specs.RelocationFaults.{relocation_stages}
 
--- what is judged behind the header
+-- what is judged after the header
 abbrev pub rest_stages : Tables → Keep → List Stage
 rest_stages t keep = section_stage t ∷ symbol_stage t ∷ relocation_stages t keep
 

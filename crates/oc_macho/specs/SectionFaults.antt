@@ -24,7 +24,7 @@ use Rattle.oc_macho.specs.HeaderFaults.{passes_end}
 abbrev pub section_fault : ℕ → ℕ → Code → Fault
 section_fault i place code = record { phase = Section; index = i + 1; code = code; place = place }
 
--- where its header stands
+-- where its header lies
 abbrev pub header_place : Tables → ℕ → ℕ
 header_place t i = t.headers_at + section_header_size t.word * i
 
@@ -53,7 +53,7 @@ own_conditions t i h =
 abbrev pub stored_of : SectionHeader → ℕ
 stored_of h = if same_kind (kind_of h) Zero then 0 else h.size
 
--- what section i is worth, counted from 0
+-- the value for section i, counted from 0
 abbrev pub worth_by : (SectionHeader → ℕ) → Tables → ℕ → ℕ
 worth_by worth t i = option_map_or (λ (x : SectionTable). worth x.header) (slice_get t.sections i) 0
 

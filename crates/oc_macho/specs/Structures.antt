@@ -25,7 +25,7 @@ abbrev pub magic_of : Word → ℕ
 magic_of W32 = MH_MAGIC
 magic_of W64 = MH_MAGIC_64
 
--- a name of up to 16 bytes, with NULs behind it
+-- a name of up to 16 bytes, with NULs after it
 abbrev pub padded : List ℕ → List ℕ
 padded name = take NAME_SIZE (name ++ replicate NAME_SIZE 0)
 
@@ -60,13 +60,13 @@ symtab_numbers c = (4, LC_SYMTAB) ∷ (4, SYMTAB_COMMAND_SIZE) ∷ (4, c.symoff)
 unfoldable pub symtab_bytes : SymtabCommand → List ℕ
 symtab_bytes c = packed (symtab_numbers c)
 
--- what the command that tells the groups of symbols begins with
+-- what the command that gives the groups of symbols begins with
 abbrev pub dysymtab_front : Dysymtab → List ℕ
 dysymtab_front d = packed (
     (4, LC_DYSYMTAB) ∷ (4, DYSYMTAB_COMMAND_SIZE) ∷ (4, 0) ∷ (4, d.nlocalsym) ∷ (4, d.nlocalsym) ∷ (4, d.nextdefsym)
     ∷ (4, d.nlocalsym + d.nextdefsym) ∷ (4, d.nundefsym) ∷ [])
 
--- the numbers of a section header behind its names; two reserved words follow the flags, and in 64 bits a third
+-- the numbers of a section header after its names; two reserved words follow the flags, and in 64 bits a third
 abbrev pub section_numbers : Word → SectionHeader → List (ℕ × ℕ)
 section_numbers w h =
     (address_size w, h.addr) ∷ (address_size w, h.size) ∷ (4, h.offset) ∷ (4, h.align) ∷ (4, h.reloff) ∷ (4, h.nreloc) ∷ (4, h.flags) ∷ (4, 0) ∷ (4, 0) ∷ reserved w

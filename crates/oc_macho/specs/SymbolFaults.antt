@@ -48,7 +48,7 @@ home_conditions t j s =
     ∷ (is_type N_SECT s && option_map_or (is_outside s) (header_numbered t s.n_sect) false, symbol_fault t j SymbolPastEnd)
     ∷ []
 
--- and by its name beside others, where it is told whether an external symbol before has it
+-- and by its name beside others, where it is given whether an earlier external symbol has it
 abbrev pub name_conditions : Tables → ℕ → Nlist → Bool → List Condition
 name_conditions t j s again = (is_external s && bytes_eq (name_of t s) [], symbol_fault t j SymbolKind) ∷ (again, symbol_fault t j DuplicateName) ∷ []
 

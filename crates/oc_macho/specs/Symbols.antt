@@ -69,7 +69,7 @@ is_carried t s = not (is_stab s) && not (is_own t s) && (is_external s || not (b
 abbrev pub value_of : Tables → Nlist → Value
 value_of t s = if is_type N_ABS s then value.Absolute s.n_value else value.Place (s.n_sect - 1) (offset_of t s)
 
--- the binding of a symbol without a section: a value is the size of a Common, whose alignment stands in bits 8 to 11 of n_desc
+-- the binding of a symbol without a section: a value is the size of a Common, whose alignment is in bits 8 to 11 of n_desc
 abbrev pub outer_binding : Nlist → Binding
 outer_binding s =
     if not (nat_eq s.n_value 0) then Common s.n_value (2 ^ (s.n_desc / 2 ^ 8 % 16))
@@ -85,7 +85,7 @@ external_binding t s =
 unfoldable pub binding_of : Tables → Nlist → Binding
 binding_of t s = if is_external s then external_binding t s else Local (value_of t s)
 
--- symbol number j, where it is carried; it is told whether a field takes its address
+-- symbol number j, where it is carried; it is given whether a field takes its address
 unfoldable pub symbol_of : Tables → Bool → ℕ → Nlist → Option Symbol
 symbol_of t pinned j s = if is_carried t s then Some (record {
   name = name_of t s;

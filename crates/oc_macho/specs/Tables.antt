@@ -36,7 +36,7 @@ pub record Tables : Type 0 where
   pub symbols : List Nlist
   pub strings : List ℕ
 
--- ... the load commands, which stand one behind another behind the file header
+-- ... the load commands, which follow the file header one after another
 
 -- how many there are
 abbrev pub command_count : List ℕ → ℕ

@@ -25,7 +25,7 @@ with_command w c cmd at = record {
   symtab = and_place c.symtab (nat_eq cmd LC_SYMTAB) at;
 }
 
--- the first n commands break no rule, and this is where those of two kinds stand
+-- the first n commands break no rule, and this is where those of two kinds lie
 pub record AreCommands (w : Word) (file : List ℕ) (n : ℕ) (c : Commands) : Type 0 where
   pub good : any_bad w file n ≡ false
   pub segments : c.segments ≡ count_upto w file (segment_number w) n

@@ -25,7 +25,7 @@ pub fn passes_end(end: u64, at: u64, size: u64) -> bool
     }
 }
 
-/// Where commands of two kinds stand: how many there are, and the place of the first.
+/// Where commands of two kinds lie: how many there are, and the place of the first.
 #[derive(Clone, Copy, Debug, PartialEq, Eq)]
 pub(crate) struct Commands {
     /// How many segments there are.
@@ -145,7 +145,7 @@ impl Commands {
     }
 }
 
-/// Where the commands of two kinds stand, where no command breaks a rule. Linear in the commands that
+/// Where the commands of two kinds lie, where no command breaks a rule. Linear in the commands that
 /// the header counts, which have room in the file.
 pub(crate) fn walk_commands(word: Word, file: &[u8], h: MachHeader) -> Option<Commands>
     requires header { h ≡ header.mach_header_of file.now }

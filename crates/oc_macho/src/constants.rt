@@ -1,4 +1,4 @@
-//! Numbers of the Mach-O reference, under their names; those of sections and relocations stand in
+//! Numbers of the Mach-O reference, under their names; those of sections and relocations are in
 //! `oc_neutral::mach`.
 
 /// The first bytes of a file of 32 bits (Mach-O reference, "mach_header").
@@ -46,5 +46,5 @@ pub const N_WEAK_REF: u16 = 0x40;
 /// A definition that gives way to another (Mach-O reference, "nlist").
 pub const N_WEAK_DEF: u16 = 0x80;
 
-/// The bit that tells a scattered entry (Mach-O reference, "scattered_relocation_info").
+/// The bit that marks a scattered entry (Mach-O reference, "scattered_relocation_info").
 pub const R_SCATTERED: u32 = 0x8000_0000;

@@ -1,4 +1,4 @@
-//! A file whose header has no fault: its tables, read where they stand.
+//! A file whose header has no fault: its tables, read in place.
 ghost use Rattle.std.specs.Prelude.{◌≡◌, ◌+◌, ◌*◌, ◌<◌, ◌≤◌, false, length, take, drop, slice_get, Some, None, IfErr, IfOk, OnOk};
 ghost use Rattle.oc_base.specs.declared.limits.TheConstants.{MOST_INPUT};
 ghost use Rattle.oc_linking.specs.FirstFault.{stage_fault};
@@ -97,7 +97,7 @@ impl<'a> Frame<'a> {
         i.min(count) + 1
     }
 
-    /// Where the header of section `i` stands, counted from 0. Constant time.
+    /// Where the header of section `i` lies, counted from 0. Constant time.
     pub fn header_place(&self, i: u32) -> u64
         requires { i < length self.now.sections }
         ensures place { result ≡ self.now.headers_at + section.section_header_size self.now.word * i }
@@ -122,7 +122,7 @@ impl<'a> Frame<'a> {
         self.nsyms
     }
 
-    /// Where symbol `j` stands. Constant time.
+    /// Where symbol `j` lies. Constant time.
     pub fn symbol_place(&self, j: u32) -> u64
         requires { j < length self.now.symbols }
         ensures place { result ≡ self.now.symbols_at + nlist.nlist_size self.now.word * j }

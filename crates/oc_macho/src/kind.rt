@@ -22,7 +22,7 @@ pub fn has(flags: u32, flag: u32) -> bool
     flags / flag % 2 == 1
 }
 
-// where the first NUL stands
+// where the first NUL lies
 fn nul_place(bytes: &[u8]) -> Option<usize>
     ensures { result ≡ position (λ c. nat_eq c 0) bytes.now }
 {
@@ -58,7 +58,7 @@ fn is_read_type(flags: u32) -> bool
     )
 }
 
-// whether a comma stands among the bytes
+// whether there is a comma among the bytes
 fn has_comma(bytes: &[u8]) -> bool
     ensures { result ≡ list_any kinds.is_comma bytes.now }
 {

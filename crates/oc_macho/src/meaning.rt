@@ -21,7 +21,7 @@ pub struct Meaning {
     pub form: Form,
     /// How an instruction uses the field.
     pub hint: Hint,
-    /// A self-relative value is taken from so many bytes behind the field's place.
+    /// A self-relative value is taken from so many bytes after the field's place.
     pub behind: u8,
     /// Also where the entry refers to a symbol, what is taken is how far the field's own section is
     /// moved, and not the field's place.

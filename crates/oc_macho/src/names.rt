@@ -1,4 +1,4 @@
-//! Names of sections and segments, which stand in their structures.
+//! Names of sections and segments, which lie in their structures.
 ghost use Rattle.std.specs.Prelude.{◌≡◌, ◌+◌, ◌≤◌, length, take, drop};
 ghost use Rattle.oc_macho.specs.Structures as structures;
 
@@ -15,7 +15,7 @@ pub fn name_at(file: &[u8], at: usize) -> [u8; 16]
     name
 }
 
-/// A name of up to 16 bytes, with NULs behind it. Constant time.
+/// A name of up to 16 bytes, padded with NULs. Constant time.
 pub fn padded(name: &[u8]) -> [u8; NAME_SIZE]
     requires { length name.now ≤ 16 }
     ensures { result ≡ structures.padded name.now }

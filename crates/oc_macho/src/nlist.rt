@@ -7,7 +7,7 @@ use oc_base::{Word, u8_in, u16_in, u32_in, u64_in};
 /// A symbol table entry of either word; the value as wide as in 64 bits (Mach-O reference, "nlist").
 #[derive(Clone, Copy, Debug, PartialEq, Eq)]
 pub struct Nlist {
-    /// Where the name stands among the strings, in bytes.
+    /// Where the name lies among the strings, in bytes.
     pub n_strx: u32,
     /// The type, one of the constants `N_UNDF`, `N_ABS`, `N_SECT`, with `N_EXT` and `N_PEXT`; with a
     /// bit of `N_STAB` it is an entry for debuggers.

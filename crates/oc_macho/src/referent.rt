@@ -5,9 +5,9 @@ ghost use Rattle.oc_macho.specs.Referents as referents;
 /// What a reference is to.
 #[derive(Clone, Copy, Debug, PartialEq, Eq)]
 pub enum Referent {
-    /// Nothing is there.
+    /// Nothing is present.
     Nothing,
-    /// Something is there to which no field can refer.
+    /// Something is present to which no field can refer.
     Unfit,
     /// Something to which a field can refer.
     Fit {
@@ -19,7 +19,7 @@ pub enum Referent {
 }
 
 impl Referent {
-    /// Whether nothing is there. Constant time.
+    /// Whether nothing is present. Constant time.
     pub fn is_nothing(self) -> bool
         ensures { result ≡ referents.is_nothing self }
     {
@@ -29,8 +29,8 @@ impl Referent {
         }
     }
 
-    /// Whether it is there, and cannot be the target of a field which reads a slot, or not. Constant
-    /// time.
+    /// Whether it is present, and cannot be the target of a field which reads a slot, or not.
+    /// Constant time.
     pub fn cannot_be_target(self, slot: bool) -> bool
         ensures { result ≡ referents.cannot_be_target slot self }
     {
@@ -41,7 +41,7 @@ impl Referent {
         }
     }
 
-    /// Whether it is there, and cannot be taken from a target. Constant time.
+    /// Whether it is present, and cannot be taken from a target. Constant time.
     pub fn cannot_be_taken(self) -> bool
         ensures { result ≡ referents.cannot_be_taken self }
     {

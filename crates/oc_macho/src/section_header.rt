@@ -9,9 +9,9 @@ use oc_base::{Word, u32_in, u64_in};
 /// (Mach-O reference, "section").
 #[derive(Clone, Copy, Debug, PartialEq, Eq)]
 pub struct SectionHeader {
-    /// The name, with NULs behind it.
+    /// The name, padded with NULs.
     pub sectname: [u8; 16],
-    /// The name of the segment in which a linker puts the section, with NULs behind it.
+    /// The name of the segment in which a linker puts the section, padded with NULs.
     pub segname: [u8; 16],
     /// The address that the file gives to the section.
     pub addr: u64,

@@ -9,7 +9,7 @@ use oc_base::{Word, u32_in, u64_in};
 /// as in 64 bits (Mach-O reference, "segment_command").
 #[derive(Clone, Copy, Debug, PartialEq, Eq)]
 pub struct SegmentCommand {
-    /// The name, with NULs behind it; in an object it is empty.
+    /// The name, padded with NULs; in an object it is empty.
     pub segname: [u8; 16],
     /// The address.
     pub vmaddr: u64,

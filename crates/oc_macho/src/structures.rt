@@ -19,7 +19,7 @@ use crate::words::segment_number;
 use oc_base::Word;
 use oc_shelf::Packed;
 
-/// The size of an address, in bytes: tables stand at multiples of it. Constant time.
+/// The size of an address, in bytes: tables lie at multiples of it. Constant time.
 pub fn word_bytes(word: Word) -> u64
     ensures bytes { result ≡ address_size word }
     ensures some { 1 ≤ result }
@@ -91,8 +91,8 @@ pub fn pack_mach_header(word: Word, header: &MachHeader) -> Packed
     out
 }
 
-/// What the command for a segment begins with: its number, its size with the section headers behind it,
-/// and its name. Constant time.
+/// What the command for a segment begins with: its number, its size with the section headers after
+/// it, and its name. Constant time.
 pub fn pack_segment_front(word: Word, cmdsize: u32, segment: &SegmentCommand) -> Packed
     ensures { result ≡ structures.segment_front word cmdsize segment.now }
 {
@@ -130,7 +130,7 @@ pub fn pack_section_names(header: &SectionHeader) -> Packed
     out
 }
 
-// puts where a section stands in memory and in the file, its alignment, and where its entries begin
+// puts where a section lies in memory and in the file, its alignment, and where its entries begin
 fn put_places(out: &mut Packed, word: Word, header: &SectionHeader)
     requires { length out.old + 12 + 2 * address_size word ≤ ROW }
     ensures bytes { out.new ≡ out.old ++ packed ((address_size word, header.now.addr) ∷ (address_size word, header.now.size) ∷ (4, header.now.offset) ∷ (4, header.now.align) ∷ (4, header.now.reloff) ∷ []) }
@@ -155,7 +155,7 @@ fn put_flags(out: &mut Packed, word: Word, header: &SectionHeader)
     put_reserved(out, word);
 }
 
-/// The numbers behind them. Constant time.
+/// The numbers after them. Constant time.
 pub fn pack_section_numbers(word: Word, header: &SectionHeader) -> Packed
     ensures { result ≡ packed (structures.section_numbers word header.now) }
 {
@@ -191,7 +191,7 @@ pub struct Dysymtab {
     pub nundefsym: u32,
 }
 
-/// What the command that tells the groups of symbols begins with; zeros follow. Constant time.
+/// What the command that lists the groups of symbols begins with; zeros follow. Constant time.
 pub fn pack_dysymtab_front(dysymtab: &Dysymtab) -> Packed
     requires { dysymtab.now.nlocalsym + dysymtab.now.nextdefsym < 2 ^ 32 }
     ensures { result ≡ structures.dysymtab_front dysymtab.now }

@@ -3,8 +3,8 @@ ghost use Rattle.oc_macho.specs.Framed.{EndsTexts};
 
 use memchr::memrchr;
 
-/// Behind the last NUL: each text among the strings begins before it. 0 where there is none. Linear
-/// in the bytes behind the last NUL.
+/// The place after the last NUL: each text among the strings begins before it. 0 where there is
+/// none. Linear in the bytes after the last NUL.
 pub(crate) fn text_end(strings: &[u8]) -> usize
     ensures { EndsTexts strings.now result }
 {

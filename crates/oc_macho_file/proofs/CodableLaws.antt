@@ -24,7 +24,7 @@ use Rattle.oc_shelf.proofs.WritingLaws.PackedLemmas.{Fit}
 use Rattle.oc_macho.specs.declared.relocation_info.RelocationInfo.{RelocationInfo}
 use Rattle.oc_macho.specs.MachHeader.{mach_format}
 use Rattle.oc_macho_file.specs.Addresses.{is_at, mapped, section_begin, size_of, address_of, memory_end}
-use Rattle.oc_macho_file.specs.Bodies.{Standing, end_place, end_section_address, reference_to, plain_entry, scattered_entry, taken_section}
+use Rattle.oc_macho_file.specs.Bodies.{WrittenReloc, end_place, end_section_address, reference_to, plain_entry, scattered_entry, taken_section}
 use Rattle.oc_macho_file.specs.Layout.{relocs_of}
 use Rattle.oc_macho_file.specs.Lines.{Line, lines_of, inner_lines, defined_lines, undefined_lines, line_size, numbered_lines, is_own_line, is_symbol_line}
 use Rattle.oc_macho_file.specs.Canonical.{dysymtab_numbers, mach_file}
@@ -95,7 +95,7 @@ module _ (w : Word) (n : Object) (is : IsForMach w n) (small : length (mach_file
   -- ... the entries of a relocation
 
   module _ (k : ℕ) (at : ℕ) (r : Reloc) (there : reloc_at n k at ≡ Some r) where
-    abbrev x : Standing
+    abbrev x : WrittenReloc
     x = standing w n is k at r there
 
     abbrev e : MachRow

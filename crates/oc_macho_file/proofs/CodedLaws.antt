@@ -34,7 +34,7 @@ use Rattle.oc_target.proofs.MeetsMachKinds.{mach_zero}
 use Rattle.oc_neutral.proofs.Positions.{each_at}
 use Rattle.oc_macho.specs.MachHeader.{mach_format}
 use Rattle.oc_macho_file.specs.Addresses.{is_blank}
-use Rattle.oc_macho_file.specs.Symbols.{exponent_of, stood_at, stood_elsewhere, stood_for}
+use Rattle.oc_macho_file.specs.Symbols.{exponent_of, value_fields_at, value_fields_elsewhere, value_fields_for}
 use Rattle.oc_shows.proofs.FoundLaws.{place_of_global}
 
 -- an object that is ready for Mach-O, and what it meets
@@ -58,7 +58,7 @@ word_back W64 = refl
 pub record IsPlaced (w : Word) (n : Object) (f : Fallback) : Type 0 where
   pub place : Place
   pub there : HasOffset n.sections place.0 place.1
-  pub stood : stood_for n f ≡ stood_at n place.0 place.1
+  pub stood : value_fields_for n f ≡ value_fields_at n place.0 place.1
   pub seen : (shown : List (ℕ × ℕ)) → seen_fallback (mach_manner w) n shown f ≡ fallback.Place place.0 place.1
   pub strong : weak.is_zero f ≡ false
 
@@ -187,7 +187,7 @@ module _ (w : Word) (n : Object) (is : IsForMach w n) where
       inr (record {
         place = t.place;
         there = place_of_global n t.symbol.binding t.place t.placed (symbol_is j t.symbol t.there).binding;
-        stood = ap (λ o. option_map_or (λ (place : Place). stood_at n place.0 place.1) o (stood_elsewhere 0)) at;
+        stood = ap (λ o. option_map_or (λ (place : Place). value_fields_at n place.0 place.1) o (value_fields_elsewhere 0)) at;
         seen = λ shown. ap (λ o. option_map_or (λ (place : Place). fallback.Place place.0 place.1) o (fallback.Name (new_position shown j))) at;
         strong = refl;
       })

@@ -39,7 +39,7 @@ use Rattle.oc_macho.specs.MachHeader.{mach_format}
 use Rattle.oc_macho.specs.Entries.{can_refer, row_for, is_first, item_at}
 use Rattle.oc_macho_file.specs.Addresses.{address_of}
 use Rattle.oc_macho_file.specs.Lines.{Line, own_number}
-use Rattle.oc_macho_file.specs.Bodies.{Standing, taken_section, end_section_address, standing_at, reference_to, plain_entry, scattered_entry, pair_entries, standing_entries, entries_at, entries_of, field_patch, field_patches}
+use Rattle.oc_macho_file.specs.Bodies.{WrittenReloc, taken_section, end_section_address, written_reloc_at, reference_to, plain_entry, scattered_entry, pair_entries, standing_entries, entries_at, entries_of, field_patch, field_patches}
 use Rattle.oc_macho_file.proofs.CodedLaws.{IsForMach, word_back, stored_all}
 use Rattle.oc_macho_file.proofs.ItemLaws.{Written, Alone, Pair, written_entries, item_of, IsTold, begin_of, item_there, item_only, item_inside}
 use Rattle.oc_macho_file.proofs.RowLaws.{IsMachRow, IsAloneRow, IsPairRow, IsKnown, KnownAlone, KnownPair, known_entry}
@@ -76,15 +76,15 @@ places_differ p (z ∷ xs) follow (suc i) (suc j) x y h t e = ap suc (places_dif
 -- ... what is written
 
 -- the pair of a relocation
-abbrev pub written_pair : Word → Object → List (Laid Line) → Standing → ℕ → Written
+abbrev pub written_pair : Word → Object → List (Laid Line) → WrittenReloc → ℕ → Written
 written_pair W32 n lines x second = Pair (scattered_entry x.at x.row.number (end_section_address n x.reloc.target)) (scattered_entry 0 second (address_of n (taken_section x)))
 written_pair W64 n lines x second = Pair (plain_entry x x.row.number (reference.Symbol (own_number lines (taken_section x)))) (plain_entry x second (reference_to W64 lines x.reloc.target))
 
-abbrev pub written_by : Word → Object → List (Laid Line) → Standing → Option ℕ → Written
+abbrev pub written_by : Word → Object → List (Laid Line) → WrittenReloc → Option ℕ → Written
 written_by w n lines x None = Alone (plain_entry x x.row.number (reference_to w lines x.reloc.target))
 written_by w n lines x (Some second) = written_pair w n lines x second
 
-abbrev pub written_standing : Word → Object → List (Laid Line) → Standing → Written
+abbrev pub written_standing : Word → Object → List (Laid Line) → WrittenReloc → Written
 written_standing w n lines x = written_by w n lines x x.row.second
 
 -- what would be written for a relocation without a row
@@ -93,12 +93,12 @@ unwritten = Alone (record { r_address = 0; r_pcrel = 0; r_length = 0; r_type = 0
 
 -- the item of a relocation at an offset of the section at a position
 abbrev pub written_at : Word → Object → List (Laid Line) → ℕ → ℕ → Reloc → Written
-written_at w n lines k at r = option_map_or (written_standing w n lines) (standing_at w k at r) unwritten
+written_at w n lines k at r = option_map_or (written_standing w n lines) (written_reloc_at w k at r) unwritten
 
 abbrev pub written_field : Word → Object → List (Laid Line) → ℕ → Field Reloc → Written
 written_field w n lines k x = written_at w n lines k x.at x.item
 
-entries_written : (w : Word) (n : Object) (lines : List (Laid Line)) (x : Standing) → standing_entries w n lines x ≡ written_entries (written_standing w n lines x)
+entries_written : (w : Word) (n : Object) (lines : List (Laid Line)) (x : WrittenReloc) → standing_entries w n lines x ≡ written_entries (written_standing w n lines x)
 unfolding standing_entries
 entries_written w n lines x = by w x.row.second
   where
@@ -108,7 +108,7 @@ entries_written w n lines x = by w x.row.second
     by W64 (Some second) = refl
 
 -- the first entry has the field's offset
-first_address : (w : Word) (n : Object) (lines : List (Laid Line)) (x : Standing) → (item_of (written_standing w n lines x)).first.r_address ≡ x.at
+first_address : (w : Word) (n : Object) (lines : List (Laid Line)) (x : WrittenReloc) → (item_of (written_standing w n lines x)).first.r_address ≡ x.at
 first_address w n lines x = by w x.row.second
   where
     by : (w : Word) (o : Option ℕ) → (item_of (written_by w n lines x o)).first.r_address ≡ x.at
@@ -122,7 +122,7 @@ pair_second W32 m p = (1, p.0)
 pair_second W64 m p = (0, p.0)
 
 -- the first entry of a pair is read as of its type, where entries of that type are
-pair_first : (w : Word) (n : Object) (lines : List (Laid Line)) (x : Standing) (m : MachRow) (second : ℕ) → IsPairRow w m → m.row ≡ x.row
+pair_first : (w : Word) (n : Object) (lines : List (Laid Line)) (x : WrittenReloc) (m : MachRow) (second : ℕ) → IsPairRow w m → m.row ≡ x.row
     → ((e : RelocationInfo) → e.r_type ≡ x.row.number → e.r_pcrel ≡ m.pcrel → e.r_length ≡ length_of x.row.width → can_refer m e.refers ≡ true → row_for w e ≡ Some m)
     → m.pcrel ≡ 0 → cond (same_taken x.row.taken TakesPlace) 1 0 ≡ m.pcrel → row_for w (item_of (written_pair w n lines x second)).first ≡ Some m
 pair_first W32 n lines x m second p same found none pcrel =
@@ -155,7 +155,7 @@ module _ (w : Word) (n : Object) (is : IsForMach w n) where
     entry = mach_reloc.entry
 
     -- it, where it stands
-    abbrev pub standing : Standing
+    abbrev pub standing : WrittenReloc
     standing = record { section = k; at = at; reloc = r; row = row }
 
     pub row_is : {X : Type 0} (f : Row → X) → f entry.row ≡ f row
@@ -167,7 +167,7 @@ module _ (w : Word) (n : Object) (is : IsForMach w n) where
     pub known : IsMachRow w entry
     known = known_entry w row.number entry.pcrel (length_of row.width) entry among
 
-    pub standing_is : standing_at w k at r ≡ Some standing
+    pub standing_is : written_reloc_at w k at r ≡ Some standing
     standing_is = ap (option_map (λ row. record { section = k; at = at; reloc = r; row = row })) meets.is.written
 
     pub written_is : (lines : List (Laid Line)) → written_at w n lines k at r ≡ written_standing w n lines standing
@@ -228,7 +228,7 @@ module _ (w : Word) (n : Object) (is : IsForMach w n) where
       pub told : IsTold w own
       told = by known.known
         where
-          as_pair : (w : Word) (x : Standing) (second : ℕ) → is_first w (item_of (written_pair w n lines x second)).first ≡ true → IsTold w (written_pair w n lines x second)
+          as_pair : (w : Word) (x : WrittenReloc) (second : ℕ) → is_first w (item_of (written_pair w n lines x second)).first ≡ true → IsTold w (written_pair w n lines x second)
           as_pair W32 x second e = e
           as_pair W64 x second e = e
 

@@ -22,10 +22,10 @@ use Rattle.oc_macho.specs.MachHeader.{mach_format}
 use Rattle.oc_macho.specs.Tables.{SectionTable, Tables}
 use Rattle.oc_macho.specs.Entries.{row_for, target_entry, taken_entry}
 use Rattle.oc_macho.specs.Aims.{Aim, aim_in, target_in}
-use Rattle.oc_macho.specs.Fields.{Found, found_by, found_in, item_for, field_of, fields_in}
+use Rattle.oc_macho.specs.Fields.{FieldParts, field_parts_by, field_parts_in, item_for, field_of, fields_in}
 use Rattle.oc_macho_file.specs.Addresses.{address_of}
 use Rattle.oc_macho_file.specs.Lines.{Line, numbered_lines, own_number}
-use Rattle.oc_macho_file.specs.Bodies.{Standing, taken_section, end_section_address, field_shift, number_or, field_number, field_patch, field_patches, raw_of, reference_to, plain_entry, scattered_entry}
+use Rattle.oc_macho_file.specs.Bodies.{WrittenReloc, taken_section, end_section_address, field_shift, number_or, field_number, field_patch, field_patches, raw_of, reference_to, plain_entry, scattered_entry}
 use Rattle.oc_macho_file.proofs.TableLaws.{made_table, made_sections, made_tables}
 use Rattle.oc_macho_file.proofs.CodedLaws.{IsForMach, word_back}
 use Rattle.oc_macho_file.proofs.ItemLaws.{item_of}
@@ -46,17 +46,17 @@ module _ (w : Word) (n : Object) (is : IsForMach w n) where
     abbrev c : SectionTable
     c = made_table w n (k, s)
 
-    fields_by : (at : ℕ) → fields_in t k at ≡ option_map (field_of t k at c) (found_in t c at)
+    fields_by : (at : ℕ) → fields_in t k at ≡ option_map (field_of t k at c) (field_parts_in t c at)
     unfolding fields_in made_tables
-    fields_by at = ap (option_and_then (λ c. option_map (field_of t k at c) (found_in t c at))) (table_at w n k s here)
+    fields_by at = ap (option_and_then (λ c. option_map (field_of t k at c) (field_parts_in t c at))) (table_at w n k s here)
 
     -- where no relocation stands, no field does
     pub no_field : (at : ℕ) → reloc_at n k at ≡ None → fields_in t k at ≡ None
     unfolding item_for made_tables
-    no_field at none = fields_by at ∙ ap (λ o. option_map (field_of t k at c) (option_and_then (found_by t) o)) (none_found w n is lines k at none)
+    no_field at none = fields_by at ∙ ap (λ o. option_map (field_of t k at c) (option_and_then (field_parts_by t) o)) (none_found w n is lines k at none)
 
     module _ (at : ℕ) (r : Reloc) (there : reloc_at n k at ≡ Some r) where
-      abbrev x : Standing
+      abbrev x : WrittenReloc
       x = standing w n is k at r there
 
       abbrev e : MachRow
@@ -66,10 +66,10 @@ module _ (w : Word) (n : Object) (is : IsForMach w n) where
       abbrev pub own_item : Item
       own_item = item_of (written_standing w n lines x)
 
-      pub field_there : (f : Found) → found_by t own_item ≡ Some f → fields_in t k at ≡ Some (field_of t k at c f)
+      pub field_there : (f : FieldParts) → field_parts_by t own_item ≡ Some f → fields_in t k at ≡ Some (field_of t k at c f)
       unfolding item_for made_tables
       field_there f found =
-          fields_by at ∙ ap (λ o. option_map (field_of t k at c) (option_and_then (found_by t) o)) (item_found w n is lines k at r there)
+          fields_by at ∙ ap (λ o. option_map (field_of t k at c) (option_and_then (field_parts_by t) o)) (item_found w n is lines k at r there)
           ∙ ap (option_map (field_of t k at c)) found
 
       -- ... the number in the field
@@ -108,15 +108,15 @@ module _ (w : Word) (n : Object) (is : IsForMach w n) where
 
       -- ... the field by its entries
 
-      abbrev with_aims : Option Aim → Option Aim → Option Found
+      abbrev with_aims : Option Aim → Option Aim → Option FieldParts
       with_aims target taken = option_map (λ target. record { row = e; target = target; taken = taken }) target
 
-      found_as : (i : Item) → row_for w i.first ≡ Some e → found_by t i ≡ with_aims (target_in t (target_entry w i)) (option_and_then (target_in t) (taken_entry w i))
-      unfolding found_by made_tables
+      found_as : (i : Item) → row_for w i.first ≡ Some e → field_parts_by t i ≡ with_aims (target_in t (target_entry w i)) (option_and_then (target_in t) (taken_entry w i))
+      unfolding field_parts_by made_tables
       found_as i row = ap (option_and_then (λ m. option_map (λ target. record { row = m; target = target; taken = option_and_then (target_in t) (taken_entry w i) }) (target_in t (target_entry w i)))) row
 
       -- of an entry that stands alone
-      pub found_alone : x.row.second ≡ None → (aim : Aim) → aim_in t (reference_to w lines r.target) ≡ Some (Some aim) → found_by t own_item ≡ Some (record { row = e; target = aim; taken = None })
+      pub found_alone : x.row.second ≡ None → (aim : Aim) → aim_in t (reference_to w lines r.target) ≡ Some (Some aim) → field_parts_by t own_item ≡ Some (record { row = e; target = aim; taken = None })
       found_alone second aim aimed =
           found_as own_item (first_row w n is k at r there lines)
           ∙ ap (λ o. with_aims (target_in t (target_entry w (item_of (written_by w n lines x o)))) (option_and_then (target_in t) (taken_entry w (item_of (written_by w n lines x o))))) second
@@ -137,7 +137,7 @@ module _ (w : Word) (n : Object) (is : IsForMach w n) where
 
       -- of a pair of x86-64
       pub found_long : w ≡ W64 → (second : ℕ) → x.row.second ≡ Some second → (aim taken : Aim) → aim_in t (reference_to W64 lines r.target) ≡ Some (Some aim)
-          → aim_in t (reference.Symbol (own_number lines (taken_section x))) ≡ Some (Some taken) → found_by t own_item ≡ Some (record { row = e; target = aim; taken = Some taken })
+          → aim_in t (reference.Symbol (own_number lines (taken_section x))) ≡ Some (Some taken) → field_parts_by t own_item ≡ Some (record { row = e; target = aim; taken = Some taken })
       found_long long second is_second aim taken aimed takes =
           found_as own_item (first_row w n is k at r there lines)
           ∙ ap (λ o. with_aims (target_in t (target_entry w (item_of (written_by w n lines x o)))) (option_and_then (target_in t) (taken_entry w (item_of (written_by w n lines x o))))) is_second
@@ -147,7 +147,7 @@ module _ (w : Word) (n : Object) (is : IsForMach w n) where
 
       -- of one of i386
       pub found_short : w ≡ W32 → (second : ℕ) → x.row.second ≡ Some second → (aim taken : Aim) → aim_in t (reference.Address (end_section_address n r.target)) ≡ Some (Some aim)
-          → aim_in t (reference.Address (address_of n (taken_section x))) ≡ Some (Some taken) → found_by t own_item ≡ Some (record { row = e; target = aim; taken = Some taken })
+          → aim_in t (reference.Address (address_of n (taken_section x))) ≡ Some (Some taken) → field_parts_by t own_item ≡ Some (record { row = e; target = aim; taken = Some taken })
       found_short short second is_second aim taken aimed takes =
           found_as own_item (first_row w n is k at r there lines)
           ∙ ap (λ o. with_aims (target_in t (target_entry w (item_of (written_by w n lines x o)))) (option_and_then (target_in t) (taken_entry w (item_of (written_by w n lines x o))))) is_second
@@ -160,4 +160,4 @@ module _ (w : Word) (n : Object) (is : IsForMach w n) where
   unfolding fields_in made_tables
   fields_past k at high =
       let long = length-tables w n in
-      ap (option_and_then (λ c. option_map (field_of t k at c) (found_in t c at))) (slice_get_past (made_sections w n) k (omega (arith, high, long)))
+      ap (option_and_then (λ c. option_map (field_of t k at c) (field_parts_in t c at))) (slice_get_past (made_sections w n) k (omega (arith, high, long)))

@@ -35,7 +35,7 @@ use Rattle.oc_neutral.specs.Objects.{Object, reloc_at}
 use Rattle.oc_neutral.specs.Rows as rows
 use Rattle.oc_neutral.specs.Rows.{Row, Taken, TakesZero, TakesPlace, TakesGotBase, TakesImageBase, TakesHome, TakesSection, same_taken, taken_of, shift_of}
 use Rattle.oc_shows.specs.Seen.{target_place, section_place, seen_target, seen_reloc}
-use Rattle.oc_neutral.specs.Shifts.{said_shift}
+use Rattle.oc_neutral.specs.Shifts.{entry_target_shift}
 use Rattle.oc_neutral.specs.Worth as worth
 use Rattle.oc_neutral.specs.Worth.{base_of, target_worth, residue_at}
 use Rattle.oc_macho.specs.MachHeader.{mach_format}
@@ -43,11 +43,11 @@ use Rattle.oc_macho.specs.Tables.{SectionTable, Tables}
 use Rattle.oc_macho.specs.Sections as read
 use Rattle.oc_macho.specs.Entries.{taken_entry}
 use Rattle.oc_macho.specs.Aims.{Aim, section_aim, aim_in}
-use Rattle.oc_macho.specs.Fields.{Found, found_by, added_by, number_of, field_with, field_of, fields_in}
+use Rattle.oc_macho.specs.Fields.{FieldParts, field_parts_by, added_by, number_of, field_with, field_of, fields_in}
 use Rattle.oc_macho.specs.Rules.{mach_dialect}
 use Rattle.oc_macho_file.specs.Addresses.{address_of}
 use Rattle.oc_macho_file.specs.Lines.{numbered_lines}
-use Rattle.oc_macho_file.specs.Bodies.{Standing, said_of, alone_shift, pair_shift, field_shift, reference_to}
+use Rattle.oc_macho_file.specs.Bodies.{WrittenReloc, entry_target_of, alone_shift, pair_shift, field_shift, reference_to}
 use Rattle.oc_macho_file.specs.Canonical.{mach_file}
 use Rattle.oc_macho_file.proofs.TableLaws.{made_table, made_tables}
 use Rattle.oc_macho_file.proofs.CodedLaws.{IsForMach, word_is}
@@ -130,7 +130,7 @@ module _ (w : Word) (n : Object) (is : IsForMach w n) (symbols : (mach_dialect w
   g = placed_dialect (mach_dialect w)
 
   module _ (k : ℕ) (s : Section) (here : slice_get n.sections k ≡ Some s) (at : ℕ) (r : Reloc) (there : reloc_at n k at ≡ Some r) where
-    abbrev pub x : Standing
+    abbrev pub x : WrittenReloc
     x = standing w n is k at r there
 
     abbrev pub e : MachRow
@@ -147,7 +147,7 @@ module _ (w : Word) (n : Object) (is : IsForMach w n) (symbols : (mach_dialect w
     q = seen_reloc (mach_manner w) n (shown w n) r
 
     -- what a field takes is the address of a section, or it is no pair
-    abbrev pub IsTaking : Found → Type 0
+    abbrev pub IsTaking : FieldParts → Type 0
     IsTaking f = (taken_entry w (own_item w n is k s here at r there) ≡ None) ⊎ ((j : ℕ) × (counted : Option ℕ) × (f.taken ≡ Some (section_aim t j counted)))
 
     -- the field of the relocation is the one that is seen
@@ -157,8 +157,8 @@ module _ (w : Word) (n : Object) (is : IsForMach w n) (symbols : (mach_dialect w
       pub field_is : IsField g (mach_file w n) all (again w n) k at q (placed_field k field)
       pub varies : is_difference field ≡ false
       -- how it is found, and that what it takes is a section, or nothing
-      pub how : Found
-      pub how_is : found_by t (own_item w n is k s here at r there) ≡ Some how
+      pub how : FieldParts
+      pub how_is : field_parts_by t (own_item w n is k s here at r there) ≡ Some how
       pub is_how : field ≡ field_of t k at c how
       pub takes : IsTaking how
 
@@ -200,7 +200,7 @@ module _ (w : Word) (n : Object) (is : IsForMach w n) (symbols : (mach_dialect w
         by W64 v = ap (λ u. mach_hint u r.hint) v ∙ sym ((mach_reloc w n is k at r there).hint (ap mach_format v)) ∙ sym moved
 
     -- what is found, with its residue
-    pub conclude : (f : Found) → found_by t (own_item w n is k s here at r there) ≡ Some f → f.row ≡ e → (u : Target) (A : ℤ)
+    pub conclude : (f : FieldParts) → field_parts_by t (own_item w n is k s here at r there) ≡ Some f → f.row ≡ e → (u : Target) (A : ℤ)
         → q ≡ record { target = u; form = r.form; addend = A; hint = mach_hint w r.hint }
         → IsAimedAt w g (mach_file w n) (again w n) u f.target.target
         → r.form.less ≡ less_in k (field_of t k at c f).less
@@ -267,10 +267,10 @@ module _ (w : Word) (n : Object) (is : IsForMach w n) (symbols : (mach_dialect w
     -- how the entry counts: in x86-64 from nothing, in i386 from the address of a section
     pub data IsCounting (aim : Aim) : Type 0 where
       Long : w ≡ W64 → aim.counted ≡ None → IsCounting aim
-      Short : w ≡ W32 → (from : ℕ) → unwrap_or aim.counted 0 ≡ from → said_shift (said_of n r.target) ≡ neg_ℤ (pos from) → IsCounting aim
+      Short : w ≡ W32 → (from : ℕ) → unwrap_or aim.counted 0 ≡ from → entry_target_shift (entry_target_of n r.target) ≡ neg_ℤ (pos from) → IsCounting aim
 
     module _ (aim : Aim) where
-      abbrev alone : Found
+      abbrev alone : FieldParts
       alone = record { row = e; target = aim; taken = None }
 
       -- the number that is added
@@ -346,7 +346,7 @@ module _ (w : Word) (n : Object) (is : IsForMach w n) (symbols : (mach_dialect w
           shifted =
               ap (λ u. field_shift u n x) v
               ∙ ap (λ o. option_map_or (λ second. pair_shift n x) o (alone_shift n x)) second
-              ∙ ap (λ y. own_part y +ℤ said_shift (said_of n r.target)) (sym (row_is w n is k at r there (λ y. y.taken)))
+              ∙ ap (λ y. own_part y +ℤ entry_target_shift (entry_target_of n r.target)) (sym (row_is w n is k at r there (λ y. y.taken)))
               ∙ ap (λ i. own_part e.row.taken +ℤ i) said
 
           by : IsLone e.row.taken r.form.less → N +ℤ (own_part e.row.taken +ℤ neg_ℤ (pos from)) ≡ a -ℤ pos e.row.behind

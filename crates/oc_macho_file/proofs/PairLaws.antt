@@ -40,11 +40,11 @@ use Rattle.oc_macho.specs.MachHeader.{mach_format}
 use Rattle.oc_macho.specs.Tables.{SectionTable, Tables}
 use Rattle.oc_macho.specs.Sections as read
 use Rattle.oc_macho.specs.Aims.{Aim, section_aim, aim_in}
-use Rattle.oc_macho.specs.Fields.{Found, added_by, number_of, field_with, field_of}
+use Rattle.oc_macho.specs.Fields.{FieldParts, added_by, number_of, field_with, field_of}
 use Rattle.oc_macho.specs.Rules.{mach_dialect}
 use Rattle.oc_macho_file.specs.Addresses.{address_of}
 use Rattle.oc_macho_file.specs.Lines.{numbered_lines, own_number}
-use Rattle.oc_macho_file.specs.Bodies.{Standing, taken_section, alone_shift, pair_shift, field_shift, reference_to}
+use Rattle.oc_macho_file.specs.Bodies.{WrittenReloc, taken_section, alone_shift, pair_shift, field_shift, reference_to}
 use Rattle.oc_macho_file.specs.Canonical.{mach_file}
 use Rattle.oc_macho_file.proofs.TableLaws.{made_table, made_tables}
 use Rattle.oc_macho_file.proofs.CodedLaws.{IsForMach, placed_there}
@@ -108,7 +108,7 @@ module _ (w : Word) (n : Object) (is : IsForMach w n) (symbols : (mach_dialect w
   h = placed_dialect (mach_dialect w)
 
   module _ (k : ℕ) (s : Section) (here : slice_get n.sections k ≡ Some s) (at : ℕ) (r : Reloc) (there : reloc_at n k at ≡ Some r) where
-    abbrev rel : Standing
+    abbrev rel : WrittenReloc
     rel = standing w n is k at r there
 
     abbrev m : MachRow
@@ -147,7 +147,7 @@ module _ (w : Word) (n : Object) (is : IsForMach w n) (symbols : (mach_dialect w
       -- ... what is found
 
       module _ (aim : Aim) (j : ℕ) (counted : Option ℕ) where
-        abbrev pub found_pair : Found
+        abbrev pub found_pair : FieldParts
         found_pair = record { row = m; target = aim; taken = Some (section_aim t j counted) }
 
         added_is : added_by t k at (number_of table at found_pair) found_pair ≡ num -ℤ pos (unwrap_or aim.counted 0) +ℤ pos (unwrap_or counted 0)
@@ -202,7 +202,7 @@ module _ (w : Word) (n : Object) (is : IsForMach w n) (symbols : (mach_dialect w
             let y = there_at n.sections (taken_section rel) (needed_low n needed.0 (taken_section rel) needed.1) in
             let owns : aim_in t (reference.Symbol (own_number (numbered_lines w n) (taken_section rel))) ≡ Some (Some (section_aim t j None))
             = own_aimed w n is long (taken_section rel) y.0 y.1 needed ∙ ap (λ i. Some (Some (section_aim t i None))) at_section in
-            let f : Found = found_pair aim j None in
+            let f : FieldParts = found_pair aim j None in
             let a : added_by t k at (number_of table at f) f ≡ num -ℤ pos 0 +ℤ pos 0 = added_is aim j None ∙ ap (λ o. num -ℤ pos (unwrap_or o 0) +ℤ pos 0) none in
             conclude w n is symbols k s here at r there f
             (found_long w n is k s here at r there long (pair_second w m pair).0 second aim (section_aim t j None) aimed owns) refl
@@ -270,7 +270,7 @@ module _ (w : Word) (n : Object) (is : IsForMach w n) (symbols : (mach_dialect w
         with_end j l at_section z starts some end y ends more place A seen residue apart =
             let aim : Aim = section_aim t end (Some (address_of n end)) in
             let taken : Aim = section_aim t j (Some (address_of n j)) in
-            let f : Found = found_pair aim j (Some (address_of n j)) in
+            let f : FieldParts = found_pair aim j (Some (address_of n j)) in
             let a = added_is aim j (Some (address_of n j)) in
             conclude w n is symbols k s here at r there f
             (found_short w n is k s here at r there short (pair_second w m pair).0 second aim taken

@@ -29,7 +29,7 @@ use Rattle.oc_macho.specs.MachHeader.{mach_format}
 use Rattle.oc_macho.specs.Sections.{is_kept}
 use Rattle.oc_macho.specs.Entries.{item_at, takes_symbol, is_taken_in, is_pinned}
 use Rattle.oc_macho_file.specs.Lines.{Line, OwnLine, LocalLine, OuterLine, lines_of, numbered_lines, own_number}
-use Rattle.oc_macho_file.specs.Bodies.{Standing, taken_section, entries_of}
+use Rattle.oc_macho_file.specs.Bodies.{WrittenReloc, taken_section, entries_of}
 use Rattle.oc_macho_file.proofs.TableLaws.{made_table, made_sections, made_tables}
 use Rattle.oc_macho_file.proofs.CodedLaws.{IsForMach, word_back}
 use Rattle.oc_macho_file.proofs.LineLaws.{own_found}
@@ -63,7 +63,7 @@ third_names false false c e = e
 
 module _ (w : Word) (n : Object) (is : IsForMach w n) where
   module _ (k at : ℕ) (r : Reloc) (there : reloc_at n k at ≡ Some r) where
-    abbrev x : Standing
+    abbrev x : WrittenReloc
     x = standing w n is k at r there
 
     needed_by : w ≡ W64 → (j : ℕ) → names_section j k r ≡ true → Needed n j
@@ -127,18 +127,18 @@ module _ (w : Word) (n : Object) (is : IsForMach w n) where
       subst IsOfObject (same_Some y (OwnLine k) (sym here ∙ ap (slice_get (lines_of w n)) (sym same) ∙ own)) of)
 
   module _ (j : ℕ) (y : Line) (line : slice_get (lines_of w n) j ≡ Some y) (of : IsOfObject y) where
-    pair_free : (v : Word) → w ≡ v → (s : Standing) (second : ℕ) → (w ≡ W64 → Needed n (taken_section s)) → takes_symbol v j (item_of (written_pair v n (numbered_lines w n) s second)) ≡ false
+    pair_free : (v : Word) → w ≡ v → (s : WrittenReloc) (second : ℕ) → (w ≡ W64 → Needed n (taken_section s)) → takes_symbol v j (item_of (written_pair v n (numbered_lines w n) s second)) ≡ false
     pair_free W32 e s second needed = refl
     pair_free W64 e s second needed = own_differs e j y line of (taken_section s) (needed e)
 
-    lone_free : (v : Word) (s : Standing) → takes_symbol v j (item_of (written_by v n (numbered_lines w n) s None)) ≡ false
+    lone_free : (v : Word) (s : WrittenReloc) → takes_symbol v j (item_of (written_by v n (numbered_lines w n) s None)) ≡ false
     lone_free W32 s = refl
     lone_free W64 s = refl
 
     reloc_free : (k at : ℕ) (r : Reloc) (there : reloc_at n k at ≡ Some r) → takes_symbol w j (item_of (written_standing w n (numbered_lines w n) (standing w n is k at r there))) ≡ false
     reloc_free k at r there = by (known w n is k at r there).known
       where
-        s : Standing
+        s : WrittenReloc
         s = standing w n is k at r there
 
         by : IsKnown w (entry w n is k at r there) → takes_symbol w j (item_of (written_standing w n (numbered_lines w n) s)) ≡ false

@@ -35,12 +35,12 @@ use Rattle.oc_macho.specs.declared.relocation_info.RelocationInfo.{RelocationInf
 use Rattle.oc_macho.specs.declared.relocation_info.Reference.TheVariants as reference
 use Rattle.oc_macho.specs.Aims.{Aim, section_aim, aim_in, target_in}
 use Rattle.oc_macho.specs.Entries.{row_for, item_at, target_entry, taken_entry, taken_reference}
-use Rattle.oc_macho.specs.Fields.{Found, found_by, field_of}
+use Rattle.oc_macho.specs.Fields.{FieldParts, field_parts_by, field_of}
 use Rattle.oc_macho.specs.Referents.{fit_for, referent_by, referent_in, is_nothing, cannot_be_target, cannot_be_taken, reads_slot}
 use Rattle.oc_macho.specs.Sections.{is_kept}
 use Rattle.oc_macho.specs.Tables.{SectionTable, Tables}
 use Rattle.oc_macho.specs.RelocationFaults.{is_lone_second, is_odd_second, is_unknown, are_pair, is_no_pair, span_of, span_at, meets_upto, is_outside, refers_to_nothing, refers_wrongly, is_too_wide, folds_too_wide, form_conditions, target_conditions, last_conditions, item_conditions, entry_conditions, entry_stage, no_stage, relocation_stage, relocation_stages}
-use Rattle.oc_macho_file.specs.Bodies.{Standing, reference_to, plain_entry}
+use Rattle.oc_macho_file.specs.Bodies.{WrittenReloc, reference_to, plain_entry}
 use Rattle.oc_macho_file.specs.Lines.{numbered_lines, own_number, symbol_number}
 use Rattle.oc_macho_file.specs.Canonical.{section_header}
 use Rattle.oc_macho_file.proofs.TableLaws.{IsCodable, made_table, made_tables}
@@ -104,7 +104,7 @@ module _ (w : Word) (n : Object) (is : IsForMach w n) (fits : IsCodable w n) (k 
     abbrev own : Item
     own = own_item w n is k s here at r there
 
-    abbrev x : Standing
+    abbrev x : WrittenReloc
     x = standing w n is k at r there
 
     abbrev e : MachRow
@@ -210,16 +210,16 @@ module _ (w : Word) (n : Object) (is : IsForMach w n) (fits : IsCodable w n) (k 
     abbrev T : Option Aim
     T = option_and_then (target_in t) (taken_entry w own)
 
-    made : Option Aim → Option Found
+    made : Option Aim → Option FieldParts
     made o = option_map (λ target. record { row = e; target = target; taken = T }) o
 
     told : (target_in t (target_entry w own) ≡ Some given.how.target) × (T ≡ given.how.taken)
-    unfolding found_by made_tables made
+    unfolding field_parts_by made_tables made
     told = by (target_in t (target_entry w own)) (sym (ap (option_and_then (λ m. option_map (λ target. record { row = m; target = target; taken = T }) (target_in t (target_entry w own)))) row_read) ∙ given.how_is)
       where
         by : (o : Option Aim) → option_map (λ target. record { row = e; target = target; taken = T }) o ≡ Some given.how → (o ≡ Some given.how.target) × (T ≡ given.how.taken)
         by None g = absurd (none-some given.how g)
-        by (Some a) g = let same = same_Some (record { row = e; target = a; taken = T }) given.how g in (ap (λ (f : Found). Some f.target) same, ap (λ (f : Found). f.taken) same)
+        by (Some a) g = let same = same_Some (record { row = e; target = a; taken = T }) given.how g in (ap (λ (f : FieldParts). Some f.target) same, ap (λ (f : FieldParts). f.taken) same)
 
     target_fit : referent_in t (target_entry w own).refers ≡ fit_for given.how.target
     target_fit = aimed t (target_entry w own) given.how.target told.0

@@ -25,7 +25,7 @@ use Rattle.oc_neutral.specs.Objects.{Object, reloc_at}
 use Rattle.oc_shows.specs.RowFields.{place_target}
 use Rattle.oc_neutral.specs.Rows.{TakesSection}
 use Rattle.oc_shows.specs.Seen.{seen, seen_section, seen_target}
-use Rattle.oc_neutral.specs.Shifts.{said_shift}
+use Rattle.oc_neutral.specs.Shifts.{entry_target_shift}
 use Rattle.oc_shows.specs.Shows.{Shows}
 use Rattle.oc_shows.proofs.AgainLaws.{inside_of}
 use Rattle.oc_neutral.proofs.Positions.{there_at}
@@ -41,7 +41,7 @@ use Rattle.oc_macho.specs.Fields.{fields_in}
 use Rattle.oc_macho.specs.Rules.{symbols_in, mach_dialect}
 use Rattle.oc_macho_file.specs.Addresses.{address_of}
 use Rattle.oc_macho_file.specs.Lines.{numbered_lines, symbol_number}
-use Rattle.oc_macho_file.specs.Bodies.{said_of, field_patch, raw_of, reference_to}
+use Rattle.oc_macho_file.specs.Bodies.{entry_target_of, field_patch, raw_of, reference_to}
 use Rattle.oc_macho_file.specs.Canonical.{mach_file}
 use Rattle.oc_macho_file.proofs.PartLaws.{length-raw}
 use Rattle.oc_macho_file.proofs.TableLaws.{IsCodable, made_tables, tables_read}
@@ -98,7 +98,7 @@ module _ (w : Word) (n : Object) (is : IsForMach w n) (fits : IsCodable w n) whe
     to_section W32 e j y at_j to = record {
       aim = section_aim t j (Some (address_of n j));
       aimed = ap (λ u. aim_in t (reference_to u (numbered_lines w n) r.target)) e ∙ ap (λ v. aim_in t (reference_to W32 (numbered_lines w n) v)) to ∙ section_aimed w n is j y at_j;
-      counting = Short e (address_of n j) refl (ap (λ v. said_shift (said_of n v)) to);
+      counting = Short e (address_of n j) refl (ap (λ v. entry_target_shift (entry_target_of n v)) to);
       is_aim = subst (λ v. IsAimedAt w h file (again w n) (seen_target (shown w n) v) (place_target w j 0)) (sym to) (section_target w h file (again w n) j);
       varied = λ i same. to ∙ same;
     }
@@ -132,7 +132,7 @@ module _ (w : Word) (n : Object) (is : IsForMach w n) (fits : IsCodable w n) whe
         plain W64 = refl
 
         counts : (v : Word) → w ≡ v → IsCounting w n is symbols_read k s here at r there own
-        counts W32 e = Short e 0 refl (ap (λ v. said_shift (said_of n v)) to)
+        counts W32 e = Short e 0 refl (ap (λ v. entry_target_shift (entry_target_of n v)) to)
         counts W64 e = Long e refl
 
         is_symbol : Target → Bool

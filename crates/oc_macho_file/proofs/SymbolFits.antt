@@ -23,7 +23,7 @@ use Rattle.oc_shelf.proofs.WritingLaws.PackedLemmas.{Fit}
 use Rattle.oc_macho.specs.Structures.{nlist_numbers}
 use Rattle.oc_macho_file.specs.Lines.{Line, OwnLine, LocalLine, OuterLine, lines_of}
 use Rattle.oc_macho_file.specs.Layout.{line_names, offset_in}
-use Rattle.oc_macho_file.specs.Symbols.{Stood, stood_at, stood_elsewhere, stood_by, stood_for, stood_of, external_flag, private_flag, desc_by, symbol_entry, own_entry, line_entry}
+use Rattle.oc_macho_file.specs.Symbols.{ValueFields, value_fields_at, value_fields_elsewhere, value_fields_by, value_fields_for, value_fields_of, external_flag, private_flag, desc_by, symbol_entry, own_entry, line_entry}
 use Rattle.oc_macho_file.proofs.CodedLaws.{IsForMach, IsPlaced, symbol_is, fallback_is, exponent_low, word_is}
 use Rattle.oc_macho_file.proofs.LineLaws.{IsLine, line_at}
 use Rattle.oc_macho_file.proofs.NameLaws.{needed_low}
@@ -49,12 +49,12 @@ external_low (Weak f) = omega arith
 
 module _ (w : Word) (n : Object) (is : IsForMach w n) (names : (name : List ℕ) → offset_in (line_names w n) name < 2 ^ 32) where
   -- where a symbol stands
-  record IsLow (at : Stood) : Type 0 where
+  record IsLow (at : ValueFields) : Type 0 where
     type : at.type ≤ 14
     sect : at.n_sect ≤ 255
     small : at.n_value < modulus w
 
-  place_low : (k offset : ℕ) → HasOffset n.sections k offset → IsLow (stood_at n k offset)
+  place_low : (k offset : ℕ) → HasOffset n.sections k offset → IsLow (value_fields_at n k offset)
   place_low k offset there =
       let low = slice_get_within n.sections k there.0 there.1 in
       let few = is.meets.few in
@@ -64,25 +64,25 @@ module _ (w : Word) (n : Object) (is : IsForMach w n) (names : (name : List ℕ)
       let high = modulus_high w in
       record { type = omega arith; sect = omega (arith, low, few); small = omega (arith, at, end, le, high) }
 
-  elsewhere_low : (x : ℕ) → x < modulus w → IsLow (stood_elsewhere x)
+  elsewhere_low : (x : ℕ) → x < modulus w → IsLow (value_fields_elsewhere x)
   elsewhere_low x low = record { type = omega arith; sect = omega arith; small = low }
 
-  value_low : (v : Value) → IsValue n v → IsLow (stood_by n v)
+  value_low : (v : Value) → IsValue n v → IsLow (value_fields_by n v)
   value_low (value.Place k offset) there = place_low k offset there
   value_low (value.Absolute x) small = record { type = omega arith; sect = omega arith; small = subst (λ v. x < modulus v) (word_is w n is) small }
 
   none_low : 0 < modulus w
   none_low = let high = modulus_high w in omega (arith, high)
 
-  binding_low : (k : ℕ) (s : Symbol) → slice_get n.symbols k ≡ Some s → (b : Binding) → s.binding ≡ b → IsBinding n b → IsLow (stood_of n b)
+  binding_low : (k : ℕ) (s : Symbol) → slice_get n.symbols k ≡ Some s → (b : Binding) → s.binding ≡ b → IsBinding n b → IsLow (value_fields_of n b)
   binding_low k s here (Local v) own there = value_low v there
   binding_low k s here (Global v) own there = value_low v there
   binding_low k s here Undefined own there = elsewhere_low 0 none_low
   binding_low k s here (Common size align) own there = elsewhere_low size (subst (λ v. size < modulus v) (word_is w n is) there.0)
   binding_low k s here (Weak f) own there = by (fallback_is w n is k s here f own)
     where
-      by : (f ≡ fallback.Zero) ⊎ IsPlaced w n f → IsLow (stood_for n f)
-      by (inl e) = subst (λ g. IsLow (stood_for n g)) (sym e) (elsewhere_low 0 none_low)
+      by : (f ≡ fallback.Zero) ⊎ IsPlaced w n f → IsLow (value_fields_for n f)
+      by (inl e) = subst (λ g. IsLow (value_fields_for n g)) (sym e) (elsewhere_low 0 none_low)
       by (inr p) = subst IsLow (sym p.stood) (place_low p.place.0 p.place.1 p.there)
 
   desc_low : (k : ℕ) (s : Symbol) → slice_get n.symbols k ≡ Some s → (b : Binding) → s.binding ≡ b → desc_by b < 2 ^ 16

@@ -44,7 +44,7 @@ use Rattle.oc_macho.specs.Rules.{symbols_in}
 use Rattle.oc_macho_file.specs.Addresses.{address_of}
 use Rattle.oc_macho_file.specs.Lines.{Line, OwnLine, LocalLine, OuterLine, lines_of, line_size, numbered_lines}
 use Rattle.oc_macho_file.specs.Layout.{line_names, offset_in}
-use Rattle.oc_macho_file.specs.Symbols.{exponent_of, Stood, stood_by, stood_of, external_flag, private_flag, desc_by, line_entry}
+use Rattle.oc_macho_file.specs.Symbols.{exponent_of, ValueFields, value_fields_by, value_fields_of, external_flag, private_flag, desc_by, line_entry}
 use Rattle.oc_macho_file.specs.Canonical.{section_header}
 use Rattle.oc_macho_file.proofs.TableLaws.{made_tables}
 use Rattle.oc_macho_file.proofs.CodedLaws.{IsForMach, IsPlaced, symbol_is, named, fallback_is, exponent_low, power_back}
@@ -72,10 +72,10 @@ raw strx type sect desc value = record { n_strx = strx; n_type = type; n_sect = 
 abbrev pub entry_with : Word → Object → Symbol → Binding → Nlist
 entry_with w n s b = record {
   n_strx = offset_in (line_names w n) s.name;
-  n_type = (stood_of n b).type + external_flag b + private_flag (mach_vis b s.vis);
-  n_sect = (stood_of n b).n_sect;
+  n_type = (value_fields_of n b).type + external_flag b + private_flag (mach_vis b s.vis);
+  n_sect = (value_fields_of n b).n_sect;
   n_desc = desc_by b;
-  n_value = (stood_of n b).n_value;
+  n_value = (value_fields_of n b).n_value;
 }
 
 -- the visibility that is read
@@ -139,12 +139,12 @@ module _ (w : Word) (n : Object) (is : IsForMach w n) where
 
   -- ... values
 
-  local_read : (strx : ℕ) (vis : Visibility) (v : Value) → IsValue n v → IsRead vis (Local v) (raw strx ((stood_by n v).type + 0 + 0) (stood_by n v).n_sect 0 (stood_by n v).n_value)
+  local_read : (strx : ℕ) (vis : Visibility) (v : Value) → IsValue n v → IsRead vis (Local v) (raw strx ((value_fields_by n v).type + 0 + 0) (value_fields_by n v).n_sect 0 (value_fields_by n v).n_value)
   unfolding binding_of
   local_read strx vis (value.Place k offset) there = placed strx 14 0 k offset there vis (Local (value.Place k offset)) refl refl (ap Local (value_read strx 14 0 k offset there refl)) refl refl
   local_read strx vis (value.Absolute a) there = record { plain = refl; external = refl; binding = refl; visible = refl; known = refl; home = refl; within = refl }
 
-  global_read : (strx : ℕ) (vis : Visibility) (v : Value) → IsValue n v → IsRead vis (Global v) (raw strx ((stood_by n v).type + 1 + private_flag (hidden vis)) (stood_by n v).n_sect 0 (stood_by n v).n_value)
+  global_read : (strx : ℕ) (vis : Visibility) (v : Value) → IsValue n v → IsRead vis (Global v) (raw strx ((value_fields_by n v).type + 1 + private_flag (hidden vis)) (value_fields_by n v).n_sect 0 (value_fields_by n v).n_value)
   unfolding binding_of
   global_read strx Default (value.Place k offset) there = placed strx 15 0 k offset there Default (Global (value.Place k offset)) refl refl (ap Global (value_read strx 15 0 k offset there refl)) refl refl
   global_read strx Internal (value.Place k offset) there = placed strx 31 0 k offset there Internal (Global (value.Place k offset)) refl refl (ap Global (value_read strx 31 0 k offset there refl)) refl refl
@@ -196,7 +196,7 @@ module _ (w : Word) (n : Object) (is : IsForMach w n) where
       weak f (inr p) =
           let vis : mach_vis (Weak f) s.vis ≡ hidden s.vis = ap (λ b. cond (not b) (hidden s.vis) Default) p.strong in
           let desc : desc_by (Weak f) ≡ 128 = ap (λ b. cond b 64 128) p.strong in
-          subst (λ (at : Stood). IsRead s.vis (Weak f) (raw strx (at.type + 1 + private_flag (mach_vis (Weak f) s.vis)) at.n_sect (desc_by (Weak f)) at.n_value)) (sym p.stood)
+          subst (λ (at : ValueFields). IsRead s.vis (Weak f) (raw strx (at.type + 1 + private_flag (mach_vis (Weak f) s.vis)) at.n_sect (desc_by (Weak f)) at.n_value)) (sym p.stood)
           (subst (λ v. IsRead s.vis (Weak f) (raw strx (14 + 1 + private_flag v) (p.place.0 + 1) (desc_by (Weak f)) (address_of n p.place.0 + p.place.1))) (sym vis)
           (subst (λ d. IsRead s.vis (Weak f) (raw strx (14 + 1 + private_flag (hidden s.vis)) (p.place.0 + 1) d (address_of n p.place.0 + p.place.1))) (sym desc)
           (weak_at strx s.vis f p.place.0 p.place.1 p.there (p.seen (shown w n)) vis)))
@@ -245,7 +245,7 @@ module _ (w : Word) (n : Object) (is : IsForMach w n) where
   start_test a (suc offset) = ne_eqb (a + suc offset) a (λ e. omega (arith, e)) ∙ sym (ne_eqb (suc offset) 0 (λ e. omega (arith, e)))
 
   local_not_own : (s : Symbol) (y : Nlist) (v : Value) → IsValue n v → name_of t y ≡ s.name → is_start_named s.name v ≡ false
-      → y ≡ raw y.n_strx ((stood_by n v).type + 0 + 0) (stood_by n v).n_sect 0 (stood_by n v).n_value → is_own_in W64 t y ≡ false
+      → y ≡ raw y.n_strx ((value_fields_by n v).type + 0 + 0) (value_fields_by n v).n_sect 0 (value_fields_by n v).n_value → is_own_in W64 t y ≡ false
   unfolding section_header
   local_not_own s y (value.Place k offset) there name start same =
       let z : Nlist = raw y.n_strx 14 (k + 1) 0 (address_of n k + offset) in
@@ -274,7 +274,7 @@ module _ (w : Word) (n : Object) (is : IsForMach w n) where
       long e (Local v) own =
           local_not_own s (entry_with w n s s.binding) v (subst (IsBinding n) own (symbol_is w n is k s here).binding) name
           (written_not w refl s v own (written (ap parts.is_local own)) e)
-          (ap (λ b. raw (offset_in (line_names w n) s.name) ((stood_of n b).type + external_flag b + private_flag (mach_vis b s.vis)) (stood_of n b).n_sect (desc_by b) (stood_of n b).n_value) own)
+          (ap (λ b. raw (offset_in (line_names w n) s.name) ((value_fields_of n b).type + external_flag b + private_flag (mach_vis b s.vis)) (value_fields_of n b).n_sect (desc_by b) (value_fields_of n b).n_value) own)
       long e (Global v) own = external (ap parts.is_local own)
       long e Undefined own = external (ap parts.is_local own)
       long e (Common size align) own = external (ap parts.is_local own)

@@ -1,4 +1,4 @@
--- The addresses that an output gives to its sections (our profile): from 0 on, those with bytes in the file, and behind them those without.
+-- The addresses that an output gives to its sections (our profile): from 0 on, those with bytes in the file, and after them those without.
 use Rattle.std.specs.Prelude.{ℕ, Bool, not, nat_eq, List, ◌++◌}
 use Rattle.std.specs.List.{enumerate_from, filter}
 use Rattle.oc_neutral.specs.declared.section.Section.{Section}
@@ -21,7 +21,7 @@ stored_sections n = filter (λ x. not (is_blank x)) (enumerate_from 0 n.sections
 abbrev pub blank_sections : Object → List Numbered
 blank_sections n = filter is_blank (enumerate_from 0 n.sections)
 
--- each stands at the next multiple of its alignment, an empty one too
+-- each lies at the next multiple of its alignment, an empty one too
 abbrev pub section_begin : ℕ → Numbered → ℕ
 section_begin at x = aligned x.1.align at
 

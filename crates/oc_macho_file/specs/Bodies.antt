@@ -18,7 +18,7 @@ use Rattle.oc_neutral.specs.Normal.{Place}
 use Rattle.oc_neutral.specs.Objects.{Object, reloc_at}
 use Rattle.oc_neutral.specs.Rows.{Row, TakesPlace, same_taken}
 use Rattle.oc_shows.specs.Seen.{place_at}
-use Rattle.oc_neutral.specs.Shifts.{Said, Symbolic, Sectional, said_shift, sectdiff_shift, written_shift}
+use Rattle.oc_neutral.specs.Shifts.{EntryTarget, Symbolic, Sectional, entry_target_shift, sectdiff_shift, written_shift}
 use Rattle.oc_neutral.specs.Spelling.{written_row}
 use Rattle.oc_neutral.specs.TargetRelocations.{section_taken}
 use Rattle.oc_shelf.specs.Writing.Parts.{Laid}
@@ -29,15 +29,15 @@ use Rattle.oc_macho.specs.MachHeader.{mach_format}
 use Rattle.oc_macho_file.specs.Addresses.{address_of}
 use Rattle.oc_macho_file.specs.Lines.{Line, own_number, symbol_number}
 
--- a relocation where it stands, at an offset of the section at a position, and the row by which it is written
-pub record Standing : Type 0 where
+-- a relocation with its place, at an offset of the section at a position, and the row by which it is written
+pub record WrittenReloc : Type 0 where
   pub section : ℕ
   pub at : ℕ
   pub reloc : Reloc
   pub row : Row
 
 -- the section that a pair takes: the field's own, where it is the field's place that is taken
-abbrev pub taken_section : Standing → ℕ
+abbrev pub taken_section : WrittenReloc → ℕ
 taken_section x = option_map_or (λ k. k) (section_taken x.reloc.form.less) x.section
 
 -- the place of an end of a difference
@@ -54,21 +54,21 @@ end_section_address n t = option_map_or (λ (place : Place). address_of n place.
 
 -- ... the number in the field
 
--- what an entry of i386 refers to that stands alone
-abbrev pub said_of : Object → Target → Said
-said_of n (target.Section k) = Sectional (address_of n k)
-said_of n (target.Symbol k) = Symbolic
+-- what an entry of i386 that stands alone refers to
+abbrev pub entry_target_of : Object → Target → EntryTarget
+entry_target_of n (target.Section k) = Sectional (address_of n k)
+entry_target_of n (target.Symbol k) = Symbolic
 
 -- what the addend has beyond the number in the field: in i386, of an entry that stands alone, the address that the object gives to the field,
 -- where its place is taken; of a pair, the address of the section that is taken, less that of the target
-abbrev pub alone_shift : Object → Standing → ℤ
-alone_shift n x = (if same_taken x.row.taken TakesPlace then pos (address_of n x.section + x.at) else pos 0) +ℤ said_shift (said_of n x.reloc.target)
+abbrev pub alone_shift : Object → WrittenReloc → ℤ
+alone_shift n x = (if same_taken x.row.taken TakesPlace then pos (address_of n x.section + x.at) else pos 0) +ℤ entry_target_shift (entry_target_of n x.reloc.target)
 
-abbrev pub pair_shift : Object → Standing → ℤ
+abbrev pub pair_shift : Object → WrittenReloc → ℤ
 pair_shift n x = sectdiff_shift (end_address n x.reloc.target) (address_of n (taken_section x))
 
 -- in x86-64, which names each section by a symbol, no address of the object counts
-abbrev pub field_shift : Word → Object → Standing → ℤ
+abbrev pub field_shift : Word → Object → WrittenReloc → ℤ
 field_shift W32 n x = option_map_or (λ second. pair_shift n x) x.row.second (alone_shift n x)
 field_shift W64 n x = written_shift x.at x.reloc.form.less x.row
 
@@ -78,16 +78,16 @@ number_or (Ok n) = n
 number_or (Err e) = 0
 
 -- the number in the field
-unfoldable pub field_number : Word → Object → Standing → ℕ
+unfoldable pub field_number : Word → Object → WrittenReloc → ℕ
 field_number w n x = number_or (to_field_of w x.reloc.form.width (field_shift w n x) x.reloc.addend)
 
 -- the relocation with the row that is written for it
-abbrev pub standing_at : Word → ℕ → ℕ → Reloc → Option Standing
-standing_at w s at r = option_map (λ row. record { section = s; at = at; reloc = r; row = row }) (written_row (mach_format w) r.form r.hint)
+abbrev pub written_reloc_at : Word → ℕ → ℕ → Reloc → Option WrittenReloc
+written_reloc_at w s at r = option_map (λ row. record { section = s; at = at; reloc = r; row = row }) (written_row (mach_format w) r.form r.hint)
 
 -- the field with its number
 abbrev pub field_patch : Word → Object → ℕ → ℕ → Reloc → Patch
-field_patch w n s at r = record { width = r.form.width; check = r.form.check; residue = option_map_or (field_number w n) (standing_at w s at r) 0 }
+field_patch w n s at r = record { width = r.form.width; check = r.form.check; residue = option_map_or (field_number w n) (written_reloc_at w s at r) 0 }
 
 -- the fields of the section at a position
 abbrev pub field_patches : Word → Object → ℕ → ℕ → Option Patch
@@ -106,7 +106,7 @@ reference_to W64 lines (target.Section k) = reference.Symbol (own_number lines k
 reference_to w lines (target.Symbol k) = reference.Symbol (symbol_number lines k)
 
 -- an entry that is not scattered; it is self-relative where the field's place is taken
-abbrev pub plain_entry : Standing → ℕ → Reference → RelocationInfo
+abbrev pub plain_entry : WrittenReloc → ℕ → Reference → RelocationInfo
 plain_entry x type refers = record {
   r_address = x.at;
   r_pcrel = if same_taken x.row.taken TakesPlace then 1 else 0;
@@ -121,20 +121,20 @@ scattered_entry at type address = record { r_address = at; r_pcrel = 0; r_length
 
 -- a pair: in i386 LOCAL_SECTDIFF with the address of the target's section, and PAIR, whose own address is 0, with that of the section that is
 -- taken; in x86-64 SUBTRACTOR of the section that is taken, and UNSIGNED of the target
-abbrev pub pair_entries : Word → Object → List (Laid Line) → Standing → ℕ → List RelocationInfo
+abbrev pub pair_entries : Word → Object → List (Laid Line) → WrittenReloc → ℕ → List RelocationInfo
 pair_entries W32 n lines x second =
     scattered_entry x.at x.row.number (end_section_address n x.reloc.target) ∷ scattered_entry 0 second (address_of n (taken_section x)) ∷ []
 pair_entries W64 n lines x second =
     plain_entry x x.row.number (reference.Symbol (own_number lines (taken_section x))) ∷ plain_entry x second (reference_to W64 lines x.reloc.target) ∷ []
 
 -- the entries of a relocation
-unfoldable pub standing_entries : Word → Object → List (Laid Line) → Standing → List RelocationInfo
+unfoldable pub standing_entries : Word → Object → List (Laid Line) → WrittenReloc → List RelocationInfo
 standing_entries w n lines x =
     elim x.row.second [ None ↦ plain_entry x x.row.number (reference_to w lines x.reloc.target) ∷ [] | Some second ↦ pair_entries w n lines x second ]
 
 -- the entries of a relocation at an offset of the section at a position
 abbrev pub entries_at : Word → Object → List (Laid Line) → ℕ → Field Reloc → List RelocationInfo
-entries_at w n lines s x = option_map_or (standing_entries w n lines) (standing_at w s x.at x.item) []
+entries_at w n lines s x = option_map_or (standing_entries w n lines) (written_reloc_at w s x.at x.item) []
 
 -- those of the section, by the offsets of their fields
 unfoldable pub entries_of : Word → Object → List (Laid Line) → ℕ → List RelocationInfo

@@ -75,7 +75,7 @@ symtab_command w n = record {
 abbrev pub words : List ℕ → List (ℕ × ℕ)
 words numbers = map (λ number. (4, number)) numbers
 
--- the numbers of the command that tells the groups of symbols: where each begins, and how many are in it; twelve words more are zero
+-- the numbers of the command that gives the groups of symbols: where each begins, and how many are in it; twelve words more are zero
 unfoldable pub dysymtab_numbers : Word → Object → List (ℕ × ℕ)
 dysymtab_numbers w n = words (
     LC_DYSYMTAB ∷ DYSYMTAB_COMMAND_SIZE

@@ -19,7 +19,7 @@ use Rattle.oc_macho_file.specs.Addresses.{Numbered, stored_sections}
 use Rattle.oc_macho_file.specs.Lines.{lines_of, numbered_lines, line_name}
 use Rattle.oc_macho_file.specs.Bodies.{entries_of}
 
--- a part of the file: the file header, the three load commands, the first with the section headers behind it, the bytes and the relocation entries of
+-- a part of the file: the file header, the three load commands, the first with the section headers after it, the bytes and the relocation entries of
 -- a section by its position, the symbols, and the strings
 pub data Part : Type 0 where
   FileHead : Part
@@ -38,7 +38,7 @@ raw_part x = Raw x.0 x.1
 abbrev pub relocs_part : Numbered → Part
 relocs_part x = Relocs x.0 x.1
 
--- the parts that are of the whole file, in front of those of sections and behind them
+-- the parts that are of the whole file, before those of sections and after them
 abbrev pub head_parts : List Part
 head_parts = FileHead ∷ SegmentHead ∷ SectionHeads ∷ SymtabHead ∷ DysymtabHead ∷ []
 
@@ -56,7 +56,7 @@ segment_length w n = segment_command_size w + section_header_size w * length n.s
 abbrev pub commands_length : Word → Object → ℕ
 commands_length w n = segment_length w n + SYMTAB_COMMAND_SIZE + DYSYMTAB_COMMAND_SIZE
 
--- where the bytes of the sections begin: address 0 stands there
+-- where the bytes of the sections begin: address 0 lies there
 abbrev pub contents_begin : Word → Object → ℕ
 contents_begin w n = mach_header_size w + commands_length w n
 
@@ -64,7 +64,7 @@ contents_begin w n = mach_header_size w + commands_length w n
 abbrev pub relocs_of : Word → Object → ℕ → List RelocationInfo
 relocs_of w n k = entries_of w n (numbered_lines w n) k
 
--- the names that are given to the string table, and where one stands in it
+-- the names that are given to the string table, and where one lies in it
 unfoldable pub line_names : Word → Object → List (List ℕ)
 line_names w n = map line_name (lines_of w n)
 
@@ -93,11 +93,11 @@ part_size w n (Relocs k s) = RELOCATION_INFO_SIZE * length (relocs_of w n k)
 part_size w n SymbolTable = nlist_size w * length (lines_of w n)
 part_size w n StringTable = length (string_table w n)
 
--- entries stand at a multiple of an address's bytes, where there are some
+-- entries lie at a multiple of an address's bytes, where there are some
 abbrev pub entries_align : Word → ℕ → ℕ
 entries_align w count = if nat_eq count 0 then 1 else address_size w
 
--- where a part begins, behind a place: the bytes of a section as far behind the first as its address is
+-- where a part begins, after a place: the bytes of a section as far after the start of all such bytes as its address is after 0
 abbrev pub part_begin : Word → Object → ℕ → Part → ℕ
 part_begin w n at FileHead = at
 part_begin w n at SegmentHead = at
@@ -113,7 +113,7 @@ part_begin w n at StringTable = at
 abbrev pub laid_parts : Word → Object → List (Laid Part)
 laid_parts w n = laid (part_begin w n) (part_size w n) 0 (parts_of n)
 
--- where the part stands that passes a test
+-- where the part that passes a test lies
 abbrev pub part_where : Word → Object → (Part → Bool) → ℕ
 part_where w n test = place_where test (laid_parts w n)
 

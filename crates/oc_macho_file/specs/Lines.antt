@@ -1,4 +1,4 @@
--- The symbol table of an output: what stands in it, in its order, and with which numbers (Mach-O reference, "nlist" and "dysymtab_command"; our profile).
+-- The symbol table of an output: what is in it, in its order, and with which numbers (Mach-O reference, "nlist" and "dysymtab_command"; our profile).
 use Rattle.std.specs.Prelude.{ℕ, ◌+◌, Bool, false, ◌&&◌, nat_eq, List, [], ◌++◌, map}
 use Rattle.std.specs.List.{enumerate_from, filter}
 use Rattle.oc_base.specs.declared.format.Word.{Word}

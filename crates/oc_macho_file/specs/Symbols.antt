@@ -29,37 +29,37 @@ unfoldable pub exponent_of : ℕ → ℕ
 exponent_of align = unwrap_or (first_from (λ e. nat_eq align (2 ^ e)) 0 (MOST_ALIGN_EXPONENT + 1)) 0
 
 -- what the type, n_sect and n_value say
-pub record Stood : Type 0 where
+pub record ValueFields : Type 0 where
   pub type : ℕ
   pub n_sect : ℕ
   pub n_value : ℕ
 
 -- an offset in the section at a position: its address
-abbrev pub stood_at : Object → ℕ → ℕ → Stood
-stood_at n k offset = record { type = N_SECT; n_sect = k + 1; n_value = address_of n k + offset }
+abbrev pub value_fields_at : Object → ℕ → ℕ → ValueFields
+value_fields_at n k offset = record { type = N_SECT; n_sect = k + 1; n_value = address_of n k + offset }
 
 -- what is defined elsewhere; of a common the value is its size
-abbrev pub stood_elsewhere : ℕ → Stood
-stood_elsewhere size = record { type = N_UNDF; n_sect = 0; n_value = size }
+abbrev pub value_fields_elsewhere : ℕ → ValueFields
+value_fields_elsewhere size = record { type = N_UNDF; n_sect = 0; n_value = size }
 
 -- a value
-abbrev pub stood_by : Object → Value → Stood
-stood_by n (value.Place k offset) = stood_at n k offset
-stood_by n (value.Absolute a) = record { type = N_ABS; n_sect = 0; n_value = a }
+abbrev pub value_fields_by : Object → Value → ValueFields
+value_fields_by n (value.Place k offset) = value_fields_at n k offset
+value_fields_by n (value.Absolute a) = record { type = N_ABS; n_sect = 0; n_value = a }
 
--- a fallback: a Name stands where the Global is that it names
-abbrev pub stood_for : Object → Fallback → Stood
-stood_for n (fallback.Place k offset) = stood_at n k offset
-stood_for n fallback.Zero = stood_elsewhere 0
-stood_for n (fallback.Name k) = option_map_or (λ (place : Place). stood_at n place.0 place.1) (place_at n k) (stood_elsewhere 0)
+-- a fallback: a Name lies where the Global that it names does
+abbrev pub value_fields_for : Object → Fallback → ValueFields
+value_fields_for n (fallback.Place k offset) = value_fields_at n k offset
+value_fields_for n fallback.Zero = value_fields_elsewhere 0
+value_fields_for n (fallback.Name k) = option_map_or (λ (place : Place). value_fields_at n place.0 place.1) (place_at n k) (value_fields_elsewhere 0)
 
 -- a binding
-abbrev pub stood_of : Object → Binding → Stood
-stood_of n (Local v) = stood_by n v
-stood_of n (Global v) = stood_by n v
-stood_of n Undefined = stood_elsewhere 0
-stood_of n (Common size align) = stood_elsewhere size
-stood_of n (Weak f) = stood_for n f
+abbrev pub value_fields_of : Object → Binding → ValueFields
+value_fields_of n (Local v) = value_fields_by n v
+value_fields_of n (Global v) = value_fields_by n v
+value_fields_of n Undefined = value_fields_elsewhere 0
+value_fields_of n (Common size align) = value_fields_elsewhere size
+value_fields_of n (Weak f) = value_fields_for n f
 
 -- it is external
 abbrev pub external_flag : Binding → ℕ
@@ -88,13 +88,13 @@ desc_by (Weak f) = if is_zero f then N_WEAK_REF else N_WEAK_DEF
 abbrev pub symbol_entry : Word → Object → Symbol → Nlist
 symbol_entry w n s = record {
   n_strx = offset_in (line_names w n) s.name;
-  n_type = (stood_of n s.binding).type + external_flag s.binding + private_flag (mach_vis s.binding s.vis);
-  n_sect = (stood_of n s.binding).n_sect;
+  n_type = (value_fields_of n s.binding).type + external_flag s.binding + private_flag (mach_vis s.binding s.vis);
+  n_sect = (value_fields_of n s.binding).n_sect;
   n_desc = desc_by s.binding;
-  n_value = (stood_of n s.binding).n_value;
+  n_value = (value_fields_of n s.binding).n_value;
 }
 
--- that of the symbol of the section at a position, which stands at its start
+-- that of the symbol of the section at a position, which lies at its start
 abbrev pub own_entry : Word → Object → ℕ → Nlist
 own_entry w n k = record { n_strx = offset_in (line_names w n) (section_symbol_name (k + 1)); n_type = N_SECT; n_sect = k + 1; n_desc = 0; n_value = address_of n k }
 

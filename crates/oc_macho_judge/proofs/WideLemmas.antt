@@ -43,7 +43,7 @@ use Rattle.oc_macho.specs.Sections.{address_of, contents_of, header_numbered, ho
 use Rattle.oc_macho.specs.Symbols.{is_own, symbol_of}
 use Rattle.oc_macho.specs.Entries.{can_refer, row_for, target_entry, taken_entry, taken_reference}
 use Rattle.oc_macho.specs.Aims.{Aim, aim_in, aim_of, fixed_place, numbered_aim, section_aim, symbol_aim, target_in}
-use Rattle.oc_macho.specs.Fields.{Found, added_by, counted_of, field_of, found_by}
+use Rattle.oc_macho.specs.Fields.{FieldParts, added_by, counted_of, field_of, field_parts_by}
 use Rattle.oc_macho_judge.specs.Anchors.{anchor_in, anchor_of, is_narrow, is_wide}
 use Rattle.oc_macho.specs.Referents.{cannot_be_taken, is_symbolic, referent_by, referent_in}
 use Rattle.oc_macho.specs.RelocationFaults.{constant_of, folds_too_wide, is_too_wide, refers_wrongly}
@@ -149,7 +149,7 @@ plain_row w m t k n taken fails = by (same_taken m.row.taken TakesSection) refl 
             ap (λ (b : Bool). cancels m.row.base t (less_of m.row.taken k) && not b) (always_fits w m.row.width m.row.check (n a) f) ∙ never_last (cancels m.row.base t (less_of m.row.taken k))
 
 pub not_narrow : (t : Tables) (i : ℕ) (x : SectionTable) (item : Item) → is_narrow (row_for t.word item.first) ≡ false → is_too_wide t i x item ≡ false
-unfolding is_too_wide found_by field_of
+unfolding is_too_wide field_parts_by field_of
 not_narrow t i x item fails = by (row_for t.word item.first) fails (target_in t (target_entry t.word item))
   where
     by : (o : Option MachRow) → is_narrow o ≡ false → (a : Option Aim)
@@ -158,7 +158,7 @@ not_narrow t i x item fails = by (row_for t.word item.first) fails (target_in t 
     by None e a = refl
     by (Some m) e None = refl
     by (Some m) e (Some target) =
-        let f : Found = record { row = m; target = target; taken = option_and_then (target_in t) (taken_entry t.word item) } in
+        let f : FieldParts = record { row = m; target = target; taken = option_and_then (target_in t) (taken_entry t.word item) } in
         plain_row t.word m (target_by target.target.named) _ (λ a. residue_of t.word (constant_of t i x item.first.r_address f a)) f.taken e
 
 -- ... where things stand
@@ -250,7 +250,7 @@ sides w F ca cb nb (Sectional k) (Some p) (Some q) anchored there =
 pub wide_is : (t : Tables) (i : ℕ) (x : SectionTable) (item : Item) (target taken : Option Anchor) → is_narrow (row_for t.word item.first) ≡ true → refers_wrongly t item ≡ false
     → target ≡ anchor_in t (target_entry t.word item).refers → taken ≡ option_and_then (anchor_in t) (taken_reference t.word item)
     → wide_by t.word (extended Four (number_at (contents_of x) item.first.r_address 4)) target taken ≡ is_too_wide t i x item
-unfolding is_too_wide found_by field_of added_by refers_wrongly
+unfolding is_too_wide field_parts_by field_of added_by refers_wrongly
 wide_is t i x item target taken is kinds targets takes =
     ap (λ (o : Option Anchor). wide_by t.word F o taken) targets ∙ ap (wide_by t.word F (anchor_in t (target_entry t.word item).refers)) (takes ∙ by_entry (taken_entry t.word item))
     ∙ core (target_in t (target_entry t.word item)) (aim_anchored t (target_entry t.word item).refers) (option_and_then (target_in t) (taken_entry t.word item))

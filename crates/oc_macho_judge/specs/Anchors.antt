@@ -1,4 +1,4 @@
--- Where that stands to which relocation entries refer, where no other definition can change it (our profile).
+-- The places to which relocation entries refer, where no other definition can change them (our profile).
 use Rattle.std.specs.Prelude.{Bool, true, false, ◌&&◌, not, nat_eq, ℤ, pos, ◌+ℤ◌, ◌-ℤ◌, Option, Some, None}
 use Rattle.std.specs.Option.{option_map, option_map_or, option_and_then}
 use Rattle.oc_base.specs.declared.format.Word.{Word}
@@ -37,7 +37,7 @@ anchor_by Undefined = None
 anchor_by (Common size align) = None
 anchor_by (Weak f) = None
 
--- a target less what is taken is a constant: both stand in one section, and no other definition can change the target
+-- a target less what is taken is a constant: both lie in one section, and no other definition can change the target
 abbrev pub are_fixed : Anchor → Anchor → Bool
 are_fixed target taken = not target.external && nat_eq target.section taken.section
 

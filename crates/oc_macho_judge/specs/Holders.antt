@@ -43,7 +43,7 @@ AreInOrder edges = IsNonDecreasingBy (λ (e : Edge). e.at) edges
 abbrev pub places_of : List Edge → List ℕ
 places_of edges = map (λ (e : Edge). e.at) edges
 
--- it tells the first section that begins or ends at its address, and the first that has a byte there
+-- it gives the first section that begins or ends at its address, and the first that has a byte there
 pub record IsEdgeOf (t : Tables) (e : Edge) : Type 0 where
   pub number : first_among (is_edge e.at) t (length t.sections) ≡ Some e.number
   pub byte : first_among (has_byte e.at) t (length t.sections) ≡ e.byte

@@ -1,4 +1,4 @@
-//! Where that stands to which relocation entries refer, where no other definition can change it.
+//! Where what relocation entries refer to lies, if no other definition can change it.
 ghost use Rattle.std.specs.Prelude.{◌≡◌, ◌^◌, pos, negsuc, ◌+ℤ◌, ◌-ℤ◌, ◌≤ℤ◌, IfOk};
 ghost use Rattle.oc_macho_judge.specs.Anchors as anchors;
 ghost use Rattle.oc_macho_judge.specs.Holders.{AreHolders};
@@ -13,7 +13,7 @@ use oc_base::NoMemory;
 use oc_macho::{Frame, N_ABS, N_SECT, N_UNDF, N_WEAK_DEF, Nlist, Reference, has};
 use std::alloc::Global;
 
-/// Where something stands, where no other definition can change it.
+/// Where something lies, if no other definition can change it.
 #[derive(Clone, Copy, Debug, PartialEq, Eq)]
 pub(crate) struct Anchor {
     /// Whether it is a symbol that is seen by all files.
@@ -37,7 +37,7 @@ pub fn address_of(frame: &Frame, k: u32) -> u64
     }
 }
 
-// where a symbol that is carried stands
+// where a symbol that is carried lies
 #[tactic(auto, unfolding(oc_macho::specs::Symbols::binding_of))]
 fn carried_anchor(frame: &Frame, s: &Nlist) -> Option<Anchor>
     ensures { result ≡ anchors.anchor_by (symbols.binding_of frame.now s.now) }
@@ -56,7 +56,7 @@ fn carried_anchor(frame: &Frame, s: &Nlist) -> Option<Anchor>
     })
 }
 
-// where symbol `j` stands
+// where symbol `j` lies
 #[tactic(auto, unfolding(oc_macho::specs::Aims::aim_in, oc_macho::specs::Symbols::symbol_of))]
 fn symbol_anchor(alloc: Global, frame: &Frame, j: u32) -> Result<Option<Anchor>, NoMemory>
     ensures { IfOk result (λ x. x ≡ anchors.anchor_in frame.now (Symbol j)) }
@@ -80,7 +80,7 @@ fn symbol_anchor(alloc: Global, frame: &Frame, j: u32) -> Result<Option<Anchor>,
     Ok(carried_anchor(frame, &s))
 }
 
-// where section number `k` stands
+// where section number `k` lies
 #[tactic(auto, unfolding(oc_macho::specs::Aims::aim_in))]
 fn section_anchor(frame: &Frame, k: u32) -> Option<Anchor>
     ensures { result ≡ anchors.anchor_in frame.now (Section k) }
@@ -99,7 +99,7 @@ fn section_anchor(frame: &Frame, k: u32) -> Option<Anchor>
     }
 }
 
-// where the section stands that holds an address
+// where the section that holds an address lies
 #[tactic(auto, unfolding(oc_macho::specs::Aims::aim_in))]
 fn address_anchor(frame: &Frame, holders: &Holders, v: u32) -> Option<Anchor>
     requires { AreHolders frame.now holders.now }
@@ -111,8 +111,8 @@ fn address_anchor(frame: &Frame, holders: &Holders, v: u32) -> Option<Anchor>
     }
 }
 
-/// Where that stands to which an entry refers, where no other definition can change it. `NoMemory`
-/// where memory ran out. Constant time for a symbol and for a section's number; for an address the
+/// Where what an entry refers to lies, if no other definition can change it. `NoMemory` where
+/// memory ran out. Constant time for a symbol and for a section's number; for an address the
 /// logarithm of the number of sections.
 pub(crate) fn anchor_of(
     alloc: Global,
@@ -152,7 +152,7 @@ fn recounted(number: i64, old: u64, new: u64) -> i128
 }
 
 impl Anchor {
-    /// Whether this less another is a constant: both stand in one section, and no other definition
+    /// Whether this less another is a constant: both lie in one section, and no other definition
     /// can change this. Constant time.
     pub(crate) fn is_fixed_from(&self, taken: &Anchor) -> bool
         ensures { result ≡ anchors.are_fixed self.now taken.now }

@@ -52,7 +52,7 @@ fn number_of(frame: &Frame, i: u32, h: &SectionHeader, item: &Item) -> i64
     signed(u32_in(frame.raw(i, h), item.first.r_address as usize))
 }
 
-// where that stands which a pair takes
+// where what a pair takes lies
 fn taken_anchor(
     alloc: Global,
     frame: &Frame,

@@ -72,7 +72,7 @@ fn check_relocs(alloc: Global, frame: &Frame, keep: &Keep) -> Result<Holders, St
     Ok(holders)
 }
 
-// the sections by their addresses, where what stands behind the header has no fault
+// the sections by their addresses, where what comes after the header has no fault
 fn check_rest(alloc: Global, frame: &Frame, keep: &Keep) -> Result<Holders, Stop>
     ensures clean { OnOk result (first_fault (rest_stages frame.now keep.now) ≡ None) }
     ensures holders { IfOk result (λ h. AreHolders frame.now h) }
@@ -94,16 +94,17 @@ fn check_rest(alloc: Global, frame: &Frame, keep: &Keep) -> Result<Holders, Stop
     }
 }
 
-/// What is found in a file of at most 67,108,864 bytes, where it is a well formed object of the word when
-/// it is read under `keep`: an error exactly where it is not, with its first fault; `NoMemory` where
-/// memory ran out.
+/// What is found in a file of at most 67,108,864 bytes, where it is a well formed object of the
+/// word when it is read under `keep`: an error exactly where it is not, with its first fault;
+/// `NoMemory` where memory ran out.
 ///
-/// The time is linear in the relocations and in the bytes of their sections, in any order of offsets, and
-/// that of n log2(n) steps for n sections or symbols, in any order of names and addresses; each scattered
-/// relocation takes the logarithm of the number of sections. Each name is read a few times for each
-/// symbol that has it, and compared as `first_repeat` says. Strings behind the last NUL are read once.
-/// Names that weigh more than 1 GiB, and tables of more than 2^23 relocations, are want of memory before
-/// any is judged (`oc_weight`). What the worst files known take is told in docs/SAFETY.md.
+/// The time is linear in the relocations and in the bytes of their sections, in any order of
+/// offsets, and that of n log2(n) steps for n sections or symbols, in any order of names and
+/// addresses; each scattered relocation takes the logarithm of the number of sections. Each name is
+/// read a few times for each symbol that has it, and compared as `first_repeat` says. Strings after
+/// the last NUL are read once. Names that weigh more than 1 GiB, and tables of more than 2^23
+/// relocations, count as lack of memory before any is judged (`oc_weight`). What the worst files
+/// known take is written in docs/SAFETY.md.
 pub fn judged<'a>(
     alloc: Global,
     word: Word,

@@ -127,9 +127,9 @@ fn address_referent(frame: &Frame, holders: &Holders, v: u32) -> Referent
     }
 }
 
-/// What a reference is to, where it is told which sections hold addresses. `NoMemory` where memory
-/// ran out. Constant time for a symbol and for a section's number; for an address the logarithm of
-/// the number of sections.
+/// What a reference is to, given which sections hold addresses. `NoMemory` where memory ran out.
+/// Constant time for a symbol and for a section's number; for an address the logarithm of the
+/// number of sections.
 pub(crate) fn referent_of(
     alloc: Global,
     frame: &Frame,

@@ -23,7 +23,7 @@ use oc_neutral::Base;
 use oc_shelf::Bitmap;
 use std::alloc::Global;
 
-// the entry behind entry `k`, where there is one
+// the entry after entry `k`, where there is one
 fn next_entry(frame: &Frame, i: u32, h: &SectionHeader, k: u32) -> Option<RelocationInfo>
     requires table { IsTable frame.now i h.now }
     requires there { k < h.now.nreloc }
@@ -189,8 +189,8 @@ fn target_fault(
     Ok(None)
 }
 
-/// Whether a field begins with the entry behind entry `k`, where it is told whether one begins with
-/// that. Constant time.
+/// Whether a field begins with the entry after entry `k`, given whether one begins with entry `k`.
+/// Constant time.
 pub fn begins_behind(frame: &Frame, i: u32, h: &SectionHeader, k: u32, begins: bool) -> bool
     requires table { IsTable frame.now i h.now }
     requires there { k < h.now.nreloc }
@@ -241,7 +241,7 @@ fn judge_item(
     Ok(())
 }
 
-// judges entry `k` the same way, where it is told whether a field begins with it
+// judges entry `k` the same way, given whether a field begins with it
 fn judge_entry(
     alloc: Global,
     frame: &Frame,

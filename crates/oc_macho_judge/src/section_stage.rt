@@ -77,7 +77,7 @@ fn bytes_fault(frame: &Frame, i: u32, h: &SectionHeader) -> Option<Fault>
     None
 }
 
-/// What the sections so far are worth against the limits.
+/// How much the sections so far count against the limits.
 #[derive(Clone, Copy, Debug, PartialEq, Eq)]
 pub(crate) struct Sums {
     /// The bytes that they take.

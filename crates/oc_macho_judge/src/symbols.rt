@@ -26,7 +26,7 @@ pub fn header_numbered(frame: &Frame, k: u32) -> Option<SectionHeader>
     Some(frame.section(k - 1))
 }
 
-/// The name of a symbol, where it is there. Linear in the name.
+/// The name of a symbol, where it exists. Linear in the name.
 #[tactic(auto, unfolding(oc_macho::specs::Symbols::name_at))]
 pub(crate) fn name_at<'a>(frame: &Frame<'a>, s: &Nlist) -> Option<&'a [u8]>
     ensures { MatchOption result (symbols.name_at frame.now s.now ≡ None) (λ name. symbols.name_at frame.now s.now ≡ Some name.now) }
@@ -166,7 +166,7 @@ pub(crate) fn name_fault(frame: &Frame, j: u32, s: &Nlist, again: bool) -> Optio
     None
 }
 
-/// The fault of symbol `j`, where it is told whether its name stood before. Linear in the name.
+/// The fault of symbol `j`, given whether its name occurred before. Linear in the name.
 #[tactic(auto, unfolding(oc_macho::specs::SymbolFaults::symbol_conditions))]
 pub(crate) fn entry_fault(frame: &Frame, j: u32, s: &Nlist, again: bool) -> Option<Fault>
     requires there { j < length frame.now.symbols }

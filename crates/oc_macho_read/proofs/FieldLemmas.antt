@@ -16,7 +16,7 @@ use Rattle.oc_linking.specs.declared.terms.Binding.{Binding}
 use Rattle.oc_linking.specs.declared.terms.Keep.{Keep}
 use Rattle.oc_macho.specs.Aims.{aim_in, fixed_place, target_in}
 use Rattle.oc_macho.specs.Entries.{is_pinned, item_at, taken_entry, taken_reference, target_entry}
-use Rattle.oc_macho.specs.Fields.{Found, added_by, field_with, taken_address, taken_section}
+use Rattle.oc_macho.specs.Fields.{FieldParts, added_by, field_with, taken_address, taken_section}
 use Rattle.oc_macho.specs.RelocationFaults.{beyond}
 use Rattle.oc_macho.specs.Rules.{mach_dialect, symbols_in}
 use Rattle.oc_macho.specs.Symbols.{binding_of, is_carried}
@@ -193,7 +193,7 @@ module _ (w : Word) (b : List ℕ) (keep : Keep) (n : Object) (shown : shown_sym
   u = tables_of w b
 
   -- a field with these, and what a pair takes
-  abbrev found_with : MachRow → aims.Aim → Option aims.Aim → Found
+  abbrev found_with : MachRow → aims.Aim → Option aims.Aim → FieldParts
   found_with row a taken = record { row = row; target = a; taken = taken }
 
   abbrev IsGiven : ℕ → ℕ → MachRow → aims.Aim → Reference → ℤ → Option aims.Aim → Type 0

@@ -19,7 +19,7 @@ use Rattle.oc_linking.specs.declared.terms.Keep.{Keep}
 use Rattle.oc_linking.specs.declared.terms.Less.{Less}
 use Rattle.oc_macho.specs.Aims.{target_in}
 use Rattle.oc_macho.specs.Entries.{is_first, taken_entry, target_entry}
-use Rattle.oc_macho.specs.Fields.{Found, added_by, field_of, number_of, taken_address, taken_at, taken_section}
+use Rattle.oc_macho.specs.Fields.{FieldParts, added_by, field_of, number_of, taken_address, taken_at, taken_section}
 use Rattle.oc_macho.specs.RelocationFaults.{beyond}
 use Rattle.oc_macho.specs.Rules.{mach_dialect, symbols_in}
 use Rattle.oc_macho.specs.Tables.{SectionTable, Tables, tables_of}
@@ -99,7 +99,7 @@ module _ (w : Word) (b : List ℕ) (keep : Keep) (n : Object) (shown : shown_sym
   fixed_zero = values_fixed w (symbols_in t keep) (symbols_numbered t keep) zeros zeros_outside
 
   -- the fault that is not there
-  fits_by : (s at : ℕ) (c : SectionTable) (x : Found) (a : aims.Aim) → faults.folds_too_wide t s c at x ≡ false → is_difference (field_of t s at c x) ≡ true → x.taken ≡ Some a
+  fits_by : (s at : ℕ) (c : SectionTable) (x : FieldParts) (a : aims.Aim) → faults.folds_too_wide t s c at x ≡ false → is_difference (field_of t s at c x) ≡ true → x.taken ≡ Some a
       → fits t.word x.row.row.width x.row.row.check (residue_of t.word (faults.constant_of t s c at x a)) ≡ true
   fits_by s at c x a none is taken =
       not_false (fits t.word x.row.row.width x.row.row.check (residue_of t.word (faults.constant_of t s c at x a)))
@@ -115,7 +115,7 @@ module _ (w : Word) (b : List ℕ) (keep : Keep) (n : Object) (shown : shown_sym
   unfolding faults.is_too_wide
   not_wide s at m =
       sym (ap (λ (q : ℕ). faults.folds_too_wide t s m.c q (found_as t s m.c m.begun.k m.item m.good)) m.begun.offset)
-      ∙ sym (ap (λ (o : Option Found). option_map_or (faults.folds_too_wide t s m.c m.item.first.r_address) o false) (found_is t s m.c m.begun.k m.item m.good)) ∙ m.good.wide
+      ∙ sym (ap (λ (o : Option FieldParts). option_map_or (faults.folds_too_wide t s m.c m.item.first.r_address) o false) (found_is t s m.c m.begun.k m.item m.good)) ∙ m.good.wide
 
   -- the residue of a difference is that of its constant
   residue_is : (s at : ℕ) (m : IsStanding w b keep n shown clean s at) → is_difference (field_of t s at m.c (found_as t s m.c m.begun.k m.item m.good)) ≡ true
@@ -124,7 +124,7 @@ module _ (w : Word) (b : List ℕ) (keep : Keep) (n : Object) (shown : shown_sym
   unfolding field_of tables_of
   residue_is s at m is = by (taken_is t s m.c m.begun.k m.item m.good)
     where
-      x : Found
+      x : FieldParts
       x = found_as t s m.c m.begun.k m.item m.good
 
       A : ℤ

@@ -14,7 +14,7 @@ use Rattle.oc_linking.specs.declared.terms.Width.TheVariants.{Eight, Four, One, 
 use Rattle.oc_linking.specs.declared.terms.Width.{Width}
 use Rattle.oc_macho.specs.Aims.{aim_in, target_in}
 use Rattle.oc_macho.specs.Entries.{begins, can_refer, is_first, item_at, item_with, row_for, taken_entry, taken_reference, target_entry}
-use Rattle.oc_macho.specs.Fields.{Found, found_by}
+use Rattle.oc_macho.specs.Fields.{FieldParts, field_parts_by}
 use Rattle.oc_macho.specs.Sections.{is_kept}
 use Rattle.oc_macho.specs.Tables.{SectionTable, Tables}
 use Rattle.oc_macho.specs.declared.entries.Item.{Item}
@@ -226,11 +226,11 @@ are_aimed t i x k item good = record { target = record { aim = good.aim; is = go
 
 -- ... what is found
 
-abbrev pub found_as : (t : Tables) (i : ℕ) (x : SectionTable) (k : ℕ) (item : Item) → IsGoodItem t i x k item → Found
+abbrev pub found_as : (t : Tables) (i : ℕ) (x : SectionTable) (k : ℕ) (item : Item) → IsGoodItem t i x k item → FieldParts
 found_as t i x k item good = record { row = good.row; target = good.aim; taken = option_and_then (target_in t) (taken_entry t.word item) }
 
-pub found_is : (t : Tables) (i : ℕ) (x : SectionTable) (k : ℕ) (item : Item) (good : IsGoodItem t i x k item) → found_by t item ≡ Some (found_as t i x k item good)
-unfolding found_by
+pub found_is : (t : Tables) (i : ℕ) (x : SectionTable) (k : ℕ) (item : Item) (good : IsGoodItem t i x k item) → field_parts_by t item ≡ Some (found_as t i x k item good)
+unfolding field_parts_by
 found_is t i x k item good =
     ap (option_and_then (λ m. option_map (λ target. record { row = m; target = target; taken = option_and_then (target_in t) (taken_entry t.word item) }) (target_in t (target_entry t.word item)))) good.listed
     ∙ ap (λ (o : Option (Option aims.Aim)). option_map (λ target. record { row = good.row; target = target; taken = option_and_then (target_in t) (taken_entry t.word item) }) (option_and_then (λ aim. aim) o)) good.aimed

@@ -17,7 +17,7 @@ use Rattle.oc_linking.specs.declared.terms.Less.{Less}
 use Rattle.oc_macho_judge.proofs.SectionLemmas.{there}
 use Rattle.oc_macho.specs.Aims.{aim_in, fixed_place, target_in}
 use Rattle.oc_macho.specs.Entries.{row_for, taken_entry, taken_reference, target_entry}
-use Rattle.oc_macho.specs.Fields.{Found, added_by, counted_of, found_by, given_back, taken_section, number_of}
+use Rattle.oc_macho.specs.Fields.{FieldParts, added_by, counted_of, field_parts_by, given_back, taken_section, number_of}
 use Rattle.oc_macho.specs.Framed.{IsTable, table_at}
 use Rattle.oc_macho.specs.Meanings.{meaning_of, meant_by}
 use Rattle.oc_macho.specs.Sections.{address_of, contents_of, is_zerofill}
@@ -177,7 +177,7 @@ module _ (t : Tables) (keep : Keep) (s : ℕ) (c : SectionTable) (here : slice_g
       ∙ ap (λ (o : Option SectionTable). option_map_or (λ (h : SectionHeader). h.addr) (option_map (λ (x : SectionTable). x.header) o) 0) here
 
   module _ (at : ℕ) (row : MachRow) (a : aims.Aim) (b : ours.Aim) (o : Option aims.Aim) (p : Option ours.Aim) (counted : b.counted ≡ a.counted) (same : AreSame o p) where
-    abbrev x : Found
+    abbrev x : FieldParts
     x = record { row = row; target = a; taken = o }
 
     less_same : less_meant (rows.less_of row.row.taken 0) p ≡ rows.less_of row.row.taken (taken_section x)
@@ -247,17 +247,17 @@ module _ (t : Tables) (keep : Keep) (s : ℕ) (c : SectionTable) (here : slice_g
           }))
 
   made_with : (row : MachRow) → row_for t.word item.first ≡ Some row → Some (reloc_of_item t keep s c item (meant_by row)) ≡ reloc_by t keep s c item
-  unfolding reloc_by found_by
+  unfolding reloc_by field_parts_by
   made_with row listed =
       let r = (target_entry t.word item).refers in
       let a = aimed.target.aim in
-      let found : Found = record { row = row; target = a; taken = taken } in
+      let found : FieldParts = record { row = row; target = a; taken = taken } in
       ap (λ (q : Reloc). Some q)
       (reloc_same t keep s c here item.first.r_address row a (aim_for t keep r) taken (taken_aim t keep item) (counted_is t keep r a aimed.target.is) taken_same (number_of c item.first.r_address found) (target_for t keep r)
       (target_is t keep r a aimed.target.is))
-      ∙ sym (ap (λ (o : Option MachRow). option_map (λ (x : Found). reloc_as t keep s item.first.r_address (number_of c item.first.r_address x) item x)
+      ∙ sym (ap (λ (o : Option MachRow). option_map (λ (x : FieldParts). reloc_as t keep s item.first.r_address (number_of c item.first.r_address x) item x)
       (option_and_then (λ m. option_map (λ target. record { row = m; target = target; taken = taken }) (target_in t (target_entry t.word item))) o)) listed
-      ∙ ap (λ (o : Option (Option aims.Aim)). option_map (λ (x : Found). reloc_as t keep s item.first.r_address (number_of c item.first.r_address x) item x)
+      ∙ ap (λ (o : Option (Option aims.Aim)). option_map (λ (x : FieldParts). reloc_as t keep s item.first.r_address (number_of c item.first.r_address x) item x)
       (option_map (λ target. record { row = row; target = target; taken = taken }) (option_and_then (λ aim. aim) o))) aimed.target.is)
 
   -- in the words of what makes it
@@ -269,14 +269,14 @@ module _ (t : Tables) (keep : Keep) (s : ℕ) (c : SectionTable) (here : slice_g
       by (Some row) g h = ap (λ (z : Meaning). Some (reloc_of_item t keep s c item z)) (sym (same_Some (meant_by row) m h)) ∙ made_with row g
 
   pub made_none : meaning_of t.word item.first ≡ None → None ≡ reloc_by t keep s c item
-  unfolding reloc_by found_by
+  unfolding reloc_by field_parts_by
   made_none e = by (row_for t.word item.first) refl e
     where
       by : (o : Option MachRow) → row_for t.word item.first ≡ o → option_map meant_by o ≡ None
-          → None ≡ option_map (λ (x : Found). reloc_as t keep s item.first.r_address (number_of c item.first.r_address x) item x)
+          → None ≡ option_map (λ (x : FieldParts). reloc_as t keep s item.first.r_address (number_of c item.first.r_address x) item x)
           (option_and_then (λ m. option_map (λ target. record { row = m; target = target; taken = taken }) (target_in t (target_entry t.word item))) (row_for t.word item.first))
       by None g h =
-          sym (ap (λ (o : Option MachRow). option_map (λ (x : Found). reloc_as t keep s item.first.r_address (number_of c item.first.r_address x) item x)
+          sym (ap (λ (o : Option MachRow). option_map (λ (x : FieldParts). reloc_as t keep s item.first.r_address (number_of c item.first.r_address x) item x)
           (option_and_then (λ m. option_map (λ target. record { row = m; target = target; taken = taken }) (target_in t (target_entry t.word item))) o)) g)
       by (Some row) g h = absurd (none-some (meant_by row) (sym h))
 

@@ -12,7 +12,7 @@ use Rattle.oc_macho_read.specs.Given.{placed}
 use Rattle.oc_shelf.proofs.ReadingLaws.PlacedLemmas.{among_all, each_placed}
 use Rattle.oc_shelf.specs.Reading.Collected.{collected}
 use Rattle.oc_shelf.specs.Reading.Order.{is_among}
-use Rattle.oc_shelf.specs.declared.reading.order.Placed.{Placed}
+use Rattle.oc_shelf.specs.declared.reading.order.PlacedEntry.{PlacedEntry}
 
 -- where no field begins, none is placed
 pub placed_none : (t : Tables) (c : SectionTable) (k : ℕ) → begins t.word c.relocs k ≡ false → placed t c k ≡ None
@@ -21,7 +21,7 @@ placed_none t c k idle =
     ap (λ (b : Bool). option_map (λ (i : Item). record { place = i.first.r_address; index = k }) (cond b (option_map (item_with t.word c.relocs k) (slice_get c.relocs k)) None)) idle
 
 -- a field by its place and its first entry
-pub record IsPlacedItem (t : Tables) (c : SectionTable) (x : Placed) : Type 0 where
+pub record IsPlacedItem (t : Tables) (c : SectionTable) (x : PlacedEntry) : Type 0 where
   pub low : x.index < length c.relocs
   pub item : Item
   pub is : item_at t.word c.relocs x.index ≡ Some item
@@ -37,19 +37,19 @@ item_begins w relocs k item e = by (begins w relocs k) e
     by false e = absurd (none-some item e)
 
 -- what is placed for an entry
-record IsPlaced (t : Tables) (c : SectionTable) (k : ℕ) (x : Placed) : Type 0 where
+record IsPlaced (t : Tables) (c : SectionTable) (k : ℕ) (x : PlacedEntry) : Type 0 where
   pub item : Item
   pub is : item_at t.word c.relocs k ≡ Some item
   pub same : record { place = item.first.r_address; index = k } ≡ x
 
-placed_is : (t : Tables) (c : SectionTable) (k : ℕ) (x : Placed) → placed t c k ≡ Some x → IsPlaced t c k x
+placed_is : (t : Tables) (c : SectionTable) (k : ℕ) (x : PlacedEntry) → placed t c k ≡ Some x → IsPlaced t c k x
 placed_is t c k x e = by (item_at t.word c.relocs k) refl e
   where
     by : (o : Option Item) → item_at t.word c.relocs k ≡ o → option_map (λ (i : Item). record { place = i.first.r_address; index = k }) o ≡ Some x → IsPlaced t c k x
     by None h g = absurd (none-some x g)
-    by (Some i) h g = let made : Placed = record { place = i.first.r_address; index = k } in record { item = i; is = h; same = same_Some made x g }
+    by (Some i) h g = let made : PlacedEntry = record { place = i.first.r_address; index = k } in record { item = i; is = h; same = same_Some made x g }
 
-placed_item : (t : Tables) (c : SectionTable) (k : ℕ) (x : Placed) → k < length c.relocs → placed t c k ≡ Some x → IsPlacedItem t c x
+placed_item : (t : Tables) (c : SectionTable) (k : ℕ) (x : PlacedEntry) → k < length c.relocs → placed t c k ≡ Some x → IsPlacedItem t c x
 placed_item t c k x low e = let m = placed_is t c k x e in subst (IsPlacedItem t c) m.same (record { low = low; item = m.item; is = m.is; place = refl })
 
 -- fields of a section differ in their places
@@ -57,19 +57,19 @@ abbrev pub Differ : Tables → SectionTable → Type 0
 Differ t c = (a b : ℕ) (x y : Item) → a < b → b < length c.relocs → item_at t.word c.relocs a ≡ Some x → item_at t.word c.relocs b ≡ Some y → x.first.r_address ≡ y.first.r_address → ⊥
 
 -- so no two are at one place
-pub differ_placed : (t : Tables) (c : SectionTable) → Differ t c → (j k : ℕ) (x y : Placed) → j < k → k < length c.relocs → placed t c j ≡ Some x → placed t c k ≡ Some y → x.place ≡ y.place → ⊥
+pub differ_placed : (t : Tables) (c : SectionTable) → Differ t c → (j k : ℕ) (x y : PlacedEntry) → j < k → k < length c.relocs → placed t c j ≡ Some x → placed t c k ≡ Some y → x.place ≡ y.place → ⊥
 differ_placed t c differ j k x y less low at_j at_k same =
     let a = placed_is t c j x at_j in
     let b = placed_is t c k y at_k in
-    differ j k a.item b.item less low a.is b.is (ap (λ (p : Placed). p.place) a.same ∙ same ∙ sym (ap (λ (p : Placed). p.place) b.same))
+    differ j k a.item b.item less low a.is b.is (ap (λ (p : PlacedEntry). p.place) a.same ∙ same ∙ sym (ap (λ (p : PlacedEntry). p.place) b.same))
 
-module _ (t : Tables) (c : SectionTable) (entries : List Placed) (are : IsPermutation (collected (placed t c) (length c.relocs)) entries) where
+module _ (t : Tables) (c : SectionTable) (entries : List PlacedEntry) (are : IsPermutation (collected (placed t c) (length c.relocs)) entries) where
   -- each is a field
-  pub entry_placed : (j : ℕ) (d : Placed) → j < length entries → IsPlacedItem t c (get_or entries j d)
+  pub entry_placed : (j : ℕ) (d : PlacedEntry) → j < length entries → IsPlacedItem t c (get_or entries j d)
   entry_placed = each_placed (placed t c) (length c.relocs) entries are (IsPlacedItem t c) (λ k x low e. placed_item t c k x low e)
 
   -- the offset of each field is among them
   pub offset_among : (k : ℕ) (item : Item) → k < length c.relocs → item_at t.word c.relocs k ≡ Some item → is_among entries item.first.r_address ≡ true
   offset_among k item low is =
-      let x : Placed = record { place = item.first.r_address; index = k } in
+      let x : PlacedEntry = record { place = item.first.r_address; index = k } in
       among_all (placed t c) (length c.relocs) entries are k x low (ap (option_map (λ (i : Item). record { place = i.first.r_address; index = k })) is)

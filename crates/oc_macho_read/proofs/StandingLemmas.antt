@@ -14,7 +14,7 @@ use Rattle.oc_linking.specs.Keeping.{keeps}
 use Rattle.oc_linking.specs.Rules.{Field}
 use Rattle.oc_linking.specs.declared.terms.Keep.{Keep}
 use Rattle.oc_macho.specs.Entries.{is_pinned, is_taken_in, item_at, refers_to, taken_entry, taken_reference, takes_symbol}
-use Rattle.oc_macho.specs.Fields.{Found, field_of, fields_in, found_by, item_for, number_of}
+use Rattle.oc_macho.specs.Fields.{FieldParts, field_of, fields_in, field_parts_by, item_for, number_of}
 use Rattle.oc_macho.specs.Rules.{mach_dialect}
 use Rattle.oc_macho.specs.Sections.{is_kept, section_of, sections_in}
 use Rattle.oc_macho.specs.Tables.{SectionTable, Tables, tables_of}
@@ -133,17 +133,17 @@ module _ (w : Word) (b : List ℕ) (keep : Keep) (n : Object) (shown : shown_sym
       none true = refl
       none false = refl
 
-      field_by : (c : SectionTable) → slice_get t.sections s ≡ Some c → kept_fields (mach_dialect w) b keep s at ≡ cond (is_kept keep c) (option_map (field_of t s at c) (option_and_then (found_by t) (item_for t c at))) None
+      field_by : (c : SectionTable) → slice_get t.sections s ≡ Some c → kept_fields (mach_dialect w) b keep s at ≡ cond (is_kept keep c) (option_map (field_of t s at c) (option_and_then (field_parts_by t) (item_for t c at))) None
       field_by c g =
-          ap (λ k. cond k (option_and_then (λ (c : SectionTable). option_map (field_of t s at c) (option_and_then (found_by t) (item_for t c at))) (slice_get t.sections s)) None) (flag w b keep s c g)
-          ∙ ap (λ (o : Option SectionTable). cond (is_kept keep c) (option_and_then (λ (c : SectionTable). option_map (field_of t s at c) (option_and_then (found_by t) (item_for t c at))) o) None) g
+          ap (λ k. cond k (option_and_then (λ (c : SectionTable). option_map (field_of t s at c) (option_and_then (field_parts_by t) (item_for t c at))) (slice_get t.sections s)) None) (flag w b keep s c g)
+          ∙ ap (λ (o : Option SectionTable). cond (is_kept keep c) (option_and_then (λ (c : SectionTable). option_map (field_of t s at c) (option_and_then (field_parts_by t) (item_for t c at))) o) None) g
 
       given_by : (c : SectionTable) → slice_get t.sections s ≡ Some c → given_at t keep s at ≡ cond (is_kept keep c) (option_and_then (reloc_by t keep s c) (item_for t c at)) None
       given_by c g = ap (option_and_then (λ (c : SectionTable). cond (is_kept keep c) (option_and_then (reloc_by t keep s c) (item_for t c at)) None)) g
 
       by : (o : Option SectionTable) → slice_get t.sections s ≡ o → Either s at
       by None g = inl (record {
-        field = ap (λ (o : Option SectionTable). cond (dialects.is_kept (mach_dialect w) b keep s) (option_and_then (λ (c : SectionTable). option_map (field_of t s at c) (option_and_then (found_by t) (item_for t c at))) o) None) g
+        field = ap (λ (o : Option SectionTable). cond (dialects.is_kept (mach_dialect w) b keep s) (option_and_then (λ (c : SectionTable). option_map (field_of t s at c) (option_and_then (field_parts_by t) (item_for t c at))) o) None) g
             ∙ none (dialects.is_kept (mach_dialect w) b keep s);
         none = ap (option_and_then (λ (c : SectionTable). cond (is_kept keep c) (option_and_then (reloc_by t keep s c) (item_for t c at)) None)) g;
       })
@@ -151,26 +151,26 @@ module _ (w : Word) (b : List ℕ) (keep : Keep) (n : Object) (shown : shown_sym
         where
           kept : (k : Bool) → is_kept keep c ≡ k → Either s at
           kept false h = inl (record {
-            field = field_by c g ∙ ap (λ k. cond k (option_map (field_of t s at c) (option_and_then (found_by t) (item_for t c at))) None) h;
+            field = field_by c g ∙ ap (λ k. cond k (option_map (field_of t s at c) (option_and_then (field_parts_by t) (item_for t c at))) None) h;
             none = given_by c g ∙ ap (λ k. cond k (option_and_then (reloc_by t keep s c) (item_for t c at)) None) h;
           })
           kept true h = found (item_for t c at) refl
             where
-              field_then : kept_fields (mach_dialect w) b keep s at ≡ option_map (field_of t s at c) (option_and_then (found_by t) (item_for t c at))
-              field_then = field_by c g ∙ ap (λ k. cond k (option_map (field_of t s at c) (option_and_then (found_by t) (item_for t c at))) None) h
+              field_then : kept_fields (mach_dialect w) b keep s at ≡ option_map (field_of t s at c) (option_and_then (field_parts_by t) (item_for t c at))
+              field_then = field_by c g ∙ ap (λ k. cond k (option_map (field_of t s at c) (option_and_then (field_parts_by t) (item_for t c at))) None) h
 
               given_then : given_at t keep s at ≡ option_and_then (reloc_by t keep s c) (item_for t c at)
               given_then = given_by c g ∙ ap (λ k. cond k (option_and_then (reloc_by t keep s c) (item_for t c at)) None) h
 
               found : (o : Option Item) → item_for t c at ≡ o → Either s at
               found None i = inl (record {
-                field = field_then ∙ ap (λ (o : Option Item). option_map (field_of t s at c) (option_and_then (found_by t) o)) i;
+                field = field_then ∙ ap (λ (o : Option Item). option_map (field_of t s at c) (option_and_then (field_parts_by t) o)) i;
                 none = given_then ∙ ap (option_and_then (reloc_by t keep s c)) i;
               })
               found (Some item) i =
                   let m : IsItemAt t c at item = item_found t c at item i in
                   let good : IsGoodItem t s c m.k item = good_item t keep clean s c g h m.k item m.low m.is in
-                  let x : Found = found_as t s c m.k item good in
+                  let x : FieldParts = found_as t s c m.k item good in
                   let is = found_is t s c m.k item good in
                   inr (record {
                     c = c;
@@ -179,9 +179,9 @@ module _ (w : Word) (b : List ℕ) (keep : Keep) (n : Object) (shown : shown_sym
                     item = item;
                     begun = m;
                     good = good;
-                    field_is = field_then ∙ ap (λ (o : Option Item). option_map (field_of t s at c) (option_and_then (found_by t) o)) i ∙ ap (option_map (field_of t s at c)) is;
+                    field_is = field_then ∙ ap (λ (o : Option Item). option_map (field_of t s at c) (option_and_then (field_parts_by t) o)) i ∙ ap (option_map (field_of t s at c)) is;
                     given_is = given_then ∙ ap (option_and_then (reloc_by t keep s c)) i
-                        ∙ ap (option_map (λ (x : Found). reloc_as t keep s item.first.r_address (number_of c item.first.r_address x) item x)) is
+                        ∙ ap (option_map (λ (x : FieldParts). reloc_as t keep s item.first.r_address (number_of c item.first.r_address x) item x)) is
                         ∙ ap (λ (q : ℕ). Some (reloc_as t keep s q (number_of c q x) item x)) m.offset;
                   })
 

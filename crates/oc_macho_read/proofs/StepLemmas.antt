@@ -11,7 +11,7 @@ use Rattle.oc_linking.specs.FirstFault.{first_fault}
 use Rattle.oc_linking.specs.declared.terms.Keep.{Keep}
 use Rattle.oc_macho_judge.proofs.SectionLemmas.{there}
 use Rattle.oc_macho.specs.Entries.{begins, item_at}
-use Rattle.oc_macho.specs.Fields.{Found, item_for, number_of}
+use Rattle.oc_macho.specs.Fields.{FieldParts, item_for, number_of}
 use Rattle.oc_macho.specs.Framed.{IsTable, table_at}
 use Rattle.oc_macho.specs.Rules.{mach_dialect}
 use Rattle.oc_macho.specs.Sections.{is_kept}
@@ -28,7 +28,7 @@ use Rattle.oc_neutral.specs.Building.{Draft}
 use Rattle.oc_shows.specs.Built.{HasAdded, IsStarted}
 use Rattle.oc_neutral.specs.declared.reloc.Reloc.{Reloc}
 use Rattle.oc_shelf.specs.Reading.Collected.{collected}
-use Rattle.oc_shelf.specs.declared.reading.order.Placed.{Placed}
+use Rattle.oc_shelf.specs.declared.reading.order.PlacedEntry.{PlacedEntry}
 use Rattle.oc_macho.specs.RelocationFaults as faults
 use Rattle.oc_macho_read.proofs.AddedLemmas.{addable}
 use Rattle.oc_shows.proofs.AddedLaws.{IsTaken, entry_taken, given_all as all_given, given_passed, lt_next, lt_self, lt_stays, table_done as section_done}
@@ -126,7 +126,7 @@ module _ (t : Tables) (keep : Keep) (clean : first_fault (faults.relocation_stag
       let good = good_item t keep clean p c here kept k item low is in
       let x = found_as t p c k item good in (
         reloc_as t keep p item.first.r_address (number_of c item.first.r_address x) item x,
-        ap (option_map (λ (x : Found). reloc_as t keep p item.first.r_address (number_of c item.first.r_address x) item x)) (found_is t p c k item good),
+        ap (option_map (λ (x : FieldParts). reloc_as t keep p item.first.r_address (number_of c item.first.r_address x) item x)) (found_is t p c k item good),
       )
 
   -- what is given there is that of a field
@@ -140,7 +140,7 @@ module _ (t : Tables) (keep : Keep) (clean : first_fault (faults.relocation_stag
       by None g h = absurd (none-some r h)
       by (Some item) g h = (item, item_found t c at item g)
 
-  module _ (entries : List Placed) (are : IsPermutation (collected (placed t c) (length c.relocs)) entries) where
+  module _ (entries : List PlacedEntry) (are : IsPermutation (collected (placed t c) (length c.relocs)) entries) where
     -- with all fields the section is done
     pub table_done : (s at : ℕ) → given_with t keep p (take (length entries) entries) s at ≡ given_before t keep (p + 1) s at
     table_done = section_done (given_at t keep) (λ s. nat_lt s p) (λ s. nat_lt s (p + 1)) p (λ s other. lt_stays s p other) (lt_next p) entries among
@@ -156,8 +156,8 @@ module _ (t : Tables) (keep : Keep) (clean : first_fault (faults.relocation_stag
 -- its relocation is added
 abbrev Next : Keep → Tables → Type 0
 Next keep u =
-    (p : ℕ) (c : SectionTable) → slice_get u.sections p ≡ Some c → is_kept keep c ≡ true → (entries : List Placed) → IsPermutation (collected (placed u c) (length c.relocs)) entries
-    → (j : ℕ) (e : Placed) → j < length entries → (d : Draft) → HasAdded (started u keep) d (given_with u keep p (take j entries))
+    (p : ℕ) (c : SectionTable) → slice_get u.sections p ≡ Some c → is_kept keep c ≡ true → (entries : List PlacedEntry) → IsPermutation (collected (placed u c) (length c.relocs)) entries
+    → (j : ℕ) (e : PlacedEntry) → j < length entries → (d : Draft) → HasAdded (started u keep) d (given_with u keep p (take j entries))
     → (item : Item) → item_at u.word c.relocs (get_or entries j e).index ≡ Some item → (r : Reloc) → reloc_by u keep p c item ≡ Some r → IsTaken (started u keep) d p item.first.r_address r (given_with u keep p (take (j + 1) entries))
 
 next_in : (w : Word) (file : List ℕ) (keep : Keep) (clean : IsClean (tables_of w file) keep) → IsStarted (mach_dialect w) file keep (started (tables_of w file) keep) → Next keep (tables_of w file)
@@ -178,7 +178,7 @@ ready_next t keep positions ready =
 -- ... in the words of what adds it
 
 module _ (t : Tables) (keep : Keep) (positions : List (Option ℕ)) (ready : IsReady t keep positions) (i : ℕ) (h : SectionHeader) (table : IsTable t i h) (kept : is_kept keep (table_at t i) ≡ true)
-    (entries : List Placed) (are : IsPermutation (collected (placed t (table_at t i)) h.nreloc) entries) where
+    (entries : List PlacedEntry) (are : IsPermutation (collected (placed t (table_at t i)) h.nreloc) entries) where
   abbrev c : SectionTable
   c = table_at t i
 
@@ -191,7 +191,7 @@ module _ (t : Tables) (keep : Keep) (positions : List (Option ℕ)) (ready : IsR
   pub all_done : (n : ℕ) → n ≡ length entries → (s at : ℕ) → given_with t keep i (take n entries) s at ≡ given_before t keep (i + 1) s at
   all_done n end s at = ap (λ (m : ℕ). given_with t keep i (take m entries) s at) end ∙ table_done t keep ready.clean.relocs i c here kept entries listed s at
 
-  module _ (j : ℕ) (e : Placed) (below : j < length entries) where
+  module _ (j : ℕ) (e : PlacedEntry) (below : j < length entries) where
     placed_here : IsPlacedItem t c (get_or entries j e)
     placed_here = entry_placed t c entries listed j e below
 

@@ -13,7 +13,7 @@ use Rattle.oc_macho.specs.RelocationFaults.{relocation_stages}
 use Rattle.oc_macho.specs.Rules.{mach_dialect}
 use Rattle.oc_macho_read.specs.Built.{started, symbol_position}
 
--- the stages behind the header have no fault
+-- the stages after the header have no fault
 pub record IsClean (t : Tables) (keep : Keep) : Type 0 where
   pub sections : stage_fault (section_stage t) ≡ None
   pub symbols : stage_fault (symbol_stage t) ≡ None

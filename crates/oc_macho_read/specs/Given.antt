@@ -9,13 +9,13 @@ use Rattle.oc_linking.specs.declared.terms.Less.{Less}
 use Rattle.oc_linking.specs.declared.terms.Less.TheVariants as less
 use Rattle.oc_algebra.specs.Fields.{extended}
 use Rattle.oc_algebra.specs.Residues.{reduced_number}
-use Rattle.oc_shows.specs.Built.{Given}
+use Rattle.oc_shows.specs.Built.{RelocMap}
 use Rattle.oc_neutral.specs.Normal.{Place}
 use Rattle.oc_neutral.specs.declared.reloc.Reloc.{Reloc}
 use Rattle.oc_neutral.specs.declared.reloc.Target.{Target}
 use Rattle.oc_neutral.specs.declared.reloc.Target.TheVariants as target
 use Rattle.oc_shows.specs.RowValues.{row_reloc}
-use Rattle.oc_shelf.specs.declared.reading.order.Placed.{Placed}
+use Rattle.oc_shelf.specs.declared.reading.order.PlacedEntry.{PlacedEntry}
 use Rattle.oc_macho.specs.declared.entries.Item.{Item}
 use Rattle.oc_macho.specs.declared.meaning.Meaning.{Meaning}
 use Rattle.oc_macho.specs.declared.nlist.Nlist.{Nlist}
@@ -28,7 +28,7 @@ use Rattle.oc_macho.specs.Entries.{item_at, taken_reference, target_entry}
 use Rattle.oc_macho.specs.Aims as aims
 use Rattle.oc_macho.specs.Aims.{aim_in}
 use Rattle.oc_macho.specs.RelocationFaults.{beyond}
-use Rattle.oc_macho.specs.Fields.{Found, added_by, found_by, item_for, number_of, taken_section}
+use Rattle.oc_macho.specs.Fields.{FieldParts, added_by, field_parts_by, item_for, number_of, taken_section}
 use Rattle.oc_macho_read.specs.declared.aims.Aim.{Aim}
 use Rattle.oc_macho_read.specs.Built.{symbol_position}
 use Rattle.oc_shelf.specs.Reading.Order.{is_among}
@@ -52,38 +52,38 @@ target_for t keep (reference.Address v) = target.Section (unwrap_or (holder_of t
 -- ... relocations
 
 -- how far what is taken is beyond the start of its section
-abbrev pub taken_offset : Found → ℕ
+abbrev pub taken_offset : FieldParts → ℕ
 taken_offset x = option_map_or beyond x.taken 0
 
 -- the relocation of a field at an offset of section s with that number in it
-abbrev pub reloc_as : Tables → Keep → ℕ → ℕ → ℤ → Item → Found → Reloc
+abbrev pub reloc_as : Tables → Keep → ℕ → ℕ → ℤ → Item → FieldParts → Reloc
 reloc_as t keep s at F i x =
     row_reloc t.word x.row.row (taken_section x) (added_by t s at F x -ℤ pos (taken_offset x)) (target_for t keep (target_entry t.word i).refers)
 
 -- of the entries of a field, where their types are known, and they refer to what a field can refer to
 unfoldable pub reloc_by : Tables → Keep → ℕ → SectionTable → Item → Option Reloc
-reloc_by t keep s c i = option_map (λ (x : Found). reloc_as t keep s i.first.r_address (number_of c i.first.r_address x) i x) (found_by t i)
+reloc_by t keep s c i = option_map (λ (x : FieldParts). reloc_as t keep s i.first.r_address (number_of c i.first.r_address x) i x) (field_parts_by t i)
 
 -- of the first field of a section that begins at an offset
 abbrev pub reloc_in : Tables → Keep → ℕ → ℕ → SectionTable → Option Reloc
 reloc_in t keep s at c = option_and_then (reloc_by t keep s c) (item_for t c at)
 
 -- what is given for the field at an offset of section s, where that is kept
-unfoldable pub given_at : Tables → Keep → Given
+unfoldable pub given_at : Tables → Keep → RelocMap
 given_at t keep s at = option_and_then (λ (c : SectionTable). if is_kept keep c then reloc_in t keep s at c else None) (slice_get t.sections s)
 
 -- ... entry by entry
 
 -- the field that begins with entry k of a section, by its offset and that number
-abbrev pub placed : Tables → SectionTable → ℕ → Option Placed
+abbrev pub placed : Tables → SectionTable → ℕ → Option PlacedEntry
 placed t c k = option_map (λ (i : Item). record { place = i.first.r_address; index = k }) (item_at t.word c.relocs k)
 
 -- what is given for the sections before section p
-abbrev pub given_before : Tables → Keep → ℕ → Given
+abbrev pub given_before : Tables → Keep → ℕ → RelocMap
 given_before t keep p s at = if nat_lt s p then given_at t keep s at else None
 
 -- and for some fields of section p
-abbrev pub given_with : Tables → Keep → ℕ → List Placed → Given
+abbrev pub given_with : Tables → Keep → ℕ → List PlacedEntry → RelocMap
 given_with t keep p entries s at = if nat_lt s p || nat_eq s p && is_among entries at then given_at t keep s at else None
 
 -- ... by meanings

@@ -19,7 +19,7 @@ CleanIsShown = (w : Word) (file : List ℕ) (keep : Keep) (d : Draft) → fault_
     → HasAdded (started (tables_of w file) keep) d (given_at (tables_of w file) keep)
     → Shows (mach_dialect w) file keep d.object
 
--- the rules of Mach-O have the word and the alignments that are told of its format
+-- the rules of Mach-O have the word and the alignments that are given for its format
 pub mach_is_dialect : (w : Word) → IsDialect (mach_dialect w)
 mach_is_dialect W32 = record { word = refl; output_align = λ align. refl; common_align = λ size align. refl }
 mach_is_dialect W64 = record { word = refl; output_align = λ align. refl; common_align = λ size align. refl }

@@ -16,7 +16,7 @@ use oc_base::NoMemory;
 use oc_macho::{Frame, SectionHeader, kind_of};
 use oc_macho_judge::item_of;
 use oc_neutral::{Builder, Keep};
-use oc_shelf::Placed;
+use oc_shelf::PlacedEntry;
 use std::alloc::Global;
 
 // adds the relocation of field `j` of those of section `i`
@@ -27,7 +27,7 @@ fn add_field(
     builder: &mut Builder,
     i: u32,
     h: &SectionHeader,
-    fields: &[Placed],
+    fields: &[PlacedEntry],
     j: usize,
 ) -> Result<(), NoMemory>
     requires ready { IsReady frame.now keep.now known.now.positions.now }

@@ -27,7 +27,8 @@ pub(crate) struct Aim {
     pub(crate) beyond: u64,
 }
 
-/// What is looked up in a file: where its carried symbols stand, and which section holds an address.
+/// What is looked up in a file: the positions of its carried symbols, and which section holds an
+/// address.
 #[derive(Clone, Copy)]
 pub(crate) struct Known<'a> {
     /// The position of each symbol among the carried ones, by its number.

@@ -23,7 +23,7 @@ use oc_base::{NoMemory, Word};
 use oc_macho::{Frame, Item, Meaning, SectionHeader, meaning_of};
 use oc_macho_judge::{begins_behind, item_of};
 use oc_neutral::{Form, Keep, Less, Reloc, Width};
-use oc_shelf::{Placed, sort_by_place};
+use oc_shelf::{PlacedEntry, sort_by_place};
 use std::alloc::Global;
 
 // the number in a field
@@ -199,8 +199,8 @@ pub(crate) fn reloc_for(
     }
 }
 
-// the field that begins with entry `k`, by its offset, where it is told whether one does
-fn placed_at(frame: &Frame, i: u32, h: &SectionHeader, k: u32, begins: bool) -> Option<Placed>
+// the field that begins with entry `k`, by its offset, given whether one does
+fn placed_at(frame: &Frame, i: u32, h: &SectionHeader, k: u32, begins: bool) -> Option<PlacedEntry>
     requires table { IsTable frame.now i h.now }
     requires there { k < h.now.nreloc }
     requires begins { begins ≡ entries.begins frame.now.word (table_at frame.now i).relocs k }
@@ -210,7 +210,7 @@ fn placed_at(frame: &Frame, i: u32, h: &SectionHeader, k: u32, begins: bool) -> 
         return None;
     }
     let item = item_of(frame, i, h, k);
-    Some(Placed {
+    Some(PlacedEntry {
         place: item.first.r_address.into(),
         index: k,
     })
@@ -222,7 +222,7 @@ fn gathered(
     frame: &Frame,
     i: u32,
     h: &SectionHeader,
-) -> Result<Vec<Placed>, NoMemory>
+) -> Result<Vec<PlacedEntry>, NoMemory>
     requires { IsTable frame.now i h.now }
     ensures { IfOk result (λ fields. fields.items ≡ collected (given.placed frame.now (table_at frame.now i)) h.now.nreloc) }
 {
@@ -245,7 +245,7 @@ pub(crate) fn in_order(
     frame: &Frame,
     i: u32,
     h: &SectionHeader,
-) -> Result<Vec<Placed>, NoMemory>
+) -> Result<Vec<PlacedEntry>, NoMemory>
     requires { IsTable frame.now i h.now }
     ensures { IfOk result (λ fields. IsPermutation (collected (given.placed frame.now (table_at frame.now i)) h.now.nreloc) fields.items) }
 {

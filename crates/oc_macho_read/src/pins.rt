@@ -27,7 +27,7 @@ fn mark(marks: &mut Vec<bool>, taken: Option<Reference>)
     }
 }
 
-// marks what the field that begins with entry `k` takes, where it is told whether one does
+// marks what the field that begins with entry `k` takes, given whether one does
 fn mark_entry(frame: &Frame, i: u32, h: &SectionHeader, marks: &mut Vec<bool>, k: u32, begins: bool)
     requires table { IsTable frame.now i h.now }
     requires there { k < h.now.nreloc }

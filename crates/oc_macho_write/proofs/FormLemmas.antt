@@ -16,7 +16,7 @@ use Rattle.oc_algebra.specs.declared.form.Form.{Form}
 use Rattle.oc_neutral.specs.declared.reloc.Reloc.{Reloc}
 use Rattle.oc_neutral.specs.Rows.{Row, Taken, TakesZero, TakesPlace, TakesGotBase, TakesImageBase, TakesHome, TakesSection, same_taken, same_width, taken_of, shift_of}
 use Rattle.oc_neutral.specs.RelocTables.{rows_of}
-use Rattle.oc_neutral.specs.Shifts.{said_shift, written_shift}
+use Rattle.oc_neutral.specs.Shifts.{entry_target_shift, written_shift}
 use Rattle.oc_neutral.specs.Spelling.{is_written, numbers_in, row_taking, spelling_of, written_row}
 use Rattle.oc_neutral.specs.Objects.{Object}
 use Rattle.oc_target.proofs.MeetsRows.{of_table, found_there}
@@ -27,9 +27,9 @@ use Rattle.oc_target.specs.Lookup.{answer_of}
 use Rattle.oc_macho.specs.MachHeader.{mach_format}
 use Rattle.oc_macho_file.specs.Addresses.{address_of}
 use Rattle.oc_macho_file.specs.Bodies as bodies
-use Rattle.oc_macho_file.specs.Bodies.{end_address, field_shift, said_of, standing_at, taken_section}
-use Rattle.oc_macho_write.specs.declared.forms.Scene.{Scene}
-use Rattle.oc_macho_write.specs.declared.forms.Standing.{Standing}
+use Rattle.oc_macho_file.specs.Bodies.{end_address, field_shift, entry_target_of, written_reloc_at, taken_section}
+use Rattle.oc_macho_write.specs.declared.forms.FieldContext.{FieldContext}
+use Rattle.oc_macho_write.specs.declared.forms.SpelledReloc.{SpelledReloc}
 use Rattle.oc_macho_write.specs.Forms.{AreWritten, IsFor, IsWritten}
 
 -- ... the rows of the tables
@@ -154,7 +154,7 @@ pair_told a m k (Some b) e = (ap (λ z. Some z) (cc e), cc e)
 
 -- the relocation stands exactly where the format has its form
 pub told : (w : Word) (s at : ℕ) (r : Reloc) (x : Spelling) → answer_of (spelling_of (mach_format w) r.form r.hint) ≡ Ok x
-    → AreWritten w (Some (record { section = s; at = at; reloc = r; spelling = x })) (standing_at w s at r)
+    → AreWritten w (Some (record { section = s; at = at; reloc = r; spelling = x })) (written_reloc_at w s at r)
 told w s at r x is = by (written_row (mach_format w) r.form r.hint) refl is
   where
     by : (o : Option Row) → written_row (mach_format w) r.form r.hint ≡ o → answer_of (option_map (λ (y : Row). numbers_in y.number y.second) o) ≡ Ok x
@@ -162,7 +162,7 @@ told w s at r x is = by (written_row (mach_format w) r.form r.hint) refl is
     by None h e = absurd (cc e)
     by (Some row) h e = record { section = refl; at = refl; reloc = refl; row = h; spelled = e }
 
-pub none_told : (w : Word) (s at : ℕ) (r : Reloc) (x : NoForm) → answer_of (spelling_of (mach_format w) r.form r.hint) ≡ Err x → AreWritten w None (standing_at w s at r)
+pub none_told : (w : Word) (s at : ℕ) (r : Reloc) (x : NoForm) → answer_of (spelling_of (mach_format w) r.form r.hint) ≡ Err x → AreWritten w None (written_reloc_at w s at r)
 none_told w s at r x is = by (written_row (mach_format w) r.form r.hint) is
   where
     by : (o : Option Row) → answer_of (option_map (λ (y : Row). numbers_in y.number y.second) o) ≡ Err x → AreWritten w None (option_map (λ (row : Row). record { section = s; at = at; reloc = r; row = row }) o)
@@ -171,26 +171,26 @@ none_told w s at r x is = by (written_row (mach_format w) r.form r.hint) is
 
 -- ... a relocation that stands
 
-pub found : (w : Word) (x : Standing) (o : Option bodies.Standing) → AreWritten w (Some x) o → (is : bodies.Standing) × (o ≡ Some is) × IsWritten w x is
+pub found : (w : Word) (x : SpelledReloc) (o : Option bodies.WrittenReloc) → AreWritten w (Some x) o → (is : bodies.WrittenReloc) × (o ≡ Some is) × IsWritten w x is
 found w x None e = absurd e
 found w x (Some is) e = (is, refl, e)
 
-pub none_found : (w : Word) (o : Option bodies.Standing) → AreWritten w None o → o ≡ None
+pub none_found : (w : Word) (o : Option bodies.WrittenReloc) → AreWritten w None o → o ≡ None
 none_found w None e = refl
 none_found w (Some is) e = absurd e
 
-stands_at : (s at : ℕ) (r : Reloc) (o : Option Row) (is : bodies.Standing) → option_map (λ (row : Row). record { section = s; at = at; reloc = r; row = row }) o ≡ Some is → (is.section ≡ s) × (is.reloc ≡ r)
+stands_at : (s at : ℕ) (r : Reloc) (o : Option Row) (is : bodies.WrittenReloc) → option_map (λ (row : Row). record { section = s; at = at; reloc = r; row = row }) o ≡ Some is → (is.section ≡ s) × (is.reloc ≡ r)
 stands_at s at r None is e = absurd (none-some is e)
-stands_at s at r (Some row) is e = let same = same_Some _ is e in (ap (λ (y : bodies.Standing). y.section) (sym same), ap (λ (y : bodies.Standing). y.reloc) (sym same))
+stands_at s at r (Some row) is e = let same = same_Some _ is e in (ap (λ (y : bodies.WrittenReloc). y.section) (sym same), ap (λ (y : bodies.WrittenReloc). y.reloc) (sym same))
 
 -- what it refers to is there
-pub stands_for : (w : Word) (x : Scene) (y : Standing) (s at : ℕ) (r : Reloc) → AreWritten w (Some y) (standing_at w s at r) → IsFor x s r → IsFor x y.section y.reloc
+pub stands_for : (w : Word) (x : FieldContext) (y : SpelledReloc) (s at : ℕ) (r : Reloc) → AreWritten w (Some y) (written_reloc_at w s at r) → IsFor x s r → IsFor x y.section y.reloc
 stands_for w x y s at r are is =
-    let f = found w y (standing_at w s at r) are in
+    let f = found w y (written_reloc_at w s at r) are in
     let same = stands_at s at r (written_row (mach_format w) r.form r.hint) f.0 f.1 in
     subst (λ k. IsFor x k y.reloc) (sym (f.2.section ∙ same.0)) (subst (IsFor x s) (sym (f.2.reloc ∙ same.1)) is)
 
-module _ (w : Word) (y : Standing) (is : bodies.Standing) (written : IsWritten w y is) where
+module _ (w : Word) (y : SpelledReloc) (is : bodies.WrittenReloc) (written : IsWritten w y is) where
   -- its row
   pub its_row : IsRow w y.reloc.form is.row
   its_row = subst (λ (r : Reloc). IsRow w r.form is.row) (sym written.reloc) (row_is w is.reloc.form is.reloc.hint is.row written.row)
@@ -211,27 +211,27 @@ pair_takes form row k (SpelledAlone none taken) e = absurd (none-some k (sym non
 pair_takes form row k (SpelledPair m some low taken) e = (taken, subst (λ z. z < 256) (same_Some m k (sym some ∙ e)) low)
 
 -- an entry that stands alone is self-relative where the form takes the place, and one of a pair never
-pub alone_relative : (w : Word) (y : Standing) (is : bodies.Standing) → IsWritten w y is → is.row.second ≡ None → same_taken is.row.taken TakesPlace ≡ same_taken (taken_of y.reloc.form.less) TakesPlace
+pub alone_relative : (w : Word) (y : SpelledReloc) (is : bodies.WrittenReloc) → IsWritten w y is → is.row.second ≡ None → same_taken is.row.taken TakesPlace ≡ same_taken (taken_of y.reloc.form.less) TakesPlace
 alone_relative w y is written none = ap (λ t. same_taken t TakesPlace) (alone_takes y.reloc.form is.row (its_row w y is written).spelled none)
 
-pub pair_absolute : (w : Word) (y : Standing) (is : bodies.Standing) (k : ℕ) → IsWritten w y is → is.row.second ≡ Some k → same_taken is.row.taken TakesPlace ≡ false
+pub pair_absolute : (w : Word) (y : SpelledReloc) (is : bodies.WrittenReloc) (k : ℕ) → IsWritten w y is → is.row.second ≡ Some k → same_taken is.row.taken TakesPlace ≡ false
 pair_absolute w y is k written some = ap (λ t. same_taken t TakesPlace) (pair_takes y.reloc.form is.row k (its_row w y is written).spelled some).0
 
 -- ... what the addend has beyond the field
 
-module _ (n : Object) (y : Standing) (is : bodies.Standing) (written : IsWritten W32 y is) where
+module _ (n : Object) (y : SpelledReloc) (is : bodies.WrittenReloc) (written : IsWritten W32 y is) where
   pub alone_32 : (m taken said : ℕ) → y.spelling ≡ spelling.One m → taken ≡ cond (same_taken (taken_of y.reloc.form.less) TakesPlace) (address_of n y.section + y.at) 0
-      → neg_ℤ (pos said) ≡ said_shift (said_of n y.reloc.target) → pos taken -ℤ pos said ≡ field_shift W32 n is
+      → neg_ℤ (pos said) ≡ entry_target_shift (entry_target_of n y.reloc.target) → pos taken -ℤ pos said ≡ field_shift W32 n is
   alone_32 m taken said one takes says =
       let none = (spelled_one W32 y is written m one).0 in
       let same = alone_relative W32 y is written none in
       ap (λ z. pos z +ℤ neg_ℤ (pos said)) takes
       ∙ ap (λ z. pos (cond (same_taken (taken_of y.reloc.form.less) TakesPlace) (address_of n y.section + y.at) 0) +ℤ z) says
-      ∙ ap (λ z. z +ℤ said_shift (said_of n y.reloc.target)) (by (same_taken (taken_of y.reloc.form.less) TakesPlace))
-      ∙ ap (λ b. cond b (pos (address_of n y.section + y.at)) (pos 0) +ℤ said_shift (said_of n y.reloc.target)) (sym same)
-      ∙ ap (λ s. cond (same_taken is.row.taken TakesPlace) (pos (address_of n s + y.at)) (pos 0) +ℤ said_shift (said_of n y.reloc.target)) written.section
-      ∙ ap (λ p. cond (same_taken is.row.taken TakesPlace) (pos (address_of n is.section + p)) (pos 0) +ℤ said_shift (said_of n y.reloc.target)) written.at
-      ∙ ap (λ (r : Reloc). cond (same_taken is.row.taken TakesPlace) (pos (address_of n is.section + is.at)) (pos 0) +ℤ said_shift (said_of n r.target)) written.reloc
+      ∙ ap (λ z. z +ℤ entry_target_shift (entry_target_of n y.reloc.target)) (by (same_taken (taken_of y.reloc.form.less) TakesPlace))
+      ∙ ap (λ b. cond b (pos (address_of n y.section + y.at)) (pos 0) +ℤ entry_target_shift (entry_target_of n y.reloc.target)) (sym same)
+      ∙ ap (λ s. cond (same_taken is.row.taken TakesPlace) (pos (address_of n s + y.at)) (pos 0) +ℤ entry_target_shift (entry_target_of n y.reloc.target)) written.section
+      ∙ ap (λ p. cond (same_taken is.row.taken TakesPlace) (pos (address_of n is.section + p)) (pos 0) +ℤ entry_target_shift (entry_target_of n y.reloc.target)) written.at
+      ∙ ap (λ (r : Reloc). cond (same_taken is.row.taken TakesPlace) (pos (address_of n is.section + is.at)) (pos 0) +ℤ entry_target_shift (entry_target_of n r.target)) written.reloc
       ∙ ap (λ o. option_map_or (λ (second : ℕ). bodies.pair_shift n is) o (bodies.alone_shift n is)) (sym none)
     where
       by : (b : Bool) → pos (cond b (address_of n y.section + y.at) 0) ≡ cond b (pos (address_of n y.section + y.at)) (pos 0)
@@ -252,7 +252,7 @@ apart TakesImageBase = refl
 apart TakesHome = refl
 apart TakesSection = refl
 
-module _ (n : Object) (y : Standing) (is : bodies.Standing) (written : IsWritten W64 y is) where
+module _ (n : Object) (y : SpelledReloc) (is : bodies.WrittenReloc) (written : IsWritten W64 y is) where
   shifted : written_shift y.at y.reloc.form.less is.row ≡ field_shift W64 n is
   shifted = ap (λ p. written_shift p y.reloc.form.less is.row) written.at ∙ ap (λ (r : Reloc). written_shift is.at r.form.less is.row) written.reloc
 

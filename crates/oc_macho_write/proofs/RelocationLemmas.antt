@@ -15,16 +15,16 @@ use Rattle.oc_macho.specs.declared.relocation_info.Reference.{Reference}
 use Rattle.oc_macho.specs.declared.relocation_info.Reference.TheVariants as reference
 use Rattle.oc_macho.specs.declared.relocation_info.RelocationInfo.{RelocationInfo}
 use Rattle.oc_macho_file.specs.Bodies as bodies
-use Rattle.oc_macho_file.specs.Bodies.{entries_at, entries_of, pair_entries, plain_entry, reference_to, standing_at, standing_entries, taken_section}
+use Rattle.oc_macho_file.specs.Bodies.{entries_at, entries_of, pair_entries, plain_entry, reference_to, written_reloc_at, standing_entries, taken_section}
 use Rattle.oc_macho_file.specs.Lines.{Line, numbered_lines, own_number}
-use Rattle.oc_macho_write.specs.declared.forms.Scene.{Scene}
-use Rattle.oc_macho_write.specs.declared.forms.Standing.{Standing}
+use Rattle.oc_macho_write.specs.declared.forms.FieldContext.{FieldContext}
+use Rattle.oc_macho_write.specs.declared.forms.SpelledReloc.{SpelledReloc}
 use Rattle.oc_macho_write.specs.Forms.{IsFor, IsWritten, LeadFrom}
 use Rattle.oc_macho_write.proofs.FormLemmas.{its_row, pair_absolute}
 
 -- ... the entries of a relocation that stands
 
-module _ (w : Word) (n : Object) (lines : List (Laid Line)) (y : Standing) (is : bodies.Standing) (written : IsWritten w y is) where
+module _ (w : Word) (n : Object) (lines : List (Laid Line)) (y : SpelledReloc) (is : bodies.WrittenReloc) (written : IsWritten w y is) where
   -- an entry, field by field
   pub plain_same : (pcrel type other : ℕ) (refers to : Reference) → pcrel ≡ cond (same_taken is.row.taken TakesPlace) 1 0 → type ≡ other → refers ≡ to
       → record { r_address = y.at; r_pcrel = pcrel; r_length = length_of y.reloc.form.width; r_type = type; refers = refers } ≡ plain_entry is other to
@@ -50,7 +50,7 @@ module _ (w : Word) (n : Object) (lines : List (Laid Line)) (y : Standing) (is :
   pair_standing second some =
       ap (λ (o : Option ℕ). elim o [ None ↦ plain_entry is is.row.number (reference_to w lines is.reloc.target) ∷ [] | Some second ↦ pair_entries w n lines is second ]) (sym some)
 
-module _ (n : Object) (lines : List (Laid Line)) (y : Standing) (is : bodies.Standing) where
+module _ (n : Object) (lines : List (Laid Line)) (y : SpelledReloc) (is : bodies.WrittenReloc) where
   pub pair_64 : (written : IsWritten W64 y is) → (first second : ℕ) (own to : Reference) → is.row.number ≡ first → is.row.second ≡ Some second → own ≡ reference.Symbol (own_number lines (taken_section is)) → to ≡ reference_to W64 lines y.reloc.target
       → record { r_address = y.at; r_pcrel = 0; r_length = length_of y.reloc.form.width; r_type = first; refers = own }
       ∷ record { r_address = y.at; r_pcrel = 0; r_length = length_of y.reloc.form.width; r_type = second; refers = to } ∷ [] ≡ pair_entries W64 n lines is second
@@ -61,7 +61,7 @@ module _ (n : Object) (lines : List (Laid Line)) (y : Standing) (is : bodies.Sta
       ∙ ap (λ (e : RelocationInfo). plain_entry is is.row.number (reference.Symbol (own_number lines (taken_section is))) ∷ e ∷ []) (plain_same W64 n lines y is written 0 second second to (reference_to W64 lines is.reloc.target) flat refl (refers ∙ ap (λ z. reference_to W64 lines z.target) written.reloc))
 
 -- in x86-64, whatever the word is called
-pub pair_by : (w : Word) → w ≡ W64 → (n : Object) (lines : List (Laid Line)) (y : Standing) (is : bodies.Standing) → IsWritten w y is → (first second : ℕ) (own to : Reference) (one two : RelocationInfo) → is.row.number ≡ first → is.row.second ≡ Some second
+pub pair_by : (w : Word) → w ≡ W64 → (n : Object) (lines : List (Laid Line)) (y : SpelledReloc) (is : bodies.WrittenReloc) → IsWritten w y is → (first second : ℕ) (own to : Reference) (one two : RelocationInfo) → is.row.number ≡ first → is.row.second ≡ Some second
     → own ≡ reference.Symbol (own_number lines (taken_section is)) → to ≡ reference_to w lines y.reloc.target
     → one ≡ record { r_address = y.at; r_pcrel = 0; r_length = length_of y.reloc.form.width; r_type = first; refers = own }
     → two ≡ record { r_address = y.at; r_pcrel = 0; r_length = length_of y.reloc.form.width; r_type = second; refers = to } → one ∷ two ∷ [] ≡ pair_entries w n lines is second
@@ -73,11 +73,11 @@ pair_by W64 e n lines y is written first second own to one two f some owns refer
 -- ... those of a section
 
 -- the entries that are made, where those of the fields that are left are still to be
-pub record IsMaking (x : Scene) (n : Object) (k : ℕ) (now : List RelocationInfo) (left : List (Field Reloc)) : Type 0 where
+pub record IsMaking (x : FieldContext) (n : Object) (k : ℕ) (now : List RelocationInfo) (left : List (Field Reloc)) : Type 0 where
   pub all : now ++ flat_map (entries_at x.word n (numbered_lines x.word n) k) left ≡ entries_of x.word n (numbered_lines x.word n) k
   pub have : LeadFrom x k left
 
-module _ (x : Scene) (n : Object) (k : ℕ) where
+module _ (x : FieldContext) (n : Object) (k : ℕ) where
   abbrev make : Field Reloc → List RelocationInfo
   make = entries_at x.word n (numbered_lines x.word n) k
 

@@ -22,15 +22,15 @@ use Rattle.oc_neutral.specs.Normal.{Place}
 use Rattle.oc_neutral.specs.Objects.{Object}
 use Rattle.oc_neutral.proofs.Positions.{each_weaker, there_at}
 use Rattle.oc_plans.specs.Numbered.{AreAll}
-use Rattle.oc_macho_write.specs.declared.forms.Scene.{Scene}
+use Rattle.oc_macho_write.specs.declared.forms.FieldContext.{FieldContext}
 use Rattle.oc_macho_write.specs.declared.numbers.Numbers.{Numbers}
-use Rattle.oc_macho_write.specs.Forms.{IsFor, IsLessThere, IsReady, IsScene, IsThere, LeadFrom}
+use Rattle.oc_macho_write.specs.Forms.{IsFor, IsLessThere, IsReady, IsFieldContext, IsThere, LeadFrom}
 use Rattle.oc_macho_write.specs.Numbers.{AreSized}
 use Rattle.oc_macho_write.specs.Relocations.{CanTell, HasNumbers}
 
-module _ (w : Word) (n : Object) (x : Scene) (object : IsObject n) (scene : IsScene w n x) where
+module _ (w : Word) (n : Object) (x : FieldContext) (object : IsObject n) (context : IsFieldContext w n x) where
   low : (k : ℕ) → k < length n.sections → k < length x.addresses.now
-  low k l = let e = scene.addresses.counted in omega (arith, e, l)
+  low k l = let e = context.addresses.counted in omega (arith, e, l)
 
   placed : (s : Symbol) → IsSymbol n s → IfSome (global_place s.binding) (λ (p : Place). p.0 < length x.addresses.now)
   placed s is = by s.binding is.binding
@@ -47,15 +47,15 @@ module _ (w : Word) (n : Object) (x : Scene) (object : IsObject n) (scene : IsSc
   pub scene_ready : IsReady x
   scene_ready = record {
     small = λ k l.
-        let inside : k < length n.sections = (let e = scene.addresses.counted in omega (arith, e, l)) in
-        subst (λ z. z < 2 ^ 32) (sym (scene.addresses.each k inside)) (scene.addresses.small k inside);
-    few = (let e = scene.addresses.counted in let few = scene.addresses.few in omega (arith, e, few));
-    placed = subst (AllByRecursion (λ (s : Symbol). IfSome (global_place s.binding) (λ (p : Place). p.0 < length x.addresses.now))) (sym scene.symbols) (each_weaker (IsSymbol n) (λ (s : Symbol). IfSome (global_place s.binding) (λ (p : Place). p.0 < length x.addresses.now)) placed n.symbols object.complete.symbols);
+        let inside : k < length n.sections = (let e = context.addresses.counted in omega (arith, e, l)) in
+        subst (λ z. z < 2 ^ 32) (sym (context.addresses.each k inside)) (context.addresses.small k inside);
+    few = (let e = context.addresses.counted in let few = context.addresses.few in omega (arith, e, few));
+    placed = subst (AllByRecursion (λ (s : Symbol). IfSome (global_place s.binding) (λ (p : Place). p.0 < length x.addresses.now))) (sym context.symbols) (each_weaker (IsSymbol n) (λ (s : Symbol). IfSome (global_place s.binding) (λ (p : Place). p.0 < length x.addresses.now)) placed n.symbols object.complete.symbols);
   }
 
   target_there : (t : Target) → neutral.IsThere n t → IsThere x t
   target_there (target.Section k) l = low k l
-  target_there (target.Symbol k) l = subst (λ (ss : List Symbol). k < length ss) (sym scene.symbols) l
+  target_there (target.Symbol k) l = subst (λ (ss : List Symbol). k < length ss) (sym context.symbols) l
 
   less_there : (l : Less) → neutral.IsLessThere n l → IsLessThere x l
   less_there less.Zero here = tt
@@ -80,6 +80,6 @@ module _ (w : Word) (n : Object) (x : Scene) (object : IsObject n) (scene : IsSc
   -- and has a number
   pub sized_numbers : (y : Numbers) → AreSized n y → HasNumbers x y
   sized_numbers y sized = record {
-    owns = (let a = sized.owns in let b = scene.addresses.counted in omega (arith, a, b));
-    outers = (let a = sized.outers in let b = ap length scene.symbols in omega (arith, a, b));
+    owns = (let a = sized.owns in let b = context.addresses.counted in omega (arith, a, b));
+    outers = (let a = sized.outers in let b = ap length context.symbols in omega (arith, a, b));
   }

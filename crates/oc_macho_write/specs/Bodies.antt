@@ -38,7 +38,7 @@ body_by w h sections b (part.Relocs k) = table_of (map relocation_bytes (items_a
 body_by w h sections b part.SymbolTable = table_of (map (nlist_bytes w) b.nlists.items)
 body_by w h sections b part.StringTable = filled (address_size w) (strings_of b.strings.names)
 
--- it is there
+-- it exists
 abbrev pub HasBody : List Section → Bodies → Part → Type 0
 HasBody sections b part.FileHead = Unit {0}
 HasBody sections b part.SegmentHead = Unit {0}

@@ -13,7 +13,7 @@ use Rattle.oc_macho_write.specs.declared.lines.Line.TheVariants as line
 use Rattle.oc_macho_write.specs.declared.lines.Outer.{Outer}
 use Rattle.oc_macho_write.specs.declared.lines.Outer.TheVariants.{Defined, Undefined, Common, Optional}
 
--- the line with the symbol at its position, if that is there
+-- the line with the symbol at its position, if that exists
 abbrev pub line_in : Object → Line → Option lines.Line
 line_in n (line.Own k) = Some (lines.OwnLine k)
 line_in n (line.Local k) = option_map (lines.LocalLine k) (slice_get n.symbols k)
@@ -34,7 +34,7 @@ is_outer Undefined b = is_undefined b
 is_outer Common b = is_common b
 is_outer Optional b = is_weak_with is_zero b
 
--- the section of an `l_section_k` is there
+-- the section of an `l_section_k` exists
 abbrev pub IsNamed : Object → Line → Type 0
 IsNamed n (line.Own k) = k < length n.sections
 IsNamed n (line.Local k) = Unit {0}

@@ -6,7 +6,7 @@ use Rattle.oc_macho_file.specs.Layout as layout
 use Rattle.oc_macho_write.specs.declared.parts.Part.{Part}
 use Rattle.oc_macho_write.specs.declared.parts.Part.TheVariants as part
 
--- the part with the section at its position, if that is there
+-- the part with the section at its position, if that exists
 abbrev pub part_in : Object → Part → Option layout.Part
 part_in n part.FileHead = Some layout.FileHead
 part_in n part.SegmentHead = Some layout.SegmentHead

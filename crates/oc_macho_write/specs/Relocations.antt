@@ -8,18 +8,18 @@ use Rattle.oc_neutral.specs.declared.reloc.Reloc.{Reloc}
 use Rattle.oc_neutral.specs.Objects.{Object}
 use Rattle.oc_plans.specs.Numbered.{Numbering}
 use Rattle.oc_macho.specs.declared.relocation_info.RelocationInfo.{RelocationInfo}
-use Rattle.oc_macho_file.specs.Bodies.{field_number, raw_of, standing_at}
+use Rattle.oc_macho_file.specs.Bodies.{field_number, raw_of, written_reloc_at}
 use Rattle.oc_macho_file.specs.Layout.{relocs_of}
-use Rattle.oc_macho_write.specs.declared.forms.Scene.{Scene}
+use Rattle.oc_macho_write.specs.declared.forms.FieldContext.{FieldContext}
 use Rattle.oc_macho_write.specs.declared.numbers.Numbers.{Numbers}
-use Rattle.oc_macho_write.specs.Forms.{IsFor, IsReady, IsScene}
+use Rattle.oc_macho_write.specs.Forms.{IsFor, IsReady, IsFieldContext}
 
 -- the relocation entries of each section
 abbrev pub all_entries : Word → Object → List (List RelocationInfo)
 all_entries w n = map (λ (x : ℕ × Section). relocs_of w n x.0) (enumerate_from 0 n.sections)
 
 -- there is a place for the number of each section and symbol
-pub record HasNumbers (x : Scene) (numbers : Numbers) : Type 0 where
+pub record HasNumbers (x : FieldContext) (numbers : Numbers) : Type 0 where
   pub owns : length numbers.owns.items ≡ length x.addresses.now
   pub outers : length numbers.outers.items ≡ length x.symbols.now
 
@@ -29,14 +29,14 @@ all_raws w n = map (λ (x : ℕ × Section). raw_of w n x.0 x.1) (enumerate_from
 
 -- the number in the field of a relocation at an offset of the section at a position
 abbrev pub number_at : Word → Object → Numbering
-number_at w n s at r = option_map_or (field_number w n) (standing_at w s at r) 0
+number_at w n s at r = option_map_or (field_number w n) (written_reloc_at w s at r) 0
 
 -- these are the numbers in the fields of the object that numbers are made of
-pub record IsNumbering (x : Scene) (number_of : Numbering) : Type 0 where
+pub record IsNumbering (x : FieldContext) (number_of : Numbering) : Type 0 where
   pub object : Object
-  pub scene : IsScene x.word object x
+  pub context : IsFieldContext x.word object x
   pub same : number_of ≡ number_at x.word object
 
 -- the number of a relocation of the section at a position can be made
-abbrev pub CanTell : Scene → ℕ → Reloc → Type 0
+abbrev pub CanTell : FieldContext → ℕ → Reloc → Type 0
 CanTell x section r = (IsReady x) × (IsFor x section r)

@@ -3,7 +3,7 @@ use Rattle.std.specs.Prelude.{◌≡◌, ℕ, ◌^◌, ◌<◌, List, length, sl
 use Rattle.oc_neutral.specs.Objects.{Object}
 use Rattle.oc_macho_file.specs.Addresses.{address_of}
 use Rattle.oc_macho_file.specs.Symbols as symbols
-use Rattle.oc_macho_write.specs.declared.values.Stood.{Stood}
+use Rattle.oc_macho_write.specs.declared.values.ValueFields.{ValueFields}
 
 -- these are the addresses of the sections; all are numbers of 32 bits
 pub record AreAddresses (n : Object) (at : List ℕ) : Type 0 where
@@ -12,8 +12,8 @@ pub record AreAddresses (n : Object) (at : List ℕ) : Type 0 where
   pub small : (k : ℕ) → k < length n.sections → address_of n k < 2 ^ 32
   pub few : length n.sections < 2 ^ 8
 
--- this is what is said of it
-pub record AreStood (x : Stood) (s : symbols.Stood) : Type 0 where
+-- these are its type, n_sect and n_value
+pub record AreValueFields (x : ValueFields) (s : symbols.ValueFields) : Type 0 where
   pub n_type : x.n_type ≡ s.type
   pub n_sect : x.n_sect ≡ s.n_sect
   pub n_value : x.n_value ≡ s.n_value

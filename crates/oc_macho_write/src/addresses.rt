@@ -1,5 +1,5 @@
 //! The addresses that an output gives to its sections: from 0 on, those with bytes in the file, and
-//! behind them those without (our profile).
+//! after them those without (our profile).
 ghost use Rattle.std.specs.Prelude.{◌≡◌, ◌+◌, ◌^◌, ◌<◌, ◌≤◌, ℕ, length, slice_index_or, IfOk};
 ghost use Rattle.oc_neutral.specs.Building as building;
 ghost use Rattle.oc_target.specs.Fitted.{IsFitted};
@@ -40,7 +40,8 @@ pub(crate) fn is_blank(section: &Section) -> bool
     }
 }
 
-// gives addresses from `at` on to the sections with bytes, or to those without, and tells where they end
+// gives addresses from `at` on to the sections with bytes, or to those without, and returns where
+// they end
 fn lay_sections(addresses: &mut [u64], neutral: &Neutral, blank: bool, at: u64) -> u64
     requires counted { length addresses.old ≡ length neutral.now.sections }
     requires near { those_end blank neutral.now at < 2 ^ 48 }

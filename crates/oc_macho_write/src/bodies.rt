@@ -11,7 +11,7 @@ ghost use Rattle.oc_macho_write.specs.Lines.{AreLines};
 ghost use Rattle.oc_macho.specs.Structures.{dysymtab_front, section_bytes, segment_back, segment_front};
 
 use crate::addresses::Addresses;
-use crate::forms::Scene;
+use crate::forms::FieldContext;
 use crate::heads::Heads;
 use crate::lines::Line;
 use crate::numbers::Numbers;
@@ -32,7 +32,7 @@ use oc_shelf::copy_window;
 use oc_strings::Table;
 use std::alloc::Global;
 
-/// What stands in a file beside headers and the bytes of sections.
+/// What a file contains besides headers and the bytes of sections.
 #[derive(Debug, Drop)]
 pub(crate) struct Bodies {
     /// The relocation entries of each section.
@@ -60,12 +60,12 @@ pub(crate) fn bodies_of(
     let numbers = Numbers::of(alloc, word, neutral, lines)?;
     let strings = strings_of(alloc, word, neutral, lines)?;
     let nlists = nlists_of(alloc, word, neutral, &strings, &addresses.sections, lines)?;
-    let scene = Scene {
+    let context = FieldContext {
         word,
         addresses: &addresses.sections,
         symbols: neutral.symbols(),
     };
-    let relocs = all_entries(alloc, neutral, scene, &numbers)?;
+    let relocs = all_entries(alloc, neutral, context, &numbers)?;
     Ok(Bodies {
         relocs,
         nlists,
@@ -73,7 +73,7 @@ pub(crate) fn bodies_of(
     })
 }
 
-/// How many zeros end the command that tells the groups of symbols
+/// How many zeros end the command that lists the groups of symbols.
 const DYSYMTAB_ZEROS: u64 = 48;
 
 /// How many bytes a part has. Constant time.
@@ -114,7 +114,7 @@ fn raw_window(sections: &[Section], k: u32, from: u64, out: &mut [u8]) -> usize
     copy_window(sections[k as usize].bytes.as_slice(), from, out)
 }
 
-// a window of the command that tells the groups of symbols
+// a window of the command that lists the groups of symbols
 fn dysymtab_window(heads: &Heads, from: u64, out: &mut [u8]) -> usize
     requires { heads.now.dysymtab.nlocalsym + heads.now.dysymtab.nextdefsym < 2 ^ 32 }
     ensures { IsFilled (dysymtab_front heads.now.dysymtab ++ replicate DYSYMTAB_ZEROS 0) from out.old out.new result }

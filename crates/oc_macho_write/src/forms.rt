@@ -8,12 +8,12 @@ ghost use Rattle.oc_neutral.specs.Mach.Relocs as relocs;
 ghost use Rattle.oc_neutral.specs.Normal.{Place as Held};
 ghost use Rattle.oc_neutral.specs.Objects.{Object};
 ghost use Rattle.oc_neutral.specs.Rows.{TakesPlace, same_taken, taken_of};
-ghost use Rattle.oc_neutral.specs.Shifts.{said_shift};
+ghost use Rattle.oc_neutral.specs.Shifts.{entry_target_shift};
 ghost use Rattle.oc_macho_file.specs.Addresses.{address_of};
 ghost use Rattle.oc_macho_file.specs.Bodies as bodies;
 ghost use Rattle.oc_macho_write.specs.Relocations.{number_at};
-ghost use Rattle.oc_macho_write.specs.declared.forms.Scene.{Scene as Setting};
-ghost use Rattle.oc_macho_write.specs.Forms.{AreWritten, IsFor, IsReady, IsScene, IsThere, IsWritten};
+ghost use Rattle.oc_macho_write.specs.declared.forms.FieldContext.{FieldContext as Setting};
+ghost use Rattle.oc_macho_write.specs.Forms.{AreWritten, IsFor, IsReady, IsFieldContext, IsThere, IsWritten};
 
 use crate::values::global_place;
 use oc_algebra::to_field;
@@ -27,7 +27,7 @@ const SIGNED_BEHIND: u8 = 4;
 
 /// What numbers in fields are made of beside relocations.
 #[derive(Clone, Copy)]
-pub(crate) struct Scene<'a> {
+pub(crate) struct FieldContext<'a> {
     /// The word of the object.
     pub(crate) word: Word,
     /// The addresses of its sections.
@@ -36,9 +36,9 @@ pub(crate) struct Scene<'a> {
     pub(crate) symbols: &'a [Symbol],
 }
 
-/// A relocation where it stands, and how it is written.
+/// A relocation where it lies, and how it is written.
 #[derive(Clone, Copy)]
-pub(crate) struct Standing {
+pub(crate) struct SpelledReloc {
     /// The position of the field's section.
     pub(crate) section: u32,
     /// The offset of the field.
@@ -50,11 +50,11 @@ pub(crate) struct Standing {
 }
 
 /// A relocation at an offset of a section, where the format has its form. Constant time.
-pub(crate) fn standing_at(word: Word, section: u32, at: u32, reloc: Reloc) -> Option<Standing>
-    ensures { AreWritten word result (bodies.standing_at word section at reloc) }
+pub(crate) fn spelled_at(word: Word, section: u32, at: u32, reloc: Reloc) -> Option<SpelledReloc>
+    ensures { AreWritten word result (bodies.written_reloc_at word section at reloc) }
 {
     match lookup(format_of(word), reloc.form, reloc.hint) {
-        Ok(spelling) => Some(Standing {
+        Ok(spelling) => Some(SpelledReloc {
             section,
             at,
             reloc,
@@ -66,8 +66,8 @@ pub(crate) fn standing_at(word: Word, section: u32, at: u32, reloc: Reloc) -> Op
 
 /// The section that a pair takes: the field's own, where it is the field's place that is taken. Constant
 /// time.
-pub(crate) fn taken_section(standing: &Standing) -> u32
-    ensures section { (w : Word) (is : bodies.Standing) → IsWritten w standing.now is → result ≡ bodies.taken_section is }
+pub(crate) fn taken_section(standing: &SpelledReloc) -> u32
+    ensures section { (w : Word) (is : bodies.WrittenReloc) → IsWritten w standing.now is → result ≡ bodies.taken_section is }
     ensures there { (x : Setting) → IsFor x standing.now.section standing.now.reloc → result < length x.addresses.now }
 {
     match standing.reloc.form.less {
@@ -98,7 +98,7 @@ pub(crate) fn length_of(width: Width) -> u8
     }
 }
 
-// how far a place lies behind another
+// how far a place lies after another
 fn distance(place: u64, from: u64) -> i64
     requires place { place < 2 ^ 63 }
     requires from { from < 2 ^ 63 }
@@ -107,12 +107,12 @@ fn distance(place: u64, from: u64) -> i64
     place as i64 - from as i64
 }
 
-impl Scene<'_> {
+impl FieldContext<'_> {
     /// The address of the section at a position. Constant time.
     pub(crate) fn address_of(&self, section: u32) -> u64
         requires ready { IsReady self.now }
         requires there { section < length self.now.addresses.now }
-        ensures address { (w : Word) (n : Object) → IsScene w n self.now → result ≡ address_of n section }
+        ensures address { (w : Word) (n : Object) → IsFieldContext w n self.now → result ≡ address_of n section }
         ensures low { result < 2 ^ 32 }
     {
         self.addresses[section as usize]
@@ -122,7 +122,7 @@ impl Scene<'_> {
     fn place_address(&self, place: Option<(u32, u32)>) -> u64
         requires ready { IsReady self.now }
         requires there { IfSome place (λ p. p.0 < length self.now.addresses.now) }
-        ensures address { (w : Word) (n : Object) → IsScene w n self.now → result ≡ option_map_or (λ (p : Held). address_of n p.0 + p.1) place 0 }
+        ensures address { (w : Word) (n : Object) → IsFieldContext w n self.now → result ≡ option_map_or (λ (p : Held). address_of n p.0 + p.1) place 0 }
         ensures low { result < 2 ^ 33 }
     {
         match place {
@@ -135,7 +135,7 @@ impl Scene<'_> {
     fn end_address(&self, target: Target) -> u64
         requires ready { IsReady self.now }
         requires there { IsThere self.now target }
-        ensures address { (w : Word) (n : Object) → IsScene w n self.now → result ≡ bodies.end_address n target }
+        ensures address { (w : Word) (n : Object) → IsFieldContext w n self.now → result ≡ bodies.end_address n target }
         ensures low { result < 2 ^ 33 }
     {
         match target {
@@ -148,7 +148,7 @@ impl Scene<'_> {
     fn place_section_address(&self, place: Option<(u32, u32)>) -> u64
         requires ready { IsReady self.now }
         requires there { IfSome place (λ p. p.0 < length self.now.addresses.now) }
-        ensures address { (w : Word) (n : Object) → IsScene w n self.now → result ≡ option_map_or (λ (p : Held). address_of n p.0) place 0 }
+        ensures address { (w : Word) (n : Object) → IsFieldContext w n self.now → result ≡ option_map_or (λ (p : Held). address_of n p.0) place 0 }
         ensures low { result < 2 ^ 32 }
     {
         match place {
@@ -161,7 +161,7 @@ impl Scene<'_> {
     pub(crate) fn end_section_address(&self, target: Target) -> u64
         requires ready { IsReady self.now }
         requires there { IsThere self.now target }
-        ensures address { (w : Word) (n : Object) → IsScene w n self.now → result ≡ bodies.end_section_address n target }
+        ensures address { (w : Word) (n : Object) → IsFieldContext w n self.now → result ≡ bodies.end_section_address n target }
         ensures low { result < 2 ^ 32 }
     {
         match target {
@@ -173,10 +173,10 @@ impl Scene<'_> {
     }
 
     // the address of the field, where an entry of i386 takes the field's place
-    fn taken_address(&self, standing: &Standing) -> u64
+    fn taken_address(&self, standing: &SpelledReloc) -> u64
         requires ready { IsReady self.now }
         requires there { standing.now.section < length self.now.addresses.now }
-        ensures address { (w : Word) (n : Object) → IsScene w n self.now → result ≡ (if same_taken (taken_of standing.now.reloc.form.less) TakesPlace then address_of n standing.now.section + standing.now.at else 0) }
+        ensures address { (w : Word) (n : Object) → IsFieldContext w n self.now → result ≡ (if same_taken (taken_of standing.now.reloc.form.less) TakesPlace then address_of n standing.now.section + standing.now.at else 0) }
         ensures low { result < 2 ^ 33 }
     {
         if takes_place(standing.reloc) {
@@ -187,10 +187,10 @@ impl Scene<'_> {
     }
 
     // the address of the section, where an entry refers to one
-    fn said_address(&self, target: Target) -> u64
+    fn entry_target_address(&self, target: Target) -> u64
         requires ready { IsReady self.now }
         requires there { IsThere self.now target }
-        ensures address { (w : Word) (n : Object) → IsScene w n self.now → neg_ℤ (pos result) ≡ said_shift (bodies.said_of n target) }
+        ensures address { (w : Word) (n : Object) → IsFieldContext w n self.now → neg_ℤ (pos result) ≡ entry_target_shift (bodies.entry_target_of n target) }
         ensures low { result < 2 ^ 32 }
     {
         match target {
@@ -200,15 +200,18 @@ impl Scene<'_> {
     }
 
     // what the addend of i386 has beyond the field
-    fn shift32(&self, standing: &Standing) -> i64
+    fn shift32(&self, standing: &SpelledReloc) -> i64
         requires ready { IsReady self.now }
         requires there { IsFor self.now standing.now.section standing.now.reloc }
-        ensures { (n : Object) (is : bodies.Standing) → IsScene W32 n self.now → IsWritten W32 standing.now is → result ≡ bodies.field_shift W32 n is }
+        ensures { (n : Object) (is : bodies.WrittenReloc) → IsFieldContext W32 n self.now → IsWritten W32 standing.now is → result ≡ bodies.field_shift W32 n is }
     {
         let target = standing.reloc.target;
         match standing.spelling {
             Spelling::One(_) => {
-                distance(self.taken_address(standing), self.said_address(target))
+                distance(
+                    self.taken_address(standing),
+                    self.entry_target_address(target),
+                )
             }
             Spelling::Pair(_, _) => {
                 distance(
@@ -220,10 +223,10 @@ impl Scene<'_> {
     }
 
     // what the addend of a relocation has beyond the field
-    fn field_shift(&self, standing: &Standing) -> i64
+    fn field_shift(&self, standing: &SpelledReloc) -> i64
         requires ready { IsReady self.now }
         requires there { IsFor self.now standing.now.section standing.now.reloc }
-        ensures { (w : Word) (n : Object) (is : bodies.Standing) → IsScene w n self.now → IsWritten w standing.now is → result ≡ bodies.field_shift w n is }
+        ensures { (w : Word) (n : Object) (is : bodies.WrittenReloc) → IsFieldContext w n self.now → IsWritten w standing.now is → result ≡ bodies.field_shift w n is }
     {
         match self.word {
             Word::W32 => self.shift32(standing),
@@ -231,11 +234,11 @@ impl Scene<'_> {
         }
     }
 
-    // the number in the field of a relocation that stands
-    fn standing_number(&self, standing: &Standing) -> u64
+    // the number in the field of a relocation at its place
+    fn spelled_number(&self, standing: &SpelledReloc) -> u64
         requires ready { IsReady self.now }
         requires there { IsFor self.now standing.now.section standing.now.reloc }
-        ensures { (w : Word) (n : Object) (is : bodies.Standing) → IsScene w n self.now → IsWritten w standing.now is → result ≡ bodies.field_number w n is }
+        ensures { (w : Word) (n : Object) (is : bodies.WrittenReloc) → IsFieldContext w n self.now → IsWritten w standing.now is → result ≡ bodies.field_number w n is }
     {
         let shift = self.field_shift(standing);
         let reloc = standing.reloc;
@@ -247,10 +250,10 @@ impl Scene<'_> {
     pub(crate) fn field_number(&self, section: u32, at: u32, reloc: Reloc) -> u64
         requires ready { IsReady self.now }
         requires there { IsFor self.now section reloc }
-        ensures { (w : Word) (n : Object) → IsScene w n self.now → result ≡ number_at w n section at reloc }
+        ensures { (w : Word) (n : Object) → IsFieldContext w n self.now → result ≡ number_at w n section at reloc }
     {
-        match standing_at(self.word, section, at, reloc) {
-            Some(standing) => self.standing_number(&standing),
+        match spelled_at(self.word, section, at, reloc) {
+            Some(standing) => self.spelled_number(&standing),
             None => 0,
         }
     }
@@ -258,8 +261,8 @@ impl Scene<'_> {
 
 // what the addend of x86-64 has beyond the field: a value is taken from the end of the field, and a
 // difference from the start of the section
-fn shift64(standing: &Standing) -> i64
-    ensures { (n : Object) (is : bodies.Standing) → IsWritten W64 standing.now is → result ≡ bodies.field_shift W64 n is }
+fn shift64(standing: &SpelledReloc) -> i64
+    ensures { (n : Object) (is : bodies.WrittenReloc) → IsWritten W64 standing.now is → result ≡ bodies.field_shift W64 n is }
 {
     if !takes_place(standing.reloc) {
         return 0;

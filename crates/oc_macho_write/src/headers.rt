@@ -102,7 +102,7 @@ fn section_header(
     }
 }
 
-/// The section headers of a file whose parts stand at these places. `NoMemory` where memory ran out.
+/// The section headers of a file whose parts lie at these places. `NoMemory` where memory ran out.
 /// Linear in the sections.
 pub(crate) fn section_headers(
     alloc: Global,

@@ -25,7 +25,7 @@ use std::alloc::Global;
 pub(crate) struct Heads {
     /// The file header.
     pub(crate) file: MachHeader,
-    /// How many bytes the command for the segment has, with the section headers behind it.
+    /// How many bytes the command for the segment has, with the section headers after it.
     pub(crate) cmdsize: u32,
     /// The command for the segment.
     pub(crate) segment: SegmentCommand,
@@ -33,7 +33,7 @@ pub(crate) struct Heads {
     pub(crate) sections: Vec<SectionHeader>,
     /// The command that places symbols and strings.
     pub(crate) symtab: SymtabCommand,
-    /// The command that tells the groups of symbols.
+    /// The command that lists the groups of symbols.
     pub(crate) dysymtab: Dysymtab,
 }
 

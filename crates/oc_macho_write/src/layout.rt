@@ -20,7 +20,7 @@ use oc_neutral::Neutral;
 use oc_shelf::{Layout, aligned_place};
 use std::alloc::Global;
 
-/// The size of the command for the segment, with the section headers behind it. Constant time.
+/// The size of the command for the segment, with the section headers after it. Constant time.
 pub(crate) fn segment_length(word: Word, sections: usize) -> u64
     requires { sections < 2 ^ 32 }
     ensures length { (n : Object) → length n.sections ≡ sections → result ≡ file.segment_length word n }
@@ -38,7 +38,7 @@ pub(crate) fn commands_length(word: Word, sections: usize) -> u64
     segment_length(word, sections) + SYMTAB_COMMAND_SIZE as u64 + u64::from(DYSYMTAB_COMMAND_SIZE)
 }
 
-/// Where the bytes of the sections begin: address 0 stands there. Constant time.
+/// Where the bytes of the sections begin: address 0 lies there. Constant time.
 pub(crate) fn contents_begin(word: Word, sections: usize) -> u64
     requires { sections < 2 ^ 32 }
     ensures place { (n : Object) → length n.sections ≡ sections → result ≡ file.contents_begin word n }
@@ -47,7 +47,7 @@ pub(crate) fn contents_begin(word: Word, sections: usize) -> u64
     mach_header_size(word) + commands_length(word, sections)
 }
 
-// entries stand at a multiple of an address's bytes, where there are some
+// entries lie at a multiple of an address's bytes, if there are any
 fn entries_align(word: Word, count: usize) -> u64
     ensures align { result ≡ file.entries_align word count }
     ensures some { 1 ≤ result }
@@ -56,7 +56,8 @@ fn entries_align(word: Word, count: usize) -> u64
     if count == 0 { 1 } else { word_bytes(word) }
 }
 
-// where a part begins, behind a place: the bytes of a section as far behind the first as its address is
+// where a part begins, after a place: the bytes of a section as far after the first as its address
+// is
 fn part_begin(word: Word, neutral: &Neutral, bodies: &Bodies, at: u64, part: Part) -> u64
     requires fitted { IsFitted (mach_format word) neutral.now }
     requires bodies { AreBodies word neutral.now bodies.now }
@@ -94,7 +95,7 @@ fn lay(layout: &mut Layout, begin: u64, size: u64) -> Result<(), NoMemory>
     Ok(())
 }
 
-/// Where these parts of the file stand. `NoMemory` where memory ran out. Linear in the parts.
+/// Where these parts of the file lie. `NoMemory` where memory ran out. Linear in the parts.
 pub(crate) fn layout_of(
     alloc: Global,
     word: Word,

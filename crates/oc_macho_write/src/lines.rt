@@ -1,4 +1,4 @@
-//! The lines of the symbol table: what stands in it, in its order (Mach-O reference, "nlist" and
+//! The lines of the symbol table: what it contains, in its order (Mach-O reference, "nlist" and
 //! "dysymtab_command"; our profile).
 ghost use Rattle.std.specs.Prelude.{◌≡◌, ◌<◌, ◌+◌, ◌++◌, ◌&&◌, ℕ, [], ◌∷◌, if◌then◌else◌, length, map, false, slice_index_or, Some, IfOk, OnOk};
 ghost use Rattle.oc_linking.specs.Parts as parts;

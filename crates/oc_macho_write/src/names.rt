@@ -18,14 +18,14 @@ pub(crate) fn section_symbol_name(alloc: Global, k: u64) -> Result<Bytes, NoMemo
     Bytes::from_slice(alloc, text.as_bytes())
 }
 
-// where the first comma stands
+// where the first comma lies
 fn comma_at(name: &[u8]) -> Option<usize>
     ensures { result ≡ comma_place name.now }
 {
     name.iter().position(|byte| *byte == 44)
 }
 
-/// The segment in the name of a section: what stands before the first comma. Linear in the name.
+/// The segment in the name of a section: what comes before the first comma. Linear in the name.
 pub(crate) fn segment_of(name: &[u8]) -> &[u8]
     ensures { result.now ≡ kinds.segment_of name.now }
 {
@@ -35,7 +35,7 @@ pub(crate) fn segment_of(name: &[u8]) -> &[u8]
     }
 }
 
-/// The section in it: what stands behind that comma. Linear in the name.
+/// The section in it: what comes after that comma. Linear in the name.
 pub(crate) fn section_of(name: &[u8]) -> &[u8]
     ensures { result.now ≡ kinds.section_of name.now }
 {
@@ -45,7 +45,7 @@ pub(crate) fn section_of(name: &[u8]) -> &[u8]
     }
 }
 
-/// The offset of a name in a string table; 0, where the empty name stands, if it was not given. It is
+/// The offset of a name in a string table; 0, where the empty name lies, if it was not given. It is
 /// looked for first at the position `near` among the given names: time as for `Table::offset_near`.
 pub(crate) fn offset_in(names: &Table, near: usize, name: &[u8]) -> u32
     ensures { (given : List (List ℕ)) → names.now ≡ table_with given → result ≡ layout.offset_in given name.now }

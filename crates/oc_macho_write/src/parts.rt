@@ -15,13 +15,13 @@ use std::alloc::Global;
 pub(crate) enum Part {
     /// The file header.
     FileHead,
-    /// The command for the segment, without the section headers behind it.
+    /// The command for the segment, without the section headers after it.
     SegmentHead,
     /// The section headers.
     SectionHeads,
     /// The command that places symbols and strings.
     SymtabHead,
-    /// The command that tells the groups of symbols.
+    /// The command that lists the groups of symbols.
     DysymtabHead,
     /// The bytes of a section.
     Raw(u32),

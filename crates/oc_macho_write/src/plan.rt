@@ -19,7 +19,7 @@ pub struct MachParts {
     pub(crate) word: Word,
     /// The headers.
     pub(crate) heads: Heads,
-    /// What stands in the file, in its order.
+    /// What the file contains, in its order.
     pub(crate) parts: Vec<Part>,
     /// With the numbers in their fields.
     pub(crate) sections: Vec<Section>,

@@ -11,7 +11,7 @@ ghost use Rattle.oc_macho_write.specs.Values.{AreAddresses};
 
 use crate::addresses::Addresses;
 use crate::bodies::bodies_of;
-use crate::forms::Scene;
+use crate::forms::FieldContext;
 use crate::heads::heads_of;
 use crate::layout::layout_of;
 use crate::lines::lines_of;
@@ -32,12 +32,12 @@ fn sections_of(word: Word, addresses: &[u64], neutral: Neutral) -> Vec<Section>
 {
     neutral.is_object();
     let (_groups, sections, symbols, relocs) = neutral.into_parts();
-    let scene = Scene {
+    let context = FieldContext {
         word,
         addresses,
         symbols: &symbols,
     };
-    with_numbers(&scene, &relocs, sections)
+    with_numbers(&context, &relocs, sections)
 }
 
 // what the file of an object is made of, and where its parts stand

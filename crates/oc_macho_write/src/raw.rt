@@ -1,9 +1,9 @@
 //! The numbers in the fields of relocations (Mach-O reference, "Relocation Data Structures").
-use crate::forms::Scene;
+use crate::forms::FieldContext;
 use oc_neutral::Reloc;
 use oc_plans::FieldNumbers;
 
-impl FieldNumbers for Scene<'_> {
+impl FieldNumbers for FieldContext<'_> {
     ghost use Rattle.oc_macho_write.specs.Relocations.{CanTell, IsNumbering};
 
     ghost tells = { IsNumbering };

@@ -8,12 +8,12 @@ ghost use Rattle.oc_neutral.specs.Objects.{Object};
 ghost use Rattle.oc_macho.specs.MachHeader.{mach_format};
 ghost use Rattle.oc_macho_file.specs.Bodies as bodies;
 ghost use Rattle.oc_macho_file.specs.Lines.{numbered_lines};
-ghost use Rattle.oc_macho_write.specs.Forms.{IsFor, IsReady, IsScene, IsWritten};
+ghost use Rattle.oc_macho_write.specs.Forms.{IsFor, IsReady, IsFieldContext, IsWritten};
 ghost use Rattle.oc_macho_write.specs.Numbers.{IsNumbered};
 ghost use Rattle.oc_macho_write.specs.Relocations.{all_entries, HasNumbers};
 ghost use Rattle.oc_macho_write.specs.Words.{items_of};
 
-use crate::forms::{Scene, Standing, length_of, standing_at, taken_section, takes_place};
+use crate::forms::{FieldContext, SpelledReloc, length_of, spelled_at, taken_section, takes_place};
 use crate::numbers::Numbers;
 use oc_base::{NoMemory, Word};
 use oc_chains::Field;
@@ -23,7 +23,12 @@ use oc_target::Spelling;
 use std::alloc::Global;
 
 // an entry that is not scattered, which takes the place of its field or not
-fn plain_entry(standing: &Standing, r_pcrel: u8, r_type: u8, refers: Reference) -> RelocationInfo
+fn plain_entry(
+    standing: &SpelledReloc,
+    r_pcrel: u8,
+    r_type: u8,
+    refers: Reference,
+) -> RelocationInfo
     ensures { result ≡ record { r_address = standing.now.at; r_pcrel = r_pcrel; r_length = relocs.length_of standing.now.reloc.form.width; r_type = r_type; refers = refers } }
 {
     RelocationInfo {
@@ -52,55 +57,55 @@ fn scattered_entry(r_address: u32, r_type: u8, r_value: u64) -> RelocationInfo
 // the two entries of a pair: in i386 with addresses of sections, the one that is taken second; in x86-64
 // the one that is taken first
 fn pair_of(
-    scene: Scene<'_>,
+    context: FieldContext<'_>,
     numbers: &Numbers,
-    standing: &Standing,
+    standing: &SpelledReloc,
     first: u8,
     second: u8,
 ) -> (RelocationInfo, RelocationInfo)
-    requires ready { IsReady scene }
-    requires there { IsFor scene standing.now.section standing.now.reloc }
-    requires numbers { HasNumbers scene numbers.now }
-    ensures { (n : Object) (is : bodies.Standing) → IsScene scene.entry.word n scene.entry → IsNumbered scene.entry.word n numbers.now → IsWritten scene.entry.word standing.now is → is.row.number ≡ first → is.row.second ≡ Some second → result.0 ∷ result.1 ∷ [] ≡ bodies.pair_entries scene.entry.word n (numbered_lines scene.entry.word n) is second }
+    requires ready { IsReady context }
+    requires there { IsFor context standing.now.section standing.now.reloc }
+    requires numbers { HasNumbers context numbers.now }
+    ensures { (n : Object) (is : bodies.WrittenReloc) → IsFieldContext context.entry.word n context.entry → IsNumbered context.entry.word n numbers.now → IsWritten context.entry.word standing.now is → is.row.number ≡ first → is.row.second ≡ Some second → result.0 ∷ result.1 ∷ [] ≡ bodies.pair_entries context.entry.word n (numbered_lines context.entry.word n) is second }
 {
     let target = standing.reloc.target;
     let taken = taken_section(standing);
-    match scene.word {
+    match context.word {
         Word::W32 => (
-            scattered_entry(standing.at, first, scene.end_section_address(target)),
-            scattered_entry(0, second, scene.address_of(taken)),
+            scattered_entry(standing.at, first, context.end_section_address(target)),
+            scattered_entry(0, second, context.address_of(taken)),
         ),
         Word::W64 => {
             let subtrahend = Reference::Symbol(numbers.of_section(taken));
             (
                 plain_entry(standing, 0, first, subtrahend),
-                plain_entry(standing, 0, second, numbers.of_target(scene.word, target)),
+                plain_entry(standing, 0, second, numbers.of_target(context.word, target)),
             )
         }
     }
 }
 
-// adds the entries of a relocation that stands
+// adds the entries of a relocation at its place
 fn add_standing(
     entries: &mut Vec<RelocationInfo>,
-    scene: Scene<'_>,
+    context: FieldContext<'_>,
     numbers: &Numbers,
-    standing: &Standing,
+    standing: &SpelledReloc,
 ) -> Result<(), NoMemory>
-    requires ready { IsReady scene }
-    requires there { IsFor scene standing.now.section standing.now.reloc }
-    requires written { (is : bodies.Standing) × IsWritten scene.word standing.now is }
-    requires numbers { HasNumbers scene numbers.now }
-    ensures { OnOk result ((n : Object) (is : bodies.Standing) → IsScene scene.entry.word n scene.entry → IsNumbered scene.entry.word n numbers.now → IsWritten scene.entry.word standing.now is → entries.new.items ≡ entries.old.items ++ bodies.standing_entries scene.entry.word n (numbered_lines scene.entry.word n) is) }
+    requires ready { IsReady context }
+    requires there { IsFor context standing.now.section standing.now.reloc }
+    requires written { (is : bodies.WrittenReloc) × IsWritten context.word standing.now is }
+    requires numbers { HasNumbers context numbers.now }
+    ensures { OnOk result ((n : Object) (is : bodies.WrittenReloc) → IsFieldContext context.entry.word n context.entry → IsNumbered context.entry.word n numbers.now → IsWritten context.entry.word standing.now is → entries.new.items ≡ entries.old.items ++ bodies.standing_entries context.entry.word n (numbered_lines context.entry.word n) is) }
 {
     match standing.spelling {
         Spelling::One(number) => {
-            let refers = numbers.of_target(scene.word, standing.reloc.target);
+            let refers = numbers.of_target(context.word, standing.reloc.target);
             let r_pcrel = u8::from(takes_place(standing.reloc));
             entries.push(plain_entry(standing, r_pcrel, number as u8, refers))?;
         }
         Spelling::Pair(number, behind) => {
-            let (first, second) = pair_of(scene, numbers, standing, number as u8, behind as u8);
+            let (first, second) = pair_of(context, numbers, standing, number as u8, behind as u8);
             entries.push(first)?;
             entries.push(second)?;
         }
@@ -111,18 +116,18 @@ fn add_standing(
 // adds the entries of a relocation of a section, where the format has its form
 fn add_entries(
     entries: &mut Vec<RelocationInfo>,
-    scene: Scene<'_>,
+    context: FieldContext<'_>,
     numbers: &Numbers,
     section: u32,
     field: Field<Reloc>,
 ) -> Result<(), NoMemory>
-    requires ready { IsReady scene }
-    requires there { IsFor scene section field.item }
-    requires numbers { HasNumbers scene numbers.now }
-    ensures { OnOk result ((n : Object) → IsScene scene.entry.word n scene.entry → IsNumbered scene.entry.word n numbers.now → entries.new.items ≡ entries.old.items ++ bodies.entries_at scene.entry.word n (numbered_lines scene.entry.word n) section field) }
+    requires ready { IsReady context }
+    requires there { IsFor context section field.item }
+    requires numbers { HasNumbers context numbers.now }
+    ensures { OnOk result ((n : Object) → IsFieldContext context.entry.word n context.entry → IsNumbered context.entry.word n numbers.now → entries.new.items ≡ entries.old.items ++ bodies.entries_at context.entry.word n (numbered_lines context.entry.word n) section field) }
 {
-    match standing_at(scene.word, section, field.at, field.item) {
-        Some(standing) => add_standing(entries, scene, numbers, &standing),
+    match spelled_at(context.word, section, field.at, field.item) {
+        Some(standing) => add_standing(entries, context, numbers, &standing),
         None => Ok(()),
     }
 }
@@ -131,19 +136,19 @@ fn add_entries(
 fn entries_of(
     alloc: Global,
     neutral: &Neutral,
-    scene: Scene<'_>,
+    context: FieldContext<'_>,
     numbers: &Numbers,
     section: u32,
 ) -> Result<Vec<RelocationInfo>, NoMemory>
-    requires fitted { IsFitted (mach_format scene.word) neutral.now }
-    requires scene { IsScene scene.word neutral.now scene }
-    requires numbers { IsNumbered scene.word neutral.now numbers.now }
+    requires fitted { IsFitted (mach_format context.word) neutral.now }
+    requires context { IsFieldContext context.word neutral.now context }
+    requires numbers { IsNumbered context.word neutral.now numbers.now }
     requires there { section < length neutral.now.sections }
-    ensures { IfOk result (λ entries. entries.items ≡ bodies.entries_of scene.entry.word neutral.now (numbered_lines scene.entry.word neutral.now) section) }
+    ensures { IfOk result (λ entries. entries.items ≡ bodies.entries_of context.entry.word neutral.now (numbered_lines context.entry.word neutral.now) section) }
 {
     let mut entries = Vec::new(alloc);
     for field in neutral.relocs(section) {
-        add_entries(&mut entries, scene, numbers, section, field)?;
+        add_entries(&mut entries, context, numbers, section, field)?;
     }
     Ok(entries)
 }
@@ -153,17 +158,17 @@ fn entries_of(
 pub(crate) fn all_entries(
     alloc: Global,
     neutral: &Neutral,
-    scene: Scene<'_>,
+    context: FieldContext<'_>,
     numbers: &Numbers,
 ) -> Result<Vec<Vec<RelocationInfo>>, NoMemory>
-    requires fitted { IsFitted (mach_format scene.word) neutral.now }
-    requires scene { IsScene scene.word neutral.now scene }
-    requires numbers { IsNumbered scene.word neutral.now numbers.now }
-    ensures { IfOk result (λ entries. items_of entries.items ≡ all_entries scene.entry.word neutral.now) }
+    requires fitted { IsFitted (mach_format context.word) neutral.now }
+    requires context { IsFieldContext context.word neutral.now context }
+    requires numbers { IsNumbered context.word neutral.now numbers.now }
+    ensures { IfOk result (λ entries. items_of entries.items ≡ all_entries context.entry.word neutral.now) }
 {
     let mut entries = Vec::with_capacity(alloc, neutral.section_count() as usize)?;
     for k in 0..neutral.section_count() {
-        entries.push(entries_of(alloc, neutral, scene, numbers, k)?)?;
+        entries.push(entries_of(alloc, neutral, context, numbers, k)?)?;
     }
     Ok(entries)
 }

@@ -19,7 +19,7 @@ use oc_shelf::aligned_place;
 use oc_strings::Table;
 use std::alloc::Global;
 
-/// Before the first name of a string table stands the empty one (our profile).
+/// Before the first name of a string table comes the empty one (our profile).
 pub(crate) const STRINGS_HEAD: u32 = 1;
 
 // the name of a line
@@ -76,8 +76,8 @@ fn text_size(names: &Table) -> u64
     u64::from(STRINGS_HEAD) + names.bytes().len() as u64
 }
 
-/// The size of a string table, with the empty name before it and zeros behind it up to a multiple of an
-/// address's bytes. Constant time.
+/// The size of a string table, with the empty name before it and zeros after it up to a multiple of
+/// an address's bytes. Constant time.
 pub(crate) fn strings_size(word: Word, names: &Table) -> u64
     requires { length (strings_of names.now.names) < 2 ^ 63 }
     ensures { result ≡ aligned (address_size word) (length (strings_of names.now.names)) }
@@ -85,7 +85,7 @@ pub(crate) fn strings_size(word: Word, names: &Table) -> u64
     aligned_place(word_bytes(word), text_size(names))
 }
 
-/// How many zeros stand behind it. Constant time.
+/// How many zeros follow it. Constant time.
 pub(crate) fn padding(word: Word, names: &Table) -> u64
     requires { length (strings_of names.now.names) < 2 ^ 63 }
     ensures { result ≡ aligned (address_size word) (length (strings_of names.now.names)) - length (strings_of names.now.names) }

@@ -20,7 +20,7 @@ use oc_neutral::{Neutral, Symbol};
 use oc_strings::Table;
 use std::alloc::Global;
 
-// the entry of the symbol of a section, which stands at its start
+// the entry of the symbol of a section, which lies at its start
 fn own_nlist(
     alloc: Global,
     neutral: &Neutral,
@@ -90,9 +90,9 @@ fn line_nlist(
     }
 }
 
-/// The entries of these lines, whose names stand in this table, of an object whose sections have these
-/// addresses. `NoMemory` where memory ran out. Linear in the lines, but for looking up names in the
-/// string table, each where that of its line was given.
+/// The entries of these lines, whose names are in this table, of an object whose sections have
+/// these addresses. `NoMemory` where memory ran out. Linear in the lines, but for looking up names
+/// in the string table, each where that of its line was given.
 pub(crate) fn nlists_of(
     alloc: Global,
     word: Word,

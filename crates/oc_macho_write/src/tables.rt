@@ -141,8 +141,8 @@ pub(crate) fn headers_window(
     done
 }
 
-/// A window of a string table with the empty name before it and zeros behind it, as `copy_window` gives
-/// it. Linear in `out`.
+/// A window of a string table with the empty name before it and zeros after it, as `copy_window`
+/// gives it. Linear in `out`.
 pub(crate) fn strings_window(word: Word, names: &Table, from: u64, out: &mut [u8]) -> usize
     requires { length (strings_of names.now.names) < 2 ^ 63 }
     ensures { IsFilled (filled (address_size word) (strings_of names.now.names)) from out.old out.new result }

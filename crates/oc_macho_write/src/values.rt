@@ -6,14 +6,14 @@ ghost use Rattle.oc_neutral.specs.KeySymbols as keys;
 ghost use Rattle.oc_shows.specs.Manners.{hidden, mach_vis};
 ghost use Rattle.oc_neutral.specs.Normal.{Place as Held};
 ghost use Rattle.oc_macho_file.specs.Symbols as symbols;
-ghost use Rattle.oc_macho_write.specs.Values.{AreAddresses, AreStood};
+ghost use Rattle.oc_macho_write.specs.Values.{AreAddresses, AreValueFields};
 
 use oc_macho::{MOST_ALIGN_EXPONENT, N_ABS, N_EXT, N_PEXT, N_SECT, N_UNDF, N_WEAK_DEF, N_WEAK_REF};
 use oc_neutral::{Binding, Fallback, Neutral, Value, Visibility};
 
 /// A value, and the section that it counts from.
 #[derive(Clone, Copy)]
-pub(crate) struct Stood {
+pub(crate) struct ValueFields {
     /// One of the constants `N_UNDF`, `N_ABS` and `N_SECT`.
     pub(crate) n_type: u8,
     /// The number of the section, from 1, or 0.
@@ -36,10 +36,10 @@ pub(crate) fn exponent_of(align: u32) -> u32
 }
 
 // what is defined elsewhere; of a common the value is its size
-fn elsewhere(size: u64) -> Stood
-    ensures { AreStood result (symbols.stood_elsewhere size) }
+fn elsewhere(size: u64) -> ValueFields
+    ensures { AreValueFields result (symbols.value_fields_elsewhere size) }
 {
-    Stood {
+    ValueFields {
         n_type: N_UNDF,
         n_sect: 0,
         n_value: size,
@@ -47,13 +47,18 @@ fn elsewhere(size: u64) -> Stood
 }
 
 /// An offset in the section at a position, where the sections have these addresses. Constant time.
-pub(crate) fn at_place(neutral: &Neutral, addresses: &[u64], section: u32, offset: u32) -> Stood
+pub(crate) fn at_place(
+    neutral: &Neutral,
+    addresses: &[u64],
+    section: u32,
+    offset: u32,
+) -> ValueFields
     requires addresses { AreAddresses neutral.now addresses.now }
     requires there { section < length neutral.now.sections }
-    ensures { AreStood result (symbols.stood_at neutral.now section offset) }
+    ensures { AreValueFields result (symbols.value_fields_at neutral.now section offset) }
 {
     let _ = neutral;
-    Stood {
+    ValueFields {
         n_type: N_SECT,
         n_sect: (section + 1) as u8,
         n_value: addresses[section as usize] + u64::from(offset),
@@ -61,14 +66,14 @@ pub(crate) fn at_place(neutral: &Neutral, addresses: &[u64], section: u32, offse
 }
 
 // a value
-fn of_value(neutral: &Neutral, addresses: &[u64], value: Value) -> Stood
+fn of_value(neutral: &Neutral, addresses: &[u64], value: Value) -> ValueFields
     requires addresses { AreAddresses neutral.now addresses.now }
     requires there { IsValue neutral.now value }
-    ensures { AreStood result (symbols.stood_by neutral.now value) }
+    ensures { AreValueFields result (symbols.value_fields_by neutral.now value) }
 {
     match value {
         Value::Place { section, offset } => at_place(neutral, addresses, section, offset),
-        Value::Absolute(number) => Stood {
+        Value::Absolute(number) => ValueFields {
             n_type: N_ABS,
             n_sect: 0,
             n_value: number,
@@ -91,10 +96,10 @@ pub(crate) fn global_place(binding: Binding) -> Option<(u32, u32)>
 }
 
 // the place of the Global that a fallback names
-fn of_named(neutral: &Neutral, addresses: &[u64], place: Option<(u32, u32)>) -> Stood
+fn of_named(neutral: &Neutral, addresses: &[u64], place: Option<(u32, u32)>) -> ValueFields
     requires addresses { AreAddresses neutral.now addresses.now }
     requires there { IfSome place (λ p. p.0 < length neutral.now.sections) }
-    ensures { AreStood result (option_map_or (λ (p : Held). symbols.stood_at neutral.now p.0 p.1) place (symbols.stood_elsewhere 0)) }
+    ensures { AreValueFields result (option_map_or (λ (p : Held). symbols.value_fields_at neutral.now p.0 p.1) place (symbols.value_fields_elsewhere 0)) }
 {
     match place {
         Some((section, offset)) => at_place(neutral, addresses, section, offset),
@@ -102,11 +107,11 @@ fn of_named(neutral: &Neutral, addresses: &[u64], place: Option<(u32, u32)>) -> 
     }
 }
 
-// a fallback; a Name stands where its Global does
-fn of_fallback(neutral: &Neutral, addresses: &[u64], fallback: Fallback) -> Stood
+// a fallback; a Name lies where its Global does
+fn of_fallback(neutral: &Neutral, addresses: &[u64], fallback: Fallback) -> ValueFields
     requires addresses { AreAddresses neutral.now addresses.now }
     requires there { IsFallback neutral.now fallback }
-    ensures { AreStood result (symbols.stood_for neutral.now fallback) }
+    ensures { AreValueFields result (symbols.value_fields_for neutral.now fallback) }
 {
     neutral.is_object();
     match fallback {
@@ -117,10 +122,10 @@ fn of_fallback(neutral: &Neutral, addresses: &[u64], fallback: Fallback) -> Stoo
 }
 
 /// The value of a symbol, where the sections have these addresses. Constant time.
-pub(crate) fn of_binding(neutral: &Neutral, addresses: &[u64], binding: Binding) -> Stood
+pub(crate) fn of_binding(neutral: &Neutral, addresses: &[u64], binding: Binding) -> ValueFields
     requires addresses { AreAddresses neutral.now addresses.now }
     requires there { IsBinding neutral.now binding }
-    ensures { AreStood result (symbols.stood_of neutral.now binding) }
+    ensures { AreValueFields result (symbols.value_fields_of neutral.now binding) }
 {
     match binding {
         Binding::Local(value) | Binding::Global(value) => of_value(neutral, addresses, value),
@@ -171,7 +176,7 @@ fn private_flag(binding: Binding, visibility: Visibility) -> u8
 }
 
 /// The type of a symbol of that value, with who sees it. Constant time.
-pub(crate) fn type_by(stood: Stood, binding: Binding, visibility: Visibility) -> u8
+pub(crate) fn type_by(stood: ValueFields, binding: Binding, visibility: Visibility) -> u8
     requires { stood.n_type ≤ 14 }
     ensures { result ≡ stood.n_type + symbols.external_flag binding + symbols.private_flag (mach_vis binding visibility) }
 {

@@ -1,10 +1,10 @@
-//! Windows of bytes that stand one behind another.
+//! Windows of bytes that lie one after another.
 ghost use Rattle.std.specs.Prelude.{◌≡◌, ◌+◌, ◌++◌, ◌^◌, ◌<◌, length, replicate};
 ghost use Rattle.oc_outside.specs.Windows.{IsFilled};
 
 use oc_shelf::{copy_window, zero_window};
 
-/// A window of two runs of bytes, one behind the other, as `copy_window` gives it. Linear in `out`.
+/// A window of two runs of bytes, one after the other, as `copy_window` gives it. Linear in `out`.
 pub(crate) fn pair_window(first: &[u8], second: &[u8], from: u64, out: &mut [u8]) -> usize
     ensures { IsFilled (first.now ++ second.now) from out.old out.new result }
 {
@@ -13,7 +13,7 @@ pub(crate) fn pair_window(first: &[u8], second: &[u8], from: u64, out: &mut [u8]
     done + copy_window(second, past, &mut out[done..])
 }
 
-/// A window of bytes and of so many zeros behind them, as `copy_window` gives it. Linear in `out`.
+/// A window of bytes and of so many zeros after them, as `copy_window` gives it. Linear in `out`.
 pub(crate) fn filled_window(bytes: &[u8], zeros: u64, from: u64, out: &mut [u8]) -> usize
     ensures { IsFilled (bytes.now ++ replicate zeros 0) from out.old out.new result }
 {

@@ -31,7 +31,7 @@ use Rattle.oc_neutral.specs.Relocated.{is_relocated}
 use Rattle.oc_neutral.specs.Shifts.{field_shift}
 use Rattle.oc_neutral.specs.Spelling.{written_row}
 use Rattle.oc_neutral.specs.Stored.{is_stored}
-use Rattle.oc_neutral.specs.TargetRelocations.{is_local_number, is_target, is_wrong_target, reloc_conditions, standing, standing_conditions, standing_in, Standing}
+use Rattle.oc_neutral.specs.TargetRelocations.{is_local_number, is_target, is_wrong_target, reloc_conditions, placed_relocs, standing_conditions, placed_relocs_in, PlacedReloc}
 use Rattle.oc_neutral.specs.TargetSections.{conditions_at, each_of, section_conditions, section_count, section_stages}
 use Rattle.oc_neutral.specs.TargetSymbols.{names_length, symbol_conditions, symbol_count, symbol_stages}
 use Rattle.oc_made.specs.Functions.{call, calls_of, elf_format, made_object, symbols_of, text_section}
@@ -137,10 +137,10 @@ module _ (count : ℕ) (few : count ≤ 100000) where
   call_met W64 k at = met (is_wrong_target (n W64) (call W64 k)) _ (ap (λ b. b || false || false) (no_number W64 k))
 
   -- all of them do
-  calls_met : (w : Word) → AllByRecursion (λ (x : Standing). first_broken (standing_conditions (to w) (n w) x) ≡ None) (standing (n w))
+  calls_met : (w : Word) → AllByRecursion (λ (x : PlacedReloc). first_broken (standing_conditions (to w) (n w) x) ≡ None) (placed_relocs (n w))
   calls_met w =
-      all_joined (λ (x : Standing). first_broken (standing_conditions (to w) (n w) x) ≡ None) (standing_in 0 (calls_of w count)) []
-      (all_mapped (λ (x : Standing). first_broken (standing_conditions (to w) (n w) x) ≡ None) (λ (x : Field Reloc). record { section = 0; at = x.at; reloc = x.item }) (calls_of w count)
+      all_joined (λ (x : PlacedReloc). first_broken (standing_conditions (to w) (n w) x) ≡ None) (placed_relocs_in 0 (calls_of w count)) []
+      (all_mapped (λ (x : PlacedReloc). first_broken (standing_conditions (to w) (n w) x) ≡ None) (λ (x : Field Reloc). record { section = 0; at = x.at; reloc = x.item }) (calls_of w count)
       (all_calls w count (λ (x : Field Reloc). first_broken (standing_conditions (to w) (n w) (record { section = 0; at = x.at; reloc = x.item })) ≡ None)
       (λ i l. (call_met w ((5 * i + 1) % count) (16 * i + 1), call_met w (count + i % 10) (16 * i + 6)))))
       tt
@@ -155,13 +155,13 @@ module _ (count : ℕ) (few : count ≤ 100000) where
       (first_upto (λ i. first_broken (conditions_at (to w) (n w) i)) 1)
       (first_broken (symbol_count (to w) (n w)))
       (first_upto (λ i. first_broken (each_of (symbol_conditions (to w) (n w)) (symbols_of count) i)) (length (symbols_of count)))
-      (first_upto (λ i. first_broken (option_map_or (standing_conditions (to w) (n w)) (slice_get (standing (n w)) i) [])) (length (standing (n w))))
+      (first_upto (λ i. first_broken (option_map_or (standing_conditions (to w) (n w)) (slice_get (placed_relocs (n w)) i) [])) (length (placed_relocs (n w))))
       (headers_few w)
       (none_upto (λ i. first_broken (conditions_at (to w) (n w) i)) 1 (section_met w))
       (symbols_few w)
       (none_upto (λ i. first_broken (each_of (symbol_conditions (to w) (n w)) (symbols_of count) i)) (length (symbols_of count)) (none_broken (symbol_conditions (to w) (n w)) (symbols_of count) (symbols_met w)))
-      (none_upto (λ i. first_broken (option_map_or (standing_conditions (to w) (n w)) (slice_get (standing (n w)) i) [])) (length (standing (n w)))
-      (none_broken (standing_conditions (to w) (n w)) (standing (n w)) (calls_met w)))
+      (none_upto (λ i. first_broken (option_map_or (standing_conditions (to w) (n w)) (slice_get (placed_relocs (n w)) i) [])) (length (placed_relocs (n w)))
+      (none_broken (standing_conditions (to w) (n w)) (placed_relocs (n w)) (calls_met w)))
 
   -- the section is named as its kind is
   text_named : (w : Word) → IsNamed (to w) 0 (text_section count)

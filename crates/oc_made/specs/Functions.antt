@@ -31,7 +31,7 @@ use Rattle.oc_neutral.specs.Objects.{Object}
 
 -- ... the code
 
--- the bytes of a function: two calls, each E8 and a field, and six times 90. Zeros stand under the fields
+-- the bytes of a function: two calls, each E8 and a field, and six times 90. The bytes of the fields are zeros
 abbrev pub function_bytes : List ℕ
 function_bytes = 0xE8 ∷ 0 ∷ 0 ∷ 0 ∷ 0 ∷ 0xE8 ∷ 0 ∷ 0 ∷ 0 ∷ 0 ∷ 0x90 ∷ 0x90 ∷ 0x90 ∷ 0x90 ∷ 0x90 ∷ 0x90 ∷ []
 
@@ -58,7 +58,7 @@ text_section count = record {
 
 -- ... the symbols
 
--- the symbol at a position. In the canonical file two others stand before all of them: the null one, and that of the section
+-- the symbol at a position. In the canonical file two others come before all of them: the null one, and that of the section
 abbrev pub symbol : List ℕ → Binding → Mark → ℕ → Symbol
 symbol name binding mark position = record {
   name = name;
@@ -70,11 +70,11 @@ symbol name binding mark position = record {
   number = position + 2;
 }
 
--- the symbol of function i, which stands at 16i
+-- the symbol of function i, which lies at 16i
 abbrev pub function_symbol : ℕ → Symbol
 function_symbol i = symbol (codes "f_" ++ decimal i) (Global (value.Place 0 (16 * i))) Function i
 
--- symbol k outside, behind those of so many functions
+-- symbol k outside, after those of so many functions
 abbrev pub outside_symbol : ℕ → ℕ → Symbol
 outside_symbol count k = symbol (codes "x_" ++ decimal k) Undefined NoType (count + k)
 

@@ -32,7 +32,7 @@ fn call(word: Word, symbol: u32) -> Reloc
     }
 }
 
-// puts a call at `at` behind all others of the one section; `NoMemory` where memory ran out
+// puts a call at `at` after all others of the one section; `NoMemory` where memory ran out
 fn put_behind(calls: &mut Chains<Reloc>, at: u32, call: Reloc) -> Result<(), NoMemory>
     requires alone { length calls.old.lists ≡ 1 }
     requires behind { FollowFrom 0 (list_of calls.old.lists 0 ++ field at 4 call ∷ []) }

@@ -10,8 +10,8 @@ use std::alloc::Global;
 /// How many bytes a function has.
 pub(crate) const FUNCTION_SIZE: u32 = 16;
 
-/// The bytes of a function: two calls, each `E8` and a field, and six times `90`. Zeros stand under the
-/// fields.
+/// The bytes of a function: two calls, each `E8` and a field, and six times `90`. The bytes under
+/// the fields are zeros.
 const FUNCTION: [u8; 16] = [
     0xE8, 0, 0, 0, 0, 0xE8, 0, 0, 0, 0, 0x90, 0x90, 0x90, 0x90, 0x90, 0x90,
 ];

@@ -53,7 +53,7 @@ fn function_symbol(alloc: Global, i: u32) -> Result<Symbol, NoMemory>
     )
 }
 
-// the symbol with number `k` of those outside, behind those of so many functions
+// the symbol with number `k` of those outside, after those of so many functions
 fn outside_symbol(alloc: Global, count: u32, k: u32) -> Result<Symbol, NoMemory>
     requires functions { count ≤ 100000 }
     requires outside { k < 10 }

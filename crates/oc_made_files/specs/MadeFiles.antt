@@ -25,7 +25,7 @@ shown_in m n = shown_from 0 (m.lines n)
 abbrev pub seen_in : Manner → Object → Object
 seen_in m n = seen_with m n (shown_in m n)
 
--- at an offset of section k stands a field, which is the relocation as it is seen
+-- at an offset of section k lies a field, which is the relocation as it is seen
 pub record IsMadeField (g : Dialect) (m : Manner) (c : List ℕ) (n : Object) (k at : ℕ) (r : Reloc) : Type 0 where
   pub field : Field
   pub here : g.rules.fields c all k at ≡ Some field

@@ -26,7 +26,7 @@ use Rattle.oc_neutral.specs.KindRules.{has_nul}
 use Rattle.oc_neutral.specs.Objects.{Object}
 use Rattle.oc_neutral.specs.Shifts.{field_shift}
 use Rattle.oc_neutral.specs.Spelling.{written_row}
-use Rattle.oc_neutral.specs.TargetRelocations.{is_local_number, is_target, is_wrong_target, reloc_conditions, standing, standing_conditions, standing_in, Standing}
+use Rattle.oc_neutral.specs.TargetRelocations.{is_local_number, is_target, is_wrong_target, reloc_conditions, placed_relocs, standing_conditions, placed_relocs_in, PlacedReloc}
 use Rattle.oc_neutral.specs.TargetSections.{conditions_at, each_of, section_conditions, section_count, section_stages}
 use Rattle.oc_neutral.specs.TargetSymbols.{names_length, symbol_conditions, symbol_count, symbol_stages}
 use Rattle.oc_made.specs.Functions.{call, calls_of, elf_format, function_symbol, made_object, outside_symbol, symbols_of, text_section}
@@ -236,11 +236,11 @@ module _ (count : ℕ) (few : count ≤ 100000) where
   call_met BigCoff32 a k at = met (is_wrong_target (n W32) (call W32 k)) _ (ap (λ b. b || false || false) (no_number W32 k))
   call_met BigCoff64 a k at = met (is_wrong_target (n W64) (call W64 k)) _ (ap (λ b. b || false || false) (no_number W64 k))
 
-  calls_met : (to : Format) → container_of to ≢ IsElf → AllByRecursion (λ (x : Standing). first_broken (standing_conditions to (n (word_for to)) x) ≡ None) (standing (n (word_for to)))
+  calls_met : (to : Format) → container_of to ≢ IsElf → AllByRecursion (λ (x : PlacedReloc). first_broken (standing_conditions to (n (word_for to)) x) ≡ None) (placed_relocs (n (word_for to)))
   calls_met to a =
       let w : Word = word_for to in
-      all_joined (λ (x : Standing). first_broken (standing_conditions to (n w) x) ≡ None) (standing_in 0 (calls_of w count)) []
-      (all_mapped (λ (x : Standing). first_broken (standing_conditions to (n w) x) ≡ None) (λ (x : Field Reloc). record { section = 0; at = x.at; reloc = x.item }) (calls_of w count)
+      all_joined (λ (x : PlacedReloc). first_broken (standing_conditions to (n w) x) ≡ None) (placed_relocs_in 0 (calls_of w count)) []
+      (all_mapped (λ (x : PlacedReloc). first_broken (standing_conditions to (n w) x) ≡ None) (λ (x : Field Reloc). record { section = 0; at = x.at; reloc = x.item }) (calls_of w count)
       (all_calls w count (λ (x : Field Reloc). first_broken (standing_conditions to (n w) (record { section = 0; at = x.at; reloc = x.item })) ≡ None)
       (λ i l. (call_met to a ((5 * i + 1) % count) (16 * i + 1), call_met to a (count + i % 10) (16 * i + 6)))))
       tt
@@ -256,13 +256,13 @@ module _ (count : ℕ) (few : count ≤ 100000) where
       (first_upto (λ i. first_broken (conditions_at to (n w) i)) 1)
       (first_broken (symbol_count to (n w)))
       (first_upto (λ i. first_broken (each_of (symbol_conditions to (n w)) (symbols_of count) i)) (length (symbols_of count)))
-      (first_upto (λ i. first_broken (option_map_or (standing_conditions to (n w)) (slice_get (standing (n w)) i) [])) (length (standing (n w))))
+      (first_upto (λ i. first_broken (option_map_or (standing_conditions to (n w)) (slice_get (placed_relocs (n w)) i) [])) (length (placed_relocs (n w))))
       (sections_few to a)
       (none_upto (λ i. first_broken (conditions_at to (n w) i)) 1 (section_met to a))
       (symbols_few to a)
       (none_upto (λ i. first_broken (each_of (symbol_conditions to (n w)) (symbols_of count) i)) (length (symbols_of count)) (none_broken (symbol_conditions to (n w)) (symbols_of count) (symbols_met to a)))
-      (none_upto (λ i. first_broken (option_map_or (standing_conditions to (n w)) (slice_get (standing (n w)) i) [])) (length (standing (n w)))
-      (none_broken (standing_conditions to (n w)) (standing (n w)) (calls_met to a)))
+      (none_upto (λ i. first_broken (option_map_or (standing_conditions to (n w)) (slice_get (placed_relocs (n w)) i) [])) (length (placed_relocs (n w)))
+      (none_broken (standing_conditions to (n w)) (placed_relocs (n w)) (calls_met to a)))
 
 pub made_is_expressible : MadeIsExpressible
 unfolding made_object

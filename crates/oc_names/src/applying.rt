@@ -46,15 +46,15 @@ fn named(alloc: Global, edits: &[Edit], to: Format, neutral: Neutral) -> Result<
 /// The object as the user wants it for a target: sections that the target does not take are
 /// dropped, then symbols become Weak or Local, then they get further names and new ones.
 ///
-/// `Refused` with the first fault of the Edit phase, where there is one, in this order. Its index is
-/// the number of the symbol or the section in the input.
+/// `Refused` with the first fault of the Edit phase, where there is one, in this order. Its index
+/// is the number of the symbol or the section in the input.
 ///
 /// 1. `SymbolInDropped`: a nonlocal symbol in a dropped section, in order of symbols.
-/// 2. `RelocToDropped`: a field of a section that stays and refers to a dropped one, by sections and
-///    offsets; the place is the offset.
+/// 2. `RelocToDropped`: a field of a section that stays and refers to a dropped one, by sections
+///    and offsets; the place is the offset.
 /// 3. `PinnedWeak`: a pinned Global that is to become Weak, by edits and then by symbols.
-/// 4. `PinnedWeak` and `TargetKind`: a Weak whose fallback became Weak, or a Local with a number, in
-///    order of symbols.
+/// 4. `PinnedWeak` and `TargetKind`: a Weak whose fallback became Weak, or a Local with a number,
+///    in order of symbols.
 /// 5. `FoldTooWide`: a constant that does not fit its field, by sections and offsets; the place is
 ///    the offset.
 /// 6. `LimitSymbols`: more than 16,777,216 symbols, with the further ones; the index is 0 and the
@@ -64,11 +64,11 @@ fn named(alloc: Global, edits: &[Edit], to: Format, neutral: Neutral) -> Result<
 /// 8. `NameClash`: a group with the key of an earlier one; the numbers are those of their first
 ///    members.
 ///
-/// `NoMemory` where memory ran out. A refusal gives nothing back. Time is that of a sort of the names
-/// and of looking up each among those of the edits, of a comparison for each symbol and edit of a
-/// front or an end, and else linear in the object. What is not asked for is not paid for: where every
-/// section is kept and there is no edit, the object is given back as it is, at the cost of a flag a
-/// section.
+/// `NoMemory` where memory ran out. A refusal gives nothing back. Time is that of a sort of the
+/// names and of looking up each among those of the edits, of a comparison for each symbol and edit
+/// of a prefix or a suffix, and else linear in the object. What is not asked for is not paid for:
+/// where every section is kept and there is no edit, the object is given back as it is, at the cost
+/// of a flag a section.
 pub fn apply(alloc: Global, neutral: Neutral, edits: &Edits, to: Format) -> Result<Neutral, Stop>
     ensures ok { IfOk result (λ out. edited edits.now to neutral ≡ Ok out) }
     ensures refused { IfErr result (IsStepRefusal (edited edits.now to neutral)) }

@@ -25,4 +25,8 @@ pub use applying::apply;
 pub use edit::{Choice, Edit};
 pub use edits::Edits;
 pub use keep::keep_for;
-pub use laws::{edited_has_parts, edited_is_readable, edited_keeps_looks, edited_shows_file, edits_in_turn, fallbacks_keep_sites, naming_keeps_targets, nothing_is_edited, rebinding_keeps_fields, words_keep_sites};
+pub use laws::{
+    edited_has_parts, edited_is_readable, edited_keeps_looks, edited_shows_file, edits_in_turn,
+    fallbacks_keep_sites, naming_keeps_targets, nothing_is_edited, rebinding_keeps_fields,
+    words_keep_sites,
+};

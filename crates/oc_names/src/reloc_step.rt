@@ -60,7 +60,7 @@ fn left_of(
     }
 }
 
-// puts a field behind others, where there is one; `NoMemory` where memory ran out
+// puts a field after others, if there is one; `NoMemory` where memory ran out
 fn put_field(fields: &mut Vec<Field<Reloc>>, field: Option<Field<Reloc>>) -> Result<(), NoMemory>
     ensures { OnOk result (fields.new.items ≡ fields.old.items ++ option_to_list field) }
 {

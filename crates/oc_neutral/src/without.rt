@@ -140,8 +140,8 @@ fn left_of(
 
 impl Neutral {
     /// The object with the sections whose flag is set and their relocations, and without the Locals
-    /// that lie in the others. What stays keeps its order and gets new positions; groups stand in the
-    /// order of their first members.
+    /// that lie in the others. What stays keeps its order and gets new positions; groups come in
+    /// the order of their first members.
     ///
     /// `NoMemory` where memory ran out: all of it is taken before anything changes. Linear in the
     /// object; sections, symbols and relocations are not copied.

@@ -16,7 +16,7 @@ use Rattle.oc_omf.specs.Structures.{segment_read, member_read, group_read, base_
 use Rattle.oc_omf.specs.Entries.{said_by, places_in, entries_in}
 use Rattle.oc_omf.specs.Tables.{tables_of}
 use Rattle.oc_omf.specs.Symbols.{mentions_in, binding_of, symbols_in}
-use Rattle.oc_omf.specs.Fixups.{placed_upto, fixed_in}
+use Rattle.oc_omf.specs.Fixups.{subrecords_upto, fixed_in}
 use Rattle.oc_omf.specs.Targets.{meaning_of}
 use Rattle.oc_omf.specs.HeaderFaults.{entry_conditions}
 use Rattle.oc_omf.specs.SectionFaults.{form_conditions, size_conditions, group_conditions, piece_conditions, all_bytes, conditions_on}
@@ -106,7 +106,7 @@ headers =
     ∷ []
 
 headers-told : map (λ (row : FaultRow). fault_by all (file_of row)) headers ≡ map expected headers
-unfolding number_at omf_kind number_read index_read name_read each_read segment_read member_read group_read base_read public_read external_read communal_length communal_read piece_read method_read thread_read frame_read target_read displacement_read fixup_read subrecord_read said_by places_in entries_in tables_of mentions_in binding_of symbols_in placed_upto fixed_in meaning_of entry_conditions form_conditions size_conditions group_conditions piece_conditions all_bytes conditions_on base_conditions public_conditions communal_conditions external_conditions symbol_table fixup_conditions relocation_conditions stages_of fault_of
+unfolding number_at omf_kind number_read index_read name_read each_read segment_read member_read group_read base_read public_read external_read communal_length communal_read piece_read method_read thread_read frame_read target_read displacement_read fixup_read subrecord_read said_by places_in entries_in tables_of mentions_in binding_of symbols_in subrecords_upto fixed_in meaning_of entry_conditions form_conditions size_conditions group_conditions piece_conditions all_bytes conditions_on base_conditions public_conditions communal_conditions external_conditions symbol_table fixup_conditions relocation_conditions stages_of fault_of
 headers-told = refl
 
 -- ... names and segments
@@ -147,7 +147,7 @@ segments =
     ∷ []
 
 segments-told : map (λ (row : FaultRow). fault_by all (file_of row)) segments ≡ map expected segments
-unfolding number_at omf_kind number_read index_read name_read each_read segment_read member_read group_read base_read public_read external_read communal_length communal_read piece_read method_read thread_read frame_read target_read displacement_read fixup_read subrecord_read said_by places_in entries_in tables_of mentions_in binding_of symbols_in placed_upto fixed_in meaning_of entry_conditions form_conditions size_conditions group_conditions piece_conditions all_bytes conditions_on base_conditions public_conditions communal_conditions external_conditions symbol_table fixup_conditions relocation_conditions stages_of fault_of
+unfolding number_at omf_kind number_read index_read name_read each_read segment_read member_read group_read base_read public_read external_read communal_length communal_read piece_read method_read thread_read frame_read target_read displacement_read fixup_read subrecord_read said_by places_in entries_in tables_of mentions_in binding_of symbols_in subrecords_upto fixed_in meaning_of entry_conditions form_conditions size_conditions group_conditions piece_conditions all_bytes conditions_on base_conditions public_conditions communal_conditions external_conditions symbol_table fixup_conditions relocation_conditions stages_of fault_of
 segments-told = refl
 
 -- ... groups
@@ -167,7 +167,7 @@ groups =
     ∷ []
 
 groups-told : map (λ (row : FaultRow). fault_by all (file_of row)) groups ≡ map expected groups
-unfolding number_at omf_kind number_read index_read name_read each_read segment_read member_read group_read base_read public_read external_read communal_length communal_read piece_read method_read thread_read frame_read target_read displacement_read fixup_read subrecord_read said_by places_in entries_in tables_of mentions_in binding_of symbols_in placed_upto fixed_in meaning_of entry_conditions form_conditions size_conditions group_conditions piece_conditions all_bytes conditions_on base_conditions public_conditions communal_conditions external_conditions symbol_table fixup_conditions relocation_conditions stages_of fault_of
+unfolding number_at omf_kind number_read index_read name_read each_read segment_read member_read group_read base_read public_read external_read communal_length communal_read piece_read method_read thread_read frame_read target_read displacement_read fixup_read subrecord_read said_by places_in entries_in tables_of mentions_in binding_of symbols_in subrecords_upto fixed_in meaning_of entry_conditions form_conditions size_conditions group_conditions piece_conditions all_bytes conditions_on base_conditions public_conditions communal_conditions external_conditions symbol_table fixup_conditions relocation_conditions stages_of fault_of
 groups-told = refl
 
 -- ... data
@@ -196,7 +196,7 @@ data_rows =
     ∷ []
 
 data_rows-told : map (λ (row : FaultRow). fault_by all (file_of row)) data_rows ≡ map expected data_rows
-unfolding number_at omf_kind number_read index_read name_read each_read segment_read member_read group_read base_read public_read external_read communal_length communal_read piece_read method_read thread_read frame_read target_read displacement_read fixup_read subrecord_read said_by places_in entries_in tables_of mentions_in binding_of symbols_in placed_upto fixed_in meaning_of entry_conditions form_conditions size_conditions group_conditions piece_conditions all_bytes conditions_on base_conditions public_conditions communal_conditions external_conditions symbol_table fixup_conditions relocation_conditions stages_of fault_of
+unfolding number_at omf_kind number_read index_read name_read each_read segment_read member_read group_read base_read public_read external_read communal_length communal_read piece_read method_read thread_read frame_read target_read displacement_read fixup_read subrecord_read said_by places_in entries_in tables_of mentions_in binding_of symbols_in subrecords_upto fixed_in meaning_of entry_conditions form_conditions size_conditions group_conditions piece_conditions all_bytes conditions_on base_conditions public_conditions communal_conditions external_conditions symbol_table fixup_conditions relocation_conditions stages_of fault_of
 data_rows-told = refl
 
 -- ... symbols
@@ -244,7 +244,7 @@ symbols =
     ∷ []
 
 symbols-told : map (λ (row : FaultRow). fault_by all (file_of row)) symbols ≡ map expected symbols
-unfolding number_at omf_kind number_read index_read name_read each_read segment_read member_read group_read base_read public_read external_read communal_length communal_read piece_read method_read thread_read frame_read target_read displacement_read fixup_read subrecord_read said_by places_in entries_in tables_of mentions_in binding_of symbols_in placed_upto fixed_in meaning_of entry_conditions form_conditions size_conditions group_conditions piece_conditions all_bytes conditions_on base_conditions public_conditions communal_conditions external_conditions symbol_table fixup_conditions relocation_conditions stages_of fault_of
+unfolding number_at omf_kind number_read index_read name_read each_read segment_read member_read group_read base_read public_read external_read communal_length communal_read piece_read method_read thread_read frame_read target_read displacement_read fixup_read subrecord_read said_by places_in entries_in tables_of mentions_in binding_of symbols_in subrecords_upto fixed_in meaning_of entry_conditions form_conditions size_conditions group_conditions piece_conditions all_bytes conditions_on base_conditions public_conditions communal_conditions external_conditions symbol_table fixup_conditions relocation_conditions stages_of fault_of
 symbols-told = refl
 
 -- ... threads and fixups
@@ -313,7 +313,7 @@ fixups =
     ∷ []
 
 fixups-told : map (λ (row : FaultRow). fault_by all (file_of row)) fixups ≡ map expected fixups
-unfolding number_at omf_kind number_read index_read name_read each_read segment_read member_read group_read base_read public_read external_read communal_length communal_read piece_read method_read thread_read frame_read target_read displacement_read fixup_read subrecord_read said_by places_in entries_in tables_of mentions_in binding_of symbols_in placed_upto fixed_in meaning_of entry_conditions form_conditions size_conditions group_conditions piece_conditions all_bytes conditions_on base_conditions public_conditions communal_conditions external_conditions symbol_table fixup_conditions relocation_conditions stages_of fault_of
+unfolding number_at omf_kind number_read index_read name_read each_read segment_read member_read group_read base_read public_read external_read communal_length communal_read piece_read method_read thread_read frame_read target_read displacement_read fixup_read subrecord_read said_by places_in entries_in tables_of mentions_in binding_of symbols_in subrecords_upto fixed_in meaning_of entry_conditions form_conditions size_conditions group_conditions piece_conditions all_bytes conditions_on base_conditions public_conditions communal_conditions external_conditions symbol_table fixup_conditions relocation_conditions stages_of fault_of
 fixups-told = refl
 
 -- ... fixups of data that are not kept: their form alone counts
@@ -327,5 +327,5 @@ dropped =
     ∷ []
 
 dropped-told : map (λ (row : FaultRow). fault_by stripped (file_of row)) dropped ≡ map expected dropped
-unfolding number_at omf_kind number_read index_read name_read each_read segment_read member_read group_read base_read public_read external_read communal_length communal_read piece_read method_read thread_read frame_read target_read displacement_read fixup_read subrecord_read said_by places_in entries_in tables_of mentions_in binding_of symbols_in placed_upto fixed_in meaning_of entry_conditions form_conditions size_conditions group_conditions piece_conditions all_bytes conditions_on base_conditions public_conditions communal_conditions external_conditions symbol_table fixup_conditions relocation_conditions stages_of fault_of
+unfolding number_at omf_kind number_read index_read name_read each_read segment_read member_read group_read base_read public_read external_read communal_length communal_read piece_read method_read thread_read frame_read target_read displacement_read fixup_read subrecord_read said_by places_in entries_in tables_of mentions_in binding_of symbols_in subrecords_upto fixed_in meaning_of entry_conditions form_conditions size_conditions group_conditions piece_conditions all_bytes conditions_on base_conditions public_conditions communal_conditions external_conditions symbol_table fixup_conditions relocation_conditions stages_of fault_of
 dropped-told = refl

@@ -35,7 +35,7 @@ use Rattle.oc_omf.specs.Entries.{said_by, places_in, entries_in}
 use Rattle.oc_omf.specs.Tables.{tables_of}
 use Rattle.oc_omf.specs.Sections.{contents_of, sections_in}
 use Rattle.oc_omf.specs.Symbols.{mentions_in, binding_of, symbols_in}
-use Rattle.oc_omf.specs.Fixups.{placed_upto, fixed_in}
+use Rattle.oc_omf.specs.Fixups.{subrecords_upto, fixed_in}
 use Rattle.oc_omf.specs.Targets.{meaning_of}
 use Rattle.oc_omf.specs.Fields.{field_by, fields_in}
 use Rattle.oc_omf.specs.HeaderFaults.{entry_conditions}
@@ -66,7 +66,7 @@ judged =
     ∷ []
 
 judged-told : map (λ (row : List ℕ × Told). fault_by row.0) judged ≡ map (λ (row : List ℕ × Told). row.1) judged
-unfolding number_at residue_of extended omf_kind number_read index_read name_read each_read segment_read member_read group_read base_read public_read external_read communal_length communal_read piece_read method_read thread_read frame_read target_read displacement_read fixup_read subrecord_read said_by places_in entries_in tables_of contents_of sections_in mentions_in binding_of symbols_in placed_upto fixed_in meaning_of field_by fields_in entry_conditions form_conditions size_conditions group_conditions piece_conditions all_bytes conditions_on base_conditions public_conditions communal_conditions external_conditions symbol_table fixup_conditions relocation_conditions stages_of fault_of
+unfolding number_at residue_of extended omf_kind number_read index_read name_read each_read segment_read member_read group_read base_read public_read external_read communal_length communal_read piece_read method_read thread_read frame_read target_read displacement_read fixup_read subrecord_read said_by places_in entries_in tables_of contents_of sections_in mentions_in binding_of symbols_in subrecords_upto fixed_in meaning_of field_by fields_in entry_conditions form_conditions size_conditions group_conditions piece_conditions all_bytes conditions_on base_conditions public_conditions communal_conditions external_conditions symbol_table fixup_conditions relocation_conditions stages_of fault_of
 judged-told = refl
 
 -- ... sections
@@ -79,24 +79,24 @@ abbrev sections_of : List ℕ → List Frame
 sections_of file = map (λ (s : Section). (s.name, s.kind, s.align, s.size, s.number)) (omf_rules.sections file)
 
 threads-sections : sections_of threads ≡ (codes "_TEXT", kind.Code, 16, 8, 1) ∷ []
-unfolding number_at residue_of extended omf_kind number_read index_read name_read each_read segment_read member_read group_read base_read public_read external_read communal_length communal_read piece_read method_read thread_read frame_read target_read displacement_read fixup_read subrecord_read said_by places_in entries_in tables_of contents_of sections_in mentions_in binding_of symbols_in placed_upto fixed_in meaning_of field_by fields_in entry_conditions form_conditions size_conditions group_conditions piece_conditions all_bytes conditions_on base_conditions public_conditions communal_conditions external_conditions symbol_table fixup_conditions relocation_conditions stages_of fault_of
+unfolding number_at residue_of extended omf_kind number_read index_read name_read each_read segment_read member_read group_read base_read public_read external_read communal_length communal_read piece_read method_read thread_read frame_read target_read displacement_read fixup_read subrecord_read said_by places_in entries_in tables_of contents_of sections_in mentions_in binding_of symbols_in subrecords_upto fixed_in meaning_of field_by fields_in entry_conditions form_conditions size_conditions group_conditions piece_conditions all_bytes conditions_on base_conditions public_conditions communal_conditions external_conditions symbol_table fixup_conditions relocation_conditions stages_of fault_of
 threads-sections = refl
 
 assorted-sections : sections_of assorted ≡ (codes "_TEXT", kind.Code, 1, 12, 1) ∷ (codes "DATA", kind.Zero, 2, 4, 2) ∷ (codes "DATA", kind.Data, 256, 8, 3)
     ∷ (codes "DEBSYM", kind.Debug, 4, 2, 4) ∷ (codes "CONST", kind.ReadOnly, 16, 2, 5) ∷ []
-unfolding number_at residue_of extended omf_kind number_read index_read name_read each_read segment_read member_read group_read base_read public_read external_read communal_length communal_read piece_read method_read thread_read frame_read target_read displacement_read fixup_read subrecord_read said_by places_in entries_in tables_of contents_of sections_in mentions_in binding_of symbols_in placed_upto fixed_in meaning_of field_by fields_in entry_conditions form_conditions size_conditions group_conditions piece_conditions all_bytes conditions_on base_conditions public_conditions communal_conditions external_conditions symbol_table fixup_conditions relocation_conditions stages_of fault_of
+unfolding number_at residue_of extended omf_kind number_read index_read name_read each_read segment_read member_read group_read base_read public_read external_read communal_length communal_read piece_read method_read thread_read frame_read target_read displacement_read fixup_read subrecord_read said_by places_in entries_in tables_of contents_of sections_in mentions_in binding_of symbols_in subrecords_upto fixed_in meaning_of field_by fields_in entry_conditions form_conditions size_conditions group_conditions piece_conditions all_bytes conditions_on base_conditions public_conditions communal_conditions external_conditions symbol_table fixup_conditions relocation_conditions stages_of fault_of
 assorted-sections = refl
 
 abbrev contents_in : List ℕ → List (List ℕ)
 contents_in file = map (λ (s : Section). s.contents) (omf_rules.sections file)
 
 call-contents : contents_in call ≡ (0xE8 ∷ 0 ∷ 0 ∷ 0 ∷ 0 ∷ 0xC3 ∷ []) ∷ []
-unfolding number_at residue_of extended omf_kind number_read index_read name_read each_read segment_read member_read group_read base_read public_read external_read communal_length communal_read piece_read method_read thread_read frame_read target_read displacement_read fixup_read subrecord_read said_by places_in entries_in tables_of contents_of sections_in mentions_in binding_of symbols_in placed_upto fixed_in meaning_of field_by fields_in entry_conditions form_conditions size_conditions group_conditions piece_conditions all_bytes conditions_on base_conditions public_conditions communal_conditions external_conditions symbol_table fixup_conditions relocation_conditions stages_of fault_of
+unfolding number_at residue_of extended omf_kind number_read index_read name_read each_read segment_read member_read group_read base_read public_read external_read communal_length communal_read piece_read method_read thread_read frame_read target_read displacement_read fixup_read subrecord_read said_by places_in entries_in tables_of contents_of sections_in mentions_in binding_of symbols_in subrecords_upto fixed_in meaning_of field_by fields_in entry_conditions form_conditions size_conditions group_conditions piece_conditions all_bytes conditions_on base_conditions public_conditions communal_conditions external_conditions symbol_table fixup_conditions relocation_conditions stages_of fault_of
 call-contents = refl
 
 assorted-contents : contents_in assorted ≡ (0xFE ∷ 0xFF ∷ 0xFF ∷ 0xFF ∷ 0x10 ∷ replicate 7 0) ∷ replicate 4 0
     ∷ (0 ∷ 1 ∷ 2 ∷ 3 ∷ 1 ∷ 2 ∷ 3 ∷ 0 ∷ []) ∷ replicate 2 0 ∷ replicate 2 0 ∷ []
-unfolding number_at residue_of extended omf_kind number_read index_read name_read each_read segment_read member_read group_read base_read public_read external_read communal_length communal_read piece_read method_read thread_read frame_read target_read displacement_read fixup_read subrecord_read said_by places_in entries_in tables_of contents_of sections_in mentions_in binding_of symbols_in placed_upto fixed_in meaning_of field_by fields_in entry_conditions form_conditions size_conditions group_conditions piece_conditions all_bytes conditions_on base_conditions public_conditions communal_conditions external_conditions symbol_table fixup_conditions relocation_conditions stages_of fault_of
+unfolding number_at residue_of extended omf_kind number_read index_read name_read each_read segment_read member_read group_read base_read public_read external_read communal_length communal_read piece_read method_read thread_read frame_read target_read displacement_read fixup_read subrecord_read said_by places_in entries_in tables_of contents_of sections_in mentions_in binding_of symbols_in subrecords_upto fixed_in meaning_of field_by fields_in entry_conditions form_conditions size_conditions group_conditions piece_conditions all_bytes conditions_on base_conditions public_conditions communal_conditions external_conditions symbol_table fixup_conditions relocation_conditions stages_of fault_of
 assorted-contents = refl
 
 -- ... symbols
@@ -105,15 +105,15 @@ abbrev symbols_of : List ℕ → List (List ℕ × Binding × ℕ)
 symbols_of file = map (λ (s : Symbol). (s.name, s.binding, s.number)) (omf_rules.symbols file all)
 
 threads-symbols : symbols_of threads ≡ (codes "foo", Undefined, 0) ∷ (codes "bar", Undefined, 1) ∷ []
-unfolding number_at residue_of extended omf_kind number_read index_read name_read each_read segment_read member_read group_read base_read public_read external_read communal_length communal_read piece_read method_read thread_read frame_read target_read displacement_read fixup_read subrecord_read said_by places_in entries_in tables_of contents_of sections_in mentions_in binding_of symbols_in placed_upto fixed_in meaning_of field_by fields_in entry_conditions form_conditions size_conditions group_conditions piece_conditions all_bytes conditions_on base_conditions public_conditions communal_conditions external_conditions symbol_table fixup_conditions relocation_conditions stages_of fault_of
+unfolding number_at residue_of extended omf_kind number_read index_read name_read each_read segment_read member_read group_read base_read public_read external_read communal_length communal_read piece_read method_read thread_read frame_read target_read displacement_read fixup_read subrecord_read said_by places_in entries_in tables_of contents_of sections_in mentions_in binding_of symbols_in subrecords_upto fixed_in meaning_of field_by fields_in entry_conditions form_conditions size_conditions group_conditions piece_conditions all_bytes conditions_on base_conditions public_conditions communal_conditions external_conditions symbol_table fixup_conditions relocation_conditions stages_of fault_of
 threads-symbols = refl
 
 call-symbols : symbols_of call ≡ (codes "foo", Undefined, 0) ∷ (codes "main", Global (Place 0 0), 1) ∷ []
-unfolding number_at residue_of extended omf_kind number_read index_read name_read each_read segment_read member_read group_read base_read public_read external_read communal_length communal_read piece_read method_read thread_read frame_read target_read displacement_read fixup_read subrecord_read said_by places_in entries_in tables_of contents_of sections_in mentions_in binding_of symbols_in placed_upto fixed_in meaning_of field_by fields_in entry_conditions form_conditions size_conditions group_conditions piece_conditions all_bytes conditions_on base_conditions public_conditions communal_conditions external_conditions symbol_table fixup_conditions relocation_conditions stages_of fault_of
+unfolding number_at residue_of extended omf_kind number_read index_read name_read each_read segment_read member_read group_read base_read public_read external_read communal_length communal_read piece_read method_read thread_read frame_read target_read displacement_read fixup_read subrecord_read said_by places_in entries_in tables_of contents_of sections_in mentions_in binding_of symbols_in subrecords_upto fixed_in meaning_of field_by fields_in entry_conditions form_conditions size_conditions group_conditions piece_conditions all_bytes conditions_on base_conditions public_conditions communal_conditions external_conditions symbol_table fixup_conditions relocation_conditions stages_of fault_of
 call-symbols = refl
 
 assorted-symbols : symbols_of assorted ≡ (codes "loc", Local (Place 0 4), 0) ∷ (codes "foo", Undefined, 1) ∷ (codes "com", Common 12 16, 2) ∷ (codes "pub", Global (Place 2 8), 3) ∷ []
-unfolding number_at residue_of extended omf_kind number_read index_read name_read each_read segment_read member_read group_read base_read public_read external_read communal_length communal_read piece_read method_read thread_read frame_read target_read displacement_read fixup_read subrecord_read said_by places_in entries_in tables_of contents_of sections_in mentions_in binding_of symbols_in placed_upto fixed_in meaning_of field_by fields_in entry_conditions form_conditions size_conditions group_conditions piece_conditions all_bytes conditions_on base_conditions public_conditions communal_conditions external_conditions symbol_table fixup_conditions relocation_conditions stages_of fault_of
+unfolding number_at residue_of extended omf_kind number_read index_read name_read each_read segment_read member_read group_read base_read public_read external_read communal_length communal_read piece_read method_read thread_read frame_read target_read displacement_read fixup_read subrecord_read said_by places_in entries_in tables_of contents_of sections_in mentions_in binding_of symbols_in subrecords_upto fixed_in meaning_of field_by fields_in entry_conditions form_conditions size_conditions group_conditions piece_conditions all_bytes conditions_on base_conditions public_conditions communal_conditions external_conditions symbol_table fixup_conditions relocation_conditions stages_of fault_of
 assorted-symbols = refl
 
 -- ... fields
@@ -142,5 +142,5 @@ fields =
     ∷ []
 
 fields-found : map (λ (row : List ℕ × (ℕ × ℕ) × Option Found). field_at row.0 row.1) fields ≡ map (λ (row : List ℕ × (ℕ × ℕ) × Option Found). row.2) fields
-unfolding number_at residue_of extended omf_kind number_read index_read name_read each_read segment_read member_read group_read base_read public_read external_read communal_length communal_read piece_read method_read thread_read frame_read target_read displacement_read fixup_read subrecord_read said_by places_in entries_in tables_of contents_of sections_in mentions_in binding_of symbols_in placed_upto fixed_in meaning_of field_by fields_in entry_conditions form_conditions size_conditions group_conditions piece_conditions all_bytes conditions_on base_conditions public_conditions communal_conditions external_conditions symbol_table fixup_conditions relocation_conditions stages_of fault_of
+unfolding number_at residue_of extended omf_kind number_read index_read name_read each_read segment_read member_read group_read base_read public_read external_read communal_length communal_read piece_read method_read thread_read frame_read target_read displacement_read fixup_read subrecord_read said_by places_in entries_in tables_of contents_of sections_in mentions_in binding_of symbols_in subrecords_upto fixed_in meaning_of field_by fields_in entry_conditions form_conditions size_conditions group_conditions piece_conditions all_bytes conditions_on base_conditions public_conditions communal_conditions external_conditions symbol_table fixup_conditions relocation_conditions stages_of fault_of
 fields-found = refl

@@ -3,7 +3,7 @@ use Rattle.std.specs.Prelude.{ℕ, ◌+◌, ◌-◌, ◌*◌, ◌/◌, ◌%◌, 
 use Rattle.oc_base.specs.Numbers.{bytes_of_number}
 use Rattle.oc_omf.specs.declared.constants.TheConstants.{NEAR, MOST_SHORT_LENGTH, OFFSET_32, LENGTH_OF_2, LENGTH_OF_3, LENGTH_OF_4}
 use Rattle.oc_omf.specs.declared.structures.Segment.{Segment}
-use Rattle.oc_omf.specs.declared.structures.Base.{Base}
+use Rattle.oc_omf.specs.declared.structures.PublicBase.{PublicBase}
 use Rattle.oc_omf.specs.declared.structures.Method.{Method}
 
 -- ... an entry
@@ -57,14 +57,14 @@ abbrev pub communal_bytes : List ℕ → ℕ → List ℕ
 communal_bytes name size = name_bytes name ++ 0 ∷ NEAR ∷ length_bytes size
 
 -- one symbol at an offset of a segment, with where it lies before it, and without a type
-abbrev pub public_bytes : Base → List ℕ → ℕ → List ℕ
+abbrev pub public_bytes : PublicBase → List ℕ → ℕ → List ℕ
 public_bytes base name offset = index_bytes base.group ++ (index_bytes base.segment ++ (name_bytes name ++ (bytes_of_number 4 offset ++ 0 ∷ [])))
 
 -- bytes at an offset of a segment
 abbrev pub data_bytes : ℕ → ℕ → List ℕ → List ℕ
 data_bytes segment offset bytes = index_bytes segment ++ (bytes_of_number 4 offset ++ bytes)
 
--- the first byte of a fixup of a 32-bit offset, self-relative or segment-relative: its top bit, the bit of the latter, and the high bits of where it stands
+-- the first byte of a fixup of a 32-bit offset, self-relative or segment-relative: its top bit, the bit of the latter, and the high bits of where it lies
 abbrev pub first_of : Bool → ℕ → ℕ
 first_of self at = 2 ^ 7 + (if self then 0 else 2 ^ 6) + OFFSET_32 * 2 ^ 2 + at / 256
 

@@ -1,4 +1,4 @@
--- Fields of an entry's contents, read one behind another (TIS OMF 1.1, "Record Format", "Indexed References").
+-- Fields of an entry's contents, read one after another (TIS OMF 1.1, "Record Format", "Indexed References").
 use Rattle.std.specs.Prelude.{ℕ, zero, suc, ◌+◌, nat_lt, nat_le, if◌then◌else◌, List, [], ◌∷◌, length, slice_range, Result, Ok, Err}
 use Rattle.oc_base.specs.Numbers.{number_at}
 use Rattle.oc_omf_records.specs.Indexes.{index_at}

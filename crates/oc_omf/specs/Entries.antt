@@ -4,7 +4,7 @@ use Rattle.std.specs.Option.{option_map_or}
 use Rattle.oc_omf_records.specs.NextEntry.{is_whole, entry_of, end_of_entry}
 use Rattle.oc_omf.specs.declared.constants.TheConstants.{MODEND, EXTDEF, PUBDEF, LNAMES, SEGDEF, GRPDEF, FIXUPP, LEDATA, LIDATA, COMDEF, LEXTDEF, LPUBDEF, ENTRY_HEAD}
 use Rattle.oc_omf.specs.declared.structures.Segment.{Segment}
-use Rattle.oc_omf.specs.declared.structures.Base.{Base}
+use Rattle.oc_omf.specs.declared.structures.PublicBase.{PublicBase}
 use Rattle.oc_omf.specs.declared.structures.Subrecord.{Subrecord}
 use Rattle.oc_omf.specs.Cursor.{Reading, Read, name_read, each_read}
 use Rattle.oc_omf.specs.Structures.{Group, Public, External, Piece, segment_read, group_read, base_read, public_read, external_read, communal_read, piece_read, subrecord_read}
@@ -27,7 +27,7 @@ pub record Entry : Type 0 where
   pub names : List (Read (List ℕ))
   pub segments : List (Read Segment)
   pub groups : List (Read Group)
-  pub bases : List (Read Base)
+  pub bases : List (Read PublicBase)
   pub publics : List (Read Public)
   -- EXTDEF, LEXTDEF and COMDEF: externals and communals have one numbering
   pub externals : List (Read External)
@@ -35,7 +35,7 @@ pub record Entry : Type 0 where
   pub subrecords : List (Read Subrecord)
   pub ends : Bool
 
--- an entry at a place that says nothing
+-- an entry at a place that gives nothing
 abbrev pub says_nothing : ℕ → Entry
 says_nothing place = record { place = place; names = []; segments = []; groups = []; bases = []; publics = []; externals = []; pieces = []; subrecords = []; ends = false }
 
@@ -43,17 +43,17 @@ says_nothing place = record { place = place; names = []; segments = []; groups =
 abbrev pub in_file : {X : Type 0} → ℕ → List (Read X) → List (Read X)
 in_file {X} place structures = map (λ (s : Read X). record { at = place + ENTRY_HEAD + s.at; part = s.part }) structures
 
--- the one structure of an entry: it stands where the entry does
+-- the one structure of an entry: its place is that of the entry
 abbrev pub whole : {X : Type 0} → ℕ → Reading X → List (Read X)
 whole place (Ok r) = record { at = place; part = Ok r.0 } ∷ []
 whole place (Err c) = record { at = place; part = Err c } ∷ []
 
--- the symbols of an entry, behind its base; where that is cut they are not read
-abbrev pub publics_of : ℕ → ℕ → List ℕ → Reading Base → List (Read Public)
+-- the symbols of an entry, after its base; where that is cut they are not read
+abbrev pub publics_of : ℕ → ℕ → List ℕ → Reading PublicBase → List (Read Public)
 publics_of kind place b (Ok r) = in_file place (each_read (public_read (is_wide kind) (is_kind LPUBDEF kind) r.0.segment) b r.1)
 publics_of kind place b (Err c) = []
 
--- what an entry of a type at a place says by its contents
+-- what an entry of a type at a place gives by its contents
 unfoldable pub said_by : ℕ → ℕ → List ℕ → Entry
 said_by place kind b =
     if is_kind LNAMES kind then record (says_nothing place) { names = in_file place (each_read name_read b 0) }
@@ -73,7 +73,7 @@ said_by place kind b =
 abbrev pub is_last : List ℕ → ℕ → Bool
 is_last file at = not (is_whole file at) || is_kind MODEND (entry_of file at).kind
 
--- where the entry behind one at a place is looked for
+-- where the entry after one at a place is looked for
 abbrev pub next_place : List ℕ → ℕ → Option ℕ
 next_place file at = if is_last file at then None else Some (end_of_entry file at)
 
@@ -86,7 +86,7 @@ places_upto (suc n) file at = at ∷ option_map_or (places_upto n file) (next_pl
 unfoldable pub places_in : List ℕ → List ℕ
 places_in file = places_upto (length file + 1) file 0
 
--- what the entry at a place says
+-- what the entry at a place gives
 abbrev pub said_at : List ℕ → ℕ → Entry
 said_at file at = said_by at (entry_of file at).kind (entry_of file at).contents
 

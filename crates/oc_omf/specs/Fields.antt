@@ -1,4 +1,4 @@
--- Relocated fields (TIS OMF 1.1, "FIXUPP"; our profile). The number that is added stands in the field, and in the displacement, which has no sign.
+-- Relocated fields (TIS OMF 1.1, "FIXUPP"; our profile). The number that is added is in the field, and in the displacement, which has no sign.
 use Rattle.std.specs.Prelude.{ℕ, ◌+◌, Bool, ◌&&◌, nat_eq, if◌then◌else◌, ℤ, pos, ◌+ℤ◌, List, length, find, Option, Some, None}
 use Rattle.std.specs.Option.{option_map, option_and_then}
 use Rattle.oc_base.specs.declared.format.Word.TheVariants.{W32}
@@ -11,7 +11,7 @@ use Rattle.oc_omf.specs.declared.constants.TheConstants.{OFFSET_32}
 use Rattle.oc_omf.specs.declared.structures.Method.{Method}
 use Rattle.oc_omf.specs.Entries.{Entry}
 use Rattle.oc_omf.specs.Sections.{size_at, contents_of}
-use Rattle.oc_omf.specs.Fixups.{Fixed, placed_upto, fixed_in, has_field}
+use Rattle.oc_omf.specs.Fixups.{Fixed, subrecords_upto, fixed_in, has_field}
 use Rattle.oc_omf.specs.Targets.{Meaning, meaning_of, target_of, is_flat, is_home}
 
 -- the row of a segment-relative fixup by its frame and its target
@@ -44,7 +44,7 @@ relocates s at x = has_field x (s + 1) at && nat_eq x.fixup.location OFFSET_32
 
 -- the fixups of a file
 abbrev pub fixups_in : List Entry → List Fixed
-fixups_in entries = fixed_in (placed_upto entries (length entries))
+fixups_in entries = fixed_in (subrecords_upto entries (length entries))
 
 -- the fields of a file, by the position of a section and the offset in it
 unfoldable pub fields_in : List Entry → ℕ → ℕ → Option Field

@@ -1,4 +1,4 @@
--- Threads and fixups, each where it stands; what is in force there is a function of what stands before (TIS OMF 1.1, "FIXUPP"; our profile).
+-- Threads and fixups, each with its place; what is in force there is a function of what comes before (TIS OMF 1.1, "FIXUPP"; our profile).
 use Rattle.std.specs.Prelude.{ℕ, ◌+◌, Bool, true, false, ◌&&◌, nat_eq, nat_lt, if◌then◌else◌, List, [], ◌∷◌, ◌++◌, map, flat_map, fold, take, Option, Some, None, Result, Ok, Err}
 use Rattle.std.specs.List.{list_any, enumerate_from}
 use Rattle.std.specs.Option.{option_map_or, option_and_then, unwrap_or, is_some}
@@ -19,34 +19,34 @@ use Rattle.oc_omf.specs.Sections.{blocks_in}
 use Rattle.oc_omf.specs.Symbols.{agree}
 
 -- a thread or a fixup: the number of its entry, its place in the file, and what the entries before its own define
-pub record Placed : Type 0 where
+pub record PlacedSubrecord : Type 0 where
   pub index : ℕ
   pub at : ℕ
   pub part : Result Subrecord Cut
   pub before : Tables
 
 -- those of an entry with its number
-abbrev pub placed_by : List Entry → ℕ × Entry → List Placed
-placed_by entries x = map (λ (s : Read Subrecord). record { index = x.0; at = s.at; part = s.part; before = tables_of (take x.0 entries) }) x.1.subrecords
+abbrev pub subrecords_by : List Entry → ℕ × Entry → List PlacedSubrecord
+subrecords_by entries x = map (λ (s : Read Subrecord). record { index = x.0; at = s.at; part = s.part; before = tables_of (take x.0 entries) }) x.1.subrecords
 
 -- those of the first n entries, in the order of the file
-unfoldable pub placed_upto : List Entry → ℕ → List Placed
-placed_upto entries n = flat_map (placed_by entries) (take n (enumerate_from 0 entries))
+unfoldable pub subrecords_upto : List Entry → ℕ → List PlacedSubrecord
+subrecords_upto entries n = flat_map (subrecords_by entries) (take n (enumerate_from 0 entries))
 
 -- ... threads
 
--- what a subrecord says of the thread of a frame or of a target with that number
+-- the method that a subrecord sets for the thread of a frame or of a target with that number
 abbrev pub thread_by : Bool → ℕ → Result Subrecord Cut → Option Method
 thread_by frame number (Ok (subrecord.Thread x)) = if agree frame x.frame && nat_eq x.number number then Some x.method else None
 thread_by frame number (Ok (subrecord.Fixup f)) = None
 thread_by frame number (Err c) = None
 
--- the thread in force behind these: the last that was told
-abbrev pub thread_after : List Placed → Bool → ℕ → Option Method
-thread_after earlier frame number = fold (λ (told : Option Method) (x : Placed). or_else (thread_by frame number x.part) told) None earlier
+-- the thread in force after these: the last that was set
+abbrev pub thread_after : List PlacedSubrecord → Bool → ℕ → Option Method
+thread_after earlier frame number = fold (λ (told : Option Method) (x : PlacedSubrecord). or_else (thread_by frame number x.part) told) None earlier
 
--- the method of a frame or a target behind these, its own or its thread's
-abbrev pub method_of : List Placed → Bool → Datum → Option Method
+-- the method of a frame or a target after these, its own or its thread's
+abbrev pub method_of : List PlacedSubrecord → Bool → Datum → Option Method
 method_of earlier frame (datum.Explicit method) = Some method
 method_of earlier frame (datum.Thread number) = thread_after earlier frame number
 
@@ -65,26 +65,26 @@ pub record Fixed : Type 0 where
   pub frame : Option Method
   pub target : Option Method
 
--- a fixup behind these, in a module that defines that before it
-abbrev pub fixed_of : List Placed → Tables → Fixup → Fixed
+-- a fixup after these, in a module that defines that before it
+abbrev pub fixed_of : List PlacedSubrecord → Tables → Fixup → Fixed
 fixed_of earlier before f = record { fixup = f; piece = last_of before.pieces; frame = method_of earlier true f.frame; target = method_of earlier false f.target }
 
--- a subrecord that is a fixup, and what comes behind it
-abbrev pub with_fixed : List Placed → Placed → List Fixed → List Fixed
+-- a subrecord that is a fixup, and what comes after it
+abbrev pub with_fixed : List PlacedSubrecord → PlacedSubrecord → List Fixed → List Fixed
 with_fixed earlier x rest = elim x.part [ Ok (subrecord.Fixup f) ↦ fixed_of earlier x.before f ∷ rest | Ok (subrecord.Thread t) ↦ rest | Err c ↦ rest ]
 
--- the fixups among some subrecords that stand behind these
-abbrev pub fixed_from : List Placed → List Placed → List Fixed
+-- the fixups among some subrecords that come after these
+abbrev pub fixed_from : List PlacedSubrecord → List PlacedSubrecord → List Fixed
 fixed_from earlier [] = []
 fixed_from earlier (x ∷ xs) = with_fixed earlier x (fixed_from (earlier ++ x ∷ []) xs)
 
 -- the fixups among the first subrecords of a file
-unfoldable pub fixed_in : List Placed → List Fixed
+unfoldable pub fixed_in : List PlacedSubrecord → List Fixed
 fixed_in parts = fixed_from [] parts
 
 -- ... their fields
 
--- where the copies of the fixed-up bytes stand in the data before; none where no content holds these
+-- where the copies of the fixed-up bytes lie in the data before; none where no content holds these
 abbrev pub copies_for : Fixed → Option (List ℕ)
 copies_for x = option_and_then (λ (d : Piece). copies_of (blocks_in d.blocks) x.fixup.offset) x.piece
 

@@ -34,7 +34,7 @@ has_start r = is_kind MODEND r.kind && has (get_or r.contents 0 0) 0x40
 abbrev pub is_cut : Record → Bool
 is_cut r = (is_kind COMENT r.kind && nat_lt (length r.contents) 2) || (is_kind MODEND r.kind && nat_lt (length r.contents) 1)
 
--- one of the entries at these places is a front
+-- one of the entries at these places is a header
 abbrev pub is_begun : List ℕ → List ℕ → Bool
 is_begun file places = list_any (λ at. is_kind THEADR (entry_of file at).kind) places
 
@@ -42,7 +42,7 @@ is_begun file places = list_any (λ at. is_kind THEADR (entry_of file at).kind) 
 abbrev pub entry_fault : ℕ × ℕ → Code → Fault
 entry_fault x code = record { phase = Header; index = x.0; code = code; place = x.1 }
 
--- the conditions on an entry by its number and place, where an earlier one is a front or none
+-- the conditions on an entry by its number and place, where an earlier one is a header or none is
 abbrev pub record_conditions : Bool → ℕ × ℕ → Record → List Condition
 record_conditions begun x r =
     (is_cut r, entry_fault x BadTable)
@@ -52,7 +52,7 @@ record_conditions begun x r =
     ∷ (has_start r, entry_fault x RecordKind)
     ∷ []
 
--- the conditions on what stands at a place, by the number of the entry
+-- the conditions on what is at a place, by the number of the entry
 unfoldable pub entry_conditions : List ℕ → Bool → ℕ × ℕ → List Condition
 entry_conditions file begun x =
     (not (is_whole file x.1), entry_fault x Short)

@@ -1,4 +1,4 @@
--- What a reader keeps of the entries before one, and of what stands in one (our profile).
+-- What a reader keeps of the entries before one, and of what is in one (our profile).
 use Rattle.std.specs.Prelude.{◌≡◌, ℕ, Bool, if◌then◌else◌, List, map, slice_get, Option}
 use Rattle.std.specs.Option.{option_flatten}
 use denote.Ref.{Bor}
@@ -8,7 +8,7 @@ use Rattle.oc_omf.specs.declared.data.Data.{Data}
 use Rattle.oc_omf.specs.declared.data.Data.TheVariants as data_
 use Rattle.oc_omf.specs.declared.structures.Method.{Method}
 use Rattle.oc_omf.specs.declared.threads.Threads.{Threads}
-use Rattle.oc_omf.specs.Fixups.{Placed, thread_after}
+use Rattle.oc_omf.specs.Fixups.{PlacedSubrecord, thread_after}
 
 -- the names that slices hold
 abbrev pub names_of : List (Bor (List ℕ)) → List (List ℕ)
@@ -18,11 +18,11 @@ names_of names = map (λ (name : Bor (List ℕ)). name.now) names
 abbrev pub told : Threads → Bool → ℕ → Option Method
 told threads frame number = option_flatten (slice_get (if frame then threads.frames else threads.targets) number)
 
--- the threads that are held are those in force behind these
-abbrev pub AreInForce : List Placed → Threads → Type 0
+-- the threads that are held are those in force after these
+abbrev pub AreInForce : List PlacedSubrecord → Threads → Type 0
 AreInForce earlier threads = (frame : Bool) (number : ℕ) → told threads frame number ≡ thread_after earlier frame number
 
--- data as blocks: those that stand there are one content, once
+-- data as blocks: those that are not iterated are one content, once
 abbrev pub row_of : Data → Blocks
 row_of (data_.Plain bytes) = content 1 0 bytes none
 row_of (data_.Iterated block) = shown block

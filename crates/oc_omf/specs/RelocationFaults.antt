@@ -23,15 +23,15 @@ use Rattle.oc_omf.specs.Structures.{Piece}
 use Rattle.oc_omf.specs.Entries.{Entry}
 use Rattle.oc_omf.specs.Tables.{Tables, indexed, is_there}
 use Rattle.oc_omf.specs.Sections.{segment_kind}
-use Rattle.oc_omf.specs.Fixups.{Placed, placed_by, placed_upto, Fixed, fixed_of, fixed_in, is_inside, meet}
+use Rattle.oc_omf.specs.Fixups.{PlacedSubrecord, subrecords_by, subrecords_upto, Fixed, fixed_of, fixed_in, is_inside, meet}
 use Rattle.oc_omf.specs.Targets.{Meaning, meaning_of}
 use Rattle.oc_omf.specs.Fields.{aim_of, row_of}
 
 -- a fault of a thread or a fixup
-abbrev pub relocation_fault : Placed → Code → Fault
+abbrev pub relocation_fault : PlacedSubrecord → Code → Fault
 relocation_fault x code = record { phase = phase.Relocation; index = x.index; code = code; place = x.at }
 
--- what a frame or a target names by an index is there; of one by a thread, the thread is in force
+-- what a frame or a target names by an index exists; for one given by a thread, the thread is in force
 abbrev pub is_datum_there : Tables → Datum → Option Method → Bool
 is_datum_there before (datum.Explicit method) found = is_there before method
 is_datum_there before (datum.Thread number) found = is_some found
@@ -48,8 +48,8 @@ is_judged t keep x = option_map_or (is_kept t keep) x.piece true
 abbrev pub has_row : Meaning → Fixed → Option Target → Bool
 has_row m f target = option_map_or (λ t. is_some (row_of m f t)) target false
 
--- the conditions on a fixup, behind these
-unfoldable pub fixup_conditions : Meaning → List Fixed → Placed → Fixed → List Condition
+-- the conditions on a fixup, after these
+unfoldable pub fixup_conditions : Meaning → List Fixed → PlacedSubrecord → Fixed → List Condition
 fixup_conditions m earlier x f =
     (not (nat_eq f.fixup.location OFFSET_32), relocation_fault x RelocKind)
     ∷ (not (is_inside f), relocation_fault x BadOffset)
@@ -60,21 +60,21 @@ fixup_conditions m earlier x f =
     ∷ []
 
 -- the conditions on a subrecord, by what is read of it
-abbrev pub part_conditions : Meaning → Keep → List Placed → Placed → Result Subrecord Cut → List Condition
+abbrev pub part_conditions : Meaning → Keep → List PlacedSubrecord → PlacedSubrecord → Result Subrecord Cut → List Condition
 part_conditions m keep earlier x (Ok (subrecord.Thread t)) = (not (is_there x.before t.method), relocation_fault x BadTarget) ∷ []
 part_conditions m keep earlier x (Ok (subrecord.Fixup f)) =
     if is_judged m.tables keep (fixed_of earlier x.before f) then fixup_conditions m (fixed_in earlier) x (fixed_of earlier x.before f) else []
 part_conditions m keep earlier x (Err c) = (true, relocation_fault x BadTable) ∷ []
 
--- the conditions on a subrecord, behind these
-unfoldable pub relocation_conditions : Meaning → Keep → List Placed → Placed → List Condition
+-- the conditions on a subrecord, after these
+unfoldable pub relocation_conditions : Meaning → Keep → List PlacedSubrecord → PlacedSubrecord → List Condition
 relocation_conditions m keep earlier x = part_conditions m keep earlier x x.part
 
--- the subrecords of an entry with its number, behind those of the entries before it
+-- the subrecords of an entry with its number, after those of the entries before it
 abbrev pub relocation_stage : List Entry → Keep → ℕ × Entry → Stage
 relocation_stage entries keep x = record {
-  count = length (placed_by entries x);
-  conditions = λ j. each_of (relocation_conditions (meaning_of entries) keep (placed_upto entries x.0 ++ take j (placed_by entries x))) (placed_by entries x) j;
+  count = length (subrecords_by entries x);
+  conditions = λ j. each_of (relocation_conditions (meaning_of entries) keep (subrecords_upto entries x.0 ++ take j (subrecords_by entries x))) (subrecords_by entries x) j;
 }
 
 -- the entries in their order

@@ -42,6 +42,6 @@ omf_rules = record {
 abbrev pub omf_dialect : Dialect
 omf_dialect = record { format = Omf; rules = omf_rules }
 
--- it says of words and alignments what the formats do
+-- it has the word and the alignments that are given for its format
 abbrev pub OmfIsDialect : Type 0
 OmfIsDialect = IsDialect omf_dialect

@@ -50,7 +50,7 @@ is_combination c = list_any (nat_eq c) (0 ∷ 2 ∷ 4 ∷ 7 ∷ [])
 abbrev pub is_named : ℕ → Segment → Bool
 is_named names s = nat_le s.name names && (nat_le s.class names && nat_le s.overlay names)
 
--- the conditions on what a segment says, behind so many names
+-- the conditions on what the definition of a segment gives, after so many names
 unfoldable pub form_conditions : ℕ → ℕ × ℕ → Segment → List Condition
 form_conditions names x s =
     (not (is_use32 s), own_fault x SectionKind)
@@ -60,14 +60,14 @@ form_conditions names x s =
     ∷ (not (is_named names s), own_fault x BadIndex)
     ∷ []
 
--- and on its size, behind segments of so many bytes
+-- and on its size, after segments of so many bytes
 unfoldable pub size_conditions : ℕ → ℕ × ℕ → Segment → List Condition
 size_conditions sizes x s =
     (nat_lt 2147483647 (segment_size s), limit_fault x (segment_size s) LimitSection)
     ∷ (nat_lt 2147483648 (sizes + segment_size s), limit_fault x (sizes + segment_size s) LimitSum)
     ∷ []
 
--- the conditions on a segment, behind so many names and segments of so many bytes
+-- the conditions on a segment, after so many names and segments of so many bytes
 abbrev pub segment_conditions_by : ℕ → ℕ → ℕ × ℕ → Segment → List Condition
 segment_conditions_by names sizes x s = form_conditions names x s ++ size_conditions sizes x s
 
@@ -87,7 +87,7 @@ is_marked_else s = elim s.part [ Ok member ↦ not (nat_eq member.0 SEGMENT_INDE
 abbrev pub is_no_segment : ℕ → Read (ℕ × ℕ) → Bool
 is_no_segment segments s = elim s.part [ Ok member ↦ nat_eq member.1 0 || nat_lt segments member.1 | Err _ ↦ false ]
 
--- the conditions on a group, behind so many names and segments
+-- the conditions on a group, after so many names and segments
 unfoldable pub group_conditions : ℕ → ℕ → ℕ × ℕ → Group → List Condition
 group_conditions names segments x g =
     (list_any is_cut g.members, own_fault x BadTable)

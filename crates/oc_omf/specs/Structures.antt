@@ -5,11 +5,11 @@ use Rattle.oc_omf_records.specs.declared.faults.BlockFault.{BlockFault}
 use Rattle.oc_omf_records.specs.Blocks.{Blocks, none, content}
 use Rattle.oc_omf_records.specs.BlockReading.{blocks_of}
 use Rattle.oc_omf.specs.declared.structures.Segment.{Segment}
-use Rattle.oc_omf.specs.declared.structures.Base.{Base}
+use Rattle.oc_omf.specs.declared.structures.PublicBase.{PublicBase}
 use Rattle.oc_omf.specs.declared.structures.Communal.{Communal}
 use Rattle.oc_omf.specs.declared.structures.Method.{Method}
 use Rattle.oc_omf.specs.declared.structures.Datum.{Datum}
-use Rattle.oc_omf.specs.declared.structures.Head.{Head}
+use Rattle.oc_omf.specs.declared.structures.DataHead.{DataHead}
 use Rattle.oc_omf.specs.declared.structures.Datum.TheVariants as datum
 use Rattle.oc_omf.specs.declared.structures.Subrecord.{Subrecord}
 use Rattle.oc_omf.specs.declared.structures.Subrecord.TheVariants as subrecord
@@ -51,7 +51,7 @@ group_read b at = next (index_read b at) (λ name at. Ok (record { name = name; 
 -- ... symbols
 
 -- a group index and a segment index
-unfoldable pub base_read : List ℕ → ℕ → Reading Base
+unfoldable pub base_read : List ℕ → ℕ → Reading PublicBase
 base_read b at = next (index_read b at) (λ group at. next (index_read b at) (λ segment at. Ok (record { group = group; segment = segment }, at)))
 
 -- a symbol at an offset of a segment, which is of this module alone or not
@@ -61,7 +61,7 @@ pub record Public : Type 0 where
   pub segment : ℕ
   pub offset : ℕ
 
--- one of the segment of its entry; its type index says nothing
+-- one of the segment of its entry; its type index has no effect
 unfoldable pub public_read : Bool → Bool → ℕ → List ℕ → ℕ → Reading Public
 public_read wide local segment b at =
     next (name_read b at) (λ name at.
@@ -75,25 +75,25 @@ pub record External : Type 0 where
   pub name : List ℕ
   pub communal : Option Communal
 
--- one that is no communal; its type index says nothing
+-- one that is no communal; its type index has no effect
 unfoldable pub external_read : Bool → List ℕ → ℕ → Reading External
 external_read local b at =
     next (name_read b at) (λ name at.
     next (index_read b at) (λ _ at.
     Ok (record { local = local; name = name; communal = None }, at)))
 
--- how many bytes the length of a communal has behind its first byte
+-- how many bytes the length of a communal has after its first byte
 abbrev pub communal_width : ℕ → ℕ
 communal_width form = if nat_eq form 0x81 then 2 else if nat_eq form 0x84 then 3 else if nat_eq form 0x88 then 4 else 0
 
--- the length of a communal with its form: its first byte, or the number behind it
+-- the length of a communal with its form: its first byte, or the number after it
 unfoldable pub communal_length : List ℕ → ℕ → Reading (ℕ × ℕ)
 communal_length b at =
     next (number_read 1 b at) (λ form at.
     if nat_eq (communal_width form) 0 then Ok ((form, form), at)
     else next (number_read (communal_width form) b at) (λ size at. Ok ((form, size), at)))
 
--- a communal, whose length stands as in one of near type; its type index says nothing
+-- a communal, whose length is written as in one of near type; its type index has no effect
 unfoldable pub communal_read : List ℕ → ℕ → Reading External
 communal_read b at =
     next (name_read b at) (λ name at.
@@ -105,7 +105,7 @@ communal_read b at =
 -- ... data
 
 -- the segment and the offset of data
-unfoldable pub head_read : Bool → List ℕ → ℕ → Reading Head
+unfoldable pub head_read : Bool → List ℕ → ℕ → Reading DataHead
 head_read wide b at =
     next (index_read b at) (λ segment at. next (number_read (long_size wide) b at) (λ offset at. Ok (record { segment = segment; offset = offset }, at)))
 

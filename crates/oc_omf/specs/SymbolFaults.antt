@@ -10,7 +10,7 @@ use Rattle.oc_linking.specs.FirstFault.{Condition, Stage}
 use Rattle.oc_omf.specs.declared.constants.TheConstants.{NEAR, MOST_SHORT_LENGTH}
 use Rattle.oc_omf.specs.declared.cut.Cut.{Cut}
 use Rattle.oc_omf.specs.declared.cut.Cut.TheVariants as cut
-use Rattle.oc_omf.specs.declared.structures.Base.{Base}
+use Rattle.oc_omf.specs.declared.structures.PublicBase.{PublicBase}
 use Rattle.oc_omf.specs.declared.structures.Communal.{Communal}
 use Rattle.oc_omf.specs.Cursor.{Read}
 use Rattle.oc_omf.specs.Structures.{Public, External, communal_width}
@@ -20,13 +20,13 @@ use Rattle.oc_omf.specs.Sections.{size_at}
 use Rattle.oc_omf.specs.Symbols.{same_symbol, public_mention, external_mention}
 
 -- an entry with its number, what the entries before it define, and what all do
-pub record Told : Type 0 where
+pub record EntryContext : Type 0 where
   pub index : ℕ
   pub before : Tables
   pub all : Tables
   pub entry : Entry
 
--- a fault of what stands in an entry of a number, at a place
+-- a fault of what is in an entry of a number, at a place
 abbrev pub symbol_fault : ℕ × ℕ → Code → Fault
 symbol_fault at code = record { phase = phase.Symbol; index = at.0; code = code; place = at.1 }
 
@@ -37,8 +37,8 @@ code_of cut.Index = BadIndex
 code_of cut.Field = BadTable
 
 -- the conditions on a structure: the first field of it that is cut, or else these
-abbrev pub told_conditions : {X : Type 0} → ℕ → (ℕ × ℕ → X → List Condition) → Read X → List Condition
-told_conditions index conditions s = elim s.part [ Ok y ↦ conditions (index, s.at) y | Err c ↦ (true, symbol_fault (index, s.at) (code_of c)) ∷ [] ]
+abbrev pub read_conditions : {X : Type 0} → ℕ → (ℕ × ℕ → X → List Condition) → Read X → List Condition
+read_conditions index conditions s = elim s.part [ Ok y ↦ conditions (index, s.at) y | Err c ↦ (true, symbol_fault (index, s.at) (code_of c)) ∷ [] ]
 
 -- the name is empty
 abbrev pub is_empty : List ℕ → Bool
@@ -46,8 +46,8 @@ is_empty name = nat_eq (length name) 0
 
 -- ... definitions
 
--- the conditions on where the symbols of an entry lie, behind so many groups and segments
-unfoldable pub base_conditions : ℕ → ℕ → ℕ × ℕ → Base → List Condition
+-- the conditions on where the symbols of an entry lie, after so many groups and segments
+unfoldable pub base_conditions : ℕ → ℕ → ℕ × ℕ → PublicBase → List Condition
 base_conditions groups segments at b =
     (nat_lt groups b.group || nat_lt segments b.segment, symbol_fault at BadIndex)
     ∷ (nat_eq b.segment 0, symbol_fault at SymbolKind)
@@ -58,11 +58,11 @@ abbrev pub same_public : Public → Public → Bool
 same_public p q = same_symbol (public_mention p) (public_mention q)
 
 -- the definitions before the one at a position
-abbrev pub publics_before : Told → ℕ → List Public
+abbrev pub publics_before : EntryContext → ℕ → List Public
 publics_before x j = x.before.publics ++ all_read (take j x.entry.publics)
 
 -- the conditions on the definition at a position
-unfoldable pub public_conditions : Told → ℕ → ℕ × ℕ → Public → List Condition
+unfoldable pub public_conditions : EntryContext → ℕ → ℕ × ℕ → Public → List Condition
 public_conditions x j at p =
     (nat_lt (size_at x.before p.segment) p.offset, symbol_fault at SymbolPastEnd)
     ∷ (is_empty p.name, symbol_fault at SymbolKind)
@@ -84,10 +84,10 @@ abbrev pub is_other_length : List ℕ → Communal → External → Bool
 is_other_length name c y = bytes_eq name y.name && option_map_or (λ (d : Communal). not (nat_eq c.length d.length)) y.communal false
 
 -- the externals before the one at a position
-abbrev pub externals_before : Told → ℕ → List External
+abbrev pub externals_before : EntryContext → ℕ → List External
 externals_before x j = x.before.externals ++ all_read (take j x.entry.externals)
 
--- the conditions on what an external says as a communal, if it is one
+-- the conditions on what an external gives as a communal, if it is one
 unfoldable pub communal_conditions : ℕ × ℕ → Communal → List Condition
 communal_conditions at c =
     (not (nat_eq c.kind NEAR), symbol_fault at SymbolKind)
@@ -95,7 +95,7 @@ communal_conditions at c =
     ∷ []
 
 -- the conditions on the external at a position
-unfoldable pub external_conditions : Told → ℕ → ℕ × ℕ → External → List Condition
+unfoldable pub external_conditions : EntryContext → ℕ → ℕ × ℕ → External → List Condition
 external_conditions x j at y =
     option_map_or (communal_conditions at) y.communal []
     ++ ((is_undefined x.all y, symbol_fault at BadSymbol)
@@ -106,20 +106,20 @@ external_conditions x j at y =
 -- ... an entry
 
 -- the conditions on each of its structures, in the order of their places
-unfoldable pub symbol_table : Told → List (List Condition)
+unfoldable pub symbol_table : EntryContext → List (List Condition)
 symbol_table x =
-    map (told_conditions x.index (base_conditions (length x.before.groups) (length x.before.segments))) x.entry.bases
-    ++ (map (λ (p : ℕ × Read Public). told_conditions x.index (public_conditions x p.0) p.1) (enumerate_from 0 x.entry.publics)
-    ++ map (λ (y : ℕ × Read External). told_conditions x.index (external_conditions x y.0) y.1) (enumerate_from 0 x.entry.externals))
+    map (read_conditions x.index (base_conditions (length x.before.groups) (length x.before.segments))) x.entry.bases
+    ++ (map (λ (p : ℕ × Read Public). read_conditions x.index (public_conditions x p.0) p.1) (enumerate_from 0 x.entry.publics)
+    ++ map (λ (y : ℕ × Read External). read_conditions x.index (external_conditions x y.0) y.1) (enumerate_from 0 x.entry.externals))
 
 -- its structures as a stage
-abbrev pub symbol_stage : Told → Stage
+abbrev pub symbol_stage : EntryContext → Stage
 symbol_stage x = record { count = length (symbol_table x); conditions = λ j. get_or (symbol_table x) j [] }
 
 -- an entry of a file with its number, and what the others define
-abbrev pub told_in : List Entry → ℕ × Entry → Told
-told_in entries x = record { index = x.0; before = tables_of (take x.0 entries); all = tables_of entries; entry = x.1 }
+abbrev pub entry_context : List Entry → ℕ × Entry → EntryContext
+entry_context entries x = record { index = x.0; before = tables_of (take x.0 entries); all = tables_of entries; entry = x.1 }
 
 -- the entries in their order
 abbrev pub symbol_stages : List Entry → List Stage
-symbol_stages entries = map (λ x. symbol_stage (told_in entries x)) (enumerate_from 0 entries)
+symbol_stages entries = map (λ x. symbol_stage (entry_context entries x)) (enumerate_from 0 entries)

@@ -39,7 +39,7 @@ is_indexed things index = nat_le 1 index && nat_le index (length things)
 abbrev pub name_at : Tables → ℕ → List ℕ
 name_at t index = unwrap_or (indexed t.names index) []
 
--- what a method names by its index is there (TIS OMF 1.1, "FIXUPP"): a segment, a group or an external
+-- what a method names by its index exists (TIS OMF 1.1, "FIXUPP"): a segment, a group or an external
 abbrev pub is_there : Tables → Method → Bool
 is_there t x =
     if nat_eq x.number 0 then is_indexed t.segments x.index

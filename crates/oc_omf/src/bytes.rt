@@ -5,7 +5,7 @@ ghost use Rattle.oc_omf.specs.declared.contents.TheConstants.{ROOM};
 
 use crate::constants::{NEAR, OFFSET_32};
 use crate::contents::Contents;
-use crate::structures::{Base, Method, Segment};
+use crate::structures::{Method, PublicBase, Segment};
 
 /// Puts a segment. Constant time.
 pub fn put_segment(out: &mut Contents, segment: &Segment)
@@ -45,7 +45,7 @@ pub fn put_communal(out: &mut Contents, name: &[u8], size: u32)
 }
 
 /// Puts one symbol at an offset of a segment, without a type. Linear in its name.
-pub fn put_public(out: &mut Contents, base: Base, name: &[u8], offset: u32)
+pub fn put_public(out: &mut Contents, base: PublicBase, name: &[u8], offset: u32)
     requires group { base.group < 2 ^ 15 }
     requires segment { base.segment < 2 ^ 15 }
     requires short { length name.now < 256 }

@@ -1,7 +1,8 @@
-//! Numbers of TIS OMF 1.1, under the names of its records, and one of our profile. A record type stands for two: the odd one
-//! above it has offsets, lengths and repeat counts of four bytes where the even one has two.
+//! Numbers of TIS OMF 1.1, under the names of its records, and one of our profile. A record type
+//! here stands for two types: the odd one above it has offsets, lengths and repeat counts of four
+//! bytes where the even one has two.
 
-/// The front of a module (TIS OMF 1.1, "THEADR").
+/// The header of a module (TIS OMF 1.1, "THEADR").
 pub const THEADR: u8 = 0x80;
 /// A comment (TIS OMF 1.1, "COMENT").
 pub const COMENT: u8 = 0x88;
@@ -21,7 +22,7 @@ pub const SEGDEF: u8 = 0x98;
 pub const GRPDEF: u8 = 0x9A;
 /// Threads and fixups (TIS OMF 1.1, "FIXUPP").
 pub const FIXUPP: u8 = 0x9C;
-/// Data as they stand (TIS OMF 1.1, "LEDATA").
+/// Plain data (TIS OMF 1.1, "LEDATA").
 pub const LEDATA: u8 = 0xA0;
 /// Iterated data (TIS OMF 1.1, "LIDATA").
 pub const LIDATA: u8 = 0xA2;
@@ -40,7 +41,7 @@ pub const COMENT_LZEXT: u8 = 0xA9;
 pub const SEGMENT_INDEX: u8 = 0xFF;
 /// The type byte of a near communal (TIS OMF 1.1, "COMDEF").
 pub const NEAR: u8 = 0x62;
-/// The greatest length of a communal that stands in one byte (TIS OMF 1.1, "COMDEF").
+/// The greatest length of a communal that fits in one byte (TIS OMF 1.1, "COMDEF").
 pub const MOST_SHORT_LENGTH: u8 = 0x80;
 /// The location type of a 32-bit offset (TIS OMF 1.1, "FIXUPP").
 pub const OFFSET_32: u8 = 9;
@@ -62,7 +63,7 @@ pub const METHOD_EXTERNAL: u8 = 2;
 /// The method of a frame that is that of the target (TIS OMF 1.1, "FIXUPP").
 pub const FRAME_OF_TARGET: u8 = 5;
 
-/// How many bytes of an entry stand before its contents (TIS OMF 1.1, "Record Format").
+/// How many bytes of an entry come before its contents (TIS OMF 1.1, "Record Format").
 pub const ENTRY_HEAD: u64 = 3;
 /// An entry has at most so many bytes of names, or of data (our profile).
 pub const MOST_ENTRY_BYTES: u64 = 1024;

@@ -39,7 +39,7 @@ impl Contents {
         }
     }
 
-    /// Puts bytes behind those so far. Linear in them.
+    /// Puts bytes after those so far. Linear in them.
     pub fn put(&mut self, bytes: &[u8])
         requires { length self.old + length bytes.now ≤ ROOM }
         ensures bytes { self.new ≡ self.old ++ bytes.now }
@@ -50,7 +50,7 @@ impl Contents {
         self.len = end;
     }
 
-    /// Puts a byte behind those so far. Constant time.
+    /// Puts a byte after those so far. Constant time.
     pub fn put_u8(&mut self, x: u8)
         requires { length self.old + 1 ≤ ROOM }
         ensures bytes { self.new ≡ self.old ++ x ∷ [] }
@@ -59,7 +59,7 @@ impl Contents {
         self.put(&[x]);
     }
 
-    /// Puts the four bytes of a number behind those so far. Constant time.
+    /// Puts the four bytes of a number after those so far. Constant time.
     #[tactic(auto, unfolding(oc_base::specs::Numbers::bytes_of_number))]
     pub fn put_u32(&mut self, x: u32)
         requires { length self.old + 4 ≤ ROOM }
@@ -69,7 +69,7 @@ impl Contents {
         self.put(&x.to_le_bytes());
     }
 
-    /// Puts an index behind those so far (TIS OMF 1.1, "Index Fields"). Constant time.
+    /// Puts an index after those so far (TIS OMF 1.1, "Index Fields"). Constant time.
     pub fn put_index(&mut self, index: u16)
         requires low { index < 2 ^ 15 }
         requires room { length self.old + 2 ≤ ROOM }
@@ -84,7 +84,7 @@ impl Contents {
         }
     }
 
-    /// Puts a name of up to 255 bytes behind those so far. Linear in it.
+    /// Puts a name of up to 255 bytes after those so far. Linear in it.
     pub fn put_name(&mut self, name: &[u8])
         requires short { length name.now < 256 }
         requires room { length self.old + 1 + length name.now ≤ ROOM }
@@ -95,8 +95,8 @@ impl Contents {
         self.put(name);
     }
 
-    /// Puts the length of a communal behind those so far, in its shortest form (TIS OMF 1.1, "COMDEF").
-    /// Constant time.
+    /// Puts the length of a communal after those so far, in its shortest form (TIS OMF 1.1,
+    /// "COMDEF"). Constant time.
     #[tactic(auto, unfolding(oc_base::specs::Numbers::bytes_of_number, crate::specs::Bytes::length_bytes))]
     pub fn put_length(&mut self, size: u32)
         requires { length self.old + 5 ≤ ROOM }

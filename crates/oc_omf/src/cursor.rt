@@ -1,5 +1,5 @@
-//! Fields of an entry's contents, read one behind another: each call gives what stands at a place and
-//! the place after it. Places are offsets in bytes from the front of the contents; calls take
+//! Fields of an entry's contents, read one after another: each call gives what lies at a place and
+//! the place after it. Places are offsets in bytes from the start of the contents; calls take
 //! constant time and no memory.
 ghost use Rattle.std.specs.Prelude.{◌≡◌, MatchResult, Ok, Err};
 ghost use Rattle.oc_omf.specs.Cursor as cursor;

@@ -1,4 +1,4 @@
-//! The data of an entry, as they stand or iterated.
+//! The data of an entry, plain or iterated.
 ghost use Rattle.std.specs.Prelude.{◌≡◌, ◌<◌, ◌≤◌, ◌^◌, drop, length, min, IfOk, IfErr, Ok, Some};
 ghost use Rattle.oc_omf_records.specs.Blocks.{content, none, copies_of, denotation, size_of};
 ghost use Rattle.oc_omf_records.specs.Refusals.{Refuses, RefusesCopies};
@@ -9,19 +9,19 @@ use oc_base::{Bytes, NoMemory, View};
 use oc_omf_records::{Block, BlockFault, CopyFault};
 use std::alloc::Global;
 
-/// The data of an entry. Contracts see them as blocks, as `row_of` gives them: data as they stand are
-/// one content, once.
+/// The data of an entry. Contracts see them as blocks, as `row_of` gives them: plain data are one
+/// content, once.
 #[derive(Drop)]
 pub enum Data<'a> {
-    /// They stand there (TIS OMF 1.1, "LEDATA: Logical Enumerated Data Record").
+    /// They lie there as they are (TIS OMF 1.1, "LEDATA: Logical Enumerated Data Record").
     Plain(View<'a>),
     /// They are repeated (TIS OMF 1.1, "LIDATA: Logical Iterated Data Record").
     Iterated(Block),
 }
 
 impl<'a> Data<'a> {
-    /// The data in the contents of an entry behind its offset; repeat counts have four bytes where
-    /// `wide`. The faults and the cost are those of `Block::read`, and data as they stand have none.
+    /// The data in the contents of an entry after its offset; repeat counts have four bytes where
+    /// `wide`. The faults and the cost are those of `Block::read`, and plain data have none.
     pub fn read(
         alloc: Global,
         view: View<'a>,
@@ -62,9 +62,9 @@ impl<'a> Data<'a> {
         }
     }
 
-    /// Where the copies of the four bytes at `at` stand in what they stand for, as offsets in
-    /// ascending order; `at` counts from the first encoded byte. `NotContent` exactly where the four
-    /// do not lie in one content. The cost is that of `Block::copies`.
+    /// Where the copies of the four bytes at `at` lie in what the data stand for, as offsets in
+    /// ascending order; `at` counts from the first encoded byte. `NotContent` exactly where the
+    /// four do not lie in one content. The cost is that of `Block::copies`.
     pub fn copies(&self, alloc: Global, at: u16) -> Result<Vec<u32>, CopyFault>
         requires { size_of (row_of self.now) < 2 ^ 31 }
         ensures well { IfOk result (λ places. copies_of (row_of self.now) at ≡ Some places.items) }
@@ -97,7 +97,7 @@ pub fn read_data<'a>(
     Data::read(alloc, View::new(&bytes[at as usize..]), wide, iterated)
 }
 
-// the copies in data as they stand: one, if the bytes lie in them
+// the copies in plain data: one, if the bytes lie in them
 fn plain_copies(alloc: Global, view: &View<'_>, at: u32) -> Result<Vec<u32>, CopyFault>
     ensures well { IfOk result (λ places. copies_of (content 1 0 view.now none) at ≡ Some places.items) }
     ensures refused { IfErr result (λ fault. RefusesCopies fault (copies_of (content 1 0 view.now none) at)) }

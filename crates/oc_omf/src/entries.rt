@@ -18,14 +18,14 @@ pub fn is_wide(kind: u8) -> bool
     kind % 2 == 1
 }
 
-/// Whether a type is one of the two of a record, which is told by the even one. Constant time.
+/// Whether a type is one of the two of a record, which is named by the even one. Constant time.
 pub fn is_kind(even: u8, kind: u8) -> bool
     ensures { result ≡ specs.is_kind even kind }
 {
     kind - kind % 2 == even
 }
 
-// where the entry behind the one at `at` is looked for; none behind the last
+// where the entry after the one at `at` is looked for; none after the last
 fn next_place(file: &View<'_>, at: u32) -> Option<u32>
     requires small { length file.now ≤ MOST_INPUT }
     requires inside { at ≤ length file.now }

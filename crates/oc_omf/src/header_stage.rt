@@ -41,7 +41,7 @@ fn is_known(kind: u8) -> bool
     )
 }
 
-// byte `i` of the contents of an entry, 0 behind their end
+// byte `i` of the contents of an entry, 0 past their end
 fn byte_of(entry: &Entry<'_>, i: usize) -> u8
     ensures { result ≡ get_or entry.now.contents i 0 }
 {
@@ -74,7 +74,7 @@ fn has_start(entry: &Entry<'_>) -> bool
     is_kind(MODEND, entry.kind) && byte_of(entry, 0) / 0x40 % 2 == 1
 }
 
-// the code for an entry, where `begun` says whether an earlier one is a front
+// the code for an entry, where `begun` is whether an earlier one is a header
 fn record_code(begun: bool, entry: &Entry<'_>) -> Option<Code>
     ensures { (x : ℕ × ℕ) → first_broken (rules.record_conditions begun x entry.now) ≡ option_map (rules.entry_fault x) result }
 {
@@ -88,7 +88,7 @@ fn record_code(begun: bool, entry: &Entry<'_>) -> Option<Code>
     None
 }
 
-// judges what stands at `at`, the place of an entry: gives its type, or the code of its fault
+// judges what lies at `at`, the place of an entry: gives its type, or the code of its fault
 fn judge_entry(file: &View<'_>, begun: bool, at: u32) -> Result<u8, Code>
     ensures clean { OnOk result ((i : ℕ) → first_broken (rules.entry_conditions file.now begun (i, at)) ≡ None) }
     ensures kind { IfOk result (λ kind. kind ≡ (entry_of file.now at).kind) }
@@ -105,7 +105,7 @@ fn judge_entry(file: &View<'_>, begun: bool, at: u32) -> Result<u8, Code>
     }
 }
 
-// whether an entry of a type is a front, or one before it is
+// whether an entry of a type is a header, or one before it is
 fn is_begun(begun: bool, kind: u8) -> bool
     ensures { result ≡ (begun || is_kind THEADR kind) }
 {

@@ -60,7 +60,7 @@ impl<'a> Module<'a> {
     }
 }
 
-// the entry at a place, where one stands whole
+// the entry at a place, where a whole one lies there
 fn entry_in(file: &[u8], at: usize) -> Entry<'_>
     requires { is_whole file.now at ≡ true }
     ensures { result ≡ entry_of file.now at }

@@ -3,7 +3,7 @@ ghost use Rattle.std.specs.Prelude.{◌≡◌, ◌<◌, MatchResult, Ok, Err};
 ghost use Rattle.oc_omf.specs.Structures as structures;
 
 use crate::cursor::{Reading, read_index, read_long, read_name, read_u8};
-use crate::structures::{Base, Datum, Fixup, Head, Method, Segment, Subrecord, Thread};
+use crate::structures::{DataHead, Datum, Fixup, Method, PublicBase, Segment, Subrecord, Thread};
 use oc_base::View;
 
 /// The segment in the contents of an entry, of the odd type where `wide`.
@@ -39,22 +39,22 @@ pub fn read_member(view: &View<'_>, at: u64) -> Reading<(u8, u16)>
 
 /// Where the symbols of an entry lie.
 #[tactic(auto, unfolding(crate::specs::Structures::base_read))]
-pub fn read_base(view: &View<'_>) -> Reading<Base>
+pub fn read_base(view: &View<'_>) -> Reading<PublicBase>
     ensures { result ≡ structures.base_read view.now 0 }
 {
     let (group, at) = read_index(view, 0)?;
     let (segment, at) = read_index(view, at)?;
-    Ok((Base { group, segment }, at))
+    Ok((PublicBase { group, segment }, at))
 }
 
 /// Where the data in the contents of an entry lie, of the odd type where `wide`. Constant time.
 #[tactic(auto, unfolding(crate::specs::Structures::head_read))]
-pub fn read_head(view: &View<'_>, wide: bool) -> Reading<Head>
+pub fn read_head(view: &View<'_>, wide: bool) -> Reading<DataHead>
     ensures { result ≡ structures.head_read wide view.now 0 }
 {
     let (segment, at) = read_index(view, 0)?;
     let (offset, at) = read_long(view, wide, at)?;
-    Ok((Head { segment, offset }, at))
+    Ok((DataHead { segment, offset }, at))
 }
 
 // a method with the index that follows for the methods 0, 1 and 2

@@ -3,7 +3,7 @@
 /// A segment (TIS OMF 1.1, "SEGDEF: Segment Definition Record").
 #[derive(Clone, Copy, Debug, PartialEq, Eq, Drop)]
 pub struct Segment {
-    /// Whether it stands in an entry of the odd type.
+    /// Whether it lies in an entry of the odd type.
     pub wide: bool,
     /// The alignment, the combination, and whether it is big and has 32-bit offsets.
     pub attributes: u8,
@@ -19,26 +19,26 @@ pub struct Segment {
 
 /// Where the symbols of an entry lie (TIS OMF 1.1, "PUBDEF: Public Names Definition Record").
 #[derive(Clone, Copy, Debug, PartialEq, Eq, Drop)]
-pub struct Base {
+pub struct PublicBase {
     /// The index of a group, or 0.
     pub group: u16,
     /// The index of a segment, or 0.
     pub segment: u16,
 }
 
-/// What an entry says of a communal beside its name (TIS OMF 1.1, "COMDEF: Communal Names Definition
-/// Record").
+/// What an entry gives of a communal besides its name (TIS OMF 1.1, "COMDEF: Communal Names
+/// Definition Record").
 #[derive(Clone, Copy, Debug, PartialEq, Eq, Drop)]
 pub struct Communal {
     /// Its type byte.
     pub kind: u8,
-    /// The first byte of its length, which says in what form it stands.
+    /// The first byte of its length, which gives the form in which it is written.
     pub form: u8,
     /// The length, in bytes.
     pub length: u32,
 }
 
-/// How a frame or a target is told, and the index of what it is (TIS OMF 1.1, "FIXUPP: Fixup
+/// How a frame or a target is given, and the index of what it is (TIS OMF 1.1, "FIXUPP: Fixup
 /// Record").
 #[derive(Clone, Copy, Debug, PartialEq, Eq, Drop)]
 pub struct Method {
@@ -50,7 +50,7 @@ pub struct Method {
 
 /// Where data lie (TIS OMF 1.1, "LEDATA: Logical Enumerated Data Record").
 #[derive(Clone, Copy, Debug, PartialEq, Eq, Drop)]
-pub struct Head {
+pub struct DataHead {
     /// The index of their segment.
     pub segment: u16,
     /// Their offset in it, in bytes.
@@ -60,7 +60,7 @@ pub struct Head {
 /// A frame or a target of a fixup.
 #[derive(Clone, Copy, Debug, PartialEq, Eq, Drop)]
 pub enum Datum {
-    /// It is told in the fixup.
+    /// It is given in the fixup.
     Explicit(Method),
     /// It is that of the thread of this number.
     Thread(u8),
@@ -84,7 +84,7 @@ pub struct Fixup {
     pub segment_relative: bool,
     /// The type of what is fixed up.
     pub location: u8,
-    /// Where that stands in the data of the entry before, an offset in bytes as they are encoded.
+    /// Where that lies in the data of the entry before, an offset in bytes as they are encoded.
     pub offset: u16,
     /// From where the address of the target counts.
     pub frame: Datum,
@@ -94,7 +94,7 @@ pub struct Fixup {
     pub displacement: u32,
 }
 
-/// What a FIXUPP entry has, one behind another.
+/// What a FIXUPP entry has, one after another.
 #[derive(Clone, Copy, Debug, PartialEq, Eq, Drop)]
 pub enum Subrecord {
     /// A thread.

@@ -21,7 +21,7 @@ use Rattle.oc_neutral.specs.KeySymbols.{global_place}
 use Rattle.oc_shows.specs.Manners.{omf_manner}
 use Rattle.oc_neutral.specs.Normal.{Place, takes_section, at_section}
 use Rattle.oc_neutral.specs.Objects.{Object, reloc_at}
-use Rattle.oc_neutral.specs.Omf.Relocs.{Framed, ByFlat, ByTarget, BySelf, fixup_row}
+use Rattle.oc_neutral.specs.Omf.Relocs.{FixupFrame, ByFlat, ByTarget, BySelf, fixup_row}
 use Rattle.oc_neutral.specs.Rows as rows
 use Rattle.oc_shows.specs.Seen.{place_at, target_place, section_place}
 use Rattle.oc_neutral.proofs.Positions.{each_at, there_at}
@@ -44,7 +44,7 @@ pub record ForSymbol (n : Object) (r : Reloc) : Type 0 where
   pub aim : r.target ≡ target.Symbol position
 
 -- no fixup takes the address of a section
-no_section : (framed : Framed) (l : Less) (s : ℕ) → rows.less_of (fixup_row framed).taken 0 ≡ l → takes_section s l ≡ false
+no_section : (framed : FixupFrame) (l : Less) (s : ℕ) → rows.less_of (fixup_row framed).taken 0 ≡ l → takes_section s l ≡ false
 no_section ByFlat l s e = ap (takes_section s) (sym e)
 no_section ByTarget l s e = ap (takes_section s) (sym e)
 no_section BySelf l s e = ap (takes_section s) (sym e)

@@ -18,7 +18,7 @@ use Rattle.oc_neutral.specs.Invariants.{IsObject}
 use Rattle.oc_target.specs.Meets.{MeetsReloc}
 use Rattle.oc_neutral.specs.Objects.{Object, reloc_at, reloc_among}
 use Rattle.oc_target.specs.OmfMeets.{MeetsOmf, OmfSection, OmfReloc}
-use Rattle.oc_neutral.specs.Omf.Relocs.{Framed, ByFlat, ByTarget, BySelf, fixup_row}
+use Rattle.oc_neutral.specs.Omf.Relocs.{FixupFrame, ByFlat, ByTarget, BySelf, fixup_row}
 use Rattle.oc_neutral.specs.Rows as rows
 use Rattle.oc_neutral.specs.Rows.{Row, taken_of}
 use Rattle.oc_neutral.proofs.Mapped.{from_mapped}
@@ -53,7 +53,7 @@ field_there (y ∷ xs) at r h = by (λ g. field_there xs at r g) (eqb y.at at) r
     by later false e h = let m = later h in (suc m.0, m.1, m.2, m.3, m.4)
 
 -- what a fixup's row takes is what is taken
-less_back : (framed : Framed) (l : Less) → (fixup_row framed).taken ≡ taken_of l → (k : ℕ) → rows.less_of (fixup_row framed).taken k ≡ l
+less_back : (framed : FixupFrame) (l : Less) → (fixup_row framed).taken ≡ taken_of l → (k : ℕ) → rows.less_of (fixup_row framed).taken k ≡ l
 less_back framed less.Zero e k = ap (λ x. rows.less_of x k) e
 less_back framed less.Place e k = ap (λ x. rows.less_of x k) e
 less_back framed less.GotBase e k = ap (λ x. rows.less_of x k) e
@@ -92,7 +92,7 @@ module _ (n : Object) (is : IsForOmf n) where
     abbrev pub meets : MeetsReloc Omf n k at r
     meets = omf_reloc.meets
 
-    abbrev pub framed : Framed
+    abbrev pub framed : FixupFrame
     framed = omf_reloc.framed
 
     pub row_is : row_by r ≡ Some (fixup_row framed)

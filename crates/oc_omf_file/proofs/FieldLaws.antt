@@ -29,7 +29,7 @@ use Rattle.oc_shows.specs.Manners.{omf_manner}
 use Rattle.oc_target.specs.Meets.{MeetsReloc}
 use Rattle.oc_neutral.specs.Normal.{Place, at_section}
 use Rattle.oc_neutral.specs.Objects.{Object, reloc_at}
-use Rattle.oc_neutral.specs.Omf.Relocs.{Framed, ByFlat, ByTarget, BySelf, fixup_row}
+use Rattle.oc_neutral.specs.Omf.Relocs.{FixupFrame, ByFlat, ByTarget, BySelf, fixup_row}
 use Rattle.oc_shows.specs.RowFields.{number_in, row_field}
 use Rattle.oc_shows.specs.RowValues.{row_reloc}
 use Rattle.oc_neutral.specs.Rows as rows
@@ -38,7 +38,7 @@ use Rattle.oc_shows.specs.Seen.{section_place, seen_reloc, seen_target}
 use Rattle.oc_target.proofs.MeetsRelocs.{no_error}
 use Rattle.oc_neutral.proofs.ShiftLemmas.{four_bytes_hold}
 use Rattle.oc_omf.specs.Sections.{size_at, contents_of}
-use Rattle.oc_omf.specs.Fixups.{Fixed, fixed_from, has_field, placed_upto, is_of_segment, field_offsets}
+use Rattle.oc_omf.specs.Fixups.{Fixed, fixed_from, has_field, subrecords_upto, is_of_segment, field_offsets}
 use Rattle.oc_omf.specs.Targets.{target_of}
 use Rattle.oc_omf.specs.Fields.{row_of, aim_of, field_of, field_by, relocates}
 use Rattle.oc_omf_file.specs.Fixups.{written_reloc, row_by, number_or, number_by, field_number, field_patch, field_patches, raw_of, target_method}
@@ -56,12 +56,12 @@ held_by : (shift a : ℤ) → (F : ℕ) × (to_field_of W32 Four shift a ≡ Ok 
 held_by shift a = no_error (to_field_of W32 Four shift a) (four_bytes_hold shift a)
 
 -- a row of OMF has four bytes, and no hint
-row_width : (f : Framed) → (fixup_row f).width ≡ Four
+row_width : (f : FixupFrame) → (fixup_row f).width ≡ Four
 row_width ByFlat = refl
 row_width ByTarget = refl
 row_width BySelf = refl
 
-row_hint : (f : Framed) → (fixup_row f).hint ≡ Plain
+row_hint : (f : FixupFrame) → (fixup_row f).hint ≡ Plain
 row_hint ByFlat = refl
 row_hint ByTarget = refl
 row_hint BySelf = refl
@@ -142,7 +142,7 @@ module _ (n : Object) (is : IsForOmf n) where
   -- ... fields
 
   abbrev pub fixups : List Fixed
-  fixups = fixed_from [] (placed_upto (entries n is) (length (entries n is)))
+  fixups = fixed_from [] (subrecords_upto (entries n is) (length (entries n is)))
 
   both : (p q : Bool) → (p && q) ≡ true → (p ≡ true) × (q ≡ true)
   both true q e = (refl, e)

@@ -19,7 +19,7 @@ use Rattle.oc_omf.specs.declared.structures.Subrecord.TheVariants as subrecord
 use Rattle.oc_omf.specs.Cursor.{Read}
 use Rattle.oc_omf.specs.Entries.{Entry}
 use Rattle.oc_omf.specs.Tables.{Tables, tables_of}
-use Rattle.oc_omf.specs.Fixups.{Placed, placed_by, placed_upto, last_of, Fixed, fixed_from, copies_for, field_offsets, is_of_segment}
+use Rattle.oc_omf.specs.Fixups.{PlacedSubrecord, subrecords_by, subrecords_upto, last_of, Fixed, fixed_from, copies_for, field_offsets, is_of_segment}
 use Rattle.oc_omf_file.specs.Pieces.{offsets_of, pieces_of, fields_between}
 use Rattle.oc_omf_file.specs.Outputs.{Output, symbol_outputs, piece_outputs, data_outputs, segment_output, outputs_of}
 use Rattle.oc_omf_file.specs.Outputs as output
@@ -44,7 +44,7 @@ module _ (n : Object) (is : IsForOmf n) where
 
   -- ... subrecords in their places
 
-  pub record IsPlacedField (q : ℕ) (y : Placed) : Type 0 where
+  pub record IsPlacedField (q : ℕ) (y : PlacedSubrecord) : Type 0 where
     pub k : ℕ
     pub s : Section
     pub from : ℕ
@@ -57,13 +57,13 @@ module _ (n : Object) (is : IsForOmf n) where
     pub part : y.part ≡ Ok (subrecord.Fixup (made_record n from x))
     pub before : y.before ≡ given n (take y.index (outputs_of n))
 
-  pub placed_is : (i : ℕ) (e : Entry) → slice_get entries i ≡ Some e → (m : ℕ) (y : Placed) → slice_get (placed_by entries (i, e)) m ≡ Some y
+  pub placed_is : (i : ℕ) (e : Entry) → slice_get entries i ≡ Some e → (m : ℕ) (y : PlacedSubrecord) → slice_get (subrecords_by entries (i, e)) m ≡ Some y
       → (y.index ≡ i) × (f : IsPlacedField (i + 1) y) × (f.m ≡ m)
   placed_is i e here m y h =
       let r = of_map (λ (s : Read Subrecord). record { index = i; at = s.at; part = s.part; before = tables_of (take i entries) }) e.subrecords m y h in
       let o = entry_made n 0 i outs e here in
       let f = subrecord_is n o.1 o.0 m r.0 (ap (λ (z : Entry). slice_get z.subrecords m) o.3 ∙ r.1) in
-      let index : y.index ≡ i = ap (λ (z : Placed). z.index) (sym r.2) in (
+      let index : y.index ≡ i = ap (λ (z : PlacedSubrecord). z.index) (sym r.2) in (
         index,
         record {
           k = f.k;
@@ -75,16 +75,16 @@ module _ (n : Object) (is : IsForOmf n) where
           m = m;
           x = f.x;
           field = f.field;
-          part = ap (λ (z : Placed). z.part) (sym r.2) ∙ f.part_is;
-          before = ap (λ (z : Placed). z.before) (sym r.2) ∙ tables_before n i outs ∙ ap (λ j. given n (take j outs)) (sym index);
+          part = ap (λ (z : PlacedSubrecord). z.part) (sym r.2) ∙ f.part_is;
+          before = ap (λ (z : PlacedSubrecord). z.before) (sym r.2) ∙ tables_before n i outs ∙ ap (λ j. given n (take j outs)) (sym index);
         },
         refl,
       )
 
-  pub placed_upto_is : (q m : ℕ) (y : Placed) → slice_get (placed_upto entries q) m ≡ Some y → IsPlacedField q y
-  unfolding placed_upto
+  pub placed_upto_is : (q m : ℕ) (y : PlacedSubrecord) → slice_get (subrecords_upto entries q) m ≡ Some y → IsPlacedField q y
+  unfolding subrecords_upto
   placed_upto_is q =
-      each_flat_map (IsPlacedField q) (placed_by entries) (take q (enumerate_from 0 entries)) (λ j x h m y g.
+      each_flat_map (IsPlacedField q) (subrecords_by entries) (take q (enumerate_from 0 entries)) (λ j x h m y g.
       let t = of_take q (enumerate_from 0 entries) j x h in
       let z = of_enumerated 0 entries j x t.1 in
       let number : x.0 ≡ j = z.0 ∙ omega arith in
@@ -97,10 +97,10 @@ module _ (n : Object) (is : IsForOmf n) where
   -- ... fixups
 
   -- the data before a subrecord
-  data_before : (q : ℕ) (y : Placed) (f : IsPlacedField q y) → (before : List Output) × (take y.index outs ≡ before ++ output.Data f.k f.s f.from f.to ∷ []) × IsDataAt n before f.k f.s f.from f.to
+  data_before : (q : ℕ) (y : PlacedSubrecord) (f : IsPlacedField q y) → (before : List Output) × (take y.index outs ≡ before ++ output.Data f.k f.s f.from f.to ∷ []) × IsDataAt n before f.k f.s f.from f.to
   data_before q y f = behind n is y.index (output.Fixups f.k f.s f.from f.to) f.here
 
-  abbrev pub plain_is : (q : ℕ) (y : Placed) → IsPlacedField q y → IsPlain y
+  abbrev pub plain_is : (q : ℕ) (y : PlacedSubrecord) → IsPlacedField q y → IsPlain y
   plain_is q y f = record { fixup = made_record n f.from f.x; frame = frame_by (is_row_of ByTarget f.x.item); target = target_method n (written_reloc n f.x.item).target; part = f.part; frame_is = refl; target_is = refl }
 
   -- a fixup that is read
@@ -120,14 +120,14 @@ module _ (n : Object) (is : IsForOmf n) where
     pub field : slice_get (fields_between n k from to) m ≡ Some x
     pub is_made : f ≡ made_fixed n k s from to x
 
-  pub record IsReadAs (q : ℕ) (y : Placed) (f : IsPlacedField q y) : Type 0 where
+  pub record IsReadAs (q : ℕ) (y : PlacedSubrecord) (f : IsPlacedField q y) : Type 0 where
     pub fixed : IsFixed q (fixed_by y (plain_is q y f))
     pub index : fixed.index ≡ y.index
     pub k : fixed.k ≡ f.k
     pub m : fixed.m ≡ f.m
     pub x : fixed.x ≡ f.x
 
-  pub fixed_is : (q : ℕ) (y : Placed) (f : IsPlacedField q y) → IsReadAs q y f
+  pub fixed_is : (q : ℕ) (y : PlacedSubrecord) (f : IsPlacedField q y) → IsReadAs q y f
   fixed_is q y f =
       let d = data_before q y f in
       let piece : last_of y.before.pieces ≡ Some (window_piece f.k (raw_of n f.k f.s) (f.from, f.to))
@@ -198,16 +198,16 @@ module _ (n : Object) (is : IsForOmf n) where
 
   -- ... all fixups
 
-  pub fixups_are : (q i : ℕ) (f : Fixed) → slice_get (fixed_from [] (placed_upto entries q)) i ≡ Some f → IsFixed q f
+  pub fixups_are : (q i : ℕ) (f : Fixed) → slice_get (fixed_from [] (subrecords_upto entries q)) i ≡ Some f → IsFixed q f
   fixups_are q i f h =
-      let m = of_fixed [] (placed_upto entries q) (λ j y g. plain_is q y (placed_upto_is q j y g)) i f h in
+      let m = of_fixed [] (subrecords_upto entries q) (λ j y g. plain_is q y (placed_upto_is q j y g)) i f h in
       let own = fixed_is q m.0 (placed_upto_is q i m.0 m.1) in
       subst (IsFixed q) (sym m.2) own.fixed
 
   -- the fixup of a relocation is there
   pub fixup_there : (k : ℕ) (s : Section) → slice_get n.sections k ≡ Some s → (at : ℕ) (r : Reloc) → reloc_at n k at ≡ Some r
-      → (i : ℕ) × (f : Fixed) × (g : IsFixed (length entries) f) × (slice_get (fixed_from [] (placed_upto entries (length entries))) i ≡ Some f) × (g.k ≡ k) × (g.x.at ≡ at)
-  unfolding pieces_of placed_upto
+      → (i : ℕ) × (f : Fixed) × (g : IsFixed (length entries) f) × (slice_get (fixed_from [] (subrecords_upto entries (length entries))) i ≡ Some f) × (g.k ≡ k) × (g.x.at ≡ at)
+  unfolding pieces_of subrecords_upto
   fixup_there k s here at r there =
       let x = field_there (list_of n.relocs k) at r there in
       let ends = inside n is k at r there s here in
@@ -228,19 +228,19 @@ module _ (n : Object) (is : IsForOmf n) where
       finish out.0 x.1 f.0 f.1 out.1 place
     where
       finish : {from to : ℕ} (i : ℕ) (x : Field Reloc) (j : ℕ) → slice_get (fields_between n k from to) j ≡ Some x → slice_get outs i ≡ Some (output.Fixups k s from to) → x.at ≡ at
-          → (i : ℕ) × (f : Fixed) × (g : IsFixed (length entries) f) × (slice_get (fixed_from [] (placed_upto entries (length entries))) i ≡ Some f) × (g.k ≡ k) × (g.x.at ≡ at)
+          → (i : ℕ) × (f : Fixed) × (g : IsFixed (length entries) f) × (slice_get (fixed_from [] (subrecords_upto entries (length entries))) i ≡ Some f) × (g.k ≡ k) × (g.x.at ≡ at)
       finish {from} {to} i x j field out place =
           let e = made_there n 0 i outs (output.Fixups k s from to) out in
           let r = placed_there (field_fixup n from) (made_fixup n from) e.0 0 (fields_between n k from to) j x field in
-          let y : Placed = record { index = i; at = r.0.at; part = r.0.part; before = tables_of (take i entries) } in
-          let member : slice_get (placed_by entries (i, made n e.0 (output.Fixups k s from to))) j ≡ Some y
+          let y : PlacedSubrecord = record { index = i; at = r.0.at; part = r.0.part; before = tables_of (take i entries) } in
+          let member : slice_get (subrecords_by entries (i, made n e.0 (output.Fixups k s from to))) j ≡ Some y
           = member_map (λ (z : Read Subrecord). record { index = i; at = z.at; part = z.part; before = tables_of (take i entries) }) (made n e.0 (output.Fixups k s from to)).subrecords j r.0 r.1 in
           let z : 0 + i ≡ i = omega arith in
           let inside = slice_get_within entries i _ e.1 in
           let taken = member_take (length entries) (enumerate_from 0 entries) i (i, made n e.0 (output.Fixups k s from to)) inside (member_enumerated 0 entries i _ e.1 ∙ ap (λ m. Some (m, made n e.0 (output.Fixups k s from to))) z) in
-          let all = member_flat_map (placed_by entries) (take (length entries) (enumerate_from 0 entries)) i j (i, made n e.0 (output.Fixups k s from to)) y taken member in
-          let plain : ArePlain (placed_upto entries (length entries)) = λ a b c. plain_is (length entries) b (placed_upto_is (length entries) a b c) in
+          let all = member_flat_map (subrecords_by entries) (take (length entries) (enumerate_from 0 entries)) i j (i, made n e.0 (output.Fixups k s from to)) y taken member in
+          let plain : ArePlain (subrecords_upto entries (length entries)) = λ a b c. plain_is (length entries) b (placed_upto_is (length entries) a b c) in
           let own : IsPlacedField (length entries) y
           = record { k = k; s = s; from = from; to = to; low = inside; here = out; m = j; x = x; field = field; part = r.2; before = tables_before n i outs } in
           let g = fixed_is (length entries) y own in
-          (all.0, fixed_by y (plain_is (length entries) y own), g.fixed, fixed_there [] (placed_upto entries (length entries)) plain all.0 y all.1 (plain_is (length entries) y own), g.k, ap (λ (z : Field Reloc). z.at) g.x ∙ place)
+          (all.0, fixed_by y (plain_is (length entries) y own), g.fixed, fixed_there [] (subrecords_upto entries (length entries)) plain all.0 y all.1 (plain_is (length entries) y own), g.k, ap (λ (z : Field Reloc). z.at) g.x ∙ place)

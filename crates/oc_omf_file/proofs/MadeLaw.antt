@@ -16,7 +16,7 @@ use Rattle.oc_neutral.specs.KeySymbols.{global_place}
 use Rattle.oc_neutral.specs.Normal.{Place}
 use Rattle.oc_neutral.specs.Objects.{Object}
 use Rattle.oc_neutral.specs.Rows.{Row}
-use Rattle.oc_neutral.specs.Omf.Relocs.{Framed, ByTarget, BySelf}
+use Rattle.oc_neutral.specs.Omf.Relocs.{FixupFrame, ByTarget, BySelf}
 use Rattle.oc_omf_records.specs.Blocks.{none, content}
 use Rattle.oc_shelf.proofs.WritingLaws.MemberLemmas.{each_append, each_flat_map, each_map, each_filter_map, of_map}
 use Rattle.oc_shelf.proofs.WritingLaws.StandingLemmas.{stands_whole}
@@ -37,7 +37,7 @@ use Rattle.oc_omf_file.proofs.SaidLaws.{near_communal, names_said, segment_said,
 use Rattle.oc_omf_file.proofs.FixupLaws.{fixup_said, reads_fixup}
 
 -- the row of a relocation is that one
-abbrev pub is_row_of : Framed → Reloc → Bool
+abbrev pub is_row_of : FixupFrame → Reloc → Bool
 is_row_of framed r = option_map_or (is_row framed) (row_by r) false
 
 -- a fixup as it reads, of data that begin at an offset

@@ -20,7 +20,7 @@ use Rattle.oc_omf.specs.declared.structures.Subrecord.{Subrecord}
 use Rattle.oc_omf.specs.declared.structures.Subrecord.TheVariants as subrecord
 use Rattle.oc_omf.specs.Cursor.{Read}
 use Rattle.oc_omf.specs.Entries.{says_nothing, in_file}
-use Rattle.oc_omf.specs.Fixups.{Placed, method_of, last_of, Fixed, fixed_of, with_fixed, fixed_from}
+use Rattle.oc_omf.specs.Fixups.{PlacedSubrecord, method_of, last_of, Fixed, fixed_of, with_fixed, fixed_from}
 use Rattle.oc_omf_file.specs.Pieces.{fields_between}
 use Rattle.oc_omf_file.specs.Names.{names_of, filled_from}
 use Rattle.oc_omf_file.specs.Outputs.{Output, symbol_outputs, piece_outputs, data_outputs, segment_output, outputs_of}
@@ -98,7 +98,7 @@ subrecord_is n place output.End m r h = absurd (none-some r h)
 -- ... fixups among subrecords
 
 -- a subrecord that is a fixup without threads
-pub record IsPlain (y : Placed) : Type 0 where
+pub record IsPlain (y : PlacedSubrecord) : Type 0 where
   pub fixup : Fixup
   pub frame : Method
   pub target : Method
@@ -106,25 +106,25 @@ pub record IsPlain (y : Placed) : Type 0 where
   pub frame_is : fixup.frame ≡ datum.Explicit frame
   pub target_is : fixup.target ≡ datum.Explicit target
 
-abbrev pub fixed_by : (y : Placed) → IsPlain y → Fixed
+abbrev pub fixed_by : (y : PlacedSubrecord) → IsPlain y → Fixed
 fixed_by y p = record { fixup = p.fixup; piece = last_of y.before.pieces; frame = Some p.frame; target = Some p.target }
 
-pub fixed_plain : (earlier : List Placed) (y : Placed) (p : IsPlain y) → fixed_of earlier y.before p.fixup ≡ fixed_by y p
+pub fixed_plain : (earlier : List PlacedSubrecord) (y : PlacedSubrecord) (p : IsPlain y) → fixed_of earlier y.before p.fixup ≡ fixed_by y p
 fixed_plain earlier y p =
     ap (λ d. record { fixup = p.fixup; piece = last_of y.before.pieces; frame = method_of earlier true d; target = method_of earlier false p.fixup.target }) p.frame_is
     ∙ ap (λ d. record { fixup = p.fixup; piece = last_of y.before.pieces; frame = Some p.frame; target = method_of earlier false d }) p.target_is
 
-with_plain : (earlier : List Placed) (y : Placed) (p : IsPlain y) (rest : List Fixed) → with_fixed earlier y rest ≡ fixed_by y p ∷ rest
+with_plain : (earlier : List PlacedSubrecord) (y : PlacedSubrecord) (p : IsPlain y) (rest : List Fixed) → with_fixed earlier y rest ≡ fixed_by y p ∷ rest
 with_plain earlier y p rest =
     ap (λ (r : Result Subrecord Cut). elim r [ Ok (subrecord.Fixup f) ↦ fixed_of earlier y.before f ∷ rest | Ok (subrecord.Thread t) ↦ rest | Err c ↦ rest ]) p.part
     ∙ ap (λ f. f ∷ rest) (fixed_plain earlier y p)
 
 -- each subrecord gives one fixup
-abbrev pub ArePlain : List Placed → Type 0
-ArePlain xs = (i : ℕ) (y : Placed) → slice_get xs i ≡ Some y → IsPlain y
+abbrev pub ArePlain : List PlacedSubrecord → Type 0
+ArePlain xs = (i : ℕ) (y : PlacedSubrecord) → slice_get xs i ≡ Some y → IsPlain y
 
-pub of_fixed : (earlier xs : List Placed) (plain : ArePlain xs) (i : ℕ) (f : Fixed) → slice_get (fixed_from earlier xs) i ≡ Some f
-    → (y : Placed) × (h : slice_get xs i ≡ Some y) × (f ≡ fixed_by y (plain i y h))
+pub of_fixed : (earlier xs : List PlacedSubrecord) (plain : ArePlain xs) (i : ℕ) (f : Fixed) → slice_get (fixed_from earlier xs) i ≡ Some f
+    → (y : PlacedSubrecord) × (h : slice_get xs i ≡ Some y) × (f ≡ fixed_by y (plain i y h))
 of_fixed earlier [] plain i f h = absurd (none-some f h)
 of_fixed earlier (x ∷ xs) plain zero f h =
     let p = plain 0 x refl in
@@ -134,10 +134,10 @@ of_fixed earlier (x ∷ xs) plain (suc i) f h =
     of_fixed (earlier ++ x ∷ []) xs (λ j y g. plain (suc j) y g) i f (ap (λ fs. slice_get fs (suc i)) (sym (with_plain earlier x p (fixed_from (earlier ++ x ∷ []) xs))) ∙ h)
 
 -- that of a subrecord is there
-plain_first : (earlier : List Placed) (x y : Placed) (rest : List Fixed) → x ≡ y → (p : IsPlain y) → slice_get (with_fixed earlier x rest) 0 ≡ Some (fixed_by y p)
+plain_first : (earlier : List PlacedSubrecord) (x y : PlacedSubrecord) (rest : List Fixed) → x ≡ y → (p : IsPlain y) → slice_get (with_fixed earlier x rest) 0 ≡ Some (fixed_by y p)
 plain_first earlier x y rest e p = ap (λ z. slice_get (with_fixed earlier z rest) 0) e ∙ ap (λ fs. slice_get fs 0) (with_plain earlier y p rest)
 
-pub fixed_there : (earlier xs : List Placed) (plain : ArePlain xs) (i : ℕ) (y : Placed) → slice_get xs i ≡ Some y → (p : IsPlain y) → slice_get (fixed_from earlier xs) i ≡ Some (fixed_by y p)
+pub fixed_there : (earlier xs : List PlacedSubrecord) (plain : ArePlain xs) (i : ℕ) (y : PlacedSubrecord) → slice_get xs i ≡ Some y → (p : IsPlain y) → slice_get (fixed_from earlier xs) i ≡ Some (fixed_by y p)
 fixed_there earlier [] plain i y h p = absurd (none-some y h)
 fixed_there earlier (x ∷ xs) plain zero y h p = plain_first earlier x y (fixed_from (earlier ++ x ∷ []) xs) (same_Some x y h) p
 fixed_there earlier (x ∷ xs) plain (suc i) y h p =

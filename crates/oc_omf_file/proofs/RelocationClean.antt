@@ -23,7 +23,7 @@ use Rattle.oc_omf.specs.declared.structures.Subrecord.{Subrecord}
 use Rattle.oc_omf.specs.Structures.{Piece}
 use Rattle.oc_omf.specs.Entries.{Entry}
 use Rattle.oc_omf.specs.Tables.{Tables, is_there}
-use Rattle.oc_omf.specs.Fixups.{Placed, placed_by, placed_upto, Fixed, fixed_from, fixed_in, is_inside, is_of_segment, field_offsets, are_near, meet}
+use Rattle.oc_omf.specs.Fixups.{PlacedSubrecord, subrecords_by, subrecords_upto, Fixed, fixed_from, fixed_in, is_inside, is_of_segment, field_offsets, are_near, meet}
 use Rattle.oc_omf.specs.Targets.{Meaning, meaning_of}
 use Rattle.oc_omf.specs.Fields.{aim_of}
 use Rattle.oc_omf.specs.RelocationFaults.{is_judged, has_row, fixup_conditions, part_conditions, relocation_conditions, relocation_stage, relocation_stages}
@@ -138,14 +138,14 @@ module _ (n : Object) (is : IsForOmf n) where
 
   -- ... what stands before a subrecord
 
-  record IsEarlier (i j : ℕ) (y : Placed) : Type 0 where
+  record IsEarlier (i j : ℕ) (y : PlacedSubrecord) : Type 0 where
     field : IsPlacedField n is (i + 1) y
     place : (y.index < i) ⊎ ((y.index ≡ i) × (field.m < j))
 
-  earlier_are : (i : ℕ) (e : Entry) → slice_get (entries n is) i ≡ Some e → (j : ℕ) (m : ℕ) (y : Placed)
-      → slice_get (placed_upto (entries n is) i ++ take j (placed_by (entries n is) (i, e))) m ≡ Some y → IsEarlier i j y
+  earlier_are : (i : ℕ) (e : Entry) → slice_get (entries n is) i ≡ Some e → (j : ℕ) (m : ℕ) (y : PlacedSubrecord)
+      → slice_get (subrecords_upto (entries n is) i ++ take j (subrecords_by (entries n is) (i, e))) m ≡ Some y → IsEarlier i j y
   earlier_are i e here j =
-      each_append (IsEarlier i j) (placed_upto (entries n is) i) (take j (placed_by (entries n is) (i, e)))
+      each_append (IsEarlier i j) (subrecords_upto (entries n is) i) (take j (subrecords_by (entries n is) (i, e)))
       (λ m y h.
       let f = placed_upto_is n is i m y h in
       let low = f.low in
@@ -154,7 +154,7 @@ module _ (n : Object) (is : IsForOmf n) where
         place = inl f.low;
       })
       (λ m y h.
-      let t = of_take j (placed_by (entries n is) (i, e)) m y h in
+      let t = of_take j (subrecords_by (entries n is) (i, e)) m y h in
       let f = placed_is n is i e here m y t.1 in
       let low = t.0 in
       let same = f.2 in
@@ -171,12 +171,12 @@ module _ (n : Object) (is : IsForOmf n) where
   framed_there t true groups = refl
   framed_there t false groups = ap (λ gs. nat_le 1 1 && nat_le 1 (length gs)) groups
 
-  fixup_clean : (i : ℕ) (e : Entry) → slice_get (entries n is) i ≡ Some e → (j : ℕ) (y : Placed) → slice_get (placed_by (entries n is) (i, e)) j ≡ Some y
-      → Unbroken (relocation_conditions (meant n) all (placed_upto (entries n is) i ++ take j (placed_by (entries n is) (i, e))) y)
+  fixup_clean : (i : ℕ) (e : Entry) → slice_get (entries n is) i ≡ Some e → (j : ℕ) (y : PlacedSubrecord) → slice_get (subrecords_by (entries n is) (i, e)) j ≡ Some y
+      → Unbroken (relocation_conditions (meant n) all (subrecords_upto (entries n is) i ++ take j (subrecords_by (entries n is) (i, e))) y)
   unfolding relocation_conditions fixup_conditions fixed_in
   fixup_clean i e here j y there =
       let m : Meaning = meant n in
-      let before : List Placed = placed_upto (entries n is) i ++ take j (placed_by (entries n is) (i, e)) in
+      let before : List PlacedSubrecord = subrecords_upto (entries n is) i ++ take j (subrecords_by (entries n is) (i, e)) in
       let f = placed_is n is i e here j y there in
       let p : IsPlain y = plain_is n is (i + 1) y f.1 in
       let own : Fixed = fixed_by y p in
@@ -222,8 +222,8 @@ module _ (n : Object) (is : IsForOmf n) where
 
   stage_clean : (i : ℕ) (e : Entry) → slice_get (entries n is) i ≡ Some e → IsUnbroken (relocation_stage (entries n is) all (i, e))
   stage_clean i e here j low =
-      let y = there_at (placed_by (entries n is) (i, e)) j low in
-      let earlier : List Placed = placed_upto (entries n is) i ++ take j (placed_by (entries n is) (i, e)) in
+      let y = there_at (subrecords_by (entries n is) (i, e)) j low in
+      let earlier : List PlacedSubrecord = subrecords_upto (entries n is) i ++ take j (subrecords_by (entries n is) (i, e)) in
       subst Unbroken (sym (ap (λ o. option_map_or (relocation_conditions (meaning_of (entries n is)) all earlier) o []) y.1))
       (subst (λ m. Unbroken (relocation_conditions m all earlier y.0)) (sym meaning_is) (fixup_clean i e here j y.0 y.1))
 

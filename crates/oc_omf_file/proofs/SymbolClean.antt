@@ -24,7 +24,7 @@ use Rattle.oc_omf.specs.Entries.{Entry, says_nothing}
 use Rattle.oc_omf.specs.Tables.{tables_of}
 use Rattle.oc_omf.specs.Symbols.{Mention, same_symbol, public_mention, external_mention}
 use Rattle.oc_omf.specs.Sections.{size_at}
-use Rattle.oc_omf.specs.SymbolFaults.{Told, is_empty, base_conditions, same_public, public_conditions, is_no_form, is_other_length, communal_conditions, external_conditions, symbol_table, symbol_stage, told_in, symbol_stages}
+use Rattle.oc_omf.specs.SymbolFaults.{EntryContext, is_empty, base_conditions, same_public, public_conditions, is_no_form, is_other_length, communal_conditions, external_conditions, symbol_table, symbol_stage, entry_context, symbol_stages}
 use Rattle.oc_omf_file.specs.Outputs.{Output, symbol_outputs, outputs_of}
 use Rattle.oc_omf_file.specs.Outputs as output
 use Rattle.oc_omf_file.specs.Canonical.{segment_of, size_by}
@@ -133,7 +133,7 @@ module _ (n : Object) (is : IsForOmf n) where
         ap (λ t. t && option_map_or (λ (d : Communal). not (nat_eq c.length d.length)) y.communal false) name))
 
   -- an entry with what is defined before it
-  abbrev of : ℕ → List Output → Entry → Told
+  abbrev of : ℕ → List Output → Entry → EntryContext
   of i front e = record { index = i; before = given n front; all = told n; entry = e }
 
   external_clean : (i place : ℕ) (front : List Output) (k : ℕ) (s : Symbol) → IsSymbolAt n front (output.External k s)
@@ -189,20 +189,20 @@ module _ (n : Object) (is : IsForOmf n) where
   pub tables_are : tables_of (entries n is) ≡ told n
   tables_are = tables_made n 0 (outputs_of n) ∙ outputs_told n (short_names n is) (fields_apart n is)
 
-  stage_clean : (i : ℕ) (e : Entry) → slice_get (entries n is) i ≡ Some e → IsUnbroken (symbol_stage (told_in (entries n is) (i, e)))
+  stage_clean : (i : ℕ) (e : Entry) → slice_get (entries n is) i ≡ Some e → IsUnbroken (symbol_stage (entry_context (entries n is) (i, e)))
   stage_clean i e here j low =
       let o = entry_made n 0 i (outputs_of n) e here in
-      let same : of i (take i (outputs_of n)) (made n o.1 o.0) ≡ told_in (entries n is) (i, e)
+      let same : of i (take i (outputs_of n)) (made n o.1 o.0) ≡ entry_context (entries n is) (i, e)
       = ap (λ t. record { index = i; before = t; all = told n; entry = made n o.1 o.0 }) (sym (tables_before n i (outputs_of n)))
       ∙ ap (λ t. record { index = i; before = tables_of (take i (entries n is)); all = t; entry = made n o.1 o.0 }) (sym tables_are)
       ∙ ap (λ (y : Entry). record { index = i; before = tables_of (take i (entries n is)); all = tables_of (entries n is); entry = y }) o.3 in
-      unbroken_at (symbol_table (told_in (entries n is) (i, e))) j
+      unbroken_at (symbol_table (entry_context (entries n is) (i, e))) j
       (subst (λ x. AllByRecursion Unbroken (symbol_table x)) same (entry_clean i o.1 (take i (outputs_of n)) o.0 (behind n is i o.0 o.2)))
 
   pub symbols_clean : AllByRecursion IsUnbroken (symbol_stages (entries n is))
   symbols_clean =
       all_members IsUnbroken (symbol_stages (entries n is)) (λ j stage h.
-      let x = of_map (λ x. symbol_stage (told_in (entries n is) x)) (enumerate_from 0 (entries n is)) j stage h in
+      let x = of_map (λ x. symbol_stage (entry_context (entries n is) x)) (enumerate_from 0 (entries n is)) j stage h in
       let e = of_enumerated 0 (entries n is) j x.0 x.1 in
       let i : x.0.0 ≡ j = e.0 ∙ omega arith in
       subst IsUnbroken x.2 (stage_clean x.0.0 x.0.1 (ap (slice_get (entries n is)) i ∙ e.1)))

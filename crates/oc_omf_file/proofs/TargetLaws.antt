@@ -21,7 +21,7 @@ use Rattle.oc_neutral.specs.Bindings.{is_external}
 use Rattle.oc_neutral.specs.Faces.{shown_symbol, shown_symbols}
 use Rattle.oc_shows.specs.Manners.{omf_manner}
 use Rattle.oc_neutral.specs.Objects.{Object, reloc_at}
-use Rattle.oc_neutral.specs.Omf.Relocs.{Framed, ByFlat, ByTarget, BySelf, fixup_row}
+use Rattle.oc_neutral.specs.Omf.Relocs.{FixupFrame, ByFlat, ByTarget, BySelf, fixup_row}
 use Rattle.oc_shows.specs.Seen.{seen_symbol}
 use Rattle.oc_shelf.proofs.WritingLaws.MemberLemmas.{each_append, each_filter_map, member_map}
 use Rattle.oc_omf.specs.declared.structures.Method.{Method}
@@ -181,7 +181,7 @@ module _ (n : Object) (is : IsForOmf n) where
   pub is_flat_group : is_flat (meant n) (record { number = 1; index = 1 }) ≡ true
   is_flat_group = let names = names_begin n in ap (λ xs. bytes_eq (unwrap_or (indexed xs 2) []) (codes "FLAT")) names.1
 
-  row_by_frame : (f : Framed) (x : Fixed) (t : Target) → x.fixup.segment_relative ≡ not (is_row BySelf (fixup_row f))
+  row_by_frame : (f : FixupFrame) (x : Fixed) (t : Target) → x.fixup.segment_relative ≡ not (is_row BySelf (fixup_row f))
       → x.frame ≡ Some (frame_by (is_row ByTarget (fixup_row f))) → row_of (meant n) x t ≡ Some (fixup_row f)
   row_by_frame ByFlat x t relative frame =
       ap (λ b. if b then option_and_then (framed_row (meant n) x t) x.frame else Some (fixup_row BySelf)) relative
@@ -195,7 +195,7 @@ module _ (n : Object) (is : IsForOmf n) where
   -- the row of a fixup
   pub row_read : (q : ℕ) (f : Fixed) (g : IsFixed n is q f) (t : Target) → row_of (meant n) f t ≡ Some (fixup_row (framed n is g.k g.x.at g.x.item (reloc_of n is q f g)))
   row_read q f g t =
-      let own : (a : Framed) → is_row_of a g.x.item ≡ is_row a (fixup_row (framed n is g.k g.x.at g.x.item (reloc_of n is q f g)))
+      let own : (a : FixupFrame) → is_row_of a g.x.item ≡ is_row a (fixup_row (framed n is g.k g.x.at g.x.item (reloc_of n is q f g)))
       = λ a. ap (λ o. option_map_or (is_row a) o false) (row_is n is g.k g.x.at g.x.item (reloc_of n is q f g)) in
       row_by_frame (framed n is g.k g.x.at g.x.item (reloc_of n is q f g)) f t
       (ap (λ (h : Fixed). h.fixup.segment_relative) g.is_made ∙ ap not (own BySelf))

@@ -28,7 +28,7 @@ attributes_of s = code_by s.align * 2 ^ 5 + COMBINE_PUBLIC * 2 ^ 2 + 1
 abbrev pub segment_of : Object → Section → read.Segment
 segment_of n s = record { wide = true; attributes = attributes_of s; length = s.size; name = name_index n s.name; class = name_index n (class_of s); overlay = 1 }
 
--- the size of a communal; of what is none there is no size, and 0 stands for it
+-- the size of a communal; what is not one has no size, and 0 stands for it
 abbrev pub size_by : Binding → ℕ
 size_by (Common size align) = size
 size_by (Local v) = 0
@@ -53,7 +53,7 @@ output_type (Data k s from to) = wide LEDATA
 output_type (Fixups k s from to) = wide FIXUPP
 output_type End = MODEND
 
--- its contents; the group has the second name, FLAT, and no segments, and the end says of no start address
+-- its contents; the group has the second name, FLAT, and no segments, and the end gives no start address
 unfoldable pub output_contents : Object → Output → List ℕ
 output_contents n Header = name_bytes (codes "objconv")
 output_contents n (Names names) = flat_map name_bytes names

@@ -15,7 +15,7 @@ use Rattle.oc_neutral.specs.declared.reloc.Target.TheVariants as target
 use Rattle.oc_neutral.specs.Objects.{Object, reloc_at}
 use Rattle.oc_shows.specs.Manners.{omf_manner}
 use Rattle.oc_neutral.specs.Normal.{at_section}
-use Rattle.oc_neutral.specs.Omf.Relocs.{Framed, ByTarget, BySelf, fixup_row}
+use Rattle.oc_neutral.specs.Omf.Relocs.{FixupFrame, ByTarget, BySelf, fixup_row}
 use Rattle.oc_neutral.specs.Rows.{Row, shift_of}
 use Rattle.oc_shows.specs.Seen.{section_place}
 use Rattle.oc_neutral.specs.Spelling.{written_row}
@@ -67,7 +67,7 @@ target_method n (target.Section k) = record { number = METHOD_SEGMENT; index = k
 target_method n (target.Symbol k) = record { number = METHOD_EXTERNAL; index = symbol_number n k + 1 }
 
 -- the row is that one
-abbrev pub is_row : Framed → Row → Bool
+abbrev pub is_row : FixupFrame → Row → Bool
 is_row framed row = nat_eq row.number (fixup_row framed).number
 
 -- a frame: that of the target, or group 1, which is FLAT; for a self-relative fixup it does not count

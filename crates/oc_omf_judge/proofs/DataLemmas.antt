@@ -10,7 +10,7 @@ use Rattle.oc_omf_records.specs.declared.faults.BlockFault.TheVariants as block
 use Rattle.oc_omf_records.specs.Blocks.{Blocks}
 use Rattle.oc_omf.specs.declared.cut.Cut.{Cut}
 use Rattle.oc_omf_judge.specs.declared.defined.Defined.{Defined}
-use Rattle.oc_omf.specs.declared.structures.Head.{Head}
+use Rattle.oc_omf.specs.declared.structures.DataHead.{DataHead}
 use Rattle.oc_omf.specs.declared.topics.Topic.TheVariants as topic
 use Rattle.oc_omf.specs.Cursor.{Reading, index_read, next, number_read}
 use Rattle.oc_omf.specs.Structures.{Piece, blocks_by, head_read, long_size, piece_read}
@@ -24,21 +24,21 @@ use Rattle.oc_omf_judge.proofs.PieceLemmas.{headed, piece_headed}
 use Rattle.oc_omf_judge.proofs.StageLaws.{data_judged, whole_read}
 
 -- what is read behind the head lies in the contents
-pub head_inside : (wide : Bool) (b : List ℕ) (h : Head) (at : ℕ) → head_read wide b 0 ≡ Ok (h, at) → at ≤ length b
+pub head_inside : (wide : Bool) (b : List ℕ) (h : DataHead) (at : ℕ) → head_read wide b 0 ≡ Ok (h, at) → at ≤ length b
 unfolding head_read
 head_inside wide b h at e =
     let first = next_goes (index_read b 0) (λ segment at. next (number_read (long_size wide) b at) (λ offset at. Ok (record { segment = segment; offset = offset }, at))) h at e in
     let second = next_goes (number_read (long_size wide) b first.1) (λ offset at. Ok (record { segment = first.0; offset = offset }, at)) h at first.3 in
-    let last : second.1 ≡ at = ap (λ (r : Reading Head). elim r as (λ _. ℕ) [ Ok s ↦ s.1 | Err _ ↦ 0 ]) second.3 in
+    let last : second.1 ≡ at = ap (λ (r : Reading DataHead). elim r as (λ _. ℕ) [ Ok s ↦ s.1 | Err _ ↦ 0 ]) second.3 in
     let inside = number_goes (long_size wide) b first.1 second.0 second.1 second.2 in
     omega (arith, inside.1, last)
 
 -- the piece that is read
-pub piece_is : (wide iterated : Bool) (b : List ℕ) (h : Head) (at : ℕ) (r : Result Blocks BlockFault) → head_read wide b 0 ≡ Ok (h, at) → blocks_by wide iterated (drop at b) ≡ r
+pub piece_is : (wide iterated : Bool) (b : List ℕ) (h : DataHead) (at : ℕ) (r : Result Blocks BlockFault) → head_read wide b 0 ≡ Ok (h, at) → blocks_by wide iterated (drop at b) ≡ r
     → piece_read wide iterated b 0 ≡ Ok (piece_with h r, length b)
 piece_is wide iterated b h at r e blocks = piece_headed wide iterated b ∙ ap (headed wide iterated b) e ∙ ap (λ x. Ok (piece_with h x, length b)) blocks
 
-pub data_taken : (old new : Defined) (x : ℕ × ℕ) (place : ℕ) (wide iterated : Bool) (b : List ℕ) (h : Head) (at : ℕ) (row : Blocks) → head_read wide b 0 ≡ Ok (h, at)
+pub data_taken : (old new : Defined) (x : ℕ × ℕ) (place : ℕ) (wide iterated : Bool) (b : List ℕ) (h : DataHead) (at : ℕ) (row : Blocks) → head_read wide b 0 ≡ Ok (h, at)
     → blocks_by wide iterated (drop at b) ≡ Ok row → IsPieceTaken old x (piece_with h (Ok row)) new → IsTakenUp old x (said_on (topic.Data iterated) place wide b) new
 data_taken old new x place wide iterated b h at row e blocks taken t is =
     let d = piece_with h (Ok row) in
@@ -50,7 +50,7 @@ data_taken old new x place wide iterated b h at row e blocks taken t is =
           (ap (λ xs. t.pieces ++ xs) (whole_read place (piece_read wide iterated b 0) d (ap (λ (r : Reading Piece). part_of r) reads))),
     )
 
-pub data_stopped : (old : Defined) (x : ℕ × ℕ) (place : ℕ) (wide iterated : Bool) (b : List ℕ) (h : Head) (at : ℕ) (r : Result Blocks BlockFault) (s : Stop) → head_read wide b 0 ≡ Ok (h, at)
+pub data_stopped : (old : Defined) (x : ℕ × ℕ) (place : ℕ) (wide iterated : Bool) (b : List ℕ) (h : DataHead) (at : ℕ) (r : Result Blocks BlockFault) (s : Stop) → head_read wide b 0 ≡ Ok (h, at)
     → blocks_by wide iterated (drop at b) ≡ r → IsPieceStopped old x (piece_with h r) s → IsStoppedAt old x (said_on (topic.Data iterated) place wide b) s
 data_stopped old x place wide iterated b h at r s e blocks stopped t is =
     subst (λ o. IsStop o s) (sym (data_judged t x iterated place wide b ∙ ap (λ (r : Reading Piece). first_broken (conditions_by (own_fault x BadTable) (piece_conditions t x) r)) (piece_is wide iterated b h at r e blocks)))
@@ -62,6 +62,6 @@ data_cut t x place wide iterated b c e =
     data_judged t x iterated place wide b
     ∙ ap (λ (r : Reading Piece). first_broken (conditions_by (own_fault x BadTable) (piece_conditions t x) r)) (piece_headed wide iterated b ∙ ap (headed wide iterated b) e)
 
-pub data_bad : (t : Tables) (x : ℕ × ℕ) (h : Head) → first_broken (piece_conditions t x (piece_with h (Err block.BadBlock))) ≡ Some (own_fault x BadTable)
+pub data_bad : (t : Tables) (x : ℕ × ℕ) (h : DataHead) → first_broken (piece_conditions t x (piece_with h (Err block.BadBlock))) ≡ Some (own_fault x BadTable)
 unfolding piece_conditions
 data_bad t x h = refl

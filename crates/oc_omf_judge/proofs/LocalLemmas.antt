@@ -12,7 +12,7 @@ use Rattle.oc_omf.specs.Structures.{Public}
 use Rattle.oc_omf.specs.Symbols.{agree, public_mention, same_symbol}
 use Rattle.oc_omf_judge.specs.Held.{Held, value_at}
 use Rattle.oc_omf_judge.proofs.SeenSteps.{same_way}
-use Rattle.oc_omf_judge.specs.Seen.{AreNamed}
+use Rattle.oc_omf_judge.specs.EarlierSymbols.{AreNamed}
 use Rattle.oc_omf_judge.specs.Locals.{AreLocals, local_mention}
 
 -- the first definition that this module alone sees under a name

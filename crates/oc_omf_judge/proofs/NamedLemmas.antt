@@ -11,14 +11,14 @@ use Rattle.oc_linking.specs.Rules.{Named as Shown}
 use Rattle.oc_linking.specs.Values.{numbered}
 use Rattle.oc_linking.specs.Targets.{Target, named_by, symbol_target}
 use Rattle.oc_neutral.specs.Powers.{natural_align}
-use Rattle.oc_omf_judge.specs.declared.seen.External.{External as Mentioned}
+use Rattle.oc_omf_judge.specs.declared.earlier.External.{External as Mentioned}
 use Rattle.oc_omf.specs.declared.structures.Method.{Method}
 use Rattle.oc_omf_judge.specs.Held.{Held, value_at}
 use Rattle.oc_omf.specs.Structures.{External, Public}
 use Rattle.oc_omf.specs.Tables.{Tables, indexed}
 use Rattle.oc_omf.specs.Symbols.{Mention, binding_of, communal_of, external_mention, mentions_in, number_of, public_binding, public_mention, public_of, same_symbol, symbol_of, symbols_in}
 use Rattle.oc_omf.specs.Targets.{external_at, meaning_of, section_target, target_of}
-use Rattle.oc_omf_judge.specs.Seen.{mention_of}
+use Rattle.oc_omf_judge.specs.EarlierSymbols.{mention_of}
 use Rattle.oc_omf_judge.specs.declared.named.Named.TheVariants as named
 use Rattle.oc_omf_judge.specs.declared.whole.Whole.{Whole}
 use Rattle.oc_omf_judge.specs.Locals.{AreLocals}

@@ -20,7 +20,7 @@ use Rattle.oc_omf.specs.declared.structures.Subrecord.{Subrecord}
 use Rattle.oc_omf.specs.Structures.{subrecord_read}
 use Rattle.oc_omf.specs.Entries.{Entry, in_file}
 use Rattle.oc_omf.specs.Tables.{Tables, tables_of}
-use Rattle.oc_omf.specs.Fixups.{Placed, placed_by, placed_upto}
+use Rattle.oc_omf.specs.Fixups.{PlacedSubrecord, subrecords_by, subrecords_upto}
 use Rattle.oc_omf.specs.RelocationFaults.{relocation_conditions, relocation_stage, relocation_stages}
 use Rattle.oc_omf.proofs.EachLemmas.{each_cut, each_end, each_from, each_more}
 use Rattle.oc_omf_judge.proofs.SymbolStages.{staged, verdict_at}
@@ -32,19 +32,19 @@ use Rattle.oc_omf_judge.proofs.SubrecordLemmas.{subrecord_goes}
 
 -- ... a walk along the subrecords of an entry
 
-module _ (w : Whole) (index place : ℕ) (wide : Bool) (b : List ℕ) (before : Tables) (start : List Placed) where
+module _ (w : Whole) (index place : ℕ) (wide : Bool) (b : List ℕ) (before : Tables) (start : List PlacedSubrecord) where
   -- the subrecords from a place on
-  abbrev pub left_at : ℕ → List Placed
+  abbrev pub left_at : ℕ → List PlacedSubrecord
   left_at at = placed_in index before (in_file place (each_from (subrecord_read wide) b at))
 
   -- the one at a place, by what is read of it
-  abbrev pub part_at : ℕ → Subrecord → Placed
+  abbrev pub part_at : ℕ → Subrecord → PlacedSubrecord
   part_at at x = placed_at before (index, place + ENTRY_HEAD + at) (Ok x)
 
   -- those before a place are taken up, and those from there on have the first fault of all
   abbrev pub Walk : ℕ → Reached → Type 0
   Walk at now =
-      (earlier : List Placed) × IsReached w before earlier now × (judged_behind w start (left_at 0) ≡ judged_behind w earlier (left_at at)) × (start ++ left_at 0 ≡ earlier ++ left_at at)
+      (earlier : List PlacedSubrecord) × IsReached w before earlier now × (judged_behind w start (left_at 0) ≡ judged_behind w earlier (left_at at)) × (start ++ left_at 0 ≡ earlier ++ left_at at)
 
   pub walk_begin : (now : Reached) → IsReached w before start now → Walk 0 now
   walk_begin now is = (start, is, refl, refl)
@@ -85,7 +85,7 @@ module _ (w : Whole) (index place : ℕ) (wide : Bool) (b : List ℕ) (before : 
 -- ... the stages
 
 -- the subrecords of an entry as a stage
-from_front : (w : Whole) (xs earlier : List Placed)
+from_front : (w : Whole) (xs earlier : List PlacedSubrecord)
     → first_upto (λ j. first_broken (each_of (relocation_conditions (meaning w) w.keep (earlier ++ take j xs)) xs j)) (length xs) ≡ judged_behind w earlier xs
 from_front w [] earlier = refl
 from_front w (x ∷ xs) earlier =
@@ -105,17 +105,17 @@ pub relocations_first : (w : Whole) → first_fault (relocation_stages (entries 
 relocations_first w = staged (relocation_stage (entries w) w.keep) (entries w)
 
 pub relocations_here : (w : Whole) (i : ℕ) (e : Entry) → slice_get (entries w) i ≡ Some e
-    → relocations_at w i ≡ judged_behind w (placed_upto (entries w) i) (placed_in i (tables_of (take i (entries w))) e.subrecords)
+    → relocations_at w i ≡ judged_behind w (subrecords_upto (entries w) i) (placed_in i (tables_of (take i (entries w))) e.subrecords)
 relocations_here w i e here =
     ap (λ (o : Option Entry). elim o as (λ _. Option Fault) [ Some x ↦ stage_fault (relocation_stage (entries w) w.keep (i, x)) | None ↦ None ]) here
-    ∙ from_front w (placed_in i (tables_of (take i (entries w))) e.subrecords) (placed_upto (entries w) i)
+    ∙ from_front w (placed_in i (tables_of (take i (entries w))) e.subrecords) (subrecords_upto (entries w) i)
 
 -- the subrecords of one entry more
 pub placed_more : (w : Whole) (i : ℕ) (e : Entry) → slice_get (entries w) i ≡ Some e
-    → placed_upto (entries w) (i + 1) ≡ placed_upto (entries w) i ++ placed_in i (tables_of (take i (entries w))) e.subrecords
-unfolding placed_upto
+    → subrecords_upto (entries w) (i + 1) ≡ subrecords_upto (entries w) i ++ placed_in i (tables_of (take i (entries w))) e.subrecords
+unfolding subrecords_upto
 placed_more w i e here =
-    ap (flat_map (placed_by (entries w))) (take_here (enumerate_from 0 (entries w)) i (0 + i, e) (member_enumerated 0 (entries w) i e here))
-    ∙ flat_map-append (placed_by (entries w)) (take i (enumerate_from 0 (entries w))) ((0 + i, e) ∷ [])
-    ∙ ap (λ xs. placed_upto (entries w) i ++ xs) (append-nil (placed_by (entries w) (0 + i, e)))
-    ∙ let same : 0 + i ≡ i = omega arith in ap (λ (k : ℕ). placed_upto (entries w) i ++ placed_by (entries w) (k, e)) same
+    ap (flat_map (subrecords_by (entries w))) (take_here (enumerate_from 0 (entries w)) i (0 + i, e) (member_enumerated 0 (entries w) i e here))
+    ∙ flat_map-append (subrecords_by (entries w)) (take i (enumerate_from 0 (entries w))) ((0 + i, e) ∷ [])
+    ∙ ap (λ xs. subrecords_upto (entries w) i ++ xs) (append-nil (subrecords_by (entries w) (0 + i, e)))
+    ∙ let same : 0 + i ≡ i = omega arith in ap (λ (k : ℕ). subrecords_upto (entries w) i ++ subrecords_by (entries w) (k, e)) same

@@ -16,7 +16,7 @@ use Rattle.oc_shelf.proofs.ReadingLaws.SpanLemmas.{met_upto, spans_more, spans_s
 use Rattle.oc_omf_records.specs.declared.faults.BlockFault.TheVariants as block
 use Rattle.oc_omf_records.specs.Blocks.{Blocks, size_of}
 use Rattle.oc_omf_judge.specs.declared.defined.Defined.{Defined}
-use Rattle.oc_omf.specs.declared.structures.Head.{Head}
+use Rattle.oc_omf.specs.declared.structures.DataHead.{DataHead}
 use Rattle.oc_omf.specs.declared.structures.Segment.{Segment}
 use Rattle.oc_omf.specs.Cursor.{Reading, index_read, next, number_read}
 use Rattle.oc_omf.specs.Structures.{Piece, blocks_by, head_read, long_size, piece_read}
@@ -28,7 +28,7 @@ use Rattle.oc_omf_judge.proofs.DefinedLemmas.{last_span, piece_taken, spans_amon
 use Rattle.oc_omf_judge.proofs.SpanQuestions.{met_among}
 
 -- data, by their head
-abbrev pub headed : Bool → Bool → List ℕ → Reading Head → Reading Piece
+abbrev pub headed : Bool → Bool → List ℕ → Reading DataHead → Reading Piece
 headed wide iterated b (Ok r) = Ok (piece_with r.0 (blocks_by wide iterated (drop r.1 b)), length b)
 headed wide iterated b (Err c) = Err c
 
@@ -72,22 +72,22 @@ indexed_not {X} xs index none = by (nat_eq index 0) refl none
 -- ... the conditions, one after another
 
 -- the segment is not there
-pub lost_piece : (t : Tables) (x : ℕ × ℕ) (h : Head) (row : Blocks) → indexed t.segments h.segment ≡ None → first_broken (piece_conditions t x (piece_with h (Ok row))) ≡ Some (own_fault x BadIndex)
+pub lost_piece : (t : Tables) (x : ℕ × ℕ) (h : DataHead) (row : Blocks) → indexed t.segments h.segment ≡ None → first_broken (piece_conditions t x (piece_with h (Ok row))) ≡ Some (own_fault x BadIndex)
 unfolding piece_conditions
 lost_piece t x h row none = rw (indexed_not t.segments h.segment none) refl
 
 -- nor is that of data nested too deep
-pub deep_lost : (t : Tables) (x : ℕ × ℕ) (h : Head) → indexed t.segments h.segment ≡ None → first_broken (piece_conditions t x (piece_with h (Err block.TooDeep))) ≡ Some (own_fault x BadIndex)
+pub deep_lost : (t : Tables) (x : ℕ × ℕ) (h : DataHead) → indexed t.segments h.segment ≡ None → first_broken (piece_conditions t x (piece_with h (Err block.TooDeep))) ≡ Some (own_fault x BadIndex)
 unfolding piece_conditions
 deep_lost t x h none = rw (indexed_not t.segments h.segment none) refl
 
-pub deep_piece : (t : Tables) (x : ℕ × ℕ) (h : Head) (s : Segment) → indexed t.segments h.segment ≡ Some s
+pub deep_piece : (t : Tables) (x : ℕ × ℕ) (h : DataHead) (s : Segment) → indexed t.segments h.segment ≡ Some s
     → first_broken (piece_conditions t x (piece_with h (Err block.TooDeep))) ≡ Some (own_fault x TooDeep)
 unfolding piece_conditions
 deep_piece t x h s there = rw (indexed_is t.segments h.segment s there) refl
 
 -- of data that are read and whose segment is there, two are left
-pub there_piece : (t : Tables) (x : ℕ × ℕ) (h : Head) (row : Blocks) (s : Segment) → indexed t.segments h.segment ≡ Some s
+pub there_piece : (t : Tables) (x : ℕ × ℕ) (h : DataHead) (row : Blocks) (s : Segment) → indexed t.segments h.segment ≡ Some s
     → first_broken (piece_conditions t x (piece_with h (Ok row)))
     ≡ cond (nat_lt (segment_size s) (h.offset + size_of row)) (Some (own_fault x DataPastEnd))
     (cond (list_any (pieces_meet (piece_with h (Ok row))) (pieces_of t h.segment)) (Some (own_fault x DataOverlap)) None)
@@ -112,13 +112,13 @@ indexed_at xs index x = by (nat_eq index 0) refl
         (some, omega (arith, low, some), h)
 
 -- it lies in its segment
-pub record IsInside (t : Tables) (h : Head) (row : Blocks) (size : ℕ) : Type 0 where
+pub record IsInside (t : Tables) (h : DataHead) (row : Blocks) (size : ℕ) : Type 0 where
   pub exact : size_of row ≡ size
   pub small : IsSmall (piece_with h (Ok row))
   pub some : 1 ≤ h.segment
   pub there : h.segment ≤ length t.segments
 
-pub piece_inside : (t : Tables) (old : Defined) (h : Head) (row : Blocks) (s : Segment) (size : ℕ) → IsDefined t old → indexed t.segments h.segment ≡ Some s → size ≡ min (size_of row) 4294967296
+pub piece_inside : (t : Tables) (old : Defined) (h : DataHead) (row : Blocks) (s : Segment) (size : ℕ) → IsDefined t old → indexed t.segments h.segment ≡ Some s → size ≡ min (size_of row) 4294967296
     → h.offset + size ≤ segment_size s → IsInside t h row size
 piece_inside t old h row s size is there least inside =
     let at = indexed_at t.segments h.segment s there in
@@ -132,14 +132,14 @@ none_met d [] empty = refl
 none_met d (e ∷ xs) empty = rw empty (none_met d xs empty)
 
 -- the conditions, where it lies in its segment
-pub inside_clean : (t : Tables) (x : ℕ × ℕ) (h : Head) (row : Blocks) (s : Segment) → indexed t.segments h.segment ≡ Some s → h.offset + size_of row ≤ segment_size s
+pub inside_clean : (t : Tables) (x : ℕ × ℕ) (h : DataHead) (row : Blocks) (s : Segment) → indexed t.segments h.segment ≡ Some s → h.offset + size_of row ≤ segment_size s
     → first_broken (piece_conditions t x (piece_with h (Ok row))) ≡ cond (list_any (pieces_meet (piece_with h (Ok row))) (pieces_of t h.segment)) (Some (own_fault x DataOverlap)) None
 inside_clean t x h row s there inside =
     let kept : nat_lt (segment_size s) (h.offset + size_of row) ≡ false = grind (arith, nat_tests) in
     there_piece t x h row s there
     ∙ ap (λ b. cond b (Some (own_fault x DataPastEnd)) (cond (list_any (pieces_meet (piece_with h (Ok row))) (pieces_of t h.segment)) (Some (own_fault x DataOverlap)) None)) kept
 
-pub outside_stops : (t : Tables) (x : ℕ × ℕ) (h : Head) (row : Blocks) (s : Segment) (size : ℕ) → indexed t.segments h.segment ≡ Some s → size ≡ min (size_of row) 4294967296
+pub outside_stops : (t : Tables) (x : ℕ × ℕ) (h : DataHead) (row : Blocks) (s : Segment) (size : ℕ) → indexed t.segments h.segment ≡ Some s → size ≡ min (size_of row) 4294967296
     → segment_size s < h.offset + size → first_broken (piece_conditions t x (piece_with h (Ok row))) ≡ Some (own_fault x DataPastEnd)
 outside_stops t x h row s size there least over =
     let past : nat_lt (segment_size s) (h.offset + size_of row) ≡ true = let more : size ≤ size_of row = omega (arith, least) in grind (arith, nat_tests) in
@@ -147,7 +147,7 @@ outside_stops t x h row s size there least over =
     ∙ ap (λ b. cond b (Some (own_fault x DataPastEnd)) (cond (list_any (pieces_meet (piece_with h (Ok row))) (pieces_of t h.segment)) (Some (own_fault x DataOverlap)) None)) past
 
 -- empty data are taken up, and nothing changes
-pub empty_taken : (t : Tables) (old : Defined) (x : ℕ × ℕ) (h : Head) (row : Blocks) (s : Segment) → IsDefined t old → indexed t.segments h.segment ≡ Some s → IsInside t h row 0 → h.offset ≤ segment_size s
+pub empty_taken : (t : Tables) (old : Defined) (x : ℕ × ℕ) (h : DataHead) (row : Blocks) (s : Segment) → IsDefined t old → indexed t.segments h.segment ≡ Some s → IsInside t h row 0 → h.offset ≤ segment_size s
     → (first_broken (piece_conditions t x (piece_with h (Ok row))) ≡ None) × IsDefined (record t { pieces = t.pieces ++ piece_with h (Ok row) ∷ [] }) old
 empty_taken t old x h row s is there inside low =
     let d = piece_with h (Ok row) in
@@ -167,7 +167,7 @@ empty_taken t old x h row s is there inside low =
     none false false = refl
 
 -- whether data that have a byte meet others is whether their span does
-pub meets_spans : (t : Tables) (old : Defined) (h : Head) (row : Blocks) (size begin : ℕ) (met : Bool) → IsDefined t old → IsInside t h row size → 1 ≤ size → begin ≡ place_in h.segment h.offset
+pub meets_spans : (t : Tables) (old : Defined) (h : DataHead) (row : Blocks) (size begin : ℕ) (met : Bool) → IsDefined t old → IsInside t h row size → 1 ≤ size → begin ≡ place_in h.segment h.offset
     → (met ≡ true → IsMet old.spans begin (begin + size)) → (met ≡ false → IsMet old.spans begin (begin + size) → ⊥)
     → list_any (pieces_meet (piece_with h (Ok row))) (pieces_of t h.segment) ≡ met
 meets_spans t old h row size begin met is inside some begins hits misses =
@@ -206,7 +206,7 @@ new_begin pieces n begin end spans are some free = by (end_at spans begin) refl
     by (Some f) e = absurd (free (record { start = begin; stop = f; there = e; before = some; behind = let m = are.from begin f e in wide_among pieces m.0 begin f m.2 }))
 
 -- data that have a byte and meet no others are taken up
-pub full_taken : (t : Tables) (old new : Defined) (h : Head) (row : Blocks) (size begin : ℕ) → IsDefined t old → IsInside t h row size → 1 ≤ size → begin ≡ place_in h.segment h.offset
+pub full_taken : (t : Tables) (old new : Defined) (h : DataHead) (row : Blocks) (size begin : ℕ) → IsDefined t old → IsInside t h row size → 1 ≤ size → begin ≡ place_in h.segment h.offset
     → (IsMet old.spans begin (begin + size) → ⊥) → ((q : ℕ) → end_at new.spans q ≡ cond (nat_eq q begin) (Some (begin + size)) (end_at old.spans q))
     → new.names ≡ old.names → new.segments ≡ old.segments → new.groups ≡ old.groups → new.sizes ≡ old.sizes → new.covered.items ≡ set old.covered.items (h.segment - 1) true
     → IsDefined (record t { pieces = t.pieces ++ piece_with h (Ok row) ∷ [] }) new

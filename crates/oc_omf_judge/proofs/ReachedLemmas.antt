@@ -26,7 +26,7 @@ use Rattle.oc_omf.specs.Structures.{Piece}
 use Rattle.oc_omf.specs.Tables.{Tables, is_there}
 use Rattle.oc_omf.specs.Sections.{blocks_in}
 use Rattle.oc_omf.specs.Symbols.{agree}
-use Rattle.oc_omf.specs.Fixups.{Fixed, Placed, copies_for, fixed_in, fixed_of, is_inside, last_of, meet, method_of, thread_by}
+use Rattle.oc_omf.specs.Fixups.{Fixed, PlacedSubrecord, copies_for, fixed_in, fixed_of, is_inside, last_of, meet, method_of, thread_by}
 use Rattle.oc_omf.specs.Fields.{aim_of}
 use Rattle.oc_omf.specs.Known.{AreInForce, told}
 use Rattle.oc_omf.specs.Targets.{meaning_of}
@@ -50,12 +50,12 @@ use Rattle.oc_omf_judge.proofs.StartLemmas.{begins_among, free_meets, met_meets,
 
 -- ... what indexes name
 
-method_is : (earlier : List Placed) (threads : Threads) (frame : Bool) (d : Datum) → AreInForce earlier threads → method_by threads frame d ≡ method_of earlier frame d
+method_is : (earlier : List PlacedSubrecord) (threads : Threads) (frame : Bool) (d : Datum) → AreInForce earlier threads → method_by threads frame d ≡ method_of earlier frame d
 method_is earlier threads frame (datum.Explicit x) are = refl
 method_is earlier threads frame (datum.Thread number) are = are frame number
 
 -- the same is kept
-pub reached_same : (w : Whole) (before : Tables) (earlier : List Placed) (old new : Reached) → IsReached w before earlier old → IsSame old new → IsReached w before earlier new
+pub reached_same : (w : Whole) (before : Tables) (earlier : List PlacedSubrecord) (old new : Reached) → IsReached w before earlier old → IsSame old new → IsReached w before earlier new
 reached_same w before earlier old new is same = record {
   counts_are = subst (AreCounts before) (sym same.counts) is.counts_are;
   last_is = is.last_is ∙ sym same.last;
@@ -65,7 +65,7 @@ reached_same w before earlier old new is same = record {
 
 -- ... a thread
 
-module _ (w : Whole) (before : Tables) (earlier : List Placed) (old : Reached) (is : IsReached w before earlier old) (at : ℕ × ℕ) where
+module _ (w : Whole) (before : Tables) (earlier : List PlacedSubrecord) (old : Reached) (is : IsReached w before earlier old) (at : ℕ × ℕ) where
   -- it names an index that is there, or not
   pub thread_verdict : (x : Thread) → first_broken (relocation_conditions (meaning w) w.keep earlier (placed_at before at (Ok (subrecord.Thread x)))) ≡ cond (is_there before x.method) None (Some (relocation_fault at BadTarget))
   unfolding relocation_conditions
@@ -104,7 +104,7 @@ module _ (w : Whole) (before : Tables) (earlier : List Placed) (old : Reached) (
     abbrev x : Fixed
     x = fixed_of earlier before f
 
-    abbrev part : Placed
+    abbrev part : PlacedSubrecord
     part = placed_at before at (Ok (subrecord.Fixup f))
 
     segment_is : option_map (λ (d : Lying). d.segment) (last_in old) ≡ option_map (λ (d : Piece). d.segment) x.piece

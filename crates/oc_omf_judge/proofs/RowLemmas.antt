@@ -8,7 +8,7 @@ use Rattle.oc_linking.specs.Rules.{Sectional}
 use Rattle.oc_linking.specs.Rules.{Named as Shown}
 use Rattle.oc_linking.specs.Targets.{Target}
 use Rattle.oc_neutral.specs.Omf.Relocs.{ByFlat, ByTarget, BySelf, fixup_row}
-use Rattle.oc_omf_judge.specs.declared.seen.External.{External as Mentioned}
+use Rattle.oc_omf_judge.specs.declared.earlier.External.{External as Mentioned}
 use Rattle.oc_omf.specs.declared.structures.Method.{Method}
 use Rattle.oc_omf_judge.specs.Held.{Held, value_at}
 use Rattle.oc_omf.specs.Structures.{External, Group, Piece}
@@ -17,7 +17,7 @@ use Rattle.oc_omf.specs.Symbols.{Mention, external_mention, mentions_in}
 use Rattle.oc_omf.specs.Fixups.{Fixed}
 use Rattle.oc_omf.specs.Fields.{aim_of, framed_row, row_of}
 use Rattle.oc_omf.specs.Targets.{frame_of, is_flat, is_named_by, meaning_of, same_named, target_of}
-use Rattle.oc_omf_judge.specs.Seen.{mention_of}
+use Rattle.oc_omf_judge.specs.EarlierSymbols.{mention_of}
 use Rattle.oc_omf.specs.RelocationFaults as faults
 use Rattle.oc_omf_judge.specs.declared.named.Named.{Named}
 use Rattle.oc_omf_judge.specs.declared.named.Named.TheVariants as named

@@ -8,8 +8,8 @@ use Rattle.std.proofs.lemmas.Bool.Decides.{nat_tests}
 use Rattle.std.proofs.lemmas.List.{map-append}
 use Rattle.std.proofs.lemmas.List.Folds.{list_any-append}
 use Rattle.std.proofs.lemmas.Slice.Eq.{bytes_eq-Decides}
-use Rattle.oc_omf_judge.specs.declared.seen.External.{External as Mentioned}
-use Rattle.oc_omf_judge.specs.declared.seen.Seen.{Seen}
+use Rattle.oc_omf_judge.specs.declared.earlier.External.{External as Mentioned}
+use Rattle.oc_omf_judge.specs.declared.earlier.EarlierSymbols.{EarlierSymbols}
 use Rattle.oc_omf.specs.declared.structures.Communal.{Communal}
 use Rattle.oc_omf.specs.Structures.{Public, External}
 use Rattle.oc_omf.specs.Tables.{Tables}
@@ -21,7 +21,7 @@ use Rattle.oc_linking.specs.Numbers.{or_else}
 use Rattle.oc_linking.specs.FirstFault.{first_broken}
 use Rattle.oc_shelf.proofs.ReadingLaws.StageLemmas.{first_broken-append}
 use Rattle.oc_omf.specs.Sections.{size_at}
-use Rattle.oc_omf_judge.specs.Seen.{AreCommunal, AreNamed, IsSeen, external_behind, external_with, mention_of, public_behind}
+use Rattle.oc_omf_judge.specs.EarlierSymbols.{AreCommunal, AreNamed, AreEarlierSymbols, external_behind, external_with, mention_of, public_behind}
 
 none_more : (a : Bool) → (a || false) ≡ a
 none_more true = refl
@@ -74,10 +74,10 @@ named_other local publics held p are other name =
     ∙ none_more (list_any (λ q. same_symbol (record { local = local; name = name }) (public_mention q)) publics))
 
 -- a definition of this module alone, and one that others see
-pub local_seen : (t : Tables) (old new : Seen) (p : Public) (number : ℕ) → IsSeen t old → p.local ≡ true
+pub local_seen : (t : Tables) (old new : EarlierSymbols) (p : Public) (number : ℕ) → AreEarlierSymbols t old → p.local ≡ true
     → ((other : List ℕ) → value_at new.locals other ≡ update bytes_eq (value_at old.locals) p.name (Some number) other)
     → new.segments ≡ old.segments → new.groups ≡ old.groups → new.globals ≡ old.globals → new.communals ≡ old.communals → new.externals ≡ old.externals
-    → IsSeen (record t { publics = t.publics ++ p ∷ [] }) new
+    → AreEarlierSymbols (record t { publics = t.publics ++ p ∷ [] }) new
 local_seen t old new p number is local taken s g o c e = record {
   segments_are = ap (λ v. v.items) s ∙ is.segments_are;
   groups_are = ap (λ v. v.items) g ∙ is.groups_are;
@@ -87,10 +87,10 @@ local_seen t old new p number is local taken s g o c e = record {
   externals_are = ap (λ v. map mention_of v.items) e ∙ is.externals_are;
 }
 
-pub global_seen : (t : Tables) (old new : Seen) (p : Public) (number : ℕ) → IsSeen t old → p.local ≡ false
+pub global_seen : (t : Tables) (old new : EarlierSymbols) (p : Public) (number : ℕ) → AreEarlierSymbols t old → p.local ≡ false
     → ((other : List ℕ) → value_at new.globals other ≡ update bytes_eq (value_at old.globals) p.name (Some number) other)
     → new.segments ≡ old.segments → new.groups ≡ old.groups → new.locals ≡ old.locals → new.communals ≡ old.communals → new.externals ≡ old.externals
-    → IsSeen (record t { publics = t.publics ++ p ∷ [] }) new
+    → AreEarlierSymbols (record t { publics = t.publics ++ p ∷ [] }) new
 global_seen t old new p number is local taken s g o c e = record {
   segments_are = ap (λ v. v.items) s ∙ is.segments_are;
   groups_are = ap (λ v. v.items) g ∙ is.groups_are;
@@ -125,9 +125,9 @@ undefined_is all known y names = by y.local refl
     by false e = rw e refl
 
 -- an external more
-pub external_seen : (t : Tables) (old new : Seen) (x : Mentioned) (y : External) → IsSeen t old → mention_of x ≡ external_mention y → y.communal ≡ None → new.externals.items ≡ old.externals.items ++ x ∷ []
+pub external_seen : (t : Tables) (old new : EarlierSymbols) (x : Mentioned) (y : External) → AreEarlierSymbols t old → mention_of x ≡ external_mention y → y.communal ≡ None → new.externals.items ≡ old.externals.items ++ x ∷ []
     → new.segments ≡ old.segments → new.groups ≡ old.groups → new.locals ≡ old.locals → new.globals ≡ old.globals → new.communals ≡ old.communals
-    → IsSeen (record t { externals = t.externals ++ y ∷ [] }) new
+    → AreEarlierSymbols (record t { externals = t.externals ++ y ∷ [] }) new
 external_seen t old new x y is same none e s g l o c = record {
   segments_are = ap (λ v. v.items) s ∙ is.segments_are;
   groups_are = ap (λ v. v.items) g ∙ is.groups_are;
@@ -148,10 +148,10 @@ external_seen t old new x y is same none e s g l o c = record {
     nothing false false = refl
 
 -- a communal more, whose length is held
-pub communal_seen : (t : Tables) (old new : Seen) (x : Mentioned) (y : External) (d : Communal) → IsSeen t old → mention_of x ≡ external_mention y → y.communal ≡ Some d
+pub communal_seen : (t : Tables) (old new : EarlierSymbols) (x : Mentioned) (y : External) (d : Communal) → AreEarlierSymbols t old → mention_of x ≡ external_mention y → y.communal ≡ Some d
     → option_map_or (λ l. not (nat_eq d.length l)) (value_at old.communals y.name) false ≡ false
     → ((other : List ℕ) → value_at new.communals other ≡ update bytes_eq (value_at old.communals) y.name (Some d.length) other) → new.externals.items ≡ old.externals.items ++ x ∷ []
-    → new.segments ≡ old.segments → new.groups ≡ old.groups → new.locals ≡ old.locals → new.globals ≡ old.globals → IsSeen (record t { externals = t.externals ++ y ∷ [] }) new
+    → new.segments ≡ old.segments → new.groups ≡ old.groups → new.locals ≡ old.locals → new.globals ≡ old.globals → AreEarlierSymbols (record t { externals = t.externals ++ y ∷ [] }) new
 communal_seen t old new x y d is same one alike taken e s g l o = record {
   segments_are = ap (λ v. v.items) s ∙ is.segments_are;
   groups_are = ap (λ v. v.items) g ∙ is.groups_are;

@@ -7,7 +7,7 @@ use Rattle.oc_neutral.proofs.FieldLists.{take_here}
 use Rattle.oc_omf.specs.declared.structures.Method.{Method}
 use Rattle.oc_omf.specs.Entries.{Entry, all_read}
 use Rattle.oc_omf.specs.Tables.{Tables, tables_of}
-use Rattle.oc_omf.specs.Fixups.{Placed, thread_by, thread_after}
+use Rattle.oc_omf.specs.Fixups.{PlacedSubrecord, thread_by, thread_after}
 
 -- what a list of structures of each entry gives, with one entry more
 listed_more : {X : Type 0} (of : Entry → List X) (entries : List Entry) (i : ℕ) (e : Entry) → slice_get entries i ≡ Some e
@@ -39,6 +39,6 @@ tables_more entries i e here = rw (
 ) refl
 
 -- the thread in force, behind one subrecord more
-pub thread_more : (earlier : List Placed) (x : Placed) (frame : Bool) (number : ℕ)
+pub thread_more : (earlier : List PlacedSubrecord) (x : PlacedSubrecord) (frame : Bool) (number : ℕ)
     → thread_after (earlier ++ x ∷ []) frame number ≡ or_else (thread_by frame number x.part) (thread_after earlier frame number)
-thread_more earlier x frame number = fold-append (λ (told : Option Method) (y : Placed). or_else (thread_by frame number y.part) told) None earlier (x ∷ [])
+thread_more earlier x frame number = fold-append (λ (told : Option Method) (y : PlacedSubrecord). or_else (thread_by frame number y.part) told) None earlier (x ∷ [])

@@ -9,7 +9,7 @@ use Rattle.oc_linking.specs.FirstFault.{Stage, first_fault, stage_fault}
 use Rattle.oc_shelf.proofs.ReadingLaws.StageLemmas.{first_upto-head, first_upto-same}
 use Rattle.oc_omf.specs.Entries.{Entry, entries_in}
 use Rattle.oc_omf.specs.Tables.{tables_of}
-use Rattle.oc_omf.specs.SymbolFaults.{symbol_stage, symbol_stages, told_in}
+use Rattle.oc_omf.specs.SymbolFaults.{symbol_stage, symbol_stages, entry_context}
 use Rattle.oc_omf_judge.specs.Defined.{before_in}
 
 -- ... stages, one for each thing
@@ -38,11 +38,11 @@ staged stage xs =
 
 -- the first fault of the symbols of the entry at a position
 abbrev pub symbols_at : List ℕ → ℕ → Option Fault
-symbols_at file = verdict_at (λ (x : ℕ × Entry). symbol_stage (told_in (entries_in file) x)) (entries_in file)
+symbols_at file = verdict_at (λ (x : ℕ × Entry). symbol_stage (entry_context (entries_in file) x)) (entries_in file)
 
 pub symbols_first : (file : List ℕ) → first_fault (symbol_stages (entries_in file)) ≡ first_upto (symbols_at file) (length (entries_in file))
-symbols_first file = staged (λ (x : ℕ × Entry). symbol_stage (told_in (entries_in file) x)) (entries_in file)
+symbols_first file = staged (λ (x : ℕ × Entry). symbol_stage (entry_context (entries_in file) x)) (entries_in file)
 
 pub symbols_here : (file : List ℕ) (i : ℕ) (e : Entry) → slice_get (entries_in file) i ≡ Some e
     → symbols_at file i ≡ stage_fault (symbol_stage (record { index = i; before = before_in file i; all = tables_of (entries_in file); entry = e }))
-symbols_here file i e here = ap (option_and_then (λ (x : Entry). stage_fault (symbol_stage (told_in (entries_in file) (i, x))))) here
+symbols_here file i e here = ap (option_and_then (λ (x : Entry). stage_fault (symbol_stage (entry_context (entries_in file) (i, x))))) here

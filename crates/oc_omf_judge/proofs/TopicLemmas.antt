@@ -2,7 +2,7 @@
 use Rattle.std.proofs.Common.{◌≡◌, ℕ, Bool, true, false, cond, List, Ok, Err, refl, ap}
 use Rattle.std.specs.Prelude.{◌||◌}
 use Rattle.oc_omf.specs.declared.constants.TheConstants.{MODEND, EXTDEF, PUBDEF, LNAMES, SEGDEF, GRPDEF, FIXUPP, LEDATA, LIDATA, COMDEF, LEXTDEF, LPUBDEF}
-use Rattle.oc_omf.specs.declared.structures.Base.{Base}
+use Rattle.oc_omf.specs.declared.structures.PublicBase.{PublicBase}
 use Rattle.oc_omf.specs.declared.topics.Topic.{Topic}
 use Rattle.oc_omf.specs.declared.topics.Topic.TheVariants as topic
 use Rattle.oc_omf.specs.Cursor.{Reading}
@@ -16,7 +16,7 @@ chosen : (place : ℕ) (wide : Bool) (b : List ℕ) (test : Bool) (x y : Topic) 
 chosen place wide b true x y e f h i = h
 chosen place wide b false x y e f h i = i
 
-same_publics : (place kind : ℕ) (b : List ℕ) (r : Reading Base) → publics_of kind place b r ≡ publics_on (is_kind LPUBDEF kind) place (is_wide kind) b r
+same_publics : (place kind : ℕ) (b : List ℕ) (r : Reading PublicBase) → publics_of kind place b r ≡ publics_on (is_kind LPUBDEF kind) place (is_wide kind) b r
 same_publics place kind b (Ok r) = refl
 same_publics place kind b (Err c) = refl
 

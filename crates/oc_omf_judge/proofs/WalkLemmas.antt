@@ -10,7 +10,7 @@ use Rattle.oc_omf.specs.declared.cut.Cut.{Cut}
 use Rattle.oc_omf.specs.Cursor.{Read, Reading}
 use Rattle.oc_omf.specs.Entries.{all_read, in_file}
 use Rattle.oc_omf.specs.SymbolFaults.{code_of, symbol_fault}
-use Rattle.oc_omf_judge.specs.Seen.{walked}
+use Rattle.oc_omf_judge.specs.EarlierSymbols.{walked}
 use Rattle.oc_omf.proofs.EachLemmas.{Goes, each_cut, each_end, each_from, each_more}
 
 module _ {X S : Type 0} (holds : List X → S → Type 0) (conditions : List X → ℕ × ℕ → X → List Condition) (index place : ℕ) (read : List ℕ → ℕ → Reading X) (b : List ℕ) (start : List X) where

@@ -15,7 +15,7 @@ pub record AreCounts (t : Tables) (c : Counts) : Type 0 where
 abbrev pub external_by : Bool → Bool → List ℕ → ℕ → Reading External
 external_by communals local b at = if communals then communal_read b at else external_read local b at
 
--- the place behind what is read
+-- the place after what is read
 abbrev pub end_of : {X : Type 0} → Reading X → Option ℕ
 end_of (Ok r) = Some r.1
 end_of (Err c) = None

@@ -10,7 +10,7 @@ use Rattle.oc_linking.specs.FirstFault.{first_broken}
 use Rattle.oc_shelf.specs.Reading.Spans.{AreSpansOf}
 use Rattle.oc_omf_records.specs.declared.faults.BlockFault.{BlockFault}
 use Rattle.oc_omf_records.specs.Blocks.{Blocks}
-use Rattle.oc_omf.specs.declared.structures.Head.{Head}
+use Rattle.oc_omf.specs.declared.structures.DataHead.{DataHead}
 use Rattle.oc_omf_judge.specs.declared.defined.Defined.{Defined}
 use Rattle.oc_omf.specs.declared.structures.Segment.{Segment}
 use Rattle.oc_omf.specs.Cursor.{Reading}
@@ -25,7 +25,7 @@ use Rattle.oc_omf.specs.Known.{names_of}
 abbrev pub before_in : List ℕ → ℕ → Tables
 before_in file i = tables_of (take i (entries_in file))
 
--- what is defined, and what an entry defines behind it
+-- what is defined, and after it what an entry defines
 abbrev pub and_entry : Tables → Entry → Tables
 and_entry t e = record {
   names = t.names ++ all_read e.names;
@@ -66,11 +66,11 @@ pub record IsDefined (t : Tables) (d : Defined) : Type 0 where
   pub pieces_small : (j : ℕ) (p : Piece) → slice_get t.pieces j ≡ Some p → IsSmall p
   pub pieces_there : (j : ℕ) (p : Piece) → slice_get t.pieces j ≡ Some p → (1 ≤ p.segment) × (p.segment ≤ length t.segments)
 
--- an entry has no fault, and is taken up behind what is kept
+-- an entry has no fault, and is recorded after what is kept
 abbrev pub IsTakenUp : Defined → ℕ × ℕ → Entry → Defined → Type 0
 IsTakenUp old x e new = (t : Tables) → IsDefined t old → (first_broken (conditions_on t x e) ≡ None) × IsDefined (and_entry t e) new
 
--- an entry has a fault, which is told
+-- an entry has a fault, which is reported
 abbrev pub IsStoppedAt : Defined → ℕ × ℕ → Entry → Stop → Type 0
 IsStoppedAt old x e s = (t : Tables) → IsDefined t old → IsStop (first_broken (conditions_on t x e)) s
 
@@ -92,13 +92,13 @@ bytes_in t k = option_map_or (λ s. bytes_size t (k + 1, s)) (slice_get t.segmen
 -- ... data
 
 -- data with that head
-abbrev pub piece_with : Head → Result Blocks BlockFault → Piece
+abbrev pub piece_with : DataHead → Result Blocks BlockFault → Piece
 piece_with h blocks = record { segment = h.segment; offset = h.offset; blocks = blocks }
 
--- behind what is kept, data have no fault, and are taken up
+-- after what is kept, data have no fault, and are recorded
 abbrev pub IsPieceTaken : Defined → ℕ × ℕ → Piece → Defined → Type 0
 IsPieceTaken old x d new = (t : Tables) → IsDefined t old → (first_broken (piece_conditions t x d) ≡ None) × IsDefined (record t { pieces = t.pieces ++ d ∷ [] }) new
 
--- data have a fault, which is told
+-- data have a fault, which is reported
 abbrev pub IsPieceStopped : Defined → ℕ × ℕ → Piece → Stop → Type 0
 IsPieceStopped old x d s = (t : Tables) → IsDefined t old → IsStop (first_broken (piece_conditions t x d)) s

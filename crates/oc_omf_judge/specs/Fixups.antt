@@ -1,4 +1,4 @@
--- What a fixup meets behind what a reader keeps (our profile).
+-- What a fixup must meet after what a reader keeps (our profile).
 use Rattle.std.specs.Prelude.{◌≡◌, ℕ, true, ◌||◌, if◌then◌else◌, List, [], ◌∷◌, ◌++◌, Option, Some, None, Ok}
 use Rattle.oc_base.specs.declared.code.Code.TheVariants.{BadTarget, TargetKind, Overlap}
 use Rattle.oc_base.specs.declared.fault.Fault.{Fault}
@@ -10,7 +10,7 @@ use Rattle.oc_omf.specs.declared.structures.Fixup.{Fixup}
 use Rattle.oc_omf.specs.declared.structures.Method.{Method}
 use Rattle.oc_omf.specs.declared.structures.Subrecord.TheVariants as subrecord
 use Rattle.oc_omf.specs.Tables.{Tables}
-use Rattle.oc_omf.specs.Fixups.{Placed, fixed_in, fixed_of}
+use Rattle.oc_omf.specs.Fixups.{PlacedSubrecord, fixed_in, fixed_of}
 use Rattle.oc_omf.specs.RelocationFaults.{fixup_conditions, is_datum_there}
 use Rattle.oc_omf_judge.specs.declared.reached.Reached.{Reached}
 use Rattle.oc_omf_judge.specs.declared.whole.Whole.{Whole}
@@ -27,7 +27,7 @@ names_fault w before segment at f target frame =
     else Some (relocation_fault at BadTarget)
     ) else Some (relocation_fault at BadTarget)
 
--- its fields meet no others, and are taken up
+-- its fields meet no others, and are recorded
 pub record AreFieldsTaken (old : Reached) (places : List ℕ) (new : Reached) : Type 0 where
   pub free : IsMet old.starts (base_in old) places → ⊥
   pub starts : (k : ℕ) → is_start new.starts k ≡ (is_start old.starts k || is_among (base_in old) places k)
@@ -40,15 +40,15 @@ abbrev pub AreFieldsStopped : Reached → ℕ × ℕ → List ℕ → Stop → T
 AreFieldsStopped old at places (stop.Refused f) = (f ≡ relocation_fault at Overlap) × IsMet old.starts (base_in old) places
 AreFieldsStopped old at places stop.NoMemory = Unit {0}
 
--- a fixup that is judged behind what is kept has no fault, and is taken up
+-- a fixup that is judged after what is kept has no fault, and is recorded
 abbrev pub IsFixupTaken : Whole → Reached → ℕ × ℕ → Fixup → Reached → Type 0
 IsFixupTaken w old at f new =
-    (before : Tables) (earlier : List Placed) → IsReached w before earlier old → is_judged w (fixed_of earlier before f) ≡ true
+    (before : Tables) (earlier : List PlacedSubrecord) → IsReached w before earlier old → is_judged w (fixed_of earlier before f) ≡ true
     → (first_broken (fixup_conditions (meaning w) (fixed_in earlier) (placed_at before at (Ok (subrecord.Fixup f))) (fixed_of earlier before f)) ≡ None)
     × IsReached w before (earlier ++ placed_at before at (Ok (subrecord.Fixup f)) ∷ []) new
 
--- it has a fault, which is told
+-- it has a fault, which is reported
 abbrev pub IsFixupStopped : Whole → Reached → ℕ × ℕ → Fixup → Stop → Type 0
 IsFixupStopped w old at f s =
-    (before : Tables) (earlier : List Placed) → IsReached w before earlier old → is_judged w (fixed_of earlier before f) ≡ true
+    (before : Tables) (earlier : List PlacedSubrecord) → IsReached w before earlier old → is_judged w (fixed_of earlier before f) ≡ true
     → IsStop (first_broken (fixup_conditions (meaning w) (fixed_in earlier) (placed_at before at (Ok (subrecord.Fixup f))) (fixed_of earlier before f))) s

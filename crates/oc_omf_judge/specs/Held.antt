@@ -1,4 +1,4 @@
--- Names that stood before, each with a number (our profile).
+-- Names that came before, each with a number (our profile).
 use Rattle.std.specs.Prelude.{ℕ, List, Option}
 use Rattle.std.specs.BTreeMap.{BTreeMap, get_by}
 use Rattle.std.specs.Cmp.Lexicographic.{slice_cmp}

@@ -8,7 +8,7 @@ use Rattle.oc_omf.specs.HeaderFaults.{header_stage}
 use Rattle.oc_omf.specs.SectionFaults.{section_stage}
 use Rattle.oc_omf.specs.SymbolFaults.{symbol_stages}
 use Rattle.oc_omf_judge.specs.Defined.{IsDefined}
-use Rattle.oc_omf_judge.specs.Seen.{IsSeen}
+use Rattle.oc_omf_judge.specs.EarlierSymbols.{AreEarlierSymbols}
 
 -- the stages before relocations
 abbrev pub front_stages : List ℕ → List Stage
@@ -18,4 +18,4 @@ front_stages file = header_stage file ∷ section_stage (entries_in file) ∷ sy
 pub record IsFront (file : List ℕ) (f : Front) : Type 0 where
   pub omf_is : f.omf ≡ file
   pub defined_is : IsDefined (tables_of (entries_in file)) f.defined
-  pub seen_is : IsSeen (tables_of (entries_in file)) f.seen
+  pub seen_is : AreEarlierSymbols (tables_of (entries_in file)) f.seen

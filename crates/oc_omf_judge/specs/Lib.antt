@@ -1,5 +1,6 @@
 pub mod Counts
 pub mod Defined
+pub mod EarlierSymbols
 pub mod Fixups
 pub mod Held
 pub mod Judged
@@ -10,7 +11,6 @@ pub mod Members
 pub mod Named
 pub mod Reached
 pub mod Rows
-pub mod Seen
 pub mod Starts
 pub mod Threads
 pub mod Whole

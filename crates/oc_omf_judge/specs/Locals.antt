@@ -10,10 +10,10 @@ use Rattle.oc_omf_judge.specs.Held.{Held, value_at}
 abbrev pub local_mention : List ℕ → Mention
 local_mention name = record { local = true; name = name }
 
--- with each name stands the segment of the first definition that this module alone sees under it
+-- each name is held with the segment of the first definition that this module alone sees under it
 abbrev pub AreLocals : List Public → Held → Type 0
 AreLocals publics held = (name : List ℕ) → value_at held name ≡ option_map (λ (p : Public). p.segment) (find (λ p. same_symbol (local_mention name) (public_mention p)) publics)
 
--- segments are taken up with those of more definitions
+-- the segments of more definitions are recorded as well
 abbrev pub AreLocated : Held → List Public → Held → Type 0
 AreLocated old more new = (publics : List Public) → AreLocals publics old → AreLocals (publics ++ more) new

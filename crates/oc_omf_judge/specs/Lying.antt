@@ -5,7 +5,7 @@ use Rattle.std.specs.BTreeMap.{BTreeMap, get}
 use Rattle.std.specs.Ordering.{nat_cmp}
 use Rattle.oc_omf_records.specs.Blocks.{Blocks, none, copies_of, size_of}
 use Rattle.oc_omf.specs.declared.data.Data.{Data}
-use Rattle.oc_omf.specs.declared.structures.Head.{Head}
+use Rattle.oc_omf.specs.declared.structures.DataHead.{DataHead}
 use Rattle.oc_omf.specs.Known.{row_of}
 use Rattle.oc_omf.specs.Structures.{Piece}
 use Rattle.oc_omf.specs.Sections.{blocks_in}
@@ -22,14 +22,14 @@ abbrev pub lying_of : Piece → Lying
 lying_of d = record { segment = d.segment; offset = d.offset; blocks = blocks_in d.blocks }
 
 -- data that are kept, with those blocks or none
-abbrev pub lying_at : Head → Blocks → Lying
+abbrev pub lying_at : DataHead → Blocks → Lying
 lying_at h blocks = record { segment = h.segment; offset = h.offset; blocks = blocks }
 
-abbrev pub lost : Head → Lying
+abbrev pub lost : DataHead → Lying
 lost h = lying_at h none
 
 -- the same, where they pass what a section may have
-abbrev pub kept : Head → Data → Lying
+abbrev pub kept : DataHead → Data → Lying
 kept h d = if nat_lt 2147483647 (h.offset + min (size_of (row_of d)) (2 ^ 32)) then lost h else lying_at h (row_of d)
 
 -- the blocks of data that are read
@@ -42,7 +42,7 @@ pub record IsLow (d : Lying) : Type 0 where
   pub small : size_of d.blocks < 2147483648
   pub low : 0 < size_of d.blocks → d.offset + size_of d.blocks ≤ 2147483647
 
--- at each of these encoded places stand bytes that have no copy
+-- at each of these encoded places lie bytes that have no copy
 abbrev pub AreFruitless : Blocks → BTreeMap ℕ ℕ → Type 0
 AreFruitless blocks places = (at : ℕ) → IsSome (get nat_cmp places at) → copies_of blocks at ≡ Some []
 
@@ -50,6 +50,6 @@ AreFruitless blocks places = (at : ℕ) → IsSome (get nat_cmp places at) → c
 abbrev pub base : Lying → ℕ
 base d = place_in d.segment d.offset
 
--- where the copies of four encoded bytes stand in them
+-- where the copies of four encoded bytes lie in them
 abbrev pub copies_in : Option Lying → ℕ → Option (List ℕ)
 copies_in d at = option_and_then (λ (l : Lying). copies_of l.blocks at) d

@@ -5,7 +5,7 @@ use Rattle.oc_omf_judge.specs.declared.groups.Members.{Members}
 use Rattle.oc_omf.specs.Cursor.{Read}
 use Rattle.oc_omf.specs.SectionFaults.{is_cut, is_marked_else, is_no_segment}
 
--- what is wrong with the members of a group, behind so many segments
+-- what is wrong with the members of a group, after so many segments
 abbrev pub members_in : ℕ → List (Read (ℕ × ℕ)) → Members
 members_in segments members = record {
   cut = list_any is_cut members;

@@ -4,7 +4,7 @@ use Rattle.std.specs.Option.{option_map, option_map_or}
 use denote.Ref.{Bor}
 use Rattle.oc_linking.specs.Rules.{Symbolic, Sectional}
 use Rattle.oc_linking.specs.Rules.{Named as Shown}
-use Rattle.oc_omf_judge.specs.declared.seen.External.{External}
+use Rattle.oc_omf_judge.specs.declared.earlier.External.{External}
 use Rattle.oc_omf.specs.declared.structures.Method.{Method}
 use Rattle.oc_omf_judge.specs.Held.{Held, value_at}
 use Rattle.oc_omf.specs.Symbols.{Mention, agree, number_of}

@@ -19,7 +19,7 @@ is_start s k = is_some (get nat_cmp s.starts k)
 abbrev pub IsNear : Starts → ℕ → Type 0
 IsNear s at = (k : ℕ) × (is_start s k ≡ true) × (are_near at k ≡ true)
 
--- the same of one of these places, which are told from a base
+-- the same of one of these places, which are counted from a base
 abbrev pub IsMet : Starts → ℕ → List ℕ → Type 0
 IsMet s base places = (p : ℕ) × (list_any (nat_eq p) places ≡ true) × IsNear s (base + p)
 

@@ -38,7 +38,7 @@ is_judged w x = faults.is_judged (tables w) w.keep x
 abbrev pub is_kept_at : Whole → ℕ → Bool
 is_kept_at w index = option_map_or (λ (s : Segment). keeps w.keep (segment_kind (tables w) index s)) (indexed (tables w).segments index) true
 
--- the same of a fixup in data of a segment, or behind none
+-- the same of a fixup in data of a segment, or after no data
 abbrev pub is_judged_in : Whole → Option ℕ → Bool
 is_judged_in w segment = option_map_or (is_kept_at w) segment true
 

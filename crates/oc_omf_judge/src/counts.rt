@@ -38,7 +38,7 @@ fn is_indexed(count: u32, index: u16) -> bool
     1 <= index && u32::from(index) <= count
 }
 
-/// Whether what a method names by its index is there. Constant time.
+/// Whether what a method names by its index exists. Constant time.
 pub(crate) fn is_there(counts: Counts, method: Method) -> bool
     ensures { (t : Tables) → specs.AreCounts t counts → result ≡ is_there t method }
 {
@@ -60,7 +60,7 @@ pub(crate) fn is_datum_there(counts: Counts, datum: Datum, found: Option<Method>
     }
 }
 
-// the place behind the external at `at`, or behind the communal; none where it is cut
+// the place after the external at `at`, or after the communal; none where it is cut
 fn end_of_external(contents: &View<'_>, communals: bool, at: u64) -> Option<u64>
     ensures { (local : Bool) → result ≡ specs.end_of (specs.external_by communals local contents.now at) }
 {

@@ -5,13 +5,13 @@ ghost use Rattle.oc_base.specs.declared.limits.TheConstants.{MOST_INPUT};
 ghost use Rattle.oc_omf.specs.Cursor.{each_read};
 ghost use Rattle.oc_omf.specs.Entries.{in_file};
 ghost use Rattle.oc_omf_judge.specs.Held.{Held, value_at};
-ghost use Rattle.oc_omf_judge.specs.Seen as specs;
+ghost use Rattle.oc_omf_judge.specs.EarlierSymbols as specs;
 ghost use Rattle.oc_omf.specs.Structures as structures;
 
+use crate::earlier::{EarlierSymbols, External};
 use crate::held::{take_up, value_of};
 use crate::publics::{cut_fault, spot_in};
-use crate::section_stage::Spot;
-use crate::seen::{External, Seen};
+use crate::section_stage::EntryPlace;
 use crate::symbol_stage::{communal_fault, symbol_fault};
 use oc_base::{Code, Stop, View};
 use oc_omf::{Communal, read_communal, read_external};
@@ -25,11 +25,11 @@ fn is_lost(known: &BTreeMap<&[u8], u32>, local: bool, name: &[u8]) -> bool
     local && value_of(known, name).is_none()
 }
 
-// judges an external that is no communal, and takes it up
+// judges an external that is no communal, and records it
 fn take_external<'a>(
     known: &BTreeMap<&[u8], u32>,
-    seen: &mut Seen<'a>,
-    here: Spot,
+    seen: &mut EarlierSymbols<'a>,
+    here: EntryPlace,
     local: bool,
     name: &'a [u8],
 ) -> Result<(), Stop>
@@ -53,8 +53,8 @@ fn take_external<'a>(
 /// time is that of about log2(n) comparisons of names.
 pub(crate) fn take_externals<'a>(
     known: &BTreeMap<&[u8], u32>,
-    seen: &mut Seen<'a>,
-    spot: Spot,
+    seen: &mut EarlierSymbols<'a>,
+    spot: EntryPlace,
     local: bool,
     contents: &View<'a>,
 ) -> Result<(), Stop>
@@ -76,10 +76,10 @@ pub(crate) fn take_externals<'a>(
     Ok(())
 }
 
-// judges a communal, and takes it up
+// judges a communal, and records it
 fn take_communal<'a>(
-    seen: &mut Seen<'a>,
-    here: Spot,
+    seen: &mut EarlierSymbols<'a>,
+    here: EntryPlace,
     name: &'a [u8],
     communal: Communal,
 ) -> Result<(), Stop>
@@ -116,8 +116,8 @@ fn is_other(before: Option<u32>, length: u32) -> bool
 /// Stops exactly where one has a fault, with the first; or where memory ran out. For each communal the
 /// time is that of about log2(n) comparisons of names.
 pub(crate) fn take_communals<'a>(
-    seen: &mut Seen<'a>,
-    spot: Spot,
+    seen: &mut EarlierSymbols<'a>,
+    spot: EntryPlace,
     contents: &View<'a>,
 ) -> Result<(), Stop>
     requires { spot.place + length contents.now ≤ MOST_INPUT }

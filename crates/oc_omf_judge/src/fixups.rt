@@ -10,7 +10,7 @@ ghost use Rattle.oc_omf_judge.specs.Whole.{IsWhole};
 use crate::counts::{Counts, is_datum_there};
 use crate::reached::Reached;
 use crate::rows::has_row;
-use crate::section_stage::Spot;
+use crate::section_stage::EntryPlace;
 use crate::threads::{method_of, relocation_fault};
 use crate::whole::{Whole, is_judged};
 use oc_base::{Code, Fault, Stop};
@@ -23,7 +23,7 @@ fn names_fault(
     whole: &Whole<'_>,
     counts: Counts,
     segment: Option<u16>,
-    here: Spot,
+    here: EntryPlace,
     fixup: Fixup,
     target: Option<Method>,
     frame: Option<Method>,
@@ -42,8 +42,8 @@ fn names_fault(
     None
 }
 
-// takes up the fields of a fixup in the data before it, where none of them meets another
-fn take_fields(reached: &mut Reached<'_>, here: Spot, places: &[u32]) -> Result<(), Stop>
+// records the fields of a fixup in the data before it, where none of them meets another
+fn take_fields(reached: &mut Reached<'_>, here: EntryPlace, places: &[u32]) -> Result<(), Stop>
     ensures taken { OnOk result (fixups.AreFieldsTaken reached.old places.now reached.new) }
     ensures stop { IfErr result (fixups.AreFieldsStopped reached.old (here.index, here.place) places.now) }
 {
@@ -55,12 +55,12 @@ fn take_fields(reached: &mut Reached<'_>, here: Spot, places: &[u32]) -> Result<
     Ok(())
 }
 
-// judges a fixup of a section that is kept, and takes it up
+// judges a fixup of a section that is kept, and records it
 fn judge_fixup(
     alloc: Global,
     whole: &Whole<'_>,
     reached: &mut Reached<'_>,
-    here: Spot,
+    here: EntryPlace,
     fixup: Fixup,
 ) -> Result<(), Stop>
     requires { IsWhole whole.now }
@@ -90,16 +90,16 @@ fn judge_fixup(
     }
 }
 
-/// Judges a fixup, if its section is kept, and takes it up.
+/// Judges a fixup, if its section is kept, and records it.
 ///
 /// Stops exactly where it has a fault, with the first; or where memory ran out. The time is that of
-/// finding its copies, of about log2(n) comparisons of names, and for each copy the logarithm of the
-/// number of fields.
+/// finding its copies, of about log2(n) comparisons of names, and for each copy the logarithm of
+/// the number of fields.
 pub(crate) fn take_fixup(
     alloc: Global,
     whole: &Whole<'_>,
     reached: &mut Reached<'_>,
-    here: Spot,
+    here: EntryPlace,
     fixup: Fixup,
 ) -> Result<(), Stop>
     requires { IsWhole whole.now }

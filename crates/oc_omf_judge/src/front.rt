@@ -6,8 +6,8 @@ ghost use Rattle.oc_linking.specs.FirstFault.{first_fault};
 ghost use Rattle.oc_omf_judge.specs.Judged.{IsFront, front_stages};
 
 use crate::defined::Defined;
+use crate::earlier::EarlierSymbols;
 use crate::sections::check_sections;
-use crate::seen::Seen;
 use crate::symbol_loop::check_symbols;
 use oc_base::Stop;
 use oc_omf::{Module, read_module};
@@ -21,7 +21,7 @@ pub struct Front<'a> {
     /// Its names, segments, groups and data.
     pub defined: Defined<'a>,
     /// Its symbols.
-    pub seen: Seen<'a>,
+    pub seen: EarlierSymbols<'a>,
 }
 
 /// Judges the entries, the sections and the symbols of a file of at most 67,108,864 bytes.

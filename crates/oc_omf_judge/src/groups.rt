@@ -12,7 +12,7 @@ ghost use Rattle.oc_omf.specs.Topics.{said_on};
 ghost use Rattle.oc_omf.specs.declared.topics.Topic.TheVariants as topic;
 
 use crate::defined::Defined;
-use crate::section_stage::{Spot, own_fault};
+use crate::section_stage::{EntryPlace, own_fault};
 use oc_base::{Code, Fault, Stop, View};
 use oc_omf::{SEGMENT_INDEX, read_index, read_member};
 
@@ -27,7 +27,7 @@ struct Members {
     missing: bool,
 }
 
-// the same, with one member more, behind so many segments
+// the same, with one member more, after so many segments
 fn with_member(members: Members, mark: u8, segment: u16, segments: u64) -> Members
     ensures { result ≡ record {
       cut = members.cut;
@@ -42,7 +42,7 @@ fn with_member(members: Members, mark: u8, segment: u16, segments: u64) -> Membe
     }
 }
 
-// what is wrong with the members from `at` on, behind so many segments
+// what is wrong with the members from `at` on, after so many segments
 fn members_from(contents: &View<'_>, at: u64, segments: u64) -> Members
     ensures { result ≡ members_in segments (each_read member_read contents.now at) }
 {
@@ -69,13 +69,13 @@ fn members_from(contents: &View<'_>, at: u64, segments: u64) -> Members
     members
 }
 
-/// The fault of the group in the contents of an entry, behind so many names and segments. Linear in
+/// The fault of the group in the contents of an entry, after so many names and segments. Linear in
 /// the contents.
 #[tactic(auto, unfolding(oc_omf::specs::Structures::group_read, oc_omf::specs::SectionFaults::group_conditions))]
 pub(crate) fn group_fault(
     names: u64,
     segments: u64,
-    spot: Spot,
+    spot: EntryPlace,
     contents: &View<'_>,
 ) -> Option<Fault>
     ensures { result ≡ first_broken (rules.conditions_by (rules.own_fault (spot.index, spot.place) BadTable) (rules.group_conditions names segments (spot.index, spot.place)) (group_read contents.now 0)) }
@@ -96,13 +96,13 @@ pub(crate) fn group_fault(
     None
 }
 
-/// Judges the group in the contents of an entry, of the odd type where `wide`, and takes it up.
+/// Judges the group in the contents of an entry, of the odd type where `wide`, and records it.
 ///
 /// Stops exactly where it has a fault, with the first; or where memory ran out. Linear in the
 /// contents.
 pub(crate) fn take_group(
     defined: &mut Defined<'_>,
-    spot: Spot,
+    spot: EntryPlace,
     wide: bool,
     contents: &View<'_>,
 ) -> Result<(), Stop>

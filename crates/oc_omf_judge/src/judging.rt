@@ -35,7 +35,7 @@ pub struct Found<'a> {
 /// steps for the n bytes of the file and the n places at which relocated fields begin, in any order of
 /// these. There are never more fields than the segments have bytes: where two meet, reading stops. For
 /// each of at most 1,024 places in the data of an entry, the blocks of iterated data are walked once
-/// more. What the worst files known take is told in docs/SAFETY.md: seconds, and tens of seconds where
+/// more. What the worst files known take is written in docs/SAFETY.md: seconds, and tens of seconds where
 /// millions of symbols have names of their own.
 pub fn judged<'a>(alloc: Global, bytes: &'a [u8], keep: &Keep) -> Result<Found<'a>, Stop>
     requires { length bytes.now ≤ MOST_INPUT }

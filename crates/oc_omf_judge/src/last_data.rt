@@ -4,7 +4,7 @@ ghost use Rattle.oc_omf_records.specs.Blocks.{none};
 ghost use Rattle.oc_omf_judge.specs.Lying.{AreFruitless, IsLow, base, blocks_kept, lying_at};
 
 use oc_base::{NoMemory, View};
-use oc_omf::{Data, Head, read_data, read_head};
+use oc_omf::{Data, DataHead, read_data, read_head};
 use oc_omf_records::{BlockFault, CopyFault};
 use std::alloc::Global;
 use std::collections::BTreeMap;
@@ -15,7 +15,7 @@ const MOST_SIZE: u64 = 2_147_483_647;
 /// Data of a segment.
 #[derive(Drop)]
 pub(crate) struct LastData<'a> {
-    head: Head,
+    head: DataHead,
     // none where they are not read, or pass what a section may have
     encoded: Option<Data<'a>>,
     // places of encoded bytes that were found to have no copy: there are at most 1,024
@@ -25,7 +25,7 @@ pub(crate) struct LastData<'a> {
 }
 
 // the place of the first byte of data
-fn place_in(head: Head) -> u64
+fn place_in(head: DataHead) -> u64
     ensures place { result ≡ base (lying_at head none) }
     ensures small { result ≤ 562949953421312 }
 {
@@ -40,7 +40,7 @@ impl<'a> LastData<'a> {
     ghost use Rattle.oc_omf_judge.specs.Lying as lying;
 
     // data that are not read
-    fn lost(alloc: Global, head: Head) -> LastData<'a>
+    fn lost(alloc: Global, head: DataHead) -> LastData<'a>
         ensures { specs.shown result ≡ lying.lost head }
     {
         LastData {
@@ -51,7 +51,7 @@ impl<'a> LastData<'a> {
     }
 
     // data, where they do not pass what a section may have
-    fn kept(alloc: Global, head: Head, encoded: Data<'a>) -> LastData<'a>
+    fn kept(alloc: Global, head: DataHead, encoded: Data<'a>) -> LastData<'a>
         ensures { specs.shown result ≡ lying.kept head encoded.entry }
     {
         if u64::from(head.offset) + encoded.size() > MOST_SIZE {
@@ -64,8 +64,8 @@ impl<'a> LastData<'a> {
         }
     }
 
-    /// The data in the contents of an entry, of the odd type where `wide`, if their segment and offset
-    /// are there. `NoMemory` where memory ran out. Linear in the contents.
+    /// The data in the contents of an entry, of the odd type where `wide`, if their segment and
+    /// offset are present. `NoMemory` where memory ran out. Linear in the contents.
     pub(crate) fn read(
         alloc: Global,
         contents: &View<'a>,
@@ -101,7 +101,7 @@ impl<'a> LastData<'a> {
         place_in(self.head)
     }
 
-    // where the copies of the four bytes at `at` stand
+    // where the copies of the four bytes at `at` lie
     fn seek(&self, alloc: Global, at: u16) -> Result<Vec<u32>, CopyFault>
         ensures well { IfOk result (λ places. copies_of (specs.shown self.now).blocks at ≡ Some places.items) }
         ensures refused { IfErr result (λ fault. RefusesCopies fault (copies_of (specs.shown self.now).blocks at)) }
@@ -115,7 +115,7 @@ impl<'a> LastData<'a> {
         }
     }
 
-    /// Where the copies of the four bytes at `at` stand in what the data stand for, as offsets; `at`
+    /// Where the copies of the four bytes at `at` lie in what the data stand for, as offsets; `at`
     /// counts from the first encoded byte. `NotContent` exactly where the four do not lie in one
     /// content. The cost is that of `Data::copies`, and where there were none before, that of a
     /// look-up.

@@ -3,6 +3,7 @@
 
 mod counts;
 mod defined;
+mod earlier;
 mod externals;
 mod fixups;
 mod front;
@@ -20,7 +21,6 @@ mod relocs;
 mod rows;
 mod section_stage;
 mod sections;
-mod seen;
 mod segments;
 mod starts;
 mod symbol_loop;
@@ -29,7 +29,7 @@ mod threads;
 mod whole;
 
 pub use defined::{Defined, name_at};
+pub use earlier::{EarlierSymbols, External};
 pub use front::{Front, judge_front};
 pub use judging::{Found, judged};
 pub use section_stage::segment_size;
-pub use seen::{External, Seen};

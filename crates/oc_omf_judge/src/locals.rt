@@ -13,7 +13,7 @@ use oc_omf::{Module, Topic, is_wide, read_base, read_public, topic_of};
 use std::alloc::Global;
 use std::collections::BTreeMap;
 
-// takes up the segment of a definition, if this module alone sees it and its name is new
+// records the segment of a definition, if this module alone sees it and its name is new
 fn locate<'a>(
     locals: &mut BTreeMap<&'a [u8], u32>,
     local: bool,
@@ -32,7 +32,7 @@ fn locate<'a>(
     Ok(())
 }
 
-// takes up the segments of the definitions from `at` on, up to the first that is cut
+// records the segments of the definitions from `at` on, up to the first that is cut
 fn locate_publics<'a>(
     locals: &mut BTreeMap<&'a [u8], u32>,
     wide: bool,
@@ -56,7 +56,7 @@ fn locate_publics<'a>(
     Ok(())
 }
 
-// takes up the segments of the definitions of an entry
+// records the segments of the definitions of an entry
 fn locate_entry<'a>(
     locals: &mut BTreeMap<&'a [u8], u32>,
     topic: Topic,

@@ -50,7 +50,7 @@ fn named_external<'a>(whole: &Whole<'a>, index: u16) -> Option<Named<'a>>
     }
 }
 
-/// What a method names, if it is the index of a segment or of an external that is there. For an
+/// What a method names, if it is the index of a segment or of an external that exists. For an
 /// external the time is that of about log2(n) comparisons of names.
 pub(crate) fn named_of<'a>(whole: &Whole<'a>, method: Method) -> Option<Named<'a>>
     ensures { result ≡ specs.named_of whole.now method }

@@ -11,17 +11,17 @@ ghost use Rattle.oc_omf.specs.Topics.{said_on};
 ghost use Rattle.oc_omf.specs.declared.topics.Topic.TheVariants as topic;
 
 use crate::defined::Defined;
-use crate::section_stage::{Spot, own_fault};
+use crate::section_stage::{EntryPlace, own_fault};
 use oc_base::{Code, Stop, View};
 use oc_omf::read_name;
 
-/// Takes up the names in the contents of an entry, behind others.
+/// Records the names in the contents of an entry, after others.
 ///
-/// Stops exactly where the end of the contents cuts one, with the fault for that; or where memory ran
-/// out. Linear in the contents.
+/// Stops exactly where the end of the contents cuts one, with the fault for that; or where memory
+/// ran out. Linear in the contents.
 pub(crate) fn take_names<'a>(
     names: &mut Vec<&'a [u8]>,
-    spot: Spot,
+    spot: EntryPlace,
     contents: &View<'a>,
 ) -> Result<(), Stop>
     ensures clean { OnOk result (first_broken (name_conditions (spot.index, spot.place) (each_read name_read contents.now 0)) ≡ None) }
@@ -47,7 +47,7 @@ pub(crate) fn take_names<'a>(
 /// contents.
 pub(crate) fn take_name_entry<'a>(
     defined: &mut Defined<'a>,
-    spot: Spot,
+    spot: EntryPlace,
     wide: bool,
     contents: &View<'a>,
 ) -> Result<(), Stop>

@@ -8,9 +8,9 @@ ghost use Rattle.oc_omf.specs.Topics.{said_on};
 ghost use Rattle.oc_omf.specs.declared.topics.Topic.TheVariants as topic;
 
 use crate::defined::{Defined, segment_at};
-use crate::section_stage::{Spot, own_fault, segment_size};
+use crate::section_stage::{EntryPlace, own_fault, segment_size};
 use oc_base::{Code, Fault, Stop, View};
-use oc_omf::{Head, read_data, read_head};
+use oc_omf::{DataHead, read_data, read_head};
 use oc_omf_records::BlockFault;
 use std::alloc::Global;
 
@@ -21,7 +21,7 @@ fn place_in(segment: u16, offset: u32) -> u64
     u64::from(segment) * 4_294_967_296 + u64::from(offset)
 }
 
-// takes up that some byte of a segment is covered
+// records that some byte of a segment is covered
 fn cover(covered: &mut [bool], segment: u16)
     requires some { 1 ≤ segment }
     requires there { segment ≤ length covered.old }
@@ -31,7 +31,12 @@ fn cover(covered: &mut [bool], segment: u16)
 }
 
 // judges data of so many bytes, or of 2^32 where they have more, and takes them up
-fn take_piece(defined: &mut Defined<'_>, spot: Spot, head: Head, size: u64) -> Result<(), Stop>
+fn take_piece(
+    defined: &mut Defined<'_>,
+    spot: EntryPlace,
+    head: DataHead,
+    size: u64,
+) -> Result<(), Stop>
     requires long { length defined.old.covered.items ≡ length defined.old.segments.items }
     requires small { size ≤ 2 ^ 32 }
     ensures taken { OnOk result ((row : Blocks) → size ≡ min (size_of row) (2 ^ 32) → specs.IsPieceTaken defined.old (spot.index, spot.place) (specs.piece_with head (Ok row)) defined.new) }
@@ -56,7 +61,7 @@ fn take_piece(defined: &mut Defined<'_>, spot: Spot, head: Head, size: u64) -> R
 }
 
 // the fault of data that are nested too deep
-fn deep_fault(defined: &Defined<'_>, spot: Spot, head: Head) -> Fault
+fn deep_fault(defined: &Defined<'_>, spot: EntryPlace, head: DataHead) -> Fault
     ensures { specs.IsPieceStopped defined.now (spot.index, spot.place) (specs.piece_with head (Err block.TooDeep)) (stop.Refused result) }
 {
     match segment_at(defined.segments.as_slice(), head.segment) {
@@ -72,7 +77,7 @@ fn deep_fault(defined: &Defined<'_>, spot: Spot, head: Head) -> Fault
 pub(crate) fn take_data(
     alloc: Global,
     defined: &mut Defined<'_>,
-    spot: Spot,
+    spot: EntryPlace,
     wide: bool,
     iterated: bool,
     contents: &View<'_>,

@@ -4,7 +4,7 @@ ghost use Rattle.oc_base.specs.declared.limits.TheConstants.{MOST_INPUT};
 ghost use Rattle.oc_omf.specs.Cursor.{each_read};
 ghost use Rattle.oc_omf.specs.Entries.{in_file};
 ghost use Rattle.oc_omf_judge.specs.Held.{Held};
-ghost use Rattle.oc_omf_judge.specs.Seen as specs;
+ghost use Rattle.oc_omf_judge.specs.EarlierSymbols as specs;
 ghost use Rattle.oc_omf.specs.Structures.{public_read};
 ghost use Rattle.oc_omf.specs.SymbolFaults as rules;
 ghost use Rattle.oc_omf.specs.Sections.{size_at};
@@ -13,34 +13,34 @@ ghost use Rattle.oc_omf.specs.Topics.{said_on};
 ghost use Rattle.oc_omf.specs.declared.topics.Topic.TheVariants as topic;
 
 use crate::defined::segment_at;
-use crate::section_stage::{Spot, segment_size};
-use crate::seen::Seen;
+use crate::earlier::EarlierSymbols;
+use crate::section_stage::{EntryPlace, segment_size};
 use crate::symbol_stage::{base_fault, code_of, symbol_fault};
 use oc_base::{Code, Fault, Stop, View};
 use oc_omf::{Cut, ENTRY_HEAD, Public, read_base, read_public};
 
-/// What stands at a place in an entry, counted from the first byte of its contents. Constant time.
-pub(crate) fn spot_in(spot: Spot, at: u64) -> Spot
+/// The spot of a place in an entry, counted from the first byte of its contents. Constant time.
+pub(crate) fn spot_in(spot: EntryPlace, at: u64) -> EntryPlace
     requires { spot.place + at ≤ MOST_INPUT }
     ensures index { result.index ≡ spot.index }
     ensures place { result.place ≡ spot.place + 3 + at }
 {
-    Spot {
+    EntryPlace {
         index: spot.index,
         place: spot.place + ENTRY_HEAD + at,
     }
 }
 
 /// The fault of a structure that is cut. Constant time.
-pub(crate) fn cut_fault(here: Spot, cut: Cut) -> Fault
+pub(crate) fn cut_fault(here: EntryPlace, cut: Cut) -> Fault
     ensures { result ≡ rules.symbol_fault (here.index, here.place) (rules.code_of cut) }
 {
     symbol_fault(here, code_of(cut))
 }
 
 // how many bytes the segment of an index has, 0 where there is none
-fn size_at(seen: &Seen<'_>, index: u16) -> u64
-    ensures { (t : Tables) → specs.IsSeen t seen.now → result ≡ size_at t index }
+fn size_at(seen: &EarlierSymbols<'_>, index: u16) -> u64
+    ensures { (t : Tables) → specs.AreEarlierSymbols t seen.now → result ≡ size_at t index }
 {
     match segment_at(seen.segments.as_slice(), index) {
         Some(segment) => segment_size(&segment),
@@ -48,10 +48,10 @@ fn size_at(seen: &Seen<'_>, index: u16) -> u64
     }
 }
 
-// judges a symbol of a segment, and takes it up
+// judges a symbol of a segment, and records it
 fn take_public<'a>(
-    seen: &mut Seen<'a>,
-    here: Spot,
+    seen: &mut EarlierSymbols<'a>,
+    here: EntryPlace,
     local: bool,
     segment: u16,
     public: Public<'a>,
@@ -74,8 +74,8 @@ fn take_public<'a>(
 
 // judges the symbols of a segment from `at` on, and takes them up
 fn take_publics<'a>(
-    seen: &mut Seen<'a>,
-    spot: Spot,
+    seen: &mut EarlierSymbols<'a>,
+    spot: EntryPlace,
     wide: bool,
     local: bool,
     segment: u16,
@@ -105,8 +105,8 @@ fn take_publics<'a>(
 /// Stops exactly where one has a fault, with the first; or where memory ran out. For each symbol the
 /// time is that of about log2(n) comparisons of names.
 pub(crate) fn take_public_entry<'a>(
-    seen: &mut Seen<'a>,
-    spot: Spot,
+    seen: &mut EarlierSymbols<'a>,
+    spot: EntryPlace,
     wide: bool,
     local: bool,
     contents: &View<'a>,

@@ -66,9 +66,9 @@ impl<'a> Reached<'a> {
         }
     }
 
-    /// Where the copies of the four bytes at `at` stand in what the last data stand for, as offsets;
-    /// `at` counts from the first encoded byte. `NotContent` exactly where the four do not lie in one
-    /// content, or there are no data. The cost is that of `LastData::copies`.
+    /// Where the copies of the four bytes at `at` lie in what the last data stand for, as offsets;
+    /// `at` counts from the first encoded byte. `NotContent` exactly where the four do not lie in
+    /// one content, or there are no data. The cost is that of `LastData::copies`.
     pub(crate) fn copies(&mut self, alloc: Global, at: u16) -> Result<Vec<u32>, CopyFault>
         ensures stays { specs.IsSame self.old self.new }
         ensures well { IfOk result (λ places. lying.copies_in (specs.last_in self.old) at ≡ Some places.items) }

@@ -21,19 +21,19 @@ use crate::fixups::take_fixup;
 use crate::last_data::LastData;
 use crate::publics::spot_in;
 use crate::reached::Reached;
-use crate::section_stage::Spot;
+use crate::section_stage::EntryPlace;
 use crate::threads::{relocation_fault, take_thread};
 use crate::whole::Whole;
 use oc_base::{Code, Stop, View};
 use oc_omf::{Subrecord, Topic, is_wide, read_index, read_segment, read_subrecord, topic_of};
 use std::alloc::Global;
 
-// judges a thread or a fixup, and takes it up
+// judges a thread or a fixup, and records it
 fn take_part(
     alloc: Global,
     whole: &Whole<'_>,
     reached: &mut Reached<'_>,
-    here: Spot,
+    here: EntryPlace,
     part: Subrecord,
 ) -> Result<(), Stop>
     requires whole { IsWhole whole.now }
@@ -53,7 +53,7 @@ fn take_parts(
     alloc: Global,
     whole: &Whole<'_>,
     reached: &mut Reached<'_>,
-    spot: Spot,
+    spot: EntryPlace,
     wide: bool,
     contents: &View<'_>,
 ) -> Result<(), Stop>
@@ -76,7 +76,7 @@ fn take_parts(
     Ok(())
 }
 
-// takes up the segment in the contents of an entry, if one is read
+// records the segment in the contents of an entry, if one is read
 fn see_segment(reached: &mut Reached<'_>, wide: bool, contents: &View<'_>)
     ensures { (w : Whole) (index place : ℕ) → specs.IsEntryTaken w reached.old index (said_on topic.Segment place wide contents.now) reached.new }
 {
@@ -86,7 +86,7 @@ fn see_segment(reached: &mut Reached<'_>, wide: bool, contents: &View<'_>)
     }
 }
 
-// takes up the group in the contents of an entry, if one is read
+// records the group in the contents of an entry, if one is read
 #[tactic(auto, unfolding(oc_omf::specs::Structures::group_read))]
 fn see_group(reached: &mut Reached<'_>, contents: &View<'_>)
     ensures { (w : Whole) (index place : ℕ) (wide : Bool) → specs.IsEntryTaken w reached.old index (said_on topic.Group place wide contents.now) reached.new }
@@ -97,7 +97,7 @@ fn see_group(reached: &mut Reached<'_>, contents: &View<'_>)
     }
 }
 
-// takes up the externals in the contents of an entry, or the communals, up to the first that is cut
+// records the externals in the contents of an entry, or the communals, up to the first that is cut
 fn see_externals(reached: &mut Reached<'_>, communals: bool, contents: &View<'_>)
     ensures { (w : Whole) (index place : ℕ) (local : Bool) → specs.AreExternalsTaken w reached.old index place (each_read (external_by communals local) contents.now 0) reached.new }
 {
@@ -105,7 +105,7 @@ fn see_externals(reached: &mut Reached<'_>, communals: bool, contents: &View<'_>
     reached.counts.externals = with_externals(contents, communals, count);
 }
 
-// takes up the data in the contents of an entry, if their segment and offset are read
+// records the data in the contents of an entry, if their segment and offset are read
 fn see_data<'a>(
     alloc: Global,
     reached: &mut Reached<'a>,
@@ -126,12 +126,12 @@ fn see_data<'a>(
     }
 }
 
-// judges the threads and fixups of an entry, and takes up what it has
+// judges the threads and fixups of an entry, and records what it has
 fn take_entry<'a>(
     alloc: Global,
     whole: &Whole<'_>,
     reached: &mut Reached<'a>,
-    spot: Spot,
+    spot: EntryPlace,
     topic: Topic,
     wide: bool,
     contents: &View<'a>,
@@ -179,7 +179,7 @@ pub(crate) fn check_relocations(alloc: Global, whole: &Whole<'_>) -> Result<(), 
     let mut reached = Reached::new(alloc);
     for i in 0..whole.front.omf.count() {
         let entry = whole.front.omf.entry(i);
-        let spot = Spot {
+        let spot = EntryPlace {
             index: i,
             place: entry.place,
         };

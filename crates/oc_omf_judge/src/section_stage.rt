@@ -15,7 +15,7 @@ const MOST_SIZES: u64 = 2_147_483_648;
 
 /// An entry, by its number and its place.
 #[derive(Clone, Copy)]
-pub(crate) struct Spot {
+pub(crate) struct EntryPlace {
     /// Its number among the entries.
     pub index: u32,
     /// Where it begins, in bytes from the start of the file.
@@ -23,14 +23,14 @@ pub(crate) struct Spot {
 }
 
 // a fault of an entry
-pub(crate) fn own_fault(spot: Spot, code: Code) -> Fault
+pub(crate) fn own_fault(spot: EntryPlace, code: Code) -> Fault
     ensures { result ≡ rules.own_fault (spot.index, spot.place) code }
 {
     limit_fault(spot, spot.place, code)
 }
 
 // a fault of an entry whose place is a number that passes a limit
-pub(crate) fn limit_fault(spot: Spot, worth: u64, code: Code) -> Fault
+pub(crate) fn limit_fault(spot: EntryPlace, worth: u64, code: Code) -> Fault
     ensures { result ≡ rules.limit_fault (spot.index, spot.place) worth code }
 {
     Fault {
@@ -73,9 +73,9 @@ fn is_named(names: u64, s: &Segment) -> bool
     u64::from(s.name) <= names && u64::from(s.class) <= names && u64::from(s.overlay) <= names
 }
 
-// the fault of what a segment says, behind so many names
+// the fault of what the definition of a segment gives, after so many names
 #[tactic(auto, unfolding(oc_omf::specs::SectionFaults::form_conditions))]
-fn form_fault(names: u64, spot: Spot, s: &Segment) -> Option<Fault>
+fn form_fault(names: u64, spot: EntryPlace, s: &Segment) -> Option<Fault>
     ensures { result ≡ first_broken (rules.form_conditions names (spot.index, spot.place) s.now) }
 {
     let code = align_code(s);
@@ -91,9 +91,9 @@ fn form_fault(names: u64, spot: Spot, s: &Segment) -> Option<Fault>
     None
 }
 
-// the fault of its size, behind segments of so many bytes
+// the fault of its size, after segments of so many bytes
 #[tactic(auto, unfolding(oc_omf::specs::SectionFaults::size_conditions))]
-fn size_fault(sizes: u64, spot: Spot, s: &Segment) -> Option<Fault>
+fn size_fault(sizes: u64, spot: EntryPlace, s: &Segment) -> Option<Fault>
     requires { sizes ≤ 2147483648 }
     ensures { result ≡ first_broken (rules.size_conditions sizes (spot.index, spot.place) s.now) }
 {
@@ -107,8 +107,8 @@ fn size_fault(sizes: u64, spot: Spot, s: &Segment) -> Option<Fault>
     None
 }
 
-/// The fault of a segment behind so many names, and segments of so many bytes. Constant time.
-pub(crate) fn segment_fault(names: u64, sizes: u64, spot: Spot, s: &Segment) -> Option<Fault>
+/// The fault of a segment after so many names, and segments of so many bytes. Constant time.
+pub(crate) fn segment_fault(names: u64, sizes: u64, spot: EntryPlace, s: &Segment) -> Option<Fault>
     requires { sizes ≤ 2147483648 }
     ensures { result ≡ first_broken (rules.segment_conditions_by names sizes (spot.index, spot.place) s.now) }
 {

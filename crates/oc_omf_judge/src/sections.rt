@@ -13,7 +13,7 @@ use crate::defined::{Defined, name_at};
 use crate::groups::take_group;
 use crate::names::take_name_entry;
 use crate::pieces::take_data;
-use crate::section_stage::{Spot, limit_fault, segment_size};
+use crate::section_stage::{EntryPlace, limit_fault, segment_size};
 use crate::segments::take_segment;
 use oc_base::{Code, Fault, MOST_CONTENTS, Stop, View};
 use oc_neutral::Kind;
@@ -63,9 +63,9 @@ fn all_bytes(defined: &Defined<'_>) -> u64
     bytes
 }
 
-/// Judges what an entry says that is none of names, segments, groups and data: whether the end of
-/// the module meets the limit. Linear in the segments and their classes at the end.
-fn judge_others(defined: &Defined<'_>, spot: Spot, ends: bool) -> Option<Fault>
+/// Judges an entry that has none of names, segments, groups and data: whether the end of the module
+/// meets the limit. Linear in the segments and their classes at the end.
+fn judge_others(defined: &Defined<'_>, spot: EntryPlace, ends: bool) -> Option<Fault>
     requires { length defined.now.covered.items ≡ length defined.now.segments.items }
     ensures { (t : Tables) → IsDefined t defined.now → result ≡ first_broken (end_conditions t (spot.index, spot.place) ends) }
 {
@@ -82,7 +82,7 @@ fn judge_others(defined: &Defined<'_>, spot: Spot, ends: bool) -> Option<Fault>
 // the same, for a loop
 fn take_others(
     defined: &mut Defined<'_>,
-    spot: Spot,
+    spot: EntryPlace,
     ends: bool,
     wide: bool,
     contents: &View<'_>,
@@ -99,11 +99,11 @@ fn take_others(
     }
 }
 
-// judges an entry, and takes up what it defines
+// judges an entry, and records what it defines
 fn take_entry<'a>(
     alloc: Global,
     defined: &mut Defined<'a>,
-    spot: Spot,
+    spot: EntryPlace,
     topic: Topic,
     wide: bool,
     contents: &View<'a>,
@@ -138,7 +138,7 @@ pub(crate) fn check_sections<'a>(alloc: Global, omf: &Module<'a>) -> Result<Defi
     let mut defined = Defined::new(alloc);
     for i in 0..omf.count() {
         let entry = omf.entry(i);
-        let spot = Spot {
+        let spot = EntryPlace {
             index: i,
             place: entry.place,
         };

@@ -9,16 +9,16 @@ ghost use Rattle.oc_omf.specs.Topics.{said_on};
 ghost use Rattle.oc_omf.specs.declared.topics.Topic.TheVariants as topic;
 
 use crate::defined::Defined;
-use crate::section_stage::{Spot, own_fault, segment_fault, segment_size};
+use crate::section_stage::{EntryPlace, own_fault, segment_fault, segment_size};
 use oc_base::{Code, Fault, Stop, View};
 use oc_omf::{Segment, read_segment};
 
-// the segment in the contents of an entry, of the odd type where `wide`, behind so many names and
+// the segment in the contents of an entry, of the odd type where `wide`, after so many names and
 // segments of so many bytes
 fn judge_segment(
     names: u64,
     sizes: u64,
-    spot: Spot,
+    spot: EntryPlace,
     wide: bool,
     contents: &View<'_>,
 ) -> Result<Segment, Fault>
@@ -36,13 +36,13 @@ fn judge_segment(
     }
 }
 
-/// Judges the segment in the contents of an entry, of the odd type where `wide`, and takes it up.
+/// Judges the segment in the contents of an entry, of the odd type where `wide`, and records it.
 ///
 /// Stops exactly where it has a fault, with the first; or where memory ran out. Amortized constant
 /// time.
 pub(crate) fn take_segment(
     defined: &mut Defined<'_>,
-    spot: Spot,
+    spot: EntryPlace,
     wide: bool,
     contents: &View<'_>,
 ) -> Result<(), Stop>

@@ -26,7 +26,7 @@ impl Starts {
         }
     }
 
-    // the first field that begins at a place or behind it
+    // the first field that begins at or after a place
     fn behind(&self, at: u64) -> Option<u64>
         ensures none { IfNone result ((k : ℕ) → at ≤ k → specs.is_start self.now k ≡ false) }
         ensures held { IfSome result (λ start. specs.is_start self.now start ≡ true) }
@@ -51,7 +51,7 @@ impl Starts {
         }
     }
 
-    /// Whether a field begins less than four bytes from one of these places, which are told from
+    /// Whether a field begins less than four bytes from one of these places, which are counted from
     /// `base`. For each the time is the logarithm of the number of fields.
     pub(crate) fn are_met(&self, base: u64, places: &[u32]) -> bool
         requires { base ≤ 562949953421312 }
@@ -66,9 +66,9 @@ impl Starts {
         false
     }
 
-    /// Takes up fields that begin at these places, told from `base`. `NoMemory` where memory ran out, or
-    /// where there are more fields than `with_fields` allows. For each the time is the logarithm of the
-    /// number of fields.
+    /// Records fields that begin at these places, counted from `base`. `NoMemory` where memory ran
+    /// out, or where there are more fields than `with_fields` allows. For each the time is the
+    /// logarithm of the number of fields.
     pub(crate) fn take_up(&mut self, base: u64, places: &[u32]) -> Result<(), NoMemory>
         requires { base ≤ 562949953421312 }
         ensures { OnOk result ((k : ℕ) → specs.is_start self.new k ≡ (specs.is_start self.old k || specs.is_among base places.now k)) }

@@ -5,24 +5,29 @@ ghost use Rattle.oc_base.specs.Stops.{IsStop};
 ghost use Rattle.oc_linking.specs.FirstFault.{first_fault};
 ghost use Rattle.oc_omf.specs.Entries.{entries_in};
 ghost use Rattle.oc_omf_judge.specs.Held.{Held};
-ghost use Rattle.oc_omf_judge.specs.Seen as specs;
+ghost use Rattle.oc_omf_judge.specs.EarlierSymbols as specs;
 ghost use Rattle.oc_omf.specs.SymbolFaults.{symbol_stages};
 ghost use Rattle.oc_omf.specs.Tables.{tables_of};
 ghost use Rattle.oc_omf.specs.Topics.{said_on};
 ghost use Rattle.oc_omf.specs.declared.topics.Topic.TheVariants as topic;
 
+use crate::earlier::EarlierSymbols;
 use crate::externals::{take_communals, take_externals};
 use crate::locals::local_segments;
 use crate::publics::take_public_entry;
-use crate::section_stage::Spot;
-use crate::seen::Seen;
+use crate::section_stage::EntryPlace;
 use oc_base::{Stop, View};
 use oc_omf::{Module, Topic, is_wide, read_index, read_segment, topic_of};
 use std::alloc::Global;
 use std::collections::BTreeMap;
 
-// takes up the segment in the contents of an entry, if one is read
-fn see_segment(seen: &mut Seen<'_>, spot: Spot, wide: bool, contents: &View<'_>) -> Result<(), Stop>
+// records the segment in the contents of an entry, if one is read
+fn see_segment(
+    seen: &mut EarlierSymbols<'_>,
+    spot: EntryPlace,
+    wide: bool,
+    contents: &View<'_>,
+) -> Result<(), Stop>
     ensures taken { OnOk result ((known : Held) → specs.IsEntrySeen known seen.old spot.index (said_on topic.Segment spot.place wide contents.now) seen.new) }
     ensures stop { IfErr result (λ s. (known : Held) → specs.IsEntryStopped known seen.old spot.index (said_on topic.Segment spot.place wide contents.now) s) }
 {
@@ -36,8 +41,13 @@ fn see_segment(seen: &mut Seen<'_>, spot: Spot, wide: bool, contents: &View<'_>)
     }
 }
 
-// takes up the group in the contents of an entry, if one is read
-fn see_group(seen: &mut Seen<'_>, spot: Spot, wide: bool, contents: &View<'_>) -> Result<(), Stop>
+// records the group in the contents of an entry, if one is read
+fn see_group(
+    seen: &mut EarlierSymbols<'_>,
+    spot: EntryPlace,
+    wide: bool,
+    contents: &View<'_>,
+) -> Result<(), Stop>
     ensures taken { OnOk result ((known : Held) → specs.IsEntrySeen known seen.old spot.index (said_on topic.Group spot.place wide contents.now) seen.new) }
     ensures stop { IfErr result (λ s. (known : Held) → specs.IsEntryStopped known seen.old spot.index (said_on topic.Group spot.place wide contents.now) s) }
 {
@@ -52,11 +62,11 @@ fn see_group(seen: &mut Seen<'_>, spot: Spot, wide: bool, contents: &View<'_>) -
     }
 }
 
-// judges the symbols of an entry, and takes up what it has
+// judges the symbols of an entry, and records what it has
 fn see_entry<'a>(
     known: &BTreeMap<&[u8], u32>,
-    seen: &mut Seen<'a>,
-    spot: Spot,
+    seen: &mut EarlierSymbols<'a>,
+    spot: EntryPlace,
     topic: Topic,
     wide: bool,
     contents: &View<'a>,
@@ -82,16 +92,16 @@ fn see_entry<'a>(
 ///
 /// Stops exactly where one has a fault, with the first; or where memory ran out. The time is linear in
 /// the file, and for each symbol that of about log2(n) comparisons of names.
-pub(crate) fn check_symbols<'a>(alloc: Global, omf: &Module<'a>) -> Result<Seen<'a>, Stop>
+pub(crate) fn check_symbols<'a>(alloc: Global, omf: &Module<'a>) -> Result<EarlierSymbols<'a>, Stop>
     ensures clean { OnOk result (first_fault (symbol_stages (entries_in omf.now)) ≡ None) }
-    ensures seen { IfOk result (λ s. specs.IsSeen (tables_of (entries_in omf.now)) s) }
+    ensures seen { IfOk result (λ s. specs.AreEarlierSymbols (tables_of (entries_in omf.now)) s) }
     ensures stop { IfErr result (IsStop (first_fault (symbol_stages (entries_in omf.now)))) }
 {
     let known = local_segments(alloc, omf)?;
-    let mut seen = Seen::new(alloc);
+    let mut seen = EarlierSymbols::new(alloc);
     for i in 0..omf.count() {
         let entry = omf.entry(i);
-        let spot = Spot {
+        let spot = EntryPlace {
             index: i,
             place: entry.place,
         };

@@ -7,12 +7,12 @@ ghost use Rattle.oc_omf_judge.specs.declared.whole.Whole.{Whole};
 
 use crate::counts::is_there;
 use crate::reached::Reached;
-use crate::section_stage::Spot;
+use crate::section_stage::EntryPlace;
 use oc_base::{Code, Fault, Phase, Stop};
 use oc_omf::{Datum, Method, Thread, Threads};
 
-/// A fault of what stands at a place in an entry. Constant time.
-pub(crate) fn relocation_fault(here: Spot, code: Code) -> Fault
+/// A fault of what lies at a place in an entry. Constant time.
+pub(crate) fn relocation_fault(here: EntryPlace, code: Code) -> Fault
     ensures { result ≡ specs.relocation_fault (here.index, here.place) code }
 {
     Fault {
@@ -34,8 +34,12 @@ pub(crate) fn method_of(threads: &Threads, frame: bool, datum: Datum) -> Option<
     }
 }
 
-/// Judges a thread, and takes it up. Stops exactly where it has a fault. Constant time.
-pub(crate) fn take_thread(reached: &mut Reached<'_>, here: Spot, thread: Thread) -> Result<(), Stop>
+/// Judges a thread, and records it. Stops exactly where it has a fault. Constant time.
+pub(crate) fn take_thread(
+    reached: &mut Reached<'_>,
+    here: EntryPlace,
+    thread: Thread,
+) -> Result<(), Stop>
     requires { thread.number < 4 }
     ensures taken { OnOk result ((w : Whole) → specs.IsPartTaken w reached.old (here.index, here.place) (Ok (subrecord.Thread thread)) reached.new) }
     ensures stop { IfErr result (λ s. (w : Whole) → specs.IsPartStopped w reached.old (here.index, here.place) (Ok (subrecord.Thread thread)) s) }

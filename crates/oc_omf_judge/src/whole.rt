@@ -32,8 +32,8 @@ fn is_kept_at(whole: &Whole<'_>, segment: u16) -> bool
     whole.keep.keeps(kind_at(&whole.front.defined, index - 1))
 }
 
-/// Whether a fixup in data of a segment is judged: one of a segment that is there and that is not kept
-/// is not. Constant time.
+/// Whether a fixup in data of a segment is judged: one of a segment that exists and is not kept is
+/// not. Constant time.
 pub(crate) fn is_judged(whole: &Whole<'_>, segment: Option<u16>) -> bool
     requires { specs.IsWhole whole.now }
     ensures { result ≡ specs.is_judged_in whole.now segment }

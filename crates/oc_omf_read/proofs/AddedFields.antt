@@ -49,9 +49,9 @@ use Rattle.oc_omf.specs.Symbols as symbols_
 use Rattle.oc_omf.specs.Tables as all
 use Rattle.oc_omf.specs.Tables.{indexed, is_there, name_at, tables_of}
 use Rattle.oc_omf.specs.Targets.{Meaning, external_at, meaning_of, target_of}
-use Rattle.oc_omf_read.specs.declared.fields.Field.{Field}
+use Rattle.oc_omf_read.specs.declared.fields.FixupField.{FixupField}
 use Rattle.oc_omf_read.specs.declared.fix.Fix.{Fix}
-use Rattle.oc_omf_read.specs.declared.fix.Framed.{Framed}
+use Rattle.oc_omf_read.specs.declared.fix.FixupFrame.{FixupFrame}
 use Rattle.oc_omf_read.specs.Aims.{fix_by, framed_of}
 use Rattle.oc_omf_read.specs.Built.{started}
 use Rattle.oc_omf_read.specs.Fields.{fields_of, given_with, is_among}
@@ -71,18 +71,18 @@ against_of : (m : Meaning) (segment : ℕ) (f : Fixup) (frame o : Option Method)
 against_of m segment f frame None fix e = absurd (none-some fix e)
 against_of m segment f frame (Some method) fix e = by_target (target_of m method) e
   where
-    made : (t : Target) (n : rules.Named) (o : Option Framed) → option_map (λ (framed : Framed). record { framed = framed; target = t; displacement = f.displacement }) o ≡ Some fix → t ≡ fix.target
+    made : (t : Target) (n : rules.Named) (o : Option FixupFrame) → option_map (λ (framed : FixupFrame). record { framed = framed; target = t; displacement = f.displacement }) o ≡ Some fix → t ≡ fix.target
     made t n None e = absurd (none-some fix e)
     made t n (Some framed) e = ap (λ (x : Fix). x.target) (same_Some (record { framed = framed; target = t; displacement = f.displacement }) fix e)
 
     by_against : (u : file_targets.Target) (o : Option Target) → against m method ≡ o
-        → option_and_then (λ (aim : Target × rules.Named). option_map (λ (framed : Framed). record { framed = framed; target = aim.0; displacement = f.displacement }) (framed_of m segment f frame aim.1)) (option_map (λ (t : Target). (t, u.named)) o) ≡ Some fix
+        → option_and_then (λ (aim : Target × rules.Named). option_map (λ (framed : FixupFrame). record { framed = framed; target = aim.0; displacement = f.displacement }) (framed_of m segment f frame aim.1)) (option_map (λ (t : Target). (t, u.named)) o) ≡ Some fix
         → (other : Method) × (Some method ≡ Some other) × (against m other ≡ Some fix.target)
     by_against u None h e = absurd (none-some fix e)
     by_against u (Some t) h e = (method, refl, h ∙ ap Some (made t u.named (framed_of m segment f frame u.named) e))
 
     by_target : (o : Option file_targets.Target)
-        → option_and_then (λ (aim : Target × rules.Named). option_map (λ (framed : Framed). record { framed = framed; target = aim.0; displacement = f.displacement }) (framed_of m segment f frame aim.1))
+        → option_and_then (λ (aim : Target × rules.Named). option_map (λ (framed : FixupFrame). record { framed = framed; target = aim.0; displacement = f.displacement }) (framed_of m segment f frame aim.1))
         (option_and_then (λ (u : file_targets.Target). option_map (λ (t : Target). (t, u.named)) (against m method)) o) ≡ Some fix
         → (other : Method) × (Some method ≡ Some other) × (against m other ≡ Some fix.target)
     by_target None e = absurd (none-some fix e)
@@ -266,8 +266,8 @@ module _ (file : List ℕ) (bytes : AreBytes file) (keep : Keep) (sections : sta
 
     -- ... a field
 
-    module _ (fields : List Field) (are : IsPermutation (fields_of m keep (fixups_in es)) fields) (j : ℕ) (e : Field) (below : j < length fields) where
-      abbrev pub here : Field
+    module _ (fields : List FixupField) (are : IsPermutation (fields_of m keep (fixups_in es)) fields) (j : ℕ) (e : FixupField) (below : j < length fields) where
+      abbrev pub here : FixupField
       here = get_or fields j e
 
       listed : IsListed file keep sections relocs 0 here
@@ -277,7 +277,7 @@ module _ (file : List ℕ) (bytes : AreBytes file) (keep : Keep) (sections : sta
       field_inside = let l = listed in inside_at here.section here.at l.p l.is.f l.is.is_at
 
       one_place : (s at : ℕ) → is_among (take (j + 1) fields) s at ≡ (is_among (take j fields) s at || nat_eq s here.section && nat_eq here.at at)
-      one_place s at = list_any_more (λ (f : Field). nat_eq f.section s && nat_eq f.at at) fields j e below ∙ ap (λ b. is_among (take j fields) s at || b && nat_eq here.at at) (eq_flips here.section s)
+      one_place s at = list_any_more (λ (f : FixupField). nat_eq f.section s && nat_eq f.at at) fields j e below ∙ ap (λ b. is_among (take j fields) s at || b && nat_eq here.at at) (eq_flips here.section s)
 
       pub field_taken : (d : Draft) → HasAdded base d (given_with es keep (take j fields)) → IsTaken base d here.section here.at (reloc_as m here.section here.at here.fix) (given_with es keep (take (j + 1) fields))
       field_taken d has =
@@ -285,9 +285,9 @@ module _ (file : List ℕ) (bytes : AreBytes file) (keep : Keep) (sections : sta
           (not_among file keep sections relocs fields are j e below) one_place
 
     -- with all fields all is given
-    pub all_done : (fields : List Field) → IsPermutation (fields_of m keep (fixups_in es)) fields → (n : ℕ) → n ≡ length fields → (s at : ℕ) → given_with es keep (take n fields) s at ≡ given_at es keep s at
+    pub all_done : (fields : List FixupField) → IsPermutation (fields_of m keep (fixups_in es)) fields → (n : ℕ) → n ≡ length fields → (s at : ℕ) → given_with es keep (take n fields) s at ≡ given_at es keep s at
     all_done fields are n all s at =
-        ap (λ (xs : List Field). given_with es keep xs s at) (ap (λ (k : ℕ). take k fields) all ∙ take-length fields) ∙ by (is_among fields s at) refl
+        ap (λ (xs : List FixupField). given_with es keep xs s at) (ap (λ (k : ℕ). take k fields) all ∙ take-length fields) ∙ by (is_among fields s at) refl
       where
         by : (b : Bool) → is_among fields s at ≡ b → cond b (given_at es keep s at) None ≡ given_at es keep s at
         by true h = refl

@@ -33,8 +33,8 @@ use Rattle.oc_omf_read.specs.declared.mentioned.Mentioned.{Mentioned}
 use Rattle.oc_omf_read.specs.declared.mentioned.Mentions.{Mentions}
 use Rattle.oc_omf_read.specs.Aims.{external_aim, is_kept, symbol_named}
 use Rattle.oc_omf_read.specs.Bindings.{binding_seen, place_binding}
-use Rattle.oc_omf_read.specs.Heard.{Told, of_external, of_public, told_by, told_in}
-use Rattle.oc_omf_read.specs.Mentioned.{HasHeard, Seen, external_number, mention_of, seen_in, seen_of, symbols_told}
+use Rattle.oc_omf_read.specs.Declarations.{Declaration, of_external, of_public, declarations_by, declarations_in}
+use Rattle.oc_omf_read.specs.Mentioned.{HasDeclarations, ModuleSymbol, external_number, mention_of, seen_in, seen_of, symbols_told}
 use Rattle.oc_omf_judge.specs.Defined.{IsDefined}
 use Rattle.oc_omf_read.specs.Sections.{kind_in}
 use Rattle.oc_omf_read.proofs.BindingLemmas.{binding_is, mentions_are}
@@ -47,11 +47,11 @@ use Rattle.oc_omf_read.proofs.StartLemmas.{symbol_number}
 
 -- ... numbers of externals
 
-no_number : (ms : List Mention) (ps : List Public) (rest : List Told) → filter_map (external_number ms) (map of_public ps ++ rest) ≡ filter_map (external_number ms) rest
+no_number : (ms : List Mention) (ps : List Public) (rest : List Declaration) → filter_map (external_number ms) (map of_public ps ++ rest) ≡ filter_map (external_number ms) rest
 no_number ms [] rest = refl
 no_number ms (p ∷ ps) rest = no_number ms ps rest
 
-their_numbers : (ms : List Mention) (ys : List External) (rest : List Told)
+their_numbers : (ms : List Mention) (ys : List External) (rest : List Declaration)
     → filter_map (external_number ms) (map of_external ys ++ rest) ≡ map (λ y. number_of ms (external_mention y)) ys ++ filter_map (external_number ms) rest
 their_numbers ms [] rest = refl
 their_numbers ms (y ∷ ys) rest = by y.communal (their_numbers ms ys rest)
@@ -62,14 +62,14 @@ their_numbers ms (y ∷ ys) rest = by y.communal (their_numbers ms ys rest)
     by None e = ap (λ (ns : List ℕ). number_of ms (external_mention y) ∷ ns) e
     by (Some c) e = ap (λ (ns : List ℕ). number_of ms (external_mention y) ∷ ns) e
 
-numbers_in : (ms : List Mention) (es : List Entry) → filter_map (external_number ms) (flat_map told_by es) ≡ map (λ y. number_of ms (external_mention y)) (flat_map (λ (e : Entry). all_read e.externals) es)
+numbers_in : (ms : List Mention) (es : List Entry) → filter_map (external_number ms) (flat_map declarations_by es) ≡ map (λ y. number_of ms (external_mention y)) (flat_map (λ (e : Entry). all_read e.externals) es)
 numbers_in ms [] = refl
 numbers_in ms (e ∷ es) =
     let ps : List Public = all_read e.publics in
     let ys : List External = all_read e.externals in
-    ap (filter_map (external_number ms)) (append_assoc (map of_public ps) (map of_external ys) (flat_map told_by es))
-    ∙ no_number ms ps (map of_external ys ++ flat_map told_by es)
-    ∙ their_numbers ms ys (flat_map told_by es)
+    ap (filter_map (external_number ms)) (append_assoc (map of_public ps) (map of_external ys) (flat_map declarations_by es))
+    ∙ no_number ms ps (map of_external ys ++ flat_map declarations_by es)
+    ∙ their_numbers ms ys (flat_map declarations_by es)
     ∙ ap (λ (ns : List ℕ). map (λ y. number_of ms (external_mention y)) ys ++ ns) (numbers_in ms es)
     ∙ sym (map-append (λ y. number_of ms (external_mention y)) ys (flat_map (λ (e : Entry). all_read e.externals) es))
 
@@ -88,7 +88,7 @@ numbered_from n (t ∷ ts) each (suc k) s here =
     ∙ numbered_from (n + 1) ts (λ i u there. let more = each (suc i) u there in omega (arith, more)) k s here
 
 -- what a binding names
-named_seen : (number : ℕ) (s : Seen) → named_by number (binding_seen s) ≡ Some (symbol_named s number)
+named_seen : (number : ℕ) (s : ModuleSymbol) → named_by number (binding_seen s) ≡ Some (symbol_named s number)
 named_seen number s = by s.place s.length
   where
     placed : (local : Bool) (place : ℕ × ℕ) → named_by number (place_binding local place) ≡ Some (cond local (rules.Sectional (place.0 - 1)) (rules.Symbolic number))
@@ -102,7 +102,7 @@ named_seen number s = by s.place s.length
 
 module _ (es : List Entry) where
   abbrev ms : List Mention
-  ms = symbols_told (told_in es)
+  ms = symbols_told (declarations_in es)
 
   abbrev ss : List parts.Symbol
   ss = symbols_in es
@@ -123,19 +123,19 @@ module _ (es : List Entry) where
 
   -- an external is mentioned
   mentioned : (j : ℕ) (y : External) → slice_get (tables_of es).externals j ≡ Some y → list_any (same_symbol (external_mention y)) ms ≡ true
-  unfolding tables_of told_in
+  unfolding tables_of declarations_in
   mentioned j y here =
-      any_told (external_mention y) (told_in es)
-      ∙ each_flat_map (λ (y : External). list_any (same_symbol (external_mention y)) (map mention_of (told_in es)) ≡ true) (λ (e : Entry). all_read e.externals) es
+      any_told (external_mention y) (declarations_in es)
+      ∙ each_flat_map (λ (y : External). list_any (same_symbol (external_mention y)) (map mention_of (declarations_in es)) ≡ true) (λ (e : Entry). all_read e.externals) es
       (λ i e at_i k z at_k.
       let at = member_second (map of_public (all_read e.publics)) (map of_external (all_read e.externals)) k (of_external z) (member_map of_external (all_read e.externals) k z at_k) in
-      let all_at = member_flat_map told_by es i (length (map of_public (all_read e.publics)) + k) e (of_external z) at_i at in
-      member_passes (same_symbol (external_mention z)) (map mention_of (told_in es)) all_at.0 (external_mention z) (member_map mention_of (told_in es) all_at.0 (of_external z) all_at.1) (same_self (external_mention z)))
+      let all_at = member_flat_map declarations_by es i (length (map of_public (all_read e.publics)) + k) e (of_external z) at_i at in
+      member_passes (same_symbol (external_mention z)) (map mention_of (declarations_in es)) all_at.0 (external_mention z) (member_map mention_of (declarations_in es) all_at.0 (of_external z) all_at.1) (same_self (external_mention z)))
       j y here
 
-  module _ (m : Mentions) (has : HasHeard (told_in es) m) where
+  module _ (m : Mentions) (has : HasDeclarations (declarations_in es) m) where
     numbers_are : m.externals.items ≡ map (λ y. number_of ms (external_mention y)) (tables_of es).externals
-    unfolding tables_of told_in
+    unfolding tables_of declarations_in
     numbers_are = has.externals ∙ numbers_in ms es
 
     pub as_many_externals : length m.externals.items ≡ length (tables_of es).externals
@@ -162,7 +162,7 @@ module _ (es : List Entry) where
     number_there j k here =
         let x = external_is j k here in
         let low = slice_get_within ms k (external_mention x.external) x.stands in
-        let many : length m.symbols.items ≡ length ms = sym (length-map m.symbols.items seen_of) ∙ ap length has.symbols ∙ length-map ms (seen_in (told_in es)) in
+        let many : length m.symbols.items ≡ length ms = sym (length-map m.symbols.items seen_of) ∙ ap length has.symbols ∙ length-map ms (seen_in (declarations_in es)) in
         omega (arith, low, many)
 
     pub external_named : (j k : ℕ) (s : Mentioned) → slice_get m.externals.items j ≡ Some k → slice_get m.symbols.items k ≡ Some s → external_aim (meaning_of es) (j + 1) ≡ Some (target.Symbol k, symbol_named (seen_of s) k)
@@ -174,13 +174,13 @@ module _ (es : List Entry) where
         ap (option_and_then (λ z. numbered ss (number_of (mentions_in es) (external_mention z)))) (indexed_is (tables_of es).externals j ∙ x.there)
         ∙ ap (λ (xs : List Mention). numbered ss (number_of xs y)) (mentions_are es) ∙ ap (numbered ss) x.number ∙ symbol_found k y x.stands in
         let place : position_of ss k ≡ k = sym (symbol_number es (position_of ss k) (made k y) (number_stands ss k (made k y) (symbol_found k y x.stands)).1) in
-        let seen : seen_in (told_in es) y ≡ seen_of s =
-        same_Some (seen_in (told_in es) y) (seen_of s)
-        (sym (member_map (seen_in (told_in es)) ms k y x.stands) ∙ ap (λ (xs : List Seen). slice_get xs k) (sym has.symbols) ∙ member_map seen_of m.symbols.items k s stands) in
+        let seen : seen_in (declarations_in es) y ≡ seen_of s =
+        same_Some (seen_in (declarations_in es) y) (seen_of s)
+        (sym (member_map (seen_in (declarations_in es)) ms k y x.stands) ∙ ap (λ (xs : List ModuleSymbol). slice_get xs k) (sym has.symbols) ∙ member_map seen_of m.symbols.items k s stands) in
         ap (option_and_then (λ (y : parts.Symbol). option_map (λ (u : file.Target). (target.Symbol (position_of ss y.number), u.named)) (symbol_target y))) found
         ∙ ap (λ (o : Option rules.Named). option_map (λ (u : file.Target). (target.Symbol (position_of ss k), u.named)) (option_map (λ named. record { named = named; worth = λ p v. v k }) o))
-        (ap (named_by k) (binding_is es y) ∙ named_seen k (seen_in (told_in es) y))
-        ∙ ap (λ (z : Seen). Some (target.Symbol (position_of ss k), symbol_named z k)) seen
+        (ap (named_by k) (binding_is es y) ∙ named_seen k (seen_in (declarations_in es) y))
+        ∙ ap (λ (z : ModuleSymbol). Some (target.Symbol (position_of ss k), symbol_named z k)) seen
         ∙ ap (λ (n : ℕ). Some (target.Symbol n, symbol_named (seen_of s) k)) place
 
     pub external_none : (index : ℕ) → indexed (tables_of es).externals index ≡ None → external_aim (meaning_of es) index ≡ None

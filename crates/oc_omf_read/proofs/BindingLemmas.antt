@@ -13,9 +13,9 @@ use Rattle.oc_omf.specs.Structures.{External, Public}
 use Rattle.oc_omf.specs.Entries.{Entry, all_read}
 use Rattle.oc_omf.specs.Symbols.{Mention, binding_of, communal_of, entry_mentions, external_mention, mentions_in, public_binding, public_mention, public_of, same_symbol, with_new}
 use Rattle.oc_omf.specs.Tables.{tables_of}
-use Rattle.oc_omf_read.specs.declared.heard.What.TheVariants as what
+use Rattle.oc_omf_read.specs.declared.declarations.DeclarationKind.TheVariants as what
 use Rattle.oc_omf_read.specs.Bindings.{binding_seen, place_binding}
-use Rattle.oc_omf_read.specs.Heard.{Told, of_communal, of_external, of_public, told_by, told_in}
+use Rattle.oc_omf_read.specs.Declarations.{Declaration, of_communal, of_external, of_public, declarations_by, declarations_in}
 use Rattle.oc_omf_read.specs.Mentioned.{length_by, length_in, length_said, mention_of, place_by, place_in, place_said, seen_in, symbols_told}
 use Rattle.oc_omf_judge.proofs.MentionLemmas.{same_is}
 
@@ -29,19 +29,19 @@ map_externals : (ys : List External) → map mention_of (map of_external ys) ≡
 map_externals [] = refl
 map_externals (y ∷ ys) = ap (λ (ms : List Mention). external_mention y ∷ ms) (map_externals ys)
 
-entry_told : (e : Entry) → map mention_of (told_by e) ≡ entry_mentions e
+entry_told : (e : Entry) → map mention_of (declarations_by e) ≡ entry_mentions e
 entry_told e =
     map-append mention_of (map of_public (all_read e.publics)) (map of_external (all_read e.externals))
     ∙ ap (λ (ms : List Mention). ms ++ map mention_of (map of_external (all_read e.externals))) (map_publics (all_read e.publics))
     ∙ ap (λ (ms : List Mention). map public_mention (all_read e.publics) ++ ms) (map_externals (all_read e.externals))
 
-all_mentions : (es : List Entry) → map mention_of (flat_map told_by es) ≡ flat_map entry_mentions es
+all_mentions : (es : List Entry) → map mention_of (flat_map declarations_by es) ≡ flat_map entry_mentions es
 all_mentions [] = refl
 all_mentions (e ∷ es) =
-    map-append mention_of (told_by e) (flat_map told_by es) ∙ ap (λ (ms : List Mention). ms ++ map mention_of (flat_map told_by es)) (entry_told e) ∙ ap (λ (ms : List Mention). entry_mentions e ++ ms) (all_mentions es)
+    map-append mention_of (declarations_by e) (flat_map declarations_by es) ∙ ap (λ (ms : List Mention). ms ++ map mention_of (flat_map declarations_by es)) (entry_told e) ∙ ap (λ (ms : List Mention). entry_mentions e ++ ms) (all_mentions es)
 
-pub mentions_are : (es : List Entry) → mentions_in es ≡ symbols_told (told_in es)
-unfolding mentions_in told_in
+pub mentions_are : (es : List Entry) → mentions_in es ≡ symbols_told (declarations_in es)
+unfolding mentions_in declarations_in
 mentions_are es = ap (λ (ms : List Mention). fold with_new [] ms) (sym (all_mentions es))
 
 -- ... definitions
@@ -50,11 +50,11 @@ or_else_over : {X : Type 0} (a b c : Option X) → or_else (or_else a b) c ≡ o
 or_else_over None b c = refl
 or_else_over (Some x) b c = refl
 
-place_append : (x : Mention) (ts us : List Told) → place_in x (ts ++ us) ≡ or_else (place_in x ts) (place_in x us)
+place_append : (x : Mention) (ts us : List Declaration) → place_in x (ts ++ us) ≡ or_else (place_in x ts) (place_in x us)
 place_append x [] us = refl
 place_append x (t ∷ ts) us = ap (or_else (place_by x t)) (place_append x ts us) ∙ sym (or_else_over (place_by x t) (place_in x ts) (place_in x us))
 
-length_append : (x : Mention) (ts us : List Told) → length_in x (ts ++ us) ≡ or_else (length_in x ts) (length_in x us)
+length_append : (x : Mention) (ts us : List Declaration) → length_in x (ts ++ us) ≡ or_else (length_in x ts) (length_in x us)
 length_append x [] us = refl
 length_append x (t ∷ ts) us = ap (or_else (length_by x t)) (length_append x ts us) ∙ sym (or_else_over (length_by x t) (length_in x ts) (length_in x us))
 
@@ -94,7 +94,7 @@ place_externals x (y ∷ ys) = by (same_symbol x (external_mention y)) y.communa
     by true None = refl
     by true (Some c) = refl
 
-place_told : (x : Mention) (e : Entry) → place_in x (told_by e) ≡ option_map place_of (find (is_public x) (all_read e.publics))
+place_told : (x : Mention) (e : Entry) → place_in x (declarations_by e) ≡ option_map place_of (find (is_public x) (all_read e.publics))
 place_told x e =
     place_append x (map of_public (all_read e.publics)) (map of_external (all_read e.externals))
     ∙ ap (or_else (place_in x (map of_public (all_read e.publics)))) (place_externals x (all_read e.externals)) ∙ last (place_in x (map of_public (all_read e.publics))) ∙ place_publics x (all_read e.publics)
@@ -103,16 +103,16 @@ place_told x e =
     last None = refl
     last (Some x) = refl
 
-place_all : (x : Mention) (es : List Entry) → place_in x (flat_map told_by es) ≡ option_map place_of (find (is_public x) (flat_map (λ (e : Entry). all_read e.publics) es))
+place_all : (x : Mention) (es : List Entry) → place_in x (flat_map declarations_by es) ≡ option_map place_of (find (is_public x) (flat_map (λ (e : Entry). all_read e.publics) es))
 place_all x [] = refl
 place_all x (e ∷ es) =
-    place_append x (told_by e) (flat_map told_by es) ∙ ap (λ (o : Option (ℕ × ℕ)). or_else o (place_in x (flat_map told_by es))) (place_told x e)
+    place_append x (declarations_by e) (flat_map declarations_by es) ∙ ap (λ (o : Option (ℕ × ℕ)). or_else o (place_in x (flat_map declarations_by es))) (place_told x e)
     ∙ ap (or_else (option_map place_of (find (is_public x) (all_read e.publics)))) (place_all x es)
     ∙ sym (map_or_else place_of (find (is_public x) (all_read e.publics)) (find (is_public x) (flat_map (λ (e : Entry). all_read e.publics) es)))
     ∙ sym (ap (option_map place_of) (find_append (is_public x) (all_read e.publics) (flat_map (λ (e : Entry). all_read e.publics) es)))
 
-pub places_are : (x : Mention) (es : List Entry) → place_in x (told_in es) ≡ option_map place_of (public_of (tables_of es) x)
-unfolding told_in tables_of
+pub places_are : (x : Mention) (es : List Entry) → place_in x (declarations_in es) ≡ option_map place_of (public_of (tables_of es) x)
+unfolding declarations_in tables_of
 places_are x es = place_all x es
 
 -- ... communals
@@ -160,21 +160,21 @@ found_some x (z ∷ zs) y e = by (same_symbol x (external_mention z)) z.communal
     by false None is e rest = rest e
     by false (Some c) is e rest = rest e
 
-length_told : (x : Mention) (e : Entry) → length_in x (told_by e) ≡ option_and_then size_of (find (is_communal x) (all_read e.externals))
+length_told : (x : Mention) (e : Entry) → length_in x (declarations_by e) ≡ option_and_then size_of (find (is_communal x) (all_read e.externals))
 length_told x e =
     length_append x (map of_public (all_read e.publics)) (map of_external (all_read e.externals))
     ∙ ap (λ (o : Option ℕ). or_else o (length_in x (map of_external (all_read e.externals)))) (length_publics x (all_read e.publics)) ∙ length_externals x (all_read e.externals)
 
-length_all : (x : Mention) (es : List Entry) → length_in x (flat_map told_by es) ≡ option_and_then size_of (find (is_communal x) (flat_map (λ (e : Entry). all_read e.externals) es))
+length_all : (x : Mention) (es : List Entry) → length_in x (flat_map declarations_by es) ≡ option_and_then size_of (find (is_communal x) (flat_map (λ (e : Entry). all_read e.externals) es))
 length_all x [] = refl
 length_all x (e ∷ es) =
-    length_append x (told_by e) (flat_map told_by es) ∙ ap (λ (o : Option ℕ). or_else o (length_in x (flat_map told_by es))) (length_told x e)
+    length_append x (declarations_by e) (flat_map declarations_by es) ∙ ap (λ (o : Option ℕ). or_else o (length_in x (flat_map declarations_by es))) (length_told x e)
     ∙ ap (or_else (option_and_then size_of (find (is_communal x) (all_read e.externals)))) (length_all x es)
     ∙ sym (and_then_or_else size_of (find (is_communal x) (all_read e.externals)) (find (is_communal x) (flat_map (λ (e : Entry). all_read e.externals) es)) (found_some x (all_read e.externals)))
     ∙ sym (ap (option_and_then size_of) (find_append (is_communal x) (all_read e.externals) (flat_map (λ (e : Entry). all_read e.externals) es)))
 
-pub lengths_are : (x : Mention) (es : List Entry) → length_in x (told_in es) ≡ communal_of (tables_of es) x
-unfolding told_in tables_of
+pub lengths_are : (x : Mention) (es : List Entry) → length_in x (declarations_in es) ≡ communal_of (tables_of es) x
+unfolding declarations_in tables_of
 lengths_are x es = length_all x es
 
 -- ... bindings
@@ -187,12 +187,12 @@ found_public x (q ∷ qs) p e = by (is_public x q) refl e (found_public x qs p)
     by true f e rest = ap (λ (w : Public). w.local) (sym (same_Some q p e)) ∙ sym (ap (λ (m : Mention). m.local) (same_is x (public_mention q) f))
     by false f e rest = rest e
 
-pub binding_is : (es : List Entry) (x : Mention) → binding_of (tables_of es) x ≡ binding_seen (seen_in (told_in es) x)
+pub binding_is : (es : List Entry) (x : Mention) → binding_of (tables_of es) x ≡ binding_seen (seen_in (declarations_in es) x)
 unfolding binding_of
 binding_is es x =
     by (public_of (tables_of es) x) refl
     ∙ ap (λ (o : Option (ℕ × ℕ)). option_map_or (place_binding x.local) o (option_map_or (λ size. Common size (natural_align size)) (communal_of (tables_of es) x) Undefined)) (sym (places_are x es))
-    ∙ ap (λ (o : Option ℕ). option_map_or (place_binding x.local) (place_in x (told_in es)) (option_map_or (λ size. Common size (natural_align size)) o Undefined)) (sym (lengths_are x es))
+    ∙ ap (λ (o : Option ℕ). option_map_or (place_binding x.local) (place_in x (declarations_in es)) (option_map_or (λ size. Common size (natural_align size)) o Undefined)) (sym (lengths_are x es))
   where
     by : (o : Option Public) → public_of (tables_of es) x ≡ o
         → option_map_or public_binding o (option_map_or (λ size. Common size (natural_align size)) (communal_of (tables_of es) x) Undefined)

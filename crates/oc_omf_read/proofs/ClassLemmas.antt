@@ -5,22 +5,22 @@ use Rattle.std.proofs.lemmas.Bool.{eqb-true}
 use Rattle.std.specs.Option.{unwrap_or}
 use Rattle.oc_omf.specs.declared.constants.TheConstants.{EXTDEF, PUBDEF, LNAMES, SEGDEF, GRPDEF, FIXUPP, LEDATA, LIDATA, COMDEF, LEXTDEF, LPUBDEF, MODEND, ENTRY_HEAD}
 use Rattle.oc_omf.specs.declared.cut.Cut.{Cut}
-use Rattle.oc_omf.specs.declared.structures.Base.{Base}
+use Rattle.oc_omf.specs.declared.structures.PublicBase.{PublicBase}
 use Rattle.oc_omf.specs.Cursor.{Reading, Read, each_read, name_read}
 use Rattle.oc_omf.specs.Structures.{Public, segment_read, group_read, base_read, public_read, external_read, communal_read, piece_read, subrecord_read}
 use Rattle.oc_omf.specs.Entries.{Entry, all_read, even_of, is_kind, is_wide, says_nothing, in_file, whole, publics_of, said_by}
-use Rattle.oc_omf_read.specs.declared.class.Class.{Class}
-use Rattle.oc_omf_read.specs.declared.class.Class.TheVariants as class
+use Rattle.oc_omf_read.specs.declared.class.EntryClass.{EntryClass}
+use Rattle.oc_omf_read.specs.declared.class.EntryClass.TheVariants as class
 use Rattle.oc_omf_read.specs.Classes.{class_of}
 use Rattle.oc_omf_read.specs.Defined.{read_in}
 
 -- the symbols of an entry, behind its base
-abbrev pub publics_by : Bool → Bool → ℕ → List ℕ → Reading Base → List (Read Public)
+abbrev pub publics_by : Bool → Bool → ℕ → List ℕ → Reading PublicBase → List (Read Public)
 publics_by wide local place b (Ok r) = in_file place (each_read (public_read wide local r.0.segment) b r.1)
 publics_by wide local place b (Err c) = []
 
 -- what an entry says by its contents, by what it speaks of
-abbrev pub said_as : ℕ → Bool → Bool → List ℕ → Class → Entry
+abbrev pub said_as : ℕ → Bool → Bool → List ℕ → EntryClass → Entry
 said_as place wide ends b class.Names = record (says_nothing place) { names = in_file place (each_read name_read b 0) }
 said_as place wide ends b class.Segment = record (says_nothing place) { segments = whole place (segment_read wide b 0) }
 said_as place wide ends b class.Group = record (says_nothing place) { groups = whole place (group_read b 0) }
@@ -34,7 +34,7 @@ said_as place wide ends b class.Iterated = record (says_nothing place) { pieces 
 said_as place wide ends b class.Fixups = record (says_nothing place) { subrecords = in_file place (each_read (subrecord_read wide) b 0) }
 said_as place wide ends b class.Nothing = record (says_nothing place) { ends = ends }
 
-publics_same : (kind place : ℕ) (b : List ℕ) (local : Bool) (r : Reading Base) → is_kind LPUBDEF kind ≡ local → publics_of kind place b r ≡ publics_by (is_wide kind) local place b r
+publics_same : (kind place : ℕ) (b : List ℕ) (local : Bool) (r : Reading PublicBase) → is_kind LPUBDEF kind ≡ local → publics_of kind place b r ≡ publics_by (is_wide kind) local place b r
 publics_same kind place b local (Ok r) is = ap (λ (l : Bool). in_file place (each_read (public_read (is_wide kind) l r.0.segment) b r.1)) is
 publics_same kind place b local (Err c) is = refl
 
@@ -61,7 +61,7 @@ module _ (place kind : ℕ) (b : List ℕ) where
       (cond f (record (says_nothing place) { subrecords = in_file place (each_read (subrecord_read (is_wide kind)) b 0) })
       (record (says_nothing place) { ends = is_kind MODEND kind }))))))))
 
-  abbrev classed : Bool → Bool → Bool → Bool → Bool → Bool → Bool → Bool → Bool → Bool → Bool → Class
+  abbrev classed : Bool → Bool → Bool → Bool → Bool → Bool → Bool → Bool → Bool → Bool → Bool → EntryClass
   classed n s g p l x y c d i f =
       cond n class.Names (cond s class.Segment (cond g class.Group (unwrap_or
       (cond p (Some class.Publics) (cond l (Some class.LocalPublics) (cond x (Some class.Externals) (cond y (Some class.LocalExternals) (cond c (Some class.Communals) None)))))
@@ -120,7 +120,7 @@ read_whole place (Err c) = refl
 -- ... classes that define nothing of some sort
 
 -- no data
-abbrev pub has_no_data : Class → Bool
+abbrev pub has_no_data : EntryClass → Bool
 has_no_data class.Names = true
 has_no_data class.Segment = true
 has_no_data class.Group = true
@@ -135,5 +135,5 @@ has_no_data class.Fixups = true
 has_no_data class.Nothing = true
 
 -- as matches leave it
-pub no_data : (k : Class) → (k ≡ class.Names) ⊎ ((k ≡ class.Segment) ⊎ ((k ≡ class.Group) ⊎ ((k ≡ class.Publics) ⊎ ((k ≡ class.LocalPublics) ⊎ ((k ≡ class.Externals) ⊎ ((k ≡ class.LocalExternals) ⊎ ((k ≡ class.Communals) ⊎ ((k ≡ class.Fixups) ⊎ (k ≡ class.Nothing))))))))) → has_no_data k ≡ true
+pub no_data : (k : EntryClass) → (k ≡ class.Names) ⊎ ((k ≡ class.Segment) ⊎ ((k ≡ class.Group) ⊎ ((k ≡ class.Publics) ⊎ ((k ≡ class.LocalPublics) ⊎ ((k ≡ class.Externals) ⊎ ((k ≡ class.LocalExternals) ⊎ ((k ≡ class.Communals) ⊎ ((k ≡ class.Fixups) ⊎ (k ≡ class.Nothing))))))))) → has_no_data k ≡ true
 no_data k h = elim h [ inl e ↦ ap has_no_data e | inr h ↦ elim h [ inl e ↦ ap has_no_data e | inr h ↦ elim h [ inl e ↦ ap has_no_data e | inr h ↦ elim h [ inl e ↦ ap has_no_data e | inr h ↦ elim h [ inl e ↦ ap has_no_data e | inr h ↦ elim h [ inl e ↦ ap has_no_data e | inr h ↦ elim h [ inl e ↦ ap has_no_data e | inr h ↦ elim h [ inl e ↦ ap has_no_data e | inr h ↦ elim h [ inl e ↦ ap has_no_data e | inr e ↦ ap has_no_data e ] ] ] ] ] ] ] ] ]

@@ -29,7 +29,7 @@ use Rattle.oc_omf.specs.Entries.{Entry, all_read}
 use Rattle.oc_omf.specs.Symbols.{agree}
 use Rattle.oc_omf.specs.Tables.{Tables, is_there, tables_of}
 use Rattle.oc_omf.specs.Fields.{aim_of, fixups_in}
-use Rattle.oc_omf.specs.Fixups.{Fixed, Placed, fixed_from, fixed_in, fixed_of, is_inside, meet, method_of, placed_by, placed_upto, thread_after, thread_by, with_fixed}
+use Rattle.oc_omf.specs.Fixups.{Fixed, PlacedSubrecord, fixed_from, fixed_in, fixed_of, is_inside, meet, method_of, subrecords_by, subrecords_upto, thread_after, thread_by, with_fixed}
 use Rattle.oc_omf.specs.RelocationFaults.{fixup_conditions, has_row, is_datum_there, is_judged, relocation_conditions, relocation_fault, relocation_stage, relocation_stages}
 use Rattle.oc_omf.specs.Targets.{Meaning, meaning_of}
 use Rattle.oc_omf.proofs.EntryLemmas.{numbered_at}
@@ -39,11 +39,11 @@ use Rattle.oc_omf_read.proofs.LocalLemmas.{stage_clean}
 -- ... lists of threads and fixups
 
 -- fixups in two lists, one behind the other
-pub fixed_behind : (earlier xs ys : List Placed) → fixed_from earlier (xs ++ ys) ≡ fixed_from earlier xs ++ fixed_from (earlier ++ xs) ys
-fixed_behind earlier [] ys = ap (λ (zs : List Placed). fixed_from zs ys) (sym (append-nil earlier))
+pub fixed_behind : (earlier xs ys : List PlacedSubrecord) → fixed_from earlier (xs ++ ys) ≡ fixed_from earlier xs ++ fixed_from (earlier ++ xs) ys
+fixed_behind earlier [] ys = ap (λ (zs : List PlacedSubrecord). fixed_from zs ys) (sym (append-nil earlier))
 fixed_behind earlier (x ∷ xs) ys =
     by x.part (fixed_from (earlier ++ x ∷ []) (xs ++ ys)) (fixed_from (earlier ++ x ∷ []) xs) (fixed_from (earlier ++ x ∷ xs) ys)
-    (fixed_behind (earlier ++ x ∷ []) xs ys ∙ ap (λ (zs : List Placed). fixed_from (earlier ++ x ∷ []) xs ++ fixed_from zs ys) (append_assoc earlier (x ∷ []) xs))
+    (fixed_behind (earlier ++ x ∷ []) xs ys ∙ ap (λ (zs : List PlacedSubrecord). fixed_from (earlier ++ x ∷ []) xs ++ fixed_from zs ys) (append_assoc earlier (x ∷ []) xs))
   where
     by : (r : Result Subrecord Cut) (all front back : List Fixed) → all ≡ front ++ back
         → with_fixed earlier (record { index = x.index; at = x.at; part = r; before = x.before }) all ≡ with_fixed earlier (record { index = x.index; at = x.at; part = r; before = x.before }) front ++ back
@@ -52,15 +52,15 @@ fixed_behind earlier (x ∷ xs) ys =
     by (Err c) all front back e = e
 
 -- of one entry more
-pub placed_more : (es : List Entry) (i : ℕ) (e : Entry) → slice_get es i ≡ Some e → placed_upto es (i + 1) ≡ placed_upto es i ++ placed_by es (i, e)
-unfolding placed_upto
+pub placed_more : (es : List Entry) (i : ℕ) (e : Entry) → slice_get es i ≡ Some e → subrecords_upto es (i + 1) ≡ subrecords_upto es i ++ subrecords_by es (i, e)
+unfolding subrecords_upto
 placed_more es i e here =
     let xs = enumerate_from 0 es in
-    ap (flat_map (placed_by es)) (take_here xs i (i, e) (numbered_at es i e here)) ∙ flat_map-append (placed_by es) (take i xs) ((i, e) ∷ [])
-    ∙ ap (λ ys. placed_upto es i ++ ys) (append-nil (placed_by es (i, e)))
+    ap (flat_map (subrecords_by es)) (take_here xs i (i, e) (numbered_at es i e here)) ∙ flat_map-append (subrecords_by es) (take i xs) ((i, e) ∷ [])
+    ∙ ap (λ ys. subrecords_upto es i ++ ys) (append-nil (subrecords_by es (i, e)))
 
-pub none_placed : (es : List Entry) → placed_upto es 0 ≡ []
-unfolding placed_upto
+pub none_placed : (es : List Entry) → subrecords_upto es 0 ≡ []
+unfolding subrecords_upto
 none_placed es = refl
 
 entry_there : (es : List Entry) (i : ℕ) → i < length es → (e : Entry) × (slice_get es i ≡ Some e)
@@ -70,21 +70,21 @@ entry_there (e ∷ es) (suc i) low = entry_there es i (omega (arith, low))
 
 module _ (m : Meaning) (keep : Keep) where
   -- subrecords behind others, each without a fault
-  abbrev pub AreClean : List Placed → List Placed → Type 0
+  abbrev pub AreClean : List PlacedSubrecord → List PlacedSubrecord → Type 0
   AreClean earlier [] = Unit {0}
   AreClean earlier (x ∷ xs) = (first_broken (relocation_conditions m keep earlier x) ≡ None) × AreClean (earlier ++ x ∷ []) xs
 
-  clean_by : (earlier xs : List Placed) → ((j : ℕ) (x : Placed) → slice_get xs j ≡ Some x → first_broken (relocation_conditions m keep (earlier ++ take j xs) x) ≡ None) → AreClean earlier xs
+  clean_by : (earlier xs : List PlacedSubrecord) → ((j : ℕ) (x : PlacedSubrecord) → slice_get xs j ≡ Some x → first_broken (relocation_conditions m keep (earlier ++ take j xs) x) ≡ None) → AreClean earlier xs
   clean_by earlier [] each = tt
   clean_by earlier (x ∷ xs) each = (
-    ap (λ (ys : List Placed). first_broken (relocation_conditions m keep ys x)) (sym (append-nil earlier)) ∙ each 0 x refl,
-    clean_by (earlier ++ x ∷ []) xs (λ j y here. ap (λ (ys : List Placed). first_broken (relocation_conditions m keep ys y)) (append_assoc earlier (x ∷ []) (take j xs)) ∙ each (suc j) y here),
+    ap (λ (ys : List PlacedSubrecord). first_broken (relocation_conditions m keep ys x)) (sym (append-nil earlier)) ∙ each 0 x refl,
+    clean_by (earlier ++ x ∷ []) xs (λ j y here. ap (λ (ys : List PlacedSubrecord). first_broken (relocation_conditions m keep ys y)) (append_assoc earlier (x ∷ []) (take j xs)) ∙ each (suc j) y here),
   )
 
-  clean_append : (earlier xs ys : List Placed) → AreClean earlier xs → AreClean (earlier ++ xs) ys → AreClean earlier (xs ++ ys)
-  clean_append earlier [] ys first second = subst (λ (zs : List Placed). AreClean zs ys) (append-nil earlier) second
+  clean_append : (earlier xs ys : List PlacedSubrecord) → AreClean earlier xs → AreClean (earlier ++ xs) ys → AreClean earlier (xs ++ ys)
+  clean_append earlier [] ys first second = subst (λ (zs : List PlacedSubrecord). AreClean zs ys) (append-nil earlier) second
   clean_append earlier (x ∷ xs) ys first second =
-      (first.0, clean_append (earlier ++ x ∷ []) xs ys first.1 (subst (λ (zs : List Placed). AreClean zs ys) (sym (append_assoc earlier (x ∷ []) xs)) second))
+      (first.0, clean_append (earlier ++ x ∷ []) xs ys first.1 (subst (λ (zs : List PlacedSubrecord). AreClean zs ys) (sym (append_assoc earlier (x ∷ []) xs)) second))
 
   -- what a method names is there
   abbrev pub AreThere : Option Method → Type 0
@@ -95,7 +95,7 @@ module _ (m : Meaning) (keep : Keep) where
   IsKnown d before found = is_datum_there before d found ≡ true → AreThere found
 
   -- what is there stays there
-  abbrev pub Grows : Placed → Type 0
+  abbrev pub Grows : PlacedSubrecord → Type 0
   Grows x = (method : Method) → is_there x.before method ≡ true → is_there m.tables method ≡ true
 
   -- a fixup behind others that is without a fault
@@ -106,7 +106,7 @@ module _ (m : Meaning) (keep : Keep) where
     pub row : has_row m f (aim_of m f) ≡ true
     pub apart : list_any (meet f) before ≡ false
 
-  good_by : (before : List Fixed) (x : Placed) (f : Fixed) → IsKnown f.fixup.target x.before f.target → first_broken (fixup_conditions m before x f) ≡ None → IsGood before f
+  good_by : (before : List Fixed) (x : PlacedSubrecord) (f : Fixed) → IsKnown f.fixup.target x.before f.target → first_broken (fixup_conditions m before x f) ≡ None → IsGood before f
   unfolding fixup_conditions
   good_by before x f known clean =
       let holds = all_hold (fixup_conditions m before x f) clean in
@@ -123,15 +123,15 @@ module _ (m : Meaning) (keep : Keep) where
   AreGood before [] = Unit {0}
   AreGood before (f ∷ fs) = (is_judged m.tables keep f ≡ true → IsGood before f) × AreGood (before ++ f ∷ []) fs
 
-  fixed_more : (earlier : List Placed) (x : Placed) → fixed_in (earlier ++ x ∷ []) ≡ fixed_in earlier ++ with_fixed earlier x []
+  fixed_more : (earlier : List PlacedSubrecord) (x : PlacedSubrecord) → fixed_in (earlier ++ x ∷ []) ≡ fixed_in earlier ++ with_fixed earlier x []
   unfolding fixed_in
   fixed_more earlier x = fixed_behind [] earlier (x ∷ [])
 
   -- the threads of targets in force name what is there
-  abbrev Threaded : List Placed → Type 0
+  abbrev Threaded : List PlacedSubrecord → Type 0
   Threaded earlier = (number : ℕ) → AreThere (thread_after earlier false number)
 
-  threaded_more : (earlier : List Placed) (x : Placed) → Threaded earlier → Grows x → first_broken (relocation_conditions m keep earlier x) ≡ None → Threaded (earlier ++ x ∷ [])
+  threaded_more : (earlier : List PlacedSubrecord) (x : PlacedSubrecord) → Threaded earlier → Grows x → first_broken (relocation_conditions m keep earlier x) ≡ None → Threaded (earlier ++ x ∷ [])
   unfolding relocation_conditions
   threaded_more earlier x threaded grows clean number method is = by x.part clean (sym (thread_more earlier x false number) ∙ is)
     where
@@ -147,20 +147,20 @@ module _ (m : Meaning) (keep : Keep) where
       by (Ok (subrecord.Fixup f)) clean e = threaded number method e
       by (Err c) clean e = threaded number method e
 
-  known_by : (earlier : List Placed) (x : Placed) (f : Fixup) → Threaded earlier → Grows x → IsKnown f.target x.before (method_of earlier false f.target)
+  known_by : (earlier : List PlacedSubrecord) (x : PlacedSubrecord) (f : Fixup) → Threaded earlier → Grows x → IsKnown f.target x.before (method_of earlier false f.target)
   known_by earlier x f threaded grows = by f.target
     where
       by : (d : Datum) → IsKnown d x.before (method_of earlier false d)
       by (datum.Explicit method) there other e = subst (λ (y : Method). is_there m.tables y ≡ true) (same_Some method other e) (grows method there)
       by (datum.Thread number) there other e = threaded number other e
 
-  good_from : (earlier xs : List Placed) → AllByRecursion Grows xs → Threaded earlier → AreClean earlier xs → AreGood (fixed_in earlier) (fixed_from earlier xs)
+  good_from : (earlier xs : List PlacedSubrecord) → AllByRecursion Grows xs → Threaded earlier → AreClean earlier xs → AreGood (fixed_in earlier) (fixed_from earlier xs)
   unfolding relocation_conditions fixed_in
   good_from earlier [] grow threaded clean = tt
   good_from earlier (x ∷ xs) grow threaded clean =
       by x.part clean.0 (subst (λ (zs : List Fixed). AreGood zs (fixed_from (earlier ++ x ∷ []) xs)) (fixed_more earlier x) (good_from (earlier ++ x ∷ []) xs grow.1 (threaded_more earlier x threaded grow.0 clean.0) clean.1))
     where
-      judged : (y : Placed) (f : Fixed) → IsKnown f.fixup.target y.before f.target → first_broken (cond (is_judged m.tables keep f) (fixup_conditions m (fixed_in earlier) y f) []) ≡ None → is_judged m.tables keep f ≡ true
+      judged : (y : PlacedSubrecord) (f : Fixed) → IsKnown f.fixup.target y.before f.target → first_broken (cond (is_judged m.tables keep f) (fixup_conditions m (fixed_in earlier) y f) []) ≡ None → is_judged m.tables keep f ≡ true
           → IsGood (fixed_in earlier) f
       judged y f known clean is = good_by (fixed_in earlier) y f known (ap (λ b. first_broken (cond b (fixup_conditions m (fixed_in earlier) y f) [])) (sym is) ∙ clean)
 
@@ -180,11 +180,11 @@ module _ (m : Meaning) (keep : Keep) where
       subst (λ (zs : List Fixed). IsGood zs f) (append_assoc before (g ∷ []) (take p gs)) (good_at (before ++ g ∷ []) gs good.1 p f here is)
 
 -- what holds of each thread and fixup of a module
-pub each_placed : (es : List Entry) (P : Placed → Type 0) → ((i : ℕ) (e : Entry) (s : Read Subrecord) → slice_get es i ≡ Some e → P (record { index = i; at = s.at; part = s.part; before = tables_of (take i es) }))
-    → AllByRecursion P (placed_upto es (length es))
-unfolding placed_upto
-each_placed es P each = all_from P (flat_map (placed_by es) (take (length es) (enumerate_from 0 es)))
-    (each_flat_map P (placed_by es) (take (length es) (enumerate_from 0 es)) (λ j x at_j. each_map P (λ (s : Read Subrecord). record { index = x.0; at = s.at; part = s.part; before = tables_of (take x.0 es) }) x.1.subrecords (λ k s at_k.
+pub each_placed : (es : List Entry) (P : PlacedSubrecord → Type 0) → ((i : ℕ) (e : Entry) (s : Read Subrecord) → slice_get es i ≡ Some e → P (record { index = i; at = s.at; part = s.part; before = tables_of (take i es) }))
+    → AllByRecursion P (subrecords_upto es (length es))
+unfolding subrecords_upto
+each_placed es P each = all_from P (flat_map (subrecords_by es) (take (length es) (enumerate_from 0 es)))
+    (each_flat_map P (subrecords_by es) (take (length es) (enumerate_from 0 es)) (λ j x at_j. each_map P (λ (s : Read Subrecord). record { index = x.0; at = s.at; part = s.part; before = tables_of (take x.0 es) }) x.1.subrecords (λ k s at_k.
     each x.0 x.1 s (numbered_there es j x (front (length es) (enumerate_from 0 es) j x at_j)))))
   where
     front : (n : ℕ) (xs : List (ℕ × Entry)) (j : ℕ) (x : ℕ × Entry) → slice_get (take n xs) j ≡ Some x → slice_get xs j ≡ Some x
@@ -221,26 +221,26 @@ there_grows es i x there =
     by false false false e = refl
 
 module _ (es : List Entry) (keep : Keep) (clean : first_fault (relocation_stages es keep) ≡ None) where
-  clean_entry : (i : ℕ) (e : Entry) → slice_get es i ≡ Some e → AreClean (meaning_of es) keep (placed_upto es i) (placed_by es (i, e))
+  clean_entry : (i : ℕ) (e : Entry) → slice_get es i ≡ Some e → AreClean (meaning_of es) keep (subrecords_upto es i) (subrecords_by es (i, e))
   clean_entry i e here =
       let stage = stage_clean (relocation_stage es keep) (enumerate_from 0 es) i (i, e) clean (numbered_at es i e here) in
-      let xs : List Placed = placed_by es (i, e) in
-      clean_by (meaning_of es) keep (placed_upto es i) xs (λ j x there.
-      ap (λ (o : Option Placed). first_broken (option_map_or (relocation_conditions (meaning_of es) keep (placed_upto es i ++ take j xs)) o [])) (sym there)
+      let xs : List PlacedSubrecord = subrecords_by es (i, e) in
+      clean_by (meaning_of es) keep (subrecords_upto es i) xs (λ j x there.
+      ap (λ (o : Option PlacedSubrecord). first_broken (option_map_or (relocation_conditions (meaning_of es) keep (subrecords_upto es i ++ take j xs)) o [])) (sym there)
       ∙ clean_at (fault_of (relocation_stage es keep (i, e))) (length xs) j stage (slice_get_within xs j x there))
 
-  clean_upto : (i : ℕ) → i ≤ length es → AreClean (meaning_of es) keep [] (placed_upto es i)
+  clean_upto : (i : ℕ) → i ≤ length es → AreClean (meaning_of es) keep [] (subrecords_upto es i)
   clean_upto zero low = subst (AreClean (meaning_of es) keep []) (sym (none_placed es)) tt
   clean_upto (suc i) low =
       let e = entry_there es i (omega (arith, low)) in
       let one : i + 1 ≡ suc i = omega arith in
-      subst (AreClean (meaning_of es) keep []) (sym (placed_more es i e.0 e.1) ∙ ap (placed_upto es) one)
-      (clean_append (meaning_of es) keep [] (placed_upto es i) (placed_by es (i, e.0)) (clean_upto i (omega (arith, low))) (clean_entry i e.0 e.1))
+      subst (AreClean (meaning_of es) keep []) (sym (placed_more es i e.0 e.1) ∙ ap (subrecords_upto es) one)
+      (clean_append (meaning_of es) keep [] (subrecords_upto es i) (subrecords_by es (i, e.0)) (clean_upto i (omega (arith, low))) (clean_entry i e.0 e.1))
 
   all_good : AreGood (meaning_of es) keep [] (fixups_in es)
   unfolding fixed_in meaning_of
   all_good =
-      good_from (meaning_of es) keep [] (placed_upto es (length es)) (each_placed es (Grows (meaning_of es) keep) (λ i e s here method. there_grows es i method)) (λ number method e. absurd (none-some method e))
+      good_from (meaning_of es) keep [] (subrecords_upto es (length es)) (each_placed es (Grows (meaning_of es) keep) (λ i e s here method. there_grows es i method)) (λ number method e. absurd (none-some method e))
       (clean_upto (length es) (omega arith))
 
   -- each fixup that is judged is without a fault, behind those before it

@@ -10,7 +10,7 @@ use Rattle.oc_omf.specs.declared.constants.TheConstants.{MODEND}
 use Rattle.oc_omf.specs.Entries.{entries_in, is_kind, is_wide, places_in, said_at}
 use Rattle.oc_omf.specs.Tables as all
 use Rattle.oc_omf.specs.Tables.{tables_of}
-use Rattle.oc_omf_read.specs.declared.class.Class.{Class}
+use Rattle.oc_omf_read.specs.declared.class.EntryClass.{EntryClass}
 use Rattle.oc_omf_read.specs.Classes.{class_of}
 use Rattle.oc_omf_read.specs.Defined.{said}
 use Rattle.oc_omf_read.proofs.ClassLemmas.{said_as, said_is}
@@ -40,5 +40,5 @@ pub tables_end : (file : List ℕ) (i : ℕ) → i ≡ length (places_in file) �
 tables_end file i all_of = ap (λ (n : ℕ). tables_of (take n (entries_in file))) (all_of ∙ sym (entries_counted file)) ∙ ap tables_of (take_all (entries_in file))
 
 -- what an entry says, by its class
-pub said_by_class : (r : Record) (k : Class) → class_of r.kind ≡ k → said r ≡ said_as r.place (is_wide r.kind) (is_kind MODEND r.kind) r.contents k
+pub said_by_class : (r : Record) (k : EntryClass) → class_of r.kind ≡ k → said r ≡ said_as r.place (is_wide r.kind) (is_kind MODEND r.kind) r.contents k
 said_by_class r k is = said_is r.place r.kind r.contents ∙ ap (said_as r.place (is_wide r.kind) (is_kind MODEND r.kind) r.contents) is

@@ -23,7 +23,7 @@ use Rattle.oc_omf.specs.Cursor.{Read, each_read}
 use Rattle.oc_omf.specs.Entries.{Entry, all_read, entries_in, in_file, is_wide}
 use Rattle.oc_omf.specs.Fields.{fixups_in}
 use Rattle.oc_omf.specs.SectionFaults.{section_stage}
-use Rattle.oc_omf.specs.Fixups.{Fixed, Placed, fixed_from, fixed_in, fixed_of, last_of, method_of, placed_by, placed_upto, thread_after}
+use Rattle.oc_omf.specs.Fixups.{Fixed, PlacedSubrecord, fixed_from, fixed_in, fixed_of, last_of, method_of, subrecords_by, subrecords_upto, thread_after}
 use Rattle.oc_omf.specs.Known.{AreInForce, told}
 use Rattle.oc_omf.specs.Sections.{blocks_in}
 use Rattle.oc_omf.specs.Structures as structures
@@ -34,11 +34,11 @@ use Rattle.oc_omf.specs.Tables.{tables_of}
 use Rattle.oc_omf.specs.Targets.{Meaning}
 use Rattle.oc_omf.proofs.EachLemmas.{each_behind, each_cut, each_end, each_from, each_more}
 use Rattle.oc_omf_judge.proofs.StateLaws.{tables_more, thread_more}
-use Rattle.oc_omf_read.specs.declared.class.Class.{Class}
-use Rattle.oc_omf_read.specs.declared.class.Class.TheVariants as class
+use Rattle.oc_omf_read.specs.declared.class.EntryClass.{EntryClass}
+use Rattle.oc_omf_read.specs.declared.class.EntryClass.TheVariants as class
 use Rattle.oc_omf_read.specs.declared.fields.Behind.{Behind}
-use Rattle.oc_omf_read.specs.declared.fields.Field.{Field}
-use Rattle.oc_omf_read.specs.declared.fixes.Sight.{Sight}
+use Rattle.oc_omf_read.specs.declared.fields.FixupField.{FixupField}
+use Rattle.oc_omf_read.specs.declared.fixes.FixupContext.{FixupContext}
 use Rattle.oc_omf_read.specs.declared.pieces.Piece.{Piece}
 use Rattle.oc_omf_read.specs.Aims.{meaning_seen, method_told}
 use Rattle.oc_omf_read.specs.Classes.{class_of}
@@ -53,13 +53,13 @@ use Rattle.oc_omf.specs.declared.constants.TheConstants.{ENTRY_HEAD}
 
 -- ... one fixup
 
-told_is : (earlier : List Placed) (threads : Threads) → AreInForce earlier threads → (frame : Bool) (d : Datum) → method_told threads frame d ≡ method_of earlier frame d
+told_is : (earlier : List PlacedSubrecord) (threads : Threads) → AreInForce earlier threads → (frame : Bool) (d : Datum) → method_told threads frame d ≡ method_of earlier frame d
 told_is earlier threads are frame (datum.Explicit method) = refl
 told_is earlier threads are frame (datum.Thread number) = are frame number
 
 module _ (m : Meaning) (keep : Keep) where
   -- a fixup's fields are those behind what is held
-  pub fields_same : (earlier : List Placed) (before : all.Tables) (b : Behind) (f : Fixup) → AreInForce earlier b.threads → IsLast (held b) (last_of before.pieces) → fields_behind m keep b f ≡ fields_for m keep (fixed_of earlier before f)
+  pub fields_same : (earlier : List PlacedSubrecord) (before : all.Tables) (b : Behind) (f : Fixup) → AreInForce earlier b.threads → IsLast (held b) (last_of before.pieces) → fields_behind m keep b f ≡ fields_for m keep (fixed_of earlier before f)
   fields_same earlier before b f are last = by (held b) (last_of before.pieces) last
     where
       by : (p : Option Piece) (o : Option structures.Piece) → IsLast p o
@@ -79,31 +79,31 @@ module _ (m : Meaning) (keep : Keep) where
   fields_one x = append-nil (fields_for m keep x)
 
   -- one fixup more
-  pub with_fixup : (earlier : List Placed) (index at : ℕ) (before : all.Tables) (b : Behind) (f : Fixup) (old new : List Field) → AreInForce earlier b.threads → IsLast (held b) (last_of before.pieces)
+  pub with_fixup : (earlier : List PlacedSubrecord) (index at : ℕ) (before : all.Tables) (b : Behind) (f : Fixup) (old new : List FixupField) → AreInForce earlier b.threads → IsLast (held b) (last_of before.pieces)
       → old ≡ fields_of m keep (fixed_in earlier) → new ≡ old ++ fields_behind m keep b f
       → new ≡ fields_of m keep (fixed_in (earlier ++ record { index = index; at = at; part = Ok (subrecord.Fixup f); before = before } ∷ []))
   unfolding fixed_in
   with_fixup earlier index at before b f old new are last was is =
-      is ∙ ap (λ (xs : List Field). xs ++ fields_behind m keep b f) was
-      ∙ ap (λ (xs : List Field). fields_of m keep (fixed_in earlier) ++ xs) (fields_same earlier before b f are last ∙ sym (fields_one (fixed_of earlier before f)))
+      is ∙ ap (λ (xs : List FixupField). xs ++ fields_behind m keep b f) was
+      ∙ ap (λ (xs : List FixupField). fields_of m keep (fixed_in earlier) ++ xs) (fields_same earlier before b f are last ∙ sym (fields_one (fixed_of earlier before f)))
       ∙ sym (fields_more (fixed_in earlier) (fixed_of earlier before f ∷ []))
       ∙ ap (fields_of m keep) (sym (fixed_behind [] earlier (record { index = index; at = at; part = Ok (subrecord.Fixup f); before = before } ∷ [])))
 
 -- what is no fixup changes no fields
-without_fixup : (earlier : List Placed) (x : Placed) → fixed_from earlier (x ∷ []) ≡ [] → fixed_in (earlier ++ x ∷ []) ≡ fixed_in earlier
+without_fixup : (earlier : List PlacedSubrecord) (x : PlacedSubrecord) → fixed_from earlier (x ∷ []) ≡ [] → fixed_in (earlier ++ x ∷ []) ≡ fixed_in earlier
 unfolding fixed_in
 without_fixup earlier x none = fixed_behind [] earlier (x ∷ []) ∙ ap (λ (xs : List Fixed). fixed_from [] earlier ++ xs) none ∙ append-nil (fixed_from [] earlier)
 
 -- a fixup changes no thread
-force_fixup : (earlier : List Placed) (index at : ℕ) (before : all.Tables) (f : Fixup) (threads : Threads) → AreInForce earlier threads
+force_fixup : (earlier : List PlacedSubrecord) (index at : ℕ) (before : all.Tables) (f : Fixup) (threads : Threads) → AreInForce earlier threads
     → AreInForce (earlier ++ record { index = index; at = at; part = Ok (subrecord.Fixup f); before = before } ∷ []) threads
 force_fixup earlier index at before f threads are frame number = are frame number ∙ sym (thread_more earlier (record { index = index; at = at; part = Ok (subrecord.Fixup f); before = before }) frame number)
 
-force_cut : (earlier : List Placed) (index at : ℕ) (before : all.Tables) (c : Cut) (threads : Threads) → AreInForce earlier threads
+force_cut : (earlier : List PlacedSubrecord) (index at : ℕ) (before : all.Tables) (c : Cut) (threads : Threads) → AreInForce earlier threads
     → AreInForce (earlier ++ record { index = index; at = at; part = Err c; before = before } ∷ []) threads
 force_cut earlier index at before c threads are frame number = are frame number ∙ sym (thread_more earlier (record { index = index; at = at; part = Err c; before = before }) frame number)
 
-force_thread : (earlier : List Placed) (index at : ℕ) (before : all.Tables) (t : Thread) (old new : Threads) → AreInForce earlier old
+force_thread : (earlier : List PlacedSubrecord) (index at : ℕ) (before : all.Tables) (t : Thread) (old new : Threads) → AreInForce earlier old
     → ((frame : Bool) (number : ℕ) → told new frame number ≡ cond (agree frame t.frame && nat_eq t.number number) (Some t.method) (told old frame number))
     → AreInForce (earlier ++ record { index = index; at = at; part = Ok (subrecord.Thread t); before = before } ∷ []) new
 force_thread earlier index at before t old new are taken frame number =
@@ -117,49 +117,49 @@ force_thread earlier index at before t old new are taken frame number =
 -- ... one entry
 
 -- threads and fixups of entry i, at a place
-abbrev pub placed_in : List Entry → ℕ → ℕ → List (Read Subrecord) → List Placed
+abbrev pub placed_in : List Entry → ℕ → ℕ → List (Read Subrecord) → List PlacedSubrecord
 placed_in es i place ss = map (λ (s : Read Subrecord). record { index = i; at = s.at; part = s.part; before = tables_of (take i es) }) (in_file place ss)
 
 -- those of an entry before a place in its contents are taken up
-pub record IsWalking (s : Sight) (i : ℕ) (r : Record) (wide : Bool) (at : ℕ) (fields : List Field) (old b : Behind) : Type 0 where
-  pub done : List Placed
-  pub all : done ++ placed_in (entries_in s.omf.now) i r.place (each_from (subrecord_read wide) r.contents at) ≡ placed_by (entries_in s.omf.now) (i, said r)
-  pub made : fields ≡ fields_of (meaning_seen s) s.keep (fixed_in (placed_upto (entries_in s.omf.now) i ++ done))
-  pub threads : AreInForce (placed_upto (entries_in s.omf.now) i ++ done) b.threads
+pub record IsWalking (s : FixupContext) (i : ℕ) (r : Record) (wide : Bool) (at : ℕ) (fields : List FixupField) (old b : Behind) : Type 0 where
+  pub done : List PlacedSubrecord
+  pub all : done ++ placed_in (entries_in s.omf.now) i r.place (each_from (subrecord_read wide) r.contents at) ≡ subrecords_by (entries_in s.omf.now) (i, said r)
+  pub made : fields ≡ fields_of (meaning_seen s) s.keep (fixed_in (subrecords_upto (entries_in s.omf.now) i ++ done))
+  pub threads : AreInForce (subrecords_upto (entries_in s.omf.now) i ++ done) b.threads
   pub piece : held b ≡ held old
   pub last : IsLast (held b) (last_of (tables_of (take i (entries_in s.omf.now))).pieces)
   pub low : AreLow (held b)
 
-module _ (s : Sight) (i : ℕ) (r : Record) where
+module _ (s : FixupContext) (i : ℕ) (r : Record) where
   abbrev es : List Entry
   es = entries_in s.omf.now
 
   abbrev b : List ℕ
   b = r.contents
 
-  abbrev earlier : List Placed
-  earlier = placed_upto es i
+  abbrev earlier : List PlacedSubrecord
+  earlier = subrecords_upto es i
 
-  abbrev part : ℕ → Result Subrecord Cut → Placed
+  abbrev part : ℕ → Result Subrecord Cut → PlacedSubrecord
   part at x = record { index = i; at = r.place + ENTRY_HEAD + at; part = x; before = tables_of (take i es) }
 
-  parts_said : class_of r.kind ≡ class.Fixups → placed_by es (i, said r) ≡ placed_in es i r.place (each_read (subrecord_read (is_wide r.kind)) b 0)
-  parts_said is = ap (λ (e : Entry). placed_by es (i, e)) (said_by_class r class.Fixups is)
+  parts_said : class_of r.kind ≡ class.Fixups → subrecords_by es (i, said r) ≡ placed_in es i r.place (each_read (subrecord_read (is_wide r.kind)) b 0)
+  parts_said is = ap (λ (e : Entry). subrecords_by es (i, e)) (said_by_class r class.Fixups is)
 
-  pub walk_begins : (wide : Bool) → wide ≡ is_wide r.kind → class_of r.kind ≡ class.Fixups → (fields : List Field) (held : Behind) → HasFields s i fields held → IsWalking s i r wide 0 fields held held
+  pub walk_begins : (wide : Bool) → wide ≡ is_wide r.kind → class_of r.kind ≡ class.Fixups → (fields : List FixupField) (held : Behind) → HasFields s i fields held → IsWalking s i r wide 0 fields held held
   walk_begins wide is fixups fields held has = record {
     done = [];
     all = ap (placed_in es i r.place) (sym (each_behind (subrecord_read wide) b 0 (subrecord_goes wide b)) ∙ ap (λ w. each_read (subrecord_read w) b 0) is) ∙ sym (parts_said fixups);
-    made = has.made ∙ ap (λ (xs : List Placed). fields_of (meaning_seen s) s.keep (fixed_in xs)) (sym (append-nil earlier));
-    threads = subst (λ (xs : List Placed). AreInForce xs held.threads) (sym (append-nil earlier)) has.threads;
+    made = has.made ∙ ap (λ (xs : List PlacedSubrecord). fields_of (meaning_seen s) s.keep (fixed_in xs)) (sym (append-nil earlier));
+    threads = subst (λ (xs : List PlacedSubrecord). AreInForce xs held.threads) (sym (append-nil earlier)) has.threads;
     piece = refl;
     last = has.last;
     low = has.low;
   }
 
-  module _ (wide : Bool) (at : ℕ) (fields : List Field) (old now : Behind) (w : IsWalking s i r wide at fields old now) where
+  module _ (wide : Bool) (at : ℕ) (fields : List FixupField) (old now : Behind) (w : IsWalking s i r wide at fields old now) where
     next_all : (x : Result Subrecord Cut) (rest : List (Read Subrecord)) → each_from (subrecord_read wide) b at ≡ record { at = at; part = x } ∷ rest
-        → (w.done ++ part at x ∷ []) ++ placed_in es i r.place rest ≡ placed_by es (i, said r)
+        → (w.done ++ part at x ∷ []) ++ placed_in es i r.place rest ≡ subrecords_by es (i, said r)
     next_all x rest is = append_assoc w.done (part at x ∷ []) (placed_in es i r.place rest) ∙ ap (λ (xs : List (Read Subrecord)). w.done ++ placed_in es i r.place xs) (sym is) ∙ w.all
 
     pub walk_thread : (t : Thread) (after : ℕ) (new : Behind) → at < length b → subrecord_read wide b at ≡ Ok (subrecord.Thread t, after)
@@ -171,14 +171,14 @@ module _ (s : Sight) (i : ℕ) (r : Record) where
         record {
           done = w.done ++ part at x ∷ [];
           all = next_all x (each_from (subrecord_read wide) b after) (each_more (subrecord_read wide) b (subrecord_goes wide b) at low (subrecord.Thread t) after is);
-          made = w.made ∙ ap (fields_of (meaning_seen s) s.keep) (sym (without_fixup (earlier ++ w.done) (part at x) refl)) ∙ ap (λ (xs : List Placed). fields_of (meaning_seen s) s.keep (fixed_in xs)) (sym here);
-          threads = subst (λ (xs : List Placed). AreInForce xs new.threads) (sym here) (force_thread (earlier ++ w.done) i _ (tables_of (take i es)) t now.threads new.threads w.threads taken);
+          made = w.made ∙ ap (fields_of (meaning_seen s) s.keep) (sym (without_fixup (earlier ++ w.done) (part at x) refl)) ∙ ap (λ (xs : List PlacedSubrecord). fields_of (meaning_seen s) s.keep (fixed_in xs)) (sym here);
+          threads = subst (λ (xs : List PlacedSubrecord). AreInForce xs new.threads) (sym here) (force_thread (earlier ++ w.done) i _ (tables_of (take i es)) t now.threads new.threads w.threads taken);
           piece = piece ∙ w.piece;
           last = subst (λ (p : Option Piece). IsLast p (last_of (tables_of (take i es)).pieces)) (sym piece) w.last;
           low = subst AreLow (sym piece) w.low;
         }
 
-    pub walk_fixup : (f : Fixup) (after : ℕ) (new : List Field) (next : Behind) → at < length b → subrecord_read wide b at ≡ Ok (subrecord.Fixup f, after)
+    pub walk_fixup : (f : Fixup) (after : ℕ) (new : List FixupField) (next : Behind) → at < length b → subrecord_read wide b at ≡ Ok (subrecord.Fixup f, after)
         → next.threads ≡ now.threads → held next ≡ held now → new ≡ fields ++ fields_behind (meaning_seen s) s.keep now f → IsWalking s i r wide after new old next
     walk_fixup f after new next low is threads piece made =
         let x : Result Subrecord Cut = Ok (subrecord.Fixup f) in
@@ -187,8 +187,8 @@ module _ (s : Sight) (i : ℕ) (r : Record) where
           done = w.done ++ part at x ∷ [];
           all = next_all x (each_from (subrecord_read wide) b after) (each_more (subrecord_read wide) b (subrecord_goes wide b) at low (subrecord.Fixup f) after is);
           made = with_fixup (meaning_seen s) s.keep (earlier ++ w.done) i _ (tables_of (take i es)) now f fields new w.threads w.last w.made made
-              ∙ ap (λ (xs : List Placed). fields_of (meaning_seen s) s.keep (fixed_in xs)) (sym here);
-          threads = subst (λ (ts : Threads). AreInForce (earlier ++ (w.done ++ part at x ∷ [])) ts) (sym threads) (subst (λ (xs : List Placed). AreInForce xs now.threads) (sym here) (force_fixup (earlier ++ w.done) i _ (tables_of (take i es)) f now.threads w.threads));
+              ∙ ap (λ (xs : List PlacedSubrecord). fields_of (meaning_seen s) s.keep (fixed_in xs)) (sym here);
+          threads = subst (λ (ts : Threads). AreInForce (earlier ++ (w.done ++ part at x ∷ [])) ts) (sym threads) (subst (λ (xs : List PlacedSubrecord). AreInForce xs now.threads) (sym here) (force_fixup (earlier ++ w.done) i _ (tables_of (take i es)) f now.threads w.threads));
           piece = piece ∙ w.piece;
           last = subst (λ (p : Option Piece). IsLast p (last_of (tables_of (take i es)).pieces)) (sym piece) w.last;
           low = subst AreLow (sym piece) w.low;
@@ -202,8 +202,8 @@ module _ (s : Sight) (i : ℕ) (r : Record) where
           done = w.done ++ part at x ∷ [];
           all = ap (λ (xs : List (Read Subrecord)). (w.done ++ part at x ∷ []) ++ placed_in es i r.place xs) (each_end (subrecord_read wide) b after past)
               ∙ next_all x [] (each_cut (subrecord_read wide) b (subrecord_goes wide b) at low c is);
-          made = w.made ∙ ap (fields_of (meaning_seen s) s.keep) (sym (without_fixup (earlier ++ w.done) (part at x) refl)) ∙ ap (λ (xs : List Placed). fields_of (meaning_seen s) s.keep (fixed_in xs)) (sym here);
-          threads = subst (λ (xs : List Placed). AreInForce xs now.threads) (sym here) (force_cut (earlier ++ w.done) i _ (tables_of (take i es)) c now.threads w.threads);
+          made = w.made ∙ ap (fields_of (meaning_seen s) s.keep) (sym (without_fixup (earlier ++ w.done) (part at x) refl)) ∙ ap (λ (xs : List PlacedSubrecord). fields_of (meaning_seen s) s.keep (fixed_in xs)) (sym here);
+          threads = subst (λ (xs : List PlacedSubrecord). AreInForce xs now.threads) (sym here) (force_cut (earlier ++ w.done) i _ (tables_of (take i es)) c now.threads w.threads);
           piece = w.piece;
           last = w.last;
           low = w.low;
@@ -215,13 +215,13 @@ module _ (s : Sight) (i : ℕ) (r : Record) where
 
     pub walk_ends : length b ≤ at → class_of r.kind ≡ class.Fixups → slice_get es i ≡ Some (said r) → HasFields s (i + 1) fields now
     walk_ends past fixups here =
-        let all_done : w.done ≡ placed_by es (i, said r) =
+        let all_done : w.done ≡ subrecords_by es (i, said r) =
         sym (append-nil w.done) ∙ ap (λ (xs : List (Read Subrecord)). w.done ++ placed_in es i r.place xs) (sym (each_end (subrecord_read wide) b at past)) ∙ w.all in
-        let upto : earlier ++ w.done ≡ placed_upto es (i + 1) = ap (λ (xs : List Placed). earlier ++ xs) all_done ∙ sym (placed_more es i (said r) here) in
+        let upto : earlier ++ w.done ≡ subrecords_upto es (i + 1) = ap (λ (xs : List PlacedSubrecord). earlier ++ xs) all_done ∙ sym (placed_more es i (said r) here) in
         let none : all_read (said r).pieces ≡ [] = ap (λ (e : Entry). all_read e.pieces) (said_by_class r class.Fixups fixups) in
         record {
-          made = w.made ∙ ap (λ (xs : List Placed). fields_of (meaning_seen s) s.keep (fixed_in xs)) upto;
-          threads = subst (λ (xs : List Placed). AreInForce xs now.threads) upto w.threads;
+          made = w.made ∙ ap (λ (xs : List PlacedSubrecord). fields_of (meaning_seen s) s.keep (fixed_in xs)) upto;
+          threads = subst (λ (xs : List PlacedSubrecord). AreInForce xs now.threads) upto w.threads;
           last = subst (λ (ds : List structures.Piece). IsLast (held now) (last_of ds)) (sym (pieces_same here none)) w.last;
           low = w.low;
         }
@@ -229,7 +229,7 @@ module _ (s : Sight) (i : ℕ) (r : Record) where
 -- ... entries of data, and others
 
 -- no threads and fixups
-abbrev pub has_no_fixups : Class → Bool
+abbrev pub has_no_fixups : EntryClass → Bool
 has_no_fixups class.Names = true
 has_no_fixups class.Segment = true
 has_no_fixups class.Group = true
@@ -243,7 +243,7 @@ has_no_fixups class.Iterated = true
 has_no_fixups class.Fixups = false
 has_no_fixups class.Nothing = true
 
-no_subrecords : (r : Record) (k : Class) → class_of r.kind ≡ k → has_no_fixups k ≡ true → (said r).subrecords ≡ []
+no_subrecords : (r : Record) (k : EntryClass) → class_of r.kind ≡ k → has_no_fixups k ≡ true → (said r).subrecords ≡ []
 no_subrecords r class.Names is e = ap (λ (e : Entry). e.subrecords) (said_by_class r class.Names is)
 no_subrecords r class.Segment is e = ap (λ (e : Entry). e.subrecords) (said_by_class r class.Segment is)
 no_subrecords r class.Group is e = ap (λ (e : Entry). e.subrecords) (said_by_class r class.Group is)
@@ -258,7 +258,7 @@ no_subrecords r class.Fixups is e = absurd (true≢false (sym e))
 no_subrecords r class.Nothing is e = ap (λ (e : Entry). e.subrecords) (said_by_class r class.Nothing is)
 
 -- as matches leave it
-pub not_fixups : (k : Class) → (k ≡ class.Names) ⊎ ((k ≡ class.Segment) ⊎ ((k ≡ class.Group) ⊎ ((k ≡ class.Publics) ⊎ ((k ≡ class.LocalPublics) ⊎ ((k ≡ class.Externals) ⊎ ((k ≡ class.LocalExternals) ⊎ ((k ≡ class.Communals) ⊎ ((k ≡ class.Plain) ⊎ ((k ≡ class.Iterated) ⊎ (k ≡ class.Nothing)))))))))) → has_no_fixups k ≡ true
+pub not_fixups : (k : EntryClass) → (k ≡ class.Names) ⊎ ((k ≡ class.Segment) ⊎ ((k ≡ class.Group) ⊎ ((k ≡ class.Publics) ⊎ ((k ≡ class.LocalPublics) ⊎ ((k ≡ class.Externals) ⊎ ((k ≡ class.LocalExternals) ⊎ ((k ≡ class.Communals) ⊎ ((k ≡ class.Plain) ⊎ ((k ≡ class.Iterated) ⊎ (k ≡ class.Nothing)))))))))) → has_no_fixups k ≡ true
 not_fixups k h = elim h [ inl e ↦ ap has_no_fixups e | inr h ↦ elim h [ inl e ↦ ap has_no_fixups e | inr h ↦ elim h [ inl e ↦ ap has_no_fixups e | inr h ↦ elim h [ inl e ↦ ap has_no_fixups e | inr h ↦ elim h [ inl e ↦ ap has_no_fixups e | inr h ↦ elim h [ inl e ↦ ap has_no_fixups e | inr h ↦ elim h [ inl e ↦ ap has_no_fixups e | inr h ↦ elim h [ inl e ↦ ap has_no_fixups e | inr h ↦ elim h [ inl e ↦ ap has_no_fixups e | inr h ↦ elim h [ inl e ↦ ap has_no_fixups e | inr e ↦ ap has_no_fixups e ] ] ] ] ] ] ] ] ] ]
 
 last_is : {X : Type 0} (xs : List X) (x : X) → last_of (xs ++ x ∷ []) ≡ Some x
@@ -266,7 +266,7 @@ last_is [] x = refl
 last_is (y ∷ []) x = refl
 last_is (y ∷ z ∷ zs) x = last_is (z ∷ zs) x
 
-module _ (s : Sight) (i : ℕ) (r : Record) (clean : stage_fault (section_stage (entries_in s.omf.now)) ≡ None) (here : slice_get (entries_in s.omf.now) i ≡ Some (said r)) where
+module _ (s : FixupContext) (i : ℕ) (r : Record) (clean : stage_fault (section_stage (entries_in s.omf.now)) ≡ None) (here : slice_get (entries_in s.omf.now) i ≡ Some (said r)) where
   more_pieces : (tables_of (take (i + 1) (entries_in s.omf.now))).pieces ≡ (tables_of (take i (entries_in s.omf.now))).pieces ++ all_read (said r).pieces
   more_pieces = ap (λ (t : all.Tables). t.pieces) (tables_more (entries_in s.omf.now) i (said r) here)
 
@@ -280,17 +280,17 @@ module _ (s : Sight) (i : ℕ) (r : Record) (clean : stage_fault (section_stage 
       omega (arith, inside, small, size, offset)
 
   -- an entry that has no threads and fixups
-  pub with_data : (k : Class) → class_of r.kind ≡ k → has_no_fixups k ≡ true → (fields : List Field) (old new : Behind) → HasFields s i fields old → HasData (all_read (said r).pieces) old new → HasFields s (i + 1) fields new
+  pub with_data : (k : EntryClass) → class_of r.kind ≡ k → has_no_fixups k ≡ true → (fields : List FixupField) (old new : Behind) → HasFields s i fields old → HasData (all_read (said r).pieces) old new → HasFields s (i + 1) fields new
   with_data k is none fields old new has data_ =
       let es : List Entry = entries_in s.omf.now in
-      let upto : placed_upto es i ≡ placed_upto es (i + 1) =
-      sym (append-nil (placed_upto es i))
-      ∙ ap (λ (ss : List (Read Subrecord)). placed_upto es i ++ map (λ (x : Read Subrecord). record { index = i; at = x.at; part = x.part; before = tables_of (take i es) }) ss) (sym (no_subrecords r k is none))
+      let upto : subrecords_upto es i ≡ subrecords_upto es (i + 1) =
+      sym (append-nil (subrecords_upto es i))
+      ∙ ap (λ (ss : List (Read Subrecord)). subrecords_upto es i ++ map (λ (x : Read Subrecord). record { index = i; at = x.at; part = x.part; before = tables_of (take i es) }) ss) (sym (no_subrecords r k is none))
       ∙ sym (placed_more es i (said r) here) in
       let both = by data_.found data_.are in
       record {
-        made = has.made ∙ ap (λ (xs : List Placed). fields_of (meaning_seen s) s.keep (fixed_in xs)) upto;
-        threads = subst (λ (xs : List Placed). AreInForce xs new.threads) upto (subst (λ (ts : Threads). AreInForce (placed_upto es i) ts) (sym data_.threads) has.threads);
+        made = has.made ∙ ap (λ (xs : List PlacedSubrecord). fields_of (meaning_seen s) s.keep (fixed_in xs)) upto;
+        threads = subst (λ (xs : List PlacedSubrecord). AreInForce xs new.threads) upto (subst (λ (ts : Threads). AreInForce (subrecords_upto es i) ts) (sym data_.threads) has.threads);
         last = subst (λ (p : Option Piece). IsLast p (last_of (tables_of (take (i + 1) es)).pieces)) (sym data_.piece) both.0;
         low = subst AreLow (sym data_.piece) both.1;
       }
@@ -312,15 +312,15 @@ module _ (s : Sight) (i : ℕ) (r : Record) (clean : stage_fault (section_stage 
       )
 
 -- before the first entry
-pub fields_none : (s : Sight) (fields : List Field) (threads : Threads) → fields ≡ [] → AreInForce [] threads → HasFields s 0 fields (record { threads = threads; piece = None })
+pub fields_none : (s : FixupContext) (fields : List FixupField) (threads : Threads) → fields ≡ [] → AreInForce [] threads → HasFields s 0 fields (record { threads = threads; piece = None })
 unfolding fields_of fixed_in tables_of
 fields_none s fields threads none are = record {
-  made = none ∙ ap (λ (xs : List Placed). fields_of (meaning_seen s) s.keep (fixed_in xs)) (sym (none_placed (entries_in s.omf.now)));
-  threads = subst (λ (xs : List Placed). AreInForce xs threads) (sym (none_placed (entries_in s.omf.now))) are;
+  made = none ∙ ap (λ (xs : List PlacedSubrecord). fields_of (meaning_seen s) s.keep (fixed_in xs)) (sym (none_placed (entries_in s.omf.now)));
+  threads = subst (λ (xs : List PlacedSubrecord). AreInForce xs threads) (sym (none_placed (entries_in s.omf.now))) are;
   last = refl;
   low = tt;
 }
 
 -- behind the last
-pub fields_all : (s : Sight) (i : ℕ) (fields : List Field) (b : Behind) → i ≡ length (entries_in s.omf.now) → HasFields s i fields b → fields ≡ fields_of (meaning_seen s) s.keep (fixups_in (entries_in s.omf.now))
-fields_all s i fields b end has = has.made ∙ ap (λ (n : ℕ). fields_of (meaning_seen s) s.keep (fixed_in (placed_upto (entries_in s.omf.now) n))) end
+pub fields_all : (s : FixupContext) (i : ℕ) (fields : List FixupField) (b : Behind) → i ≡ length (entries_in s.omf.now) → HasFields s i fields b → fields ≡ fields_of (meaning_seen s) s.keep (fixups_in (entries_in s.omf.now))
+fields_all s i fields b end has = has.made ∙ ap (λ (n : ℕ). fields_of (meaning_seen s) s.keep (fixed_in (subrecords_upto (entries_in s.omf.now) n))) end

@@ -22,8 +22,8 @@ use Rattle.oc_omf.specs.Sections.{contents_of, size_at}
 use Rattle.oc_omf.specs.Structures.{Piece}
 use Rattle.oc_omf.specs.Targets.{Meaning, external_at, is_flat, is_home, same_named, section_target, target_of}
 use Rattle.oc_omf_read.specs.declared.fix.Fix.{Fix}
-use Rattle.oc_omf_read.specs.declared.fix.Framed.{Framed}
-use Rattle.oc_omf_read.specs.declared.fix.Framed.TheVariants as framed
+use Rattle.oc_omf_read.specs.declared.fix.FixupFrame.{FixupFrame}
+use Rattle.oc_omf_read.specs.declared.fix.FixupFrame.TheVariants as framed
 use Rattle.oc_omf_read.specs.Aims.{aim_by, fix_by, framed_by, framed_of, is_home_of}
 use Rattle.oc_omf_read.specs.Fixing.{added_by, framed_as}
 use Rattle.oc_omf_read.specs.Given.{against, reloc_by}
@@ -66,26 +66,26 @@ module _ (m : Meaning) where
       by true = refl
       by false = ap (λ (o : Option rules.Named). nat_eq frame.number 5 || option_map_or (same_named u.named) o false) (names_same frame)
 
-  row_same : (x : Fixed) (d : Piece) (u : file.Target) → x.piece ≡ Some d → row_of m x u ≡ option_map (λ (f : Framed). fixup_row (framed_as f)) (framed_of m d.segment x.fixup x.frame u.named)
+  row_same : (x : Fixed) (d : Piece) (u : file.Target) → x.piece ≡ Some d → row_of m x u ≡ option_map (λ (f : FixupFrame). fixup_row (framed_as f)) (framed_of m d.segment x.fixup x.frame u.named)
   row_same x d u behind = by x.fixup.segment_relative x.frame
     where
       home : (frame : Method) → is_home m x.piece frame u ≡ is_home_of m d.segment frame u.named
       home frame = ap (λ (o : Option Piece). is_home m o frame u) behind ∙ home_same d frame u
 
       framed_is : (frame : Method) (a b c : Bool) → b ≡ c → cond a (Some (fixup_row (framed_as framed.Flat))) (cond b (Some (fixup_row (framed_as framed.Home))) None)
-          ≡ option_map (λ (f : Framed). fixup_row (framed_as f)) (cond a (Some framed.Flat) (cond c (Some framed.Home) None))
+          ≡ option_map (λ (f : FixupFrame). fixup_row (framed_as f)) (cond a (Some framed.Flat) (cond c (Some framed.Home) None))
       framed_is frame true b c same = refl
       framed_is frame false b true same = ap (λ z. cond z (Some (fixup_row (framed_as framed.Home))) None) same
       framed_is frame false b false same = ap (λ z. cond z (Some (fixup_row (framed_as framed.Home))) None) same
 
       by : (r : Bool) (frame : Option Method)
           → cond r (option_and_then (λ (f : Method). cond (is_flat m f) (Some (fixup_row (framed_as framed.Flat))) (cond (is_home m x.piece f u) (Some (fixup_row (framed_as framed.Home))) None)) frame) (Some (fixup_row BySelf))
-          ≡ option_map (λ (f : Framed). fixup_row (framed_as f)) (cond r (option_and_then (framed_by m d.segment u.named) frame) (Some framed.Own))
+          ≡ option_map (λ (f : FixupFrame). fixup_row (framed_as f)) (cond r (option_and_then (framed_by m d.segment u.named) frame) (Some framed.Own))
       by false frame = refl
       by true None = refl
       by true (Some frame) = framed_is frame (is_flat m frame) (is_home m x.piece frame u) (is_home_of m d.segment frame u.named) (home frame)
 
-  added_same : (s at : ℕ) (x : Fixed) (f : Framed) (t : Target) → added_at m s at x (fixup_row (framed_as f)) ≡ added_by (record { framed = f; target = t; displacement = x.fixup.displacement }) (field_number s at)
+  added_same : (s at : ℕ) (x : Fixed) (f : FixupFrame) (t : Target) → added_at m s at x (fixup_row (framed_as f)) ≡ added_by (record { framed = f; target = t; displacement = x.fixup.displacement }) (field_number s at)
   added_same s at x framed.Flat t = refl
   added_same s at x framed.Home t = refl
   added_same s at x framed.Own t = refl
@@ -95,8 +95,8 @@ module _ (m : Meaning) where
   unfolding reloc_by
   reloc_is s at x d behind = by_target x.target
     where
-      made : (t : Target) (o : Option Framed) → option_map (λ (row : Row). row_reloc W32 row s (added_at m s at x row) t) (option_map (λ (f : Framed). fixup_row (framed_as f)) o)
-          ≡ option_map (reloc_as s at) (option_map (λ (f : Framed). record { framed = f; target = t; displacement = x.fixup.displacement }) o)
+      made : (t : Target) (o : Option FixupFrame) → option_map (λ (row : Row). row_reloc W32 row s (added_at m s at x row) t) (option_map (λ (f : FixupFrame). fixup_row (framed_as f)) o)
+          ≡ option_map (reloc_as s at) (option_map (λ (f : FixupFrame). record { framed = f; target = t; displacement = x.fixup.displacement }) o)
       made t None = refl
       made t (Some f) = ap (λ (a : ℤ). Some (row_reloc W32 (fixup_row (framed_as f)) s a t)) (added_same s at x f t)
 
@@ -109,13 +109,13 @@ module _ (m : Meaning) where
       no_row (Some row) = refl
 
       by_object : (u : file.Target) (o : Option Target) → option_and_then (λ (row : Row). option_map (row_reloc W32 row s (added_at m s at x row)) o) (row_of m x u)
-          ≡ option_map (reloc_as s at) (option_and_then (λ (aim : Target × rules.Named). option_map (λ (f : Framed). record { framed = f; target = aim.0; displacement = x.fixup.displacement }) (framed_of m d.segment x.fixup x.frame aim.1)) (option_map (λ (t : Target). (t, u.named)) o))
+          ≡ option_map (reloc_as s at) (option_and_then (λ (aim : Target × rules.Named). option_map (λ (f : FixupFrame). record { framed = f; target = aim.0; displacement = x.fixup.displacement }) (framed_of m d.segment x.fixup x.frame aim.1)) (option_map (λ (t : Target). (t, u.named)) o))
       by_object u None = no_row (row_of m x u)
       by_object u (Some t) =
           plain t (row_of m x u) ∙ ap (option_map (λ (row : Row). row_reloc W32 row s (added_at m s at x row) t)) (row_same x d u behind) ∙ made t (framed_of m d.segment x.fixup x.frame u.named)
 
       by_method : (method : Method) (o : Option file.Target) → option_and_then (λ (u : file.Target). option_and_then (λ (row : Row). option_map (row_reloc W32 row s (added_at m s at x row)) (against m method)) (row_of m x u)) o
-          ≡ option_map (reloc_as s at) (option_and_then (λ (aim : Target × rules.Named). option_map (λ (f : Framed). record { framed = f; target = aim.0; displacement = x.fixup.displacement }) (framed_of m d.segment x.fixup x.frame aim.1))
+          ≡ option_map (reloc_as s at) (option_and_then (λ (aim : Target × rules.Named). option_map (λ (f : FixupFrame). record { framed = f; target = aim.0; displacement = x.fixup.displacement }) (framed_of m d.segment x.fixup x.frame aim.1))
           (option_and_then (λ (u : file.Target). option_map (λ (t : Target). (t, u.named)) (against m method)) o))
       by_method method None = refl
       by_method method (Some u) = by_object u (against m method)

@@ -11,9 +11,9 @@ use Rattle.oc_neutral.proofs.FieldLists.{take_here}
 use Rattle.oc_omf.specs.Symbols.{Mention, number_of, same_symbol, with_new}
 use Rattle.oc_omf_read.specs.declared.mentioned.Mentioned.{Mentioned}
 use Rattle.oc_omf_read.specs.declared.mentioned.Mentions.{Mentions}
-use Rattle.oc_omf_read.specs.declared.heard.Heard.{Heard}
-use Rattle.oc_omf_read.specs.Heard.{Told, all_told, told_of}
-use Rattle.oc_omf_read.specs.Mentioned.{AreNumbered, HasHeard, Seen, blank, external_number, external_said, mention_of, number_among, number_held, held, seen_in, seen_more, seen_of, symbol_of, symbols_told}
+use Rattle.oc_omf_read.specs.declared.declarations.DeclarationRef.{DeclarationRef}
+use Rattle.oc_omf_read.specs.Declarations.{Declaration, all_declarations, declaration_of}
+use Rattle.oc_omf_read.specs.Mentioned.{AreNumbered, HasDeclarations, ModuleSymbol, blank, external_number, external_said, mention_of, number_among, number_held, held, seen_in, seen_more, seen_of, symbol_of, symbols_told}
 use Rattle.oc_omf_judge.proofs.MentionLemmas.{same_is, same_self}
 use Rattle.oc_omf_read.proofs.MentionLemmas.{AreApart, Unlike, among_push, any_told, externals_keep, number_low, seen_set, seen_with, symbols_apart, symbols_push}
 
@@ -23,11 +23,11 @@ map_map : {X Y Z : Type 0} (f : Y → Z) (g : X → Y) (xs : List X) → map f (
 map_map f g [] = refl
 map_map {X} {Y} {Z} f g (x ∷ xs) = ap (λ (zs : List Z). f (g x) ∷ zs) (map_map f g xs)
 
-map_self : (ts : List Told) (ms : List Mention) → map (λ (x : Mention). symbol_of (seen_in ts x)) ms ≡ ms
+map_self : (ts : List Declaration) (ms : List Mention) → map (λ (x : Mention). symbol_of (seen_in ts x)) ms ≡ ms
 map_self ts [] = refl
 map_self ts (m ∷ ms) = ap (λ (xs : List Mention). m ∷ xs) (map_self ts ms)
 
-pub held_is : (m : Mentions) (ts : List Told) (ms : List Mention) → map seen_of m.symbols.items ≡ map (seen_in ts) ms → held m ≡ ms
+pub held_is : (m : Mentions) (ts : List Declaration) (ms : List Mention) → map seen_of m.symbols.items ≡ map (seen_in ts) ms → held m ≡ ms
 held_is m ts ms is = sym (map_map symbol_of seen_of m.symbols.items) ∙ ap (map symbol_of) is ∙ map_map symbol_of (seen_in ts) ms ∙ map_self ts ms
 
 -- a number that is held is one of a symbol that is
@@ -48,7 +48,7 @@ pub length_held : (m : Mentions) → length (held m) ≡ length m.symbols.items
 length_held m = length-map m.symbols.items (λ (s : Mentioned). symbol_of (seen_of s))
 
 -- a mention more
-module _ (ts : List Told) (t : Told) (old mid new : Mentions) (k : ℕ) (before : HasHeard ts old)
+module _ (ts : List Declaration) (t : Declaration) (old mid new : Mentions) (k : ℕ) (before : HasDeclarations ts old)
     (numbered : AreNumbered mid) (number : number_among (held mid) (mention_of t) ≡ Some k)
     (symbols : map seen_of mid.symbols.items ≡ cond (list_any (same_symbol (mention_of t)) (held old)) (map seen_of old.symbols.items) (map seen_of old.symbols.items ++ blank (mention_of t) ∷ [])) where
   -- what is held with the symbol of the mention
@@ -56,7 +56,7 @@ module _ (ts : List Told) (t : Told) (old mid new : Mentions) (k : ℕ) (before 
   mid_seen = seen_with ts (mention_of t) (map seen_of mid.symbols.items)
       (symbols
       ∙ ap (λ (hs : List Mention). cond (list_any (same_symbol (mention_of t)) hs) (map seen_of old.symbols.items) (map seen_of old.symbols.items ++ blank (mention_of t) ∷ [])) (held_is old ts (symbols_told ts) before.symbols)
-      ∙ ap (λ (ss : List Seen). cond (list_any (same_symbol (mention_of t)) (symbols_told ts)) ss (ss ++ blank (mention_of t) ∷ [])) before.symbols)
+      ∙ ap (λ (ss : List ModuleSymbol). cond (list_any (same_symbol (mention_of t)) (symbols_told ts)) ss (ss ++ blank (mention_of t) ∷ [])) before.symbols)
 
   pub mid_held : held mid ≡ with_new (symbols_told ts) (mention_of t)
   mid_held = held_is mid ts (with_new (symbols_told ts) (mention_of t)) mid_seen
@@ -87,18 +87,18 @@ symbols_few ms (x ∷ xs) = let more = symbols_few (with_new ms x) xs in let one
     by false = let sum = length-append ms (x ∷ []) in omega (arith, sum)
 
 -- there are no more symbols than mentions
-pub few_symbols : (ts : List Told) → length (symbols_told ts) ≤ length ts
+pub few_symbols : (ts : List Declaration) → length (symbols_told ts) ≤ length ts
 few_symbols ts = let few = symbols_few [] (map mention_of ts) in let same = length-map ts mention_of in omega (arith, few, same)
 
-pub few_held : (ts : List Told) (m : Mentions) → HasHeard ts m → length m.symbols.items ≤ length ts
+pub few_held : (ts : List Declaration) (m : Mentions) → HasDeclarations ts m → length m.symbols.items ≤ length ts
 few_held ts m has =
     let long = ap length (held_is m ts (symbols_told ts) has.symbols) in
     let same = length_held m in
     let few = few_symbols ts in
     omega (arith, long, same, few)
 
-pub told_take : (heard : List Heard) (i : ℕ) (h : Heard) → slice_get heard i ≡ Some h → all_told (take (i + 1) heard) ≡ all_told (take i heard) ++ told_of h ∷ []
-told_take heard i h here = ap all_told (take_here heard i h here) ∙ map-append told_of (take i heard) (h ∷ [])
+pub told_take : (declarations : List DeclarationRef) (i : ℕ) (h : DeclarationRef) → slice_get declarations i ≡ Some h → all_declarations (take (i + 1) declarations) ≡ all_declarations (take i declarations) ++ declaration_of h ∷ []
+told_take declarations i h here = ap all_declarations (take_here declarations i h here) ∙ map-append declaration_of (take i declarations) (h ∷ [])
 
 map_set : {X Y : Type 0} (f : X → Y) (xs : List X) (k : ℕ) (x : X) → map f (set xs k x) ≡ set (map f xs) k (f x)
 map_set f [] k x = refl
@@ -120,10 +120,10 @@ symbol_at (m ∷ ms) x there = by (same_symbol x m) refl there (symbol_at ms x)
     by false e h rest = let one : 1 + number_of ms x ≡ suc (number_of ms x) = omega arith in ap (slice_get (m ∷ ms)) one ∙ rest h
 
 -- all that is held of one mention more
-pub heard_more : (ts : List Told) (t : Told) (old mid new : Mentions) (k : ℕ) (was is : Mentioned) → HasHeard ts old → AreNumbered mid → number_among (held mid) (mention_of t) ≡ Some k
+pub heard_more : (ts : List Declaration) (t : Declaration) (old mid new : Mentions) (k : ℕ) (was is : Mentioned) → HasDeclarations ts old → AreNumbered mid → number_among (held mid) (mention_of t) ≡ Some k
     → map seen_of mid.symbols.items ≡ cond (list_any (same_symbol (mention_of t)) (held old)) (map seen_of old.symbols.items) (map seen_of old.symbols.items ++ blank (mention_of t) ∷ [])
     → slice_get mid.symbols.items k ≡ Some was → seen_of is ≡ seen_more t.says (seen_of was) → new.symbols.items ≡ set mid.symbols.items k is
-    → ((x : Mention) → number_held new x ≡ number_held mid x) → new.externals.items ≡ old.externals.items ++ cons_option (external_said k t.says) [] → HasHeard (ts ++ t ∷ []) new
+    → ((x : Mention) → number_held new x ≡ number_held mid x) → new.externals.items ≡ old.externals.items ++ cons_option (external_said k t.says) [] → HasDeclarations (ts ++ t ∷ []) new
 heard_more ts t old mid new k was is before numbered number symbols there said_is set_is maps externals = record {
   symbols = seen_is;
   numbered = λ x. maps x ∙ numbered x ∙ ap (λ (hs : List Mention). number_among hs x) (mid_held_is ∙ sym new_held);
@@ -150,8 +150,8 @@ heard_more ts t old mid new k was is before numbered number symbols there said_i
     seen_is : map seen_of new.symbols.items ≡ map (seen_in (ts ++ t ∷ [])) (symbols_told (ts ++ t ∷ []))
     seen_is =
         ap (map seen_of) set_is ∙ map_set seen_of mid.symbols.items k is
-        ∙ ap (λ (ss : List Seen). set ss k (seen_of is)) mid_seen_is
-        ∙ ap (λ (s : Seen). set (map (seen_in ts) (with_new (symbols_told ts) (mention_of t))) k s) (said_is ∙ ap (seen_more t.says) seen_was)
+        ∙ ap (λ (ss : List ModuleSymbol). set ss k (seen_of is)) mid_seen_is
+        ∙ ap (λ (s : ModuleSymbol). set (map (seen_in ts) (with_new (symbols_told ts) (mention_of t))) k s) (said_is ∙ ap (seen_more t.says) seen_was)
         ∙ ap (λ (n : ℕ). set (map (seen_in ts) (with_new (symbols_told ts) (mention_of t))) n (seen_more t.says (seen_in ts (mention_of t)))) (sym is_number.1)
         ∙ seen_set ts t (with_new (symbols_told ts) (mention_of t)) (subst AreApart (symbols_push ts t) (symbols_apart (ts ++ t ∷ []))) is_number.0
         ∙ ap (map (seen_in (ts ++ t ∷ []))) (sym (symbols_push ts t))
@@ -177,14 +177,14 @@ pub number_next : (ms : List Mention) (x : Mention) → Unlike x ms → number_a
 number_next ms x unlike = among_push ms x x unlike ∙ ap (λ b. cond b (Some (length ms)) (number_among ms x)) (same_self x)
 
 -- mention i is taken up
-pub heard_next : (heard : List Heard) (i : ℕ) (d : Heard) → i < length heard → (old mid new : Mentions) (k : ℕ) (was is : Mentioned) → HasHeard (all_told (take i heard)) old → AreNumbered mid
-    → number_among (held mid) (mention_of (told_of (get_or heard i d))) ≡ Some k
-    → map seen_of mid.symbols.items ≡ cond (list_any (same_symbol (mention_of (told_of (get_or heard i d)))) (held old)) (map seen_of old.symbols.items) (map seen_of old.symbols.items ++ blank (mention_of (told_of (get_or heard i d))) ∷ [])
-    → was ≡ get_or mid.symbols.items k was → seen_of is ≡ seen_more (get_or heard i d).says (seen_of was) → new.symbols.items ≡ set mid.symbols.items k is
-    → ((x : Mention) → number_held new x ≡ number_held mid x) → new.externals.items ≡ old.externals.items ++ cons_option (external_said k (get_or heard i d).says) [] → HasHeard (all_told (take (i + 1) heard)) new
-heard_next heard i d low old mid new k was is before numbered number symbols was_is said_is set_is maps externals =
-    let t : Told = told_of (get_or heard i d) in
+pub heard_next : (declarations : List DeclarationRef) (i : ℕ) (d : DeclarationRef) → i < length declarations → (old mid new : Mentions) (k : ℕ) (was is : Mentioned) → HasDeclarations (all_declarations (take i declarations)) old → AreNumbered mid
+    → number_among (held mid) (mention_of (declaration_of (get_or declarations i d))) ≡ Some k
+    → map seen_of mid.symbols.items ≡ cond (list_any (same_symbol (mention_of (declaration_of (get_or declarations i d)))) (held old)) (map seen_of old.symbols.items) (map seen_of old.symbols.items ++ blank (mention_of (declaration_of (get_or declarations i d))) ∷ [])
+    → was ≡ get_or mid.symbols.items k was → seen_of is ≡ seen_more (get_or declarations i d).says (seen_of was) → new.symbols.items ≡ set mid.symbols.items k is
+    → ((x : Mention) → number_held new x ≡ number_held mid x) → new.externals.items ≡ old.externals.items ++ cons_option (external_said k (get_or declarations i d).says) [] → HasDeclarations (all_declarations (take (i + 1) declarations)) new
+heard_next declarations i d low old mid new k was is before numbered number symbols was_is said_is set_is maps externals =
+    let t : Declaration = declaration_of (get_or declarations i d) in
     let inside : k < length mid.symbols.items = number_inside mid (mention_of t) k number in
     let there : slice_get mid.symbols.items k ≡ Some was = slice_get-get_or mid.symbols.items k was inside ∙ ap (λ (m : Mentioned). Some m) (sym was_is) in
-    subst (λ (ts : List Told). HasHeard ts new) (sym (told_take heard i (get_or heard i d) (slice_get-get_or heard i d low)))
-    (heard_more (all_told (take i heard)) t old mid new k was is before numbered number symbols there said_is set_is maps externals)
+    subst (λ (ts : List Declaration). HasDeclarations ts new) (sym (told_take declarations i (get_or declarations i d) (slice_get-get_or declarations i d low)))
+    (heard_more (all_declarations (take i declarations)) t old mid new k was is before numbered number symbols there said_is set_is maps externals)

@@ -7,13 +7,13 @@ pub mod CleanFixups
 pub mod ContentLemmas
 pub mod CopyLemmas
 pub mod CountLemmas
+pub mod DeclarationLemmas
 pub mod DefinedLemmas
 pub mod FieldLemmas
 pub mod FixLemmas
 pub mod GivenFields
 pub mod GoesLemmas
 pub mod HearLemmas
-pub mod HeardLemmas
 pub mod ListedFields
 pub mod LocalLemmas
 pub mod MentionLemmas

@@ -26,7 +26,7 @@ use Rattle.oc_omf.specs.SectionFaults.{section_stage}
 use Rattle.oc_omf.specs.Sections.{blocks_in}
 use Rattle.oc_omf.specs.Structures.{Piece}
 use Rattle.oc_omf.specs.Targets.{Meaning, meaning_of}
-use Rattle.oc_omf_read.specs.declared.fields.Field.{Field}
+use Rattle.oc_omf_read.specs.declared.fields.FixupField.{FixupField}
 use Rattle.oc_omf_read.specs.declared.fix.Fix.{Fix}
 use Rattle.oc_omf_read.specs.Aims as aims
 use Rattle.oc_omf_read.specs.Aims.{fix_by, fix_for}
@@ -39,7 +39,7 @@ use Rattle.oc_omf_read.proofs.PlacedFixups as placed
 -- ... lists
 
 -- two are at one place
-abbrev at_one : Field → Field → Bool
+abbrev at_one : FixupField → FixupField → Bool
 at_one x y = nat_eq x.section y.section && nat_eq x.at y.at
 
 pub eq_flips : (a b : ℕ) → nat_eq a b ≡ nat_eq b a
@@ -48,7 +48,7 @@ eq_flips a b = elim (cases_eq a b) [
   | inr other ↦ ne_eqb a b other ∙ sym (ne_eqb b a (λ e. other (sym e)))
 ]
 
-at_one_flips : (x y : Field) → at_one x y ≡ at_one y x
+at_one_flips : (x y : FixupField) → at_one x y ≡ at_one y x
 at_one_flips x y = ap (λ b. b && nat_eq x.at y.at) (eq_flips x.section y.section) ∙ ap (λ b. nat_eq y.section x.section && b) (eq_flips x.at y.at)
 
 both_true : (a b : Bool) → (a && b) ≡ true → (a ≡ true) × (b ≡ true)
@@ -61,7 +61,7 @@ all_join : {X : Type 0} (P : X → Type 0) (xs ys : List X) → AllByRecursion P
 all_join P [] ys a b = b
 all_join P (x ∷ xs) ys a b = (a.0, all_join P xs ys a.1 b)
 
-distinct_join : (xs ys : List Field) → IsDistinct at_one xs → IsDistinct at_one ys → AllByRecursion (λ x. AllByRecursion (λ y. at_one x y ≡ false) ys) xs → IsDistinct at_one (xs ++ ys)
+distinct_join : (xs ys : List FixupField) → IsDistinct at_one xs → IsDistinct at_one ys → AllByRecursion (λ x. AllByRecursion (λ y. at_one x y ≡ false) ys) xs → IsDistinct at_one (xs ++ ys)
 unfolding IsDistinct
 distinct_join [] ys a b cross = b
 distinct_join (x ∷ xs) ys a b cross = (all_join (λ y. at_one x y ≡ false) xs ys a.0 cross.0, distinct_join xs ys a.1 b cross.1)
@@ -158,12 +158,12 @@ module _ (file : List ℕ) (keep : Keep) (sections : stage_fault (section_stage 
   kept_here d sound = kept_aimed file keep sections relocs d sound.placed
 
   -- a field of fixup p
-  pub record IsFieldOf (p : ℕ) (e : Field) : Type 0 where
+  pub record IsFieldOf (p : ℕ) (e : FixupField) : Type 0 where
     pub f : Fixed
     pub is_at : At e.section e.at p f
     pub fix : fix_for m keep is_at.data_.segment f.fixup f.frame f.target ≡ Some e.fix
 
-  field_of : (p : ℕ) (f : Fixed) → slice_get fs p ≡ Some f → (k : ℕ) (e : Field) → slice_get (fields_for m keep f) k ≡ Some e → IsFieldOf p e
+  field_of : (p : ℕ) (f : Fixed) → slice_get fs p ≡ Some f → (k : ℕ) (e : FixupField) → slice_get (fields_for m keep f) k ≡ Some e → IsFieldOf p e
   field_of p f here k e there = by f.piece refl there
     where
       by_fix : (d : Piece) → f.piece ≡ Some d → (o : Option Fix) → fix_for m keep d.segment f.fixup f.frame f.target ≡ o
@@ -197,7 +197,7 @@ module _ (file : List ℕ) (keep : Keep) (sections : stage_fault (section_stage 
       by (Some d) behind there = by_fix d behind (fix_for m keep d.segment f.fixup f.frame f.target) refl there
 
   -- a field of some fixup from a number on
-  pub record IsListed (k : ℕ) (e : Field) : Type 0 where
+  pub record IsListed (k : ℕ) (e : FixupField) : Type 0 where
     pub p : ℕ
     pub from : k ≤ p
     pub is : IsFieldOf p e
@@ -230,7 +230,7 @@ module _ (file : List ℕ) (keep : Keep) (sections : stage_fault (section_stage 
   all_listed = listed_from 0 fs (λ j x here. let same : 0 + j ≡ j = omega arith in ap (slice_get fs) same ∙ here)
 
   -- what is given at its place
-  pub field_given : (p : ℕ) (e : Field) → IsFieldOf p e → given_at es keep e.section e.at ≡ Some (reloc_as m e.section e.at e.fix)
+  pub field_given : (p : ℕ) (e : FixupField) → IsFieldOf p e → given_at es keep e.section e.at ≡ Some (reloc_as m e.section e.at e.fix)
   unfolding given_at
   field_given p e l =
       let a = l.is_at in
@@ -242,7 +242,7 @@ module _ (file : List ℕ) (keep : Keep) (sections : stage_fault (section_stage 
   -- ... places differ
 
   -- two fixups have no field at one place
-  not_one : (p q : ℕ) (x y : Field) → IsFieldOf p x → IsFieldOf q y → p < q → at_one x y ≡ false
+  not_one : (p q : ℕ) (x y : FixupField) → IsFieldOf p x → IsFieldOf q y → p < q → at_one x y ≡ false
   not_one p q x y a b low = by (at_one x y) refl
     where
       by : (c : Bool) → at_one x y ≡ c → c ≡ false
@@ -335,38 +335,38 @@ module _ (file : List ℕ) (keep : Keep) (sections : stage_fault (section_stage 
       let made : fields_for m keep n.f ≡ fields_at (d.segment - 1) d.offset n.fix (copies_in (blocks_in d.blocks) n.f.fixup.offset) =
       ap (λ (x : Option Piece). option_map_or (λ (d : Piece). fields_by m keep d.segment d.offset (blocks_in d.blocks) n.f.fixup n.f.frame n.f.target) x []) a.behind
       ∙ ap (λ (x : Option Fix). option_map_or (λ (fix : Fix). fields_at (d.segment - 1) d.offset fix (copies_in (blocks_in d.blocks) n.f.fixup.offset)) x []) n.made in
-      any_flat (λ (e : Field). nat_eq e.section s && nat_eq e.at at) (fields_for m keep) fs n.p n.f a.here
-      (ap (λ (xs : List Field). is_among xs s at) made
+      any_flat (λ (e : FixupField). nat_eq e.section s && nat_eq e.at at) (fields_for m keep) fs n.p n.f a.here
+      (ap (λ (xs : List FixupField). is_among xs s at) made
       ∙ among_copies (d.segment - 1) d.offset s n.fix at (copies_in (blocks_in d.blocks) n.f.fixup.offset) position (ap (list_any (nat_eq at)) (sym offsets) ∙ a.among))
 
   -- ... in any order
 
-  module _ (fields : List Field) (are : IsPermutation (fields_of m keep fs) fields) where
+  module _ (fields : List FixupField) (are : IsPermutation (fields_of m keep fs) fields) where
     each_from : {X : Type 0} (P : X → Type 0) (xs : List X) → AllByRecursion P xs → All P xs
     each_from P [] all k d low = absurd (omega (arith, low))
     each_from P (x ∷ xs) all zero d low = all.0
     each_from P (x ∷ xs) all (suc k) d low = each_from P xs all.1 k d (omega (arith, low))
 
-    pub listed_at : (j : ℕ) (d : Field) → j < length fields → IsListed 0 (get_or fields j d)
+    pub listed_at : (j : ℕ) (d : FixupField) → j < length fields → IsListed 0 (get_or fields j d)
     listed_at j d low = All-permutation (IsListed 0) (fields_of m keep fs) fields are (each_from (IsListed 0) (fields_of m keep fs) all_listed) j d low
 
     -- none before it is at its place
-    pub not_among : (j : ℕ) (d : Field) → j < length fields → is_among (take j fields) (get_or fields j d).section (get_or fields j d).at ≡ false
+    pub not_among : (j : ℕ) (d : FixupField) → j < length fields → is_among (take j fields) (get_or fields j d).section (get_or fields j d).at ≡ false
     not_among j d low = by (is_among (take j fields) (get_or fields j d).section (get_or fields j d).at) refl
       where
-        same_default : (q : ℕ) (x : Field) → q < length fields → get_or fields q x ≡ get_or fields q d
+        same_default : (q : ℕ) (x : FixupField) → q < length fields → get_or fields q x ≡ get_or fields q d
         same_default q x l = get_or_from_slice_get fields q (get_or fields q d) x (slice_get-get_or fields q d l)
 
         by : (b : Bool) → is_among (take j fields) (get_or fields j d).section (get_or fields j d).at ≡ b → b ≡ false
         by false e = refl
-        by true e = of (Any-from_list_any (λ (x : Field). nat_eq x.section (get_or fields j d).section && nat_eq x.at (get_or fields j d).at) (take j fields) e)
+        by true e = of (Any-from_list_any (λ (x : FixupField). nat_eq x.section (get_or fields j d).section && nat_eq x.at (get_or fields j d).at) (take j fields) e)
           where
-            of : Any (λ (x : Field). (nat_eq x.section (get_or fields j d).section && nat_eq x.at (get_or fields j d).at) ≡ true) (take j fields) → true ≡ false
+            of : Any (λ (x : FixupField). (nat_eq x.section (get_or fields j d).section && nat_eq x.at (get_or fields j d).at) ≡ true) (take j fields) → true ≡ false
             of n =
                 let below : n.0 < j = let l = n.2 in omega (arith, l, length-take j fields) in
                 let is : get_or fields n.0 d ≡ n.1 = sym (same_default n.0 n.1 (omega (arith, below, low))) ∙ sym (get_or-take j fields n.0 n.1 below) ∙ n.3 in
                 let apart = apart_from_distinct at_one fields n.0 j d (IsDistinct-IsPermutation at_one at_one_flips (fields_of m keep fs) fields are all_distinct) below low in
-                sym n.4 ∙ ap (λ (x : Field). at_one x (get_or fields j d)) (sym is) ∙ apart
+                sym n.4 ∙ ap (λ (x : FixupField). at_one x (get_or fields j d)) (sym is) ∙ apart
 
     pub among_same : (s at : ℕ) → is_among fields s at ≡ is_among (fields_of m keep fs) s at
-    among_same s at = sym (list_any-IsPermutation (λ (e : Field). nat_eq e.section s && nat_eq e.at at) (fields_of m keep fs) fields are)
+    among_same s at = sym (list_any-IsPermutation (λ (e : FixupField). nat_eq e.section s && nat_eq e.at at) (fields_of m keep fs) fields are)

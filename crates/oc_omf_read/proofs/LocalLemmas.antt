@@ -16,9 +16,9 @@ use Rattle.oc_omf.specs.Structures.{External, Public}
 use Rattle.oc_omf.specs.Entries.{Entry, all_read}
 use Rattle.oc_omf.specs.Symbols.{Mention, external_mention, public_mention, public_of, same_symbol}
 use Rattle.oc_omf.specs.SymbolFaults as faults
-use Rattle.oc_omf.specs.SymbolFaults.{base_conditions, communal_conditions, external_conditions, externals_before, is_empty, is_other_length, is_undefined, symbol_fault, public_conditions, symbol_stage, symbol_stages, symbol_table, told_conditions}
+use Rattle.oc_omf.specs.SymbolFaults.{base_conditions, communal_conditions, external_conditions, externals_before, is_empty, is_other_length, is_undefined, symbol_fault, public_conditions, symbol_stage, symbol_stages, symbol_table, read_conditions}
 use Rattle.oc_omf.specs.Tables.{tables_of}
-use Rattle.oc_omf_read.specs.Heard.{Told, of_external, of_public, told_by, told_in}
+use Rattle.oc_omf_read.specs.Declarations.{Declaration, of_external, of_public, declarations_by, declarations_in}
 use Rattle.oc_omf_read.specs.Mentioned.{mention_of, place_by, place_in, place_said, symbols_told}
 use Rattle.oc_omf_read.proofs.BindingLemmas.{places_are}
 use Rattle.oc_omf_read.proofs.ContentLemmas.{all_append, all_flat}
@@ -47,10 +47,10 @@ behind P [] ys all = all
 behind P (x ∷ xs) ys all = behind P xs ys all.1
 
 -- an external of the module alone is defined in it
-abbrev IsDefined : faults.Told → External → Type 0
+abbrev IsDefined : faults.EntryContext → External → Type 0
 IsDefined x y = is_undefined x.all y ≡ false
 
-external_defined : (x : faults.Told) (j : ℕ) (at : ℕ × ℕ) (y : External) → first_broken (external_conditions x j at y) ≡ None → IsDefined x y
+external_defined : (x : faults.EntryContext) (j : ℕ) (at : ℕ × ℕ) (y : External) → first_broken (external_conditions x j at y) ≡ None → IsDefined x y
 unfolding external_conditions
 external_defined x j at y clean =
     let rest : List Condition =
@@ -59,32 +59,32 @@ external_defined x j at y clean =
     let both = clean_both (option_map_or (communal_conditions at) y.communal []) rest clean in
     (all_hold rest both.1).0
 
-externals_defined : (x : faults.Told) (n : ℕ) (ss : List (Read External))
-    → AllByRecursion (λ (cs : List Condition). first_broken cs ≡ None) (map (λ (y : ℕ × Read External). told_conditions x.index (external_conditions x y.0) y.1) (enumerate_from n ss)) → AllByRecursion (IsDefined x) (all_read ss)
+externals_defined : (x : faults.EntryContext) (n : ℕ) (ss : List (Read External))
+    → AllByRecursion (λ (cs : List Condition). first_broken cs ≡ None) (map (λ (y : ℕ × Read External). read_conditions x.index (external_conditions x y.0) y.1) (enumerate_from n ss)) → AllByRecursion (IsDefined x) (all_read ss)
 externals_defined x n [] all = tt
 externals_defined x n (s ∷ ss) all = by s.part all.0 (externals_defined x (n + 1) ss all.1)
   where
-    by : (r : Result External Cut) → first_broken (told_conditions x.index (external_conditions x n) (record { at = s.at; part = r })) ≡ None → AllByRecursion (IsDefined x) (all_read ss)
+    by : (r : Result External Cut) → first_broken (read_conditions x.index (external_conditions x n) (record { at = s.at; part = r })) ≡ None → AllByRecursion (IsDefined x) (all_read ss)
         → AllByRecursion (IsDefined x) (all_read (record { at = s.at; part = r } ∷ ss))
     by (Ok y) clean rest = (external_defined x n (x.index, s.at) y clean, rest)
     by (Err c) clean rest = absurd (none-some _ (sym clean))
 
-entry_defined : (x : faults.Told) → stage_fault (symbol_stage x) ≡ None → AllByRecursion (IsDefined x) (all_read x.entry.externals)
+entry_defined : (x : faults.EntryContext) → stage_fault (symbol_stage x) ≡ None → AllByRecursion (IsDefined x) (all_read x.entry.externals)
 unfolding symbol_table
 entry_defined x clean =
     let all = all_lists (symbol_table x) (λ j low. clean_at (fault_of (symbol_stage x)) (length (symbol_table x)) j clean low) in
     externals_defined x 0 x.entry.externals
-    (behind (λ (cs : List Condition). first_broken cs ≡ None) (map (λ (p : ℕ × Read Public). told_conditions x.index (public_conditions x p.0) p.1) (enumerate_from 0 x.entry.publics)) _
-    (behind (λ (cs : List Condition). first_broken cs ≡ None) (map (told_conditions x.index (base_conditions (length x.before.groups) (length x.before.segments))) x.entry.bases) _ all))
+    (behind (λ (cs : List Condition). first_broken cs ≡ None) (map (λ (p : ℕ × Read Public). read_conditions x.index (public_conditions x p.0) p.1) (enumerate_from 0 x.entry.publics)) _
+    (behind (λ (cs : List Condition). first_broken cs ≡ None) (map (read_conditions x.index (base_conditions (length x.before.groups) (length x.before.segments))) x.entry.bases) _ all))
 
 pub all_defined : (es : List Entry) → first_fault (symbol_stages es) ≡ None → (i : ℕ) (e : Entry) → slice_get es i ≡ Some e → AllByRecursion (λ (y : External). is_undefined (tables_of es) y ≡ false) (all_read e.externals)
-all_defined es clean i e here = entry_defined (faults.told_in es (i, e)) (stage_clean (λ x. symbol_stage (faults.told_in es x)) (enumerate_from 0 es) i (i, e) clean (numbered_at es i e here))
+all_defined es clean i e here = entry_defined (faults.entry_context es (i, e)) (stage_clean (λ x. symbol_stage (faults.entry_context es x)) (enumerate_from 0 es) i (i, e) clean (numbered_at es i e here))
 
 -- ... mentions
 
 -- a symbol of the module alone has a place
-abbrev pub HasPlace : List Entry → Told → Type 0
-HasPlace es t = t.local ≡ true → is_some (place_in (mention_of t) (told_in es)) ≡ true
+abbrev pub HasPlace : List Entry → Declaration → Type 0
+HasPlace es t = t.local ≡ true → is_some (place_in (mention_of t) (declarations_in es)) ≡ true
 
 public_found : (x : Mention) (ps : List Public) → list_any (λ p. same_symbol x (public_mention p)) ps ≡ true → is_some (find (λ p. same_symbol x (public_mention p)) ps) ≡ true
 public_found x [] e = absurd (true≢false (sym e))
@@ -109,10 +109,10 @@ external_placed es y defined local =
     by true false e f = absurd (true≢false f)
     by false b e f = absurd (true≢false (sym e))
 
-place_there : (ts : List Told) (k : ℕ) (t : Told) → slice_get ts k ≡ Some t → is_some (place_said t.says) ≡ true → is_some (place_in (mention_of t) ts) ≡ true
+place_there : (ts : List Declaration) (k : ℕ) (t : Declaration) → slice_get ts k ≡ Some t → is_some (place_said t.says) ≡ true → is_some (place_in (mention_of t) ts) ≡ true
 place_there [] k t here some = absurd (none-some t here)
 place_there (u ∷ us) zero t here some =
-    subst (λ (u : Told). is_some (or_else (place_by (mention_of t) u) (place_in (mention_of t) us)) ≡ true) (sym (same_Some u t here))
+    subst (λ (u : Declaration). is_some (or_else (place_by (mention_of t) u) (place_in (mention_of t) us)) ≡ true) (sym (same_Some u t here))
     (first (place_by (mention_of t) t) (place_in (mention_of t) us) (ap (λ b. is_some (cond b (place_said t.says) None)) (same_self (mention_of t)) ∙ some))
   where
     first : (a b : Option (ℕ × ℕ)) → is_some a ≡ true → is_some (or_else a b) ≡ true
@@ -125,7 +125,7 @@ place_there (u ∷ us) (suc k) t here some = second (place_by (mention_of t) u) 
     second (Some x) b e = refl
 
 -- a mention says where its symbol is, or has one that is placed
-abbrev IsGood : List Entry → Told → Type 0
+abbrev IsGood : List Entry → Declaration → Type 0
 IsGood es t = (is_some (place_said t.says) ≡ true) ⊎ HasPlace es t
 
 publics_good : (es : List Entry) (ps : List Public) → AllByRecursion (IsGood es) (map of_public ps)
@@ -137,24 +137,24 @@ externals_good es [] all = tt
 externals_good es (y ∷ ys) all = (inr (external_placed es y all.0), externals_good es ys all.1)
 
 module _ (es : List Entry) (clean : first_fault (symbol_stages es) ≡ None) where
-  told_good : AllByRecursion (IsGood es) (told_in es)
-  unfolding told_in
-  told_good = all_flat (IsGood es) told_by es (λ i e here.
+  told_good : AllByRecursion (IsGood es) (declarations_in es)
+  unfolding declarations_in
+  told_good = all_flat (IsGood es) declarations_by es (λ i e here.
       all_append (IsGood es) (map of_public (all_read e.publics)) (map of_external (all_read e.externals)) (publics_good es (all_read e.publics)) (externals_good es (all_read e.externals) (all_defined es clean i e here)))
 
   -- each mention of a symbol of the module alone is of one that is placed
-  told_placed : (k : ℕ) (t : Told) → slice_get (told_in es) k ≡ Some t → HasPlace es t
-  told_placed k t here local = elim (each_at (IsGood es) (told_in es) k t told_good here) [
-    | inl some ↦ place_there (told_in es) k t here some
+  told_placed : (k : ℕ) (t : Declaration) → slice_get (declarations_in es) k ≡ Some t → HasPlace es t
+  told_placed k t here local = elim (each_at (IsGood es) (declarations_in es) k t told_good here) [
+    | inl some ↦ place_there (declarations_in es) k t here some
     | inr placed ↦ placed local
   ]
 
-  pub any_there : (x : Mention) (ts : List Told) → list_any (same_symbol x) (map mention_of ts) ≡ true → (k : ℕ) × (t : Told) × (slice_get ts k ≡ Some t) × (mention_of t ≡ x)
+  pub any_there : (x : Mention) (ts : List Declaration) → list_any (same_symbol x) (map mention_of ts) ≡ true → (k : ℕ) × (t : Declaration) × (slice_get ts k ≡ Some t) × (mention_of t ≡ x)
   any_there x [] e = absurd (true≢false (sym e))
   any_there x (t ∷ ts) e = by (same_symbol x (mention_of t)) refl e (any_there x ts)
     where
       by : (b : Bool) → same_symbol x (mention_of t) ≡ b → (b || list_any (same_symbol x) (map mention_of ts)) ≡ true
-          → (list_any (same_symbol x) (map mention_of ts) ≡ true → (k : ℕ) × (t : Told) × (slice_get ts k ≡ Some t) × (mention_of t ≡ x)) → (k : ℕ) × (u : Told) × (slice_get (t ∷ ts) k ≡ Some u) × (mention_of u ≡ x)
+          → (list_any (same_symbol x) (map mention_of ts) ≡ true → (k : ℕ) × (t : Declaration) × (slice_get ts k ≡ Some t) × (mention_of t ≡ x)) → (k : ℕ) × (u : Declaration) × (slice_get (t ∷ ts) k ≡ Some u) × (mention_of u ≡ x)
       by true f h rest = (0, t, refl, sym (same_is x (mention_of t) f))
       by false f h rest = let m = rest h in (suc m.0, m.1, m.2, m.3)
 
@@ -168,7 +168,7 @@ module _ (es : List Entry) (clean : first_fault (symbol_stages es) ≡ None) whe
       or_true false = refl
 
   -- each symbol of the module alone has a place
-  pub local_placed : (k : ℕ) (x : Mention) → slice_get (symbols_told (told_in es)) k ≡ Some x → x.local ≡ true → is_some (place_in x (told_in es)) ≡ true
+  pub local_placed : (k : ℕ) (x : Mention) → slice_get (symbols_told (declarations_in es)) k ≡ Some x → x.local ≡ true → is_some (place_in x (declarations_in es)) ≡ true
   local_placed k x here local =
-      let m = any_there x (told_in es) (sym (any_told x (told_in es)) ∙ any_at (symbols_told (told_in es)) k x here) in
-      subst (λ (z : Mention). is_some (place_in z (told_in es)) ≡ true) m.3 (told_placed m.0 m.1 m.2 (ap (λ (z : Mention). z.local) m.3 ∙ local))
+      let m = any_there x (declarations_in es) (sym (any_told x (declarations_in es)) ∙ any_at (symbols_told (declarations_in es)) k x here) in
+      subst (λ (z : Mention). is_some (place_in z (declarations_in es)) ≡ true) m.3 (told_placed m.0 m.1 m.2 (ap (λ (z : Mention). z.local) m.3 ∙ local))

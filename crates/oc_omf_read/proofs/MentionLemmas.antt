@@ -8,9 +8,9 @@ use Rattle.std.proofs.lemmas.List.Folds.{list_any-append}
 use Rattle.std.proofs.lemmas.Grind.{fold-append}
 use Rattle.oc_linking.specs.Numbers.{or_else}
 use Rattle.oc_omf.specs.Symbols.{Mention, number_of, same_symbol, with_new}
-use Rattle.oc_omf_read.specs.Heard.{Told}
+use Rattle.oc_omf_read.specs.Declarations.{Declaration}
 use Rattle.oc_omf_judge.proofs.MentionLemmas.{same_is, same_self}
-use Rattle.oc_omf_read.specs.Mentioned.{Seen, blank, external_number, external_said, length_by, length_in, length_said, mention_of, number_among, place_by, place_in, place_said, seen_in, seen_more, symbols_told}
+use Rattle.oc_omf_read.specs.Mentioned.{ModuleSymbol, blank, external_number, external_said, length_by, length_in, length_said, mention_of, number_among, place_by, place_in, place_said, seen_in, seen_more, symbols_told}
 
 -- ... some symbols
 
@@ -45,7 +45,7 @@ any_new x y ms = by (list_any (same_symbol y) ms) refl
         among true f = (ap (λ (z : Mention). list_any (same_symbol z) ms) (same_is x y f) ∙ e) ∙ sym (or_true (list_any (same_symbol x) ms))
 
 -- the symbols are those that are mentioned
-pub any_told : (x : Mention) (ts : List Told) → list_any (same_symbol x) (symbols_told ts) ≡ list_any (same_symbol x) (map mention_of ts)
+pub any_told : (x : Mention) (ts : List Declaration) → list_any (same_symbol x) (symbols_told ts) ≡ list_any (same_symbol x) (map mention_of ts)
 any_told x ts = by [] (map mention_of ts)
   where
     by : (init ms : List Mention) → list_any (same_symbol x) (fold with_new init ms) ≡ (list_any (same_symbol x) init || list_any (same_symbol x) ms)
@@ -56,7 +56,7 @@ any_told x ts = by [] (map mention_of ts)
         over true b c = refl
         over false b c = refl
 
-pub symbols_push : (ts : List Told) (t : Told) → symbols_told (ts ++ t ∷ []) ≡ with_new (symbols_told ts) (mention_of t)
+pub symbols_push : (ts : List Declaration) (t : Declaration) → symbols_told (ts ++ t ∷ []) ≡ with_new (symbols_told ts) (mention_of t)
 symbols_push ts t = ap (fold with_new []) (map-append mention_of ts (t ∷ [])) ∙ fold-append with_new [] (map mention_of ts) (mention_of t ∷ [])
 
 -- ... each once
@@ -82,7 +82,7 @@ apart_new ms y apart = by (list_any (same_symbol y) ms) refl
     by true e = apart
     by false e = apart_push ms y apart e
 
-pub symbols_apart : (ts : List Told) → AreApart (symbols_told ts)
+pub symbols_apart : (ts : List Declaration) → AreApart (symbols_told ts)
 symbols_apart ts = by [] (map mention_of ts) tt
   where
     by : (init ms : List Mention) → AreApart init → AreApart (fold with_new init ms)
@@ -145,52 +145,52 @@ or_else_none : {X : Type 0} (a : Option X) → or_else a None ≡ a
 or_else_none None = refl
 or_else_none (Some x) = refl
 
-pub place_push : (x : Mention) (ts : List Told) (t : Told) → place_in x (ts ++ t ∷ []) ≡ or_else (place_in x ts) (place_by x t)
+pub place_push : (x : Mention) (ts : List Declaration) (t : Declaration) → place_in x (ts ++ t ∷ []) ≡ or_else (place_in x ts) (place_by x t)
 place_push x [] t = or_else_none (place_by x t)
 place_push x (s ∷ ts) t = ap (or_else (place_by x s)) (place_push x ts t) ∙ sym (or_else_over (place_by x s) (place_in x ts) (place_by x t))
 
-pub length_push : (x : Mention) (ts : List Told) (t : Told) → length_in x (ts ++ t ∷ []) ≡ or_else (length_in x ts) (length_by x t)
+pub length_push : (x : Mention) (ts : List Declaration) (t : Declaration) → length_in x (ts ++ t ∷ []) ≡ or_else (length_in x ts) (length_by x t)
 length_push x [] t = or_else_none (length_by x t)
 length_push x (s ∷ ts) t = ap (or_else (length_by x s)) (length_push x ts t) ∙ sym (or_else_over (length_by x s) (length_in x ts) (length_by x t))
 
 -- nothing is said of a symbol that is not mentioned
-place_none : (x : Mention) (ts : List Told) → Unlike x (map mention_of ts) → place_in x ts ≡ None
+place_none : (x : Mention) (ts : List Declaration) → Unlike x (map mention_of ts) → place_in x ts ≡ None
 place_none x [] new = refl
 place_none x (t ∷ ts) new =
     let both = unlike_or (same_symbol x (mention_of t)) (list_any (same_symbol x) (map mention_of ts)) new in
     ap (λ b. or_else (cond b (place_said t.says) None) (place_in x ts)) both.0 ∙ place_none x ts both.1
 
-length_none : (x : Mention) (ts : List Told) → Unlike x (map mention_of ts) → length_in x ts ≡ None
+length_none : (x : Mention) (ts : List Declaration) → Unlike x (map mention_of ts) → length_in x ts ≡ None
 length_none x [] new = refl
 length_none x (t ∷ ts) new =
     let both = unlike_or (same_symbol x (mention_of t)) (list_any (same_symbol x) (map mention_of ts)) new in
     ap (λ b. or_else (cond b (length_said t.says) None) (length_in x ts)) both.0 ∙ length_none x ts both.1
 
-seen_none : (ts : List Told) (x : Mention) → Unlike x (symbols_told ts) → seen_in ts x ≡ blank x
+seen_none : (ts : List Declaration) (x : Mention) → Unlike x (symbols_told ts) → seen_in ts x ≡ blank x
 seen_none ts x new =
     let new_told : Unlike x (map mention_of ts) = sym (any_told x ts) ∙ new in
     ap (λ (o : Option (ℕ × ℕ)). record { local = x.local; name = x.name; place = o; length = length_in x ts }) (place_none x ts new_told)
     ∙ ap (λ (o : Option ℕ). record { local = x.local; name = x.name; place = None; length = o }) (length_none x ts new_told)
 
 -- what is seen of the symbols, with the next one, where that is new
-pub seen_with : (ts : List Told) (y : Mention) (seen : List Seen) → seen ≡ cond (list_any (same_symbol y) (symbols_told ts)) (map (seen_in ts) (symbols_told ts)) (map (seen_in ts) (symbols_told ts) ++ blank y ∷ [])
+pub seen_with : (ts : List Declaration) (y : Mention) (seen : List ModuleSymbol) → seen ≡ cond (list_any (same_symbol y) (symbols_told ts)) (map (seen_in ts) (symbols_told ts)) (map (seen_in ts) (symbols_told ts) ++ blank y ∷ [])
     → seen ≡ map (seen_in ts) (with_new (symbols_told ts) y)
 seen_with ts y seen is = is ∙ by (list_any (same_symbol y) (symbols_told ts)) refl
   where
     by : (b : Bool) → list_any (same_symbol y) (symbols_told ts) ≡ b → cond b (map (seen_in ts) (symbols_told ts)) (map (seen_in ts) (symbols_told ts) ++ blank y ∷ []) ≡ map (seen_in ts) (cond b (symbols_told ts) (symbols_told ts ++ y ∷ []))
     by true e = refl
-    by false e = ap (λ (s : Seen). map (seen_in ts) (symbols_told ts) ++ s ∷ []) (sym (seen_none ts y e)) ∙ sym (map-append (seen_in ts) (symbols_told ts) (y ∷ []))
+    by false e = ap (λ (s : ModuleSymbol). map (seen_in ts) (symbols_told ts) ++ s ∷ []) (sym (seen_none ts y e)) ∙ sym (map-append (seen_in ts) (symbols_told ts) (y ∷ []))
 
 -- ... one mention more
 
-seen_other : (ts : List Told) (t : Told) (y : Mention) → same_symbol y (mention_of t) ≡ false → seen_in (ts ++ t ∷ []) y ≡ seen_in ts y
+seen_other : (ts : List Declaration) (t : Declaration) (y : Mention) → same_symbol y (mention_of t) ≡ false → seen_in (ts ++ t ∷ []) y ≡ seen_in ts y
 seen_other ts t y other =
     ap (λ (o : Option (ℕ × ℕ)). record { local = y.local; name = y.name; place = o; length = length_in y (ts ++ t ∷ []) })
     (place_push y ts t ∙ ap (λ b. or_else (place_in y ts) (cond b (place_said t.says) None)) other ∙ or_else_none (place_in y ts))
     ∙ ap (λ (o : Option ℕ). record { local = y.local; name = y.name; place = place_in y ts; length = o })
     (length_push y ts t ∙ ap (λ b. or_else (length_in y ts) (cond b (length_said t.says) None)) other ∙ or_else_none (length_in y ts))
 
-seen_same : (ts : List Told) (t : Told) → seen_in (ts ++ t ∷ []) (mention_of t) ≡ seen_more t.says (seen_in ts (mention_of t))
+seen_same : (ts : List Declaration) (t : Declaration) → seen_in (ts ++ t ∷ []) (mention_of t) ≡ seen_more t.says (seen_in ts (mention_of t))
 seen_same ts t =
     let x : Mention = mention_of t in
     ap (λ (o : Option (ℕ × ℕ)). record { local = x.local; name = x.name; place = o; length = length_in x (ts ++ t ∷ []) })
@@ -198,18 +198,18 @@ seen_same ts t =
     ∙ ap (λ (o : Option ℕ). record { local = x.local; name = x.name; place = or_else (place_in x ts) (place_said t.says); length = o })
     (length_push x ts t ∙ ap (λ b. or_else (length_in x ts) (cond b (length_said t.says) None)) (same_self x))
 
-seen_others : (ts : List Told) (t : Told) (ms : List Mention) → Unlike (mention_of t) ms → map (seen_in (ts ++ t ∷ [])) ms ≡ map (seen_in ts) ms
+seen_others : (ts : List Declaration) (t : Declaration) (ms : List Mention) → Unlike (mention_of t) ms → map (seen_in (ts ++ t ∷ [])) ms ≡ map (seen_in ts) ms
 seen_others ts t [] new = refl
 seen_others ts t (m ∷ ms) new =
     let both = unlike_or (same_symbol (mention_of t) m) (list_any (same_symbol (mention_of t)) ms) new in
-    ap (λ (s : Seen). s ∷ map (seen_in (ts ++ t ∷ [])) ms) (seen_other ts t m (apart (same_symbol m (mention_of t)) refl both.0)) ∙ ap (λ (ss : List Seen). seen_in ts m ∷ ss) (seen_others ts t ms both.1)
+    ap (λ (s : ModuleSymbol). s ∷ map (seen_in (ts ++ t ∷ [])) ms) (seen_other ts t m (apart (same_symbol m (mention_of t)) refl both.0)) ∙ ap (λ (ss : List ModuleSymbol). seen_in ts m ∷ ss) (seen_others ts t ms both.1)
   where
     apart : (b : Bool) → same_symbol m (mention_of t) ≡ b → same_symbol (mention_of t) m ≡ false → b ≡ false
     apart false e f = refl
     apart true e f = absurd (true≢false (sym (same_self m) ∙ ap (λ (z : Mention). same_symbol z m) (same_is m (mention_of t) e) ∙ f))
 
 -- the symbol of the mention is changed alone
-pub seen_set : (ts : List Told) (t : Told) (ms : List Mention) → AreApart ms → list_any (same_symbol (mention_of t)) ms ≡ true
+pub seen_set : (ts : List Declaration) (t : Declaration) (ms : List Mention) → AreApart ms → list_any (same_symbol (mention_of t)) ms ≡ true
     → set (map (seen_in ts) ms) (number_of ms (mention_of t)) (seen_more t.says (seen_in ts (mention_of t))) ≡ map (seen_in (ts ++ t ∷ [])) ms
 seen_set ts t [] apart there = absurd (true≢false (sym there))
 seen_set ts t (m ∷ ms) apart there = by (same_symbol (mention_of t) m) refl there (seen_set ts t ms apart.1)
@@ -220,11 +220,11 @@ seen_set ts t (m ∷ ms) apart there = by (same_symbol (mention_of t) m) refl th
     by true e h rest =
         let is : mention_of t ≡ m = same_is (mention_of t) m e in
         let new : Unlike (mention_of t) ms = ap (λ (z : Mention). list_any (same_symbol z) ms) is ∙ apart.0 in
-        ap (λ (s : Seen). s ∷ map (seen_in ts) ms) (sym (seen_same ts t) ∙ ap (seen_in (ts ++ t ∷ [])) is) ∙ ap (λ (ss : List Seen). seen_in (ts ++ t ∷ []) m ∷ ss) (sym (seen_others ts t ms new))
+        ap (λ (s : ModuleSymbol). s ∷ map (seen_in ts) ms) (sym (seen_same ts t) ∙ ap (seen_in (ts ++ t ∷ [])) is) ∙ ap (λ (ss : List ModuleSymbol). seen_in (ts ++ t ∷ []) m ∷ ss) (sym (seen_others ts t ms new))
     by false e h rest =
         let step : 1 + number_of ms (mention_of t) ≡ suc (number_of ms (mention_of t)) = omega arith in
         ap (λ (n : ℕ). set (seen_in ts m ∷ map (seen_in ts) ms) n (seen_more t.says (seen_in ts (mention_of t)))) step
-        ∙ ap (λ (ss : List Seen). seen_in ts m ∷ ss) (rest h) ∙ ap (λ (s : Seen). s ∷ map (seen_in (ts ++ t ∷ [])) ms) (sym (seen_other ts t m (unlike_back (same_symbol m (mention_of t)) refl)))
+        ∙ ap (λ (ss : List ModuleSymbol). seen_in ts m ∷ ss) (rest h) ∙ ap (λ (s : ModuleSymbol). s ∷ map (seen_in (ts ++ t ∷ [])) ms) (sym (seen_other ts t m (unlike_back (same_symbol m (mention_of t)) refl)))
       where
         unlike_back : (b : Bool) → same_symbol m (mention_of t) ≡ b → b ≡ false
         unlike_back false f = refl
@@ -233,14 +233,14 @@ seen_set ts t (m ∷ ms) apart there = by (same_symbol (mention_of t) m) refl th
 -- ... externals
 
 -- their symbols keep their numbers
-pub externals_keep : (ms : List Mention) (y : Mention) (ts : List Told) → ((t : Told) → list_any (same_symbol (mention_of t)) (map mention_of ts) ≡ true → list_any (same_symbol (mention_of t)) ms ≡ true)
+pub externals_keep : (ms : List Mention) (y : Mention) (ts : List Declaration) → ((t : Declaration) → list_any (same_symbol (mention_of t)) (map mention_of ts) ≡ true → list_any (same_symbol (mention_of t)) ms ≡ true)
     → filter_map (external_number (with_new ms y)) ts ≡ filter_map (external_number ms) ts
 externals_keep ms y ts there = by (list_any (same_symbol y) ms)
   where
-    one : (t : Told) → list_any (same_symbol (mention_of t)) ms ≡ true → external_number (ms ++ y ∷ []) t ≡ external_number ms t
+    one : (t : Declaration) → list_any (same_symbol (mention_of t)) ms ≡ true → external_number (ms ++ y ∷ []) t ≡ external_number ms t
     one t e = ap (λ (n : ℕ). external_said n t.says) (number_front (mention_of t) y ms e)
 
-    grown : (us : List Told) → ((t : Told) → list_any (same_symbol (mention_of t)) (map mention_of us) ≡ true → list_any (same_symbol (mention_of t)) ms ≡ true)
+    grown : (us : List Declaration) → ((t : Declaration) → list_any (same_symbol (mention_of t)) (map mention_of us) ≡ true → list_any (same_symbol (mention_of t)) ms ≡ true)
         → filter_map (external_number (ms ++ y ∷ [])) us ≡ filter_map (external_number ms) us
     grown [] all = refl
     grown (u ∷ us) all =

@@ -16,8 +16,8 @@ use Rattle.oc_omf.specs.Cursor.{Reading, index_read, next, number_read}
 use Rattle.oc_omf.specs.Entries.{all_read, is_wide}
 use Rattle.oc_omf.specs.Sections.{blocks_in}
 use Rattle.oc_omf.specs.Structures.{Piece, blocks_by, long_size, piece_read}
-use Rattle.oc_omf_read.specs.declared.class.Class.{Class}
-use Rattle.oc_omf_read.specs.declared.class.Class.TheVariants as class
+use Rattle.oc_omf_read.specs.declared.class.EntryClass.{EntryClass}
+use Rattle.oc_omf_read.specs.declared.class.EntryClass.TheVariants as class
 use Rattle.oc_omf_read.specs.Classes.{class_of}
 use Rattle.oc_omf_read.specs.Defined.{read_in, said}
 use Rattle.oc_omf_read.proofs.ClassLemmas.{has_no_data}
@@ -87,10 +87,10 @@ piece_copied wide iterated b = by_index (index_read b 0)
 pub pieces_copied : (r : Record) → AllByRecursion IsCopied (all_read (said r).pieces)
 pieces_copied r = by (class_of r.kind) refl
   where
-    nothing : (k : Class) → class_of r.kind ≡ k → has_no_data k ≡ true → AllByRecursion IsCopied (all_read (said r).pieces)
+    nothing : (k : EntryClass) → class_of r.kind ≡ k → has_no_data k ≡ true → AllByRecursion IsCopied (all_read (said r).pieces)
     nothing k is e = subst (AllByRecursion IsCopied) (sym (no_pieces r k is e)) tt
 
-    by : (k : Class) → class_of r.kind ≡ k → AllByRecursion IsCopied (all_read (said r).pieces)
+    by : (k : EntryClass) → class_of r.kind ≡ k → AllByRecursion IsCopied (all_read (said r).pieces)
     by class.Plain is = subst (AllByRecursion IsCopied) (sym (plain_pieces r is)) (piece_copied (is_wide r.kind) false r.contents)
     by class.Iterated is = subst (AllByRecursion IsCopied) (sym (iterated_pieces r is)) (piece_copied (is_wide r.kind) true r.contents)
     by class.Names is = nothing class.Names is refl

@@ -8,8 +8,8 @@ use Rattle.oc_omf.specs.Cursor.{Reading, index_read, next, number_read}
 use Rattle.oc_omf.specs.Structures.{blocks_by, long_size, piece_read}
 use Rattle.oc_omf.specs.Entries.{Entry, all_read, is_wide}
 use Rattle.oc_omf.specs.Sections.{blocks_in}
-use Rattle.oc_omf_read.specs.declared.class.Class.{Class}
-use Rattle.oc_omf_read.specs.declared.class.Class.TheVariants as class
+use Rattle.oc_omf_read.specs.declared.class.EntryClass.{EntryClass}
+use Rattle.oc_omf_read.specs.declared.class.EntryClass.TheVariants as class
 use Rattle.oc_omf_read.specs.declared.pieces.Piece.{Piece}
 use Rattle.oc_omf_read.specs.Classes.{class_of}
 use Rattle.oc_omf_read.specs.Defined.{read_in, said}
@@ -49,7 +49,7 @@ plain_pieces r is = ap (λ (e : Entry). all_read e.pieces) (said_by_class r clas
 pub iterated_pieces : (r : Record) → class_of r.kind ≡ class.Iterated → all_read (said r).pieces ≡ read_in (piece_read (is_wide r.kind) true r.contents 0)
 iterated_pieces r is = ap (λ (e : Entry). all_read e.pieces) (said_by_class r class.Iterated is) ∙ read_whole r.place (piece_read (is_wide r.kind) true r.contents 0)
 
-pub no_pieces : (r : Record) (k : Class) → class_of r.kind ≡ k → has_no_data k ≡ true → all_read (said r).pieces ≡ []
+pub no_pieces : (r : Record) (k : EntryClass) → class_of r.kind ≡ k → has_no_data k ≡ true → all_read (said r).pieces ≡ []
 no_pieces r class.Names is e = ap (λ (e : Entry). all_read e.pieces) (said_by_class r class.Names is)
 no_pieces r class.Segment is e = ap (λ (e : Entry). all_read e.pieces) (said_by_class r class.Segment is)
 no_pieces r class.Group is e = ap (λ (e : Entry). all_read e.pieces) (said_by_class r class.Group is)

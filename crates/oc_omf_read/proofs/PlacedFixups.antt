@@ -22,7 +22,7 @@ use Rattle.oc_omf.specs.declared.structures.Subrecord.{Subrecord}
 use Rattle.oc_omf.specs.declared.structures.Subrecord.TheVariants as subrecord
 use Rattle.oc_omf.specs.Entries.{Entry, all_read, entries_in}
 use Rattle.oc_omf.specs.Fields.{fixups_in, relocates}
-use Rattle.oc_omf.specs.Fixups.{Fixed, Placed, are_near, field_offsets, fixed_from, fixed_in, is_of_segment, last_of, meet, placed_upto, with_fixed}
+use Rattle.oc_omf.specs.Fixups.{Fixed, PlacedSubrecord, are_near, field_offsets, fixed_from, fixed_in, is_of_segment, last_of, meet, subrecords_upto, with_fixed}
 use Rattle.oc_omf.specs.RelocationFaults as faults
 use Rattle.oc_omf.specs.RelocationFaults.{is_judged, relocation_stages}
 use Rattle.oc_omf.specs.SectionFaults.{section_stage}
@@ -149,7 +149,7 @@ module _ (file : List ℕ) (keep : Keep) (sections : stage_fault (section_stage 
   abbrev HasSound : Fixed → Type 0
   HasSound f = (d : Piece) → f.piece ≡ Some d → IsSoundData d
 
-  from_placed : (earlier xs : List Placed) → AllByRecursion (λ (x : Placed). (d : Piece) → last_of x.before.pieces ≡ Some d → IsSoundData d) xs → AllByRecursion HasSound (fixed_from earlier xs)
+  from_placed : (earlier xs : List PlacedSubrecord) → AllByRecursion (λ (x : PlacedSubrecord). (d : Piece) → last_of x.before.pieces ≡ Some d → IsSoundData d) xs → AllByRecursion HasSound (fixed_from earlier xs)
   from_placed earlier [] all = tt
   from_placed earlier (x ∷ xs) all = by x.part (from_placed (earlier ++ x ∷ []) xs all.1)
     where
@@ -161,7 +161,7 @@ module _ (file : List ℕ) (keep : Keep) (sections : stage_fault (section_stage 
 
   all_sound : AllByRecursion HasSound fs
   unfolding fixed_in
-  all_sound = from_placed [] (placed_upto es (length es)) (each_placed es (λ (x : Placed). (d : Piece) → last_of x.before.pieces ≡ Some d → IsSoundData d) (λ i e s here d last. last_holds IsSoundData (tables_of (take i es)).pieces d (before_sound i) last))
+  all_sound = from_placed [] (subrecords_upto es (length es)) (each_placed es (λ (x : PlacedSubrecord). (d : Piece) → last_of x.before.pieces ≡ Some d → IsSoundData d) (λ i e s here d last. last_holds IsSoundData (tables_of (take i es)).pieces d (before_sound i) last))
 
   pub data_sound : (p : ℕ) (f : Fixed) (d : Piece) → slice_get fs p ≡ Some f → f.piece ≡ Some d → IsSoundData d
   data_sound p f d here behind = each_at HasSound fs p f all_sound here d behind

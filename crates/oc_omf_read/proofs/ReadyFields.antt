@@ -22,8 +22,8 @@ use Rattle.oc_omf.specs.SymbolFaults.{symbol_stages}
 use Rattle.oc_omf.specs.Symbols.{symbols_in}
 use Rattle.oc_omf.specs.Tables.{tables_of}
 use Rattle.oc_omf.specs.Targets.{meaning_of}
-use Rattle.oc_omf_read.specs.declared.fields.Field.{Field}
-use Rattle.oc_omf_read.specs.declared.fixes.Sight.{Sight}
+use Rattle.oc_omf_read.specs.declared.fields.FixupField.{FixupField}
+use Rattle.oc_omf_read.specs.declared.fixes.FixupContext.{FixupContext}
 use Rattle.oc_omf_read.specs.Adding.{IsReady}
 use Rattle.oc_omf_read.specs.Aims.{meaning_seen}
 use Rattle.oc_omf_read.specs.Built.{started}
@@ -31,7 +31,7 @@ use Rattle.oc_omf_read.specs.Contents.{AreStored, items_at}
 use Rattle.oc_omf_read.specs.Fields.{fields_of, given_with}
 use Rattle.oc_omf_read.specs.Fixing.{added_by, framed_as}
 use Rattle.oc_omf_read.specs.Given.{given_at}
-use Rattle.oc_omf_read.specs.Heard.{told_in}
+use Rattle.oc_omf_read.specs.Declarations.{declarations_in}
 use Rattle.oc_omf_read.proofs.ContentLemmas.{indexed_is}
 use Rattle.oc_omf_read.proofs.CountLemmas.{few_told}
 use Rattle.oc_omf_read.proofs.HearLemmas.{few_symbols}
@@ -60,12 +60,12 @@ pub few_symbols_in : (file : List ℕ) → IsModule file → first_fault (symbol
 few_symbols_in file head symbols =
     let many = as_many_symbols (entries_in file) symbols in
     let told = few_told file in
-    let few = few_symbols (told_in (entries_in file)) in
+    let few = few_symbols (declarations_in (entries_in file)) in
     let small = head.small in
     omega (arith, many, told, few, small)
 
-module _ (s : Sight) (vectors : List (Vec ℕ Global)) (ready : IsReady s vectors) (fields : List Field) (are : IsPermutation (fields_of (meaning_seen s) s.keep (fixups_in (entries_in s.omf.now))) fields)
-    (j : ℕ) (e : Field) (below : j < length fields) where
+module _ (s : FixupContext) (vectors : List (Vec ℕ Global)) (ready : IsReady s vectors) (fields : List FixupField) (are : IsPermutation (fields_of (meaning_seen s) s.keep (fixups_in (entries_in s.omf.now))) fields)
+    (j : ℕ) (e : FixupField) (below : j < length fields) where
   abbrev there : IsInside s.omf.now ready.bytes s.keep ready.sections ready.symbols ready.relocs (few_symbols_in s.omf.now ready.head ready.symbols) (get_or fields j e).section (get_or fields j e).at
   there = field_inside s.omf.now ready.bytes s.keep ready.sections ready.symbols ready.relocs (few_symbols_in s.omf.now ready.head ready.symbols) ready.start fields are j e below
 
@@ -87,12 +87,12 @@ module _ (s : Sight) (vectors : List (Vec ℕ Global)) (ready : IsReady s vector
       → IsTaken (started s.omf.now) d (get_or fields j e).section (get_or fields j e).at r (given_with (entries_in s.omf.now) s.keep (take (j + 1) fields))
   ready_taken d has number r read made =
       let k = field_taken s.omf.now ready.bytes s.keep ready.sections ready.symbols ready.relocs (few_symbols_in s.omf.now ready.head ready.symbols) ready.start fields are j e below d has in
-      let f : Field = get_or fields j e in
+      let f : FixupField = get_or fields j e in
       let same : reloc_as (meaning_seen s) f.section f.at f.fix ≡ r =
       ap (λ (n : ℕ). row_reloc W32 (fixup_row (framed_as f.fix.framed)) f.section (added_by f.fix n) f.fix.target) (sym (read ∙ number_is (entries_in s.omf.now) vectors ready.contents f.section f.at there.segment there.there there.stored))
       ∙ sym (made f.section) in
       subst (λ (q : Reloc). IsTaken (started s.omf.now) d f.section f.at q (given_with (entries_in s.omf.now) s.keep (take (j + 1) fields))) same k
 
-pub ready_done : (s : Sight) (vectors : List (Vec ℕ Global)) (ready : IsReady s vectors) (fields : List Field) → IsPermutation (fields_of (meaning_seen s) s.keep (fixups_in (entries_in s.omf.now))) fields → (n : ℕ) → n ≡ length fields → (x at : ℕ)
+pub ready_done : (s : FixupContext) (vectors : List (Vec ℕ Global)) (ready : IsReady s vectors) (fields : List FixupField) → IsPermutation (fields_of (meaning_seen s) s.keep (fixups_in (entries_in s.omf.now))) fields → (n : ℕ) → n ≡ length fields → (x at : ℕ)
     → given_with (entries_in s.omf.now) s.keep (take n fields) x at ≡ given_at (entries_in s.omf.now) s.keep x at
 ready_done s vectors ready fields are n all x at = all_done s.omf.now ready.bytes s.keep ready.sections ready.symbols ready.relocs (few_symbols_in s.omf.now ready.head ready.symbols) ready.start fields are n all x at

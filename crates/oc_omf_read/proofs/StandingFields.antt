@@ -19,8 +19,8 @@ use Rattle.oc_omf.specs.RelocationFaults.{relocation_stages}
 use Rattle.oc_omf.specs.Rules.{omf_dialect}
 use Rattle.oc_omf.specs.SectionFaults.{section_stage}
 use Rattle.oc_omf.specs.Targets.{Meaning, meaning_of}
-use Rattle.oc_omf_read.specs.declared.fix.Framed.{Framed}
-use Rattle.oc_omf_read.specs.declared.fix.Framed.TheVariants as framed
+use Rattle.oc_omf_read.specs.declared.fix.FixupFrame.{FixupFrame}
+use Rattle.oc_omf_read.specs.declared.fix.FixupFrame.TheVariants as framed
 use Rattle.oc_omf_read.specs.Fixing.{framed_as}
 use Rattle.oc_omf_read.specs.Given.{given_at}
 use Rattle.oc_omf_read.proofs.GivenFields.{free_or_given}
@@ -29,17 +29,17 @@ use Rattle.oc_omf_read.proofs.PlacedFixups.{apart_at}
 use Rattle.oc_shows.proofs.GivenLaws as laws
 
 -- no section is taken
-pub takes_none : (f : Framed) (s k : ℕ) → rows.less_of (fixup_row (framed_as f)).taken s ≡ less.Section k → ⊥
+pub takes_none : (f : FixupFrame) (s k : ℕ) → rows.less_of (fixup_row (framed_as f)).taken s ≡ less.Section k → ⊥
 takes_none framed.Flat s k e = cc
 takes_none framed.Home s k e = cc
 takes_none framed.Own s k e = cc
 
-width_four : (f : Framed) → (fixup_row (framed_as f)).width ≡ Four
+width_four : (f : FixupFrame) → (fixup_row (framed_as f)).width ≡ Four
 width_four framed.Flat = refl
 width_four framed.Home = refl
 width_four framed.Own = refl
 
-no_call : (f : Framed) → (fixup_row (framed_as f)).hint ≡ Call → ⊥
+no_call : (f : FixupFrame) → (fixup_row (framed_as f)).hint ≡ Call → ⊥
 no_call framed.Flat e = cc
 no_call framed.Home e = cc
 no_call framed.Own e = cc

@@ -38,8 +38,8 @@ use Rattle.oc_omf.specs.Tables as all
 use Rattle.oc_omf.specs.Tables.{name_at, tables_of}
 use Rattle.oc_omf_read.specs.Bindings.{binding_seen, place_binding}
 use Rattle.oc_omf_read.specs.Built.{started}
-use Rattle.oc_omf_read.specs.Heard.{told_in}
-use Rattle.oc_omf_read.specs.Mentioned.{Seen, seen_in}
+use Rattle.oc_omf_read.specs.Declarations.{declarations_in}
+use Rattle.oc_omf_read.specs.Mentioned.{ModuleSymbol, seen_in}
 use Rattle.oc_omf_read.proofs.BindingLemmas.{binding_is}
 
 -- ... no section is in a group
@@ -125,7 +125,7 @@ symbol_number es i s there = by (slice_get (enumerate_from 0 (mentions_in es)) i
 pub are_numbered : (es : List Entry) → AreNumbered (symbols_in es)
 are_numbered es i j s t low at_i at_j same = let a = symbol_number es i s at_i in let b = symbol_number es j t at_j in omega (arith, low, a, b, same)
 
-not_weak : (s : Seen) (g : Fallback) → binding_seen s ≡ Weak g → ⊥
+not_weak : (s : ModuleSymbol) (g : Fallback) → binding_seen s ≡ Weak g → ⊥
 not_weak s g e = by s.place s.length e
   where
     placed : (local : Bool) (place : ℕ × ℕ) → place_binding local place ≡ Weak g → ⊥
@@ -143,7 +143,7 @@ no_weak es k s g there is = by (slice_get (enumerate_from 0 (mentions_in es)) k)
   where
     by : (o : Option (ℕ × Mention)) → option_map (symbol_of (tables_of es)) o ≡ Some s → ⊥
     by None e = none-some s e
-    by (Some x) e = not_weak (seen_in (told_in es) x.1) g (sym (binding_is es x.1) ∙ ap (λ (y : parts.Symbol). y.binding) (same_Some (symbol_of (tables_of es) x) s e) ∙ is)
+    by (Some x) e = not_weak (seen_in (declarations_in es) x.1) g (sym (binding_is es x.1) ∙ ap (λ (y : parts.Symbol). y.binding) (same_Some (symbol_of (tables_of es) x) s e) ∙ is)
 
 pub is_started : (b : List ℕ) (keep : Keep) → IsDraft (started b) → IsStarted omf_dialect b keep (started b)
 is_started b keep draft =

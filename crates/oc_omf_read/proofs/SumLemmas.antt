@@ -24,8 +24,8 @@ use Rattle.oc_omf.specs.Tables as all
 use Rattle.oc_omf.specs.Tables.{tables_of}
 use Rattle.oc_omf.proofs.PlaceLemmas.{few_entries, next_inside, whole_at}
 use Rattle.oc_omf_judge.proofs.StateLaws.{with_entry, tables_more}
-use Rattle.oc_omf_read.specs.declared.class.Class.{Class}
-use Rattle.oc_omf_read.specs.declared.class.Class.TheVariants as class
+use Rattle.oc_omf_read.specs.declared.class.EntryClass.{EntryClass}
+use Rattle.oc_omf_read.specs.declared.class.EntryClass.TheVariants as class
 use Rattle.oc_omf_read.specs.Classes.{class_of}
 use Rattle.oc_omf_read.specs.Defined.{read_in, said}
 use Rattle.oc_omf_read.proofs.ClassLemmas.{read_whole}
@@ -38,7 +38,7 @@ one_at_most : {X : Type 0} (r : Reading X) → (read_in r ≡ []) ⊎ ((x : X) �
 one_at_most (Ok r) = inr (r.0, refl)
 one_at_most (Err c) = inl refl
 
-segments_of : (r : Record) (k : Class) → class_of r.kind ≡ k → (all_read (said r).segments ≡ []) ⊎ ((s : Segment) × (all_read (said r).segments ≡ s ∷ []))
+segments_of : (r : Record) (k : EntryClass) → class_of r.kind ≡ k → (all_read (said r).segments ≡ []) ⊎ ((s : Segment) × (all_read (said r).segments ≡ s ∷ []))
 segments_of r class.Segment is = elim (one_at_most (segment_read (is_wide r.kind) r.contents 0)) [
   | inl none ↦ inl (ap (λ (e : Entry). all_read e.segments) (said_by_class r class.Segment is) ∙ read_whole r.place (segment_read (is_wide r.kind) r.contents 0) ∙ none)
   | inr one ↦ inr (one.0, ap (λ (e : Entry). all_read e.segments) (said_by_class r class.Segment is) ∙ read_whole r.place (segment_read (is_wide r.kind) r.contents 0) ∙ one.1)

@@ -32,8 +32,8 @@ use Rattle.oc_omf_read.specs.declared.mentioned.Mentioned.{Mentioned}
 use Rattle.oc_omf_read.specs.declared.mentioned.Mentions.{Mentions}
 use Rattle.oc_omf_read.specs.Bindings.{binding_seen, place_binding, symbol_seen}
 use Rattle.oc_omf_read.specs.Built.{symboled}
-use Rattle.oc_omf_read.specs.Heard.{told_in}
-use Rattle.oc_omf_read.specs.Mentioned.{HasHeard, Seen, seen_in, seen_of, symbols_told}
+use Rattle.oc_omf_read.specs.Declarations.{declarations_in}
+use Rattle.oc_omf_read.specs.Mentioned.{HasDeclarations, ModuleSymbol, seen_in, seen_of, symbols_told}
 use Rattle.oc_omf_read.proofs.BindingLemmas.{binding_is, mentions_are}
 use Rattle.oc_omf_read.proofs.LocalLemmas.{local_placed}
 use Rattle.oc_omf_judge.proofs.MentionLemmas.{same_self}
@@ -45,7 +45,7 @@ plain_place : (ss : List parts.Symbol) (local : Bool) (place : ℕ × ℕ) → p
 plain_place ss true place = refl
 plain_place ss false place = refl
 
-plain_binding : (ss : List parts.Symbol) (s : Seen) → placed_binding ss (binding_seen s) ≡ binding_seen s
+plain_binding : (ss : List parts.Symbol) (s : ModuleSymbol) → placed_binding ss (binding_seen s) ≡ binding_seen s
 plain_binding ss s = by s.place s.length
   where
     by : (p : Option (ℕ × ℕ)) (n : Option ℕ) → placed_binding ss (option_map_or (place_binding s.local) p (option_map_or (λ size. Common size (natural_align size)) n Undefined))
@@ -58,7 +58,7 @@ local_place : (local : Bool) (place : ℕ × ℕ) → is_local (place_binding lo
 local_place true place = refl
 local_place false place = refl
 
-local_seen : (s : Seen) → is_some s.place ≡ true → is_local (binding_seen s) ≡ s.local
+local_seen : (s : ModuleSymbol) → is_some s.place ≡ true → is_local (binding_seen s) ≡ s.local
 local_seen s some = by s.place some
   where
     by : (p : Option (ℕ × ℕ)) → is_some p ≡ true → is_local (option_map_or (place_binding s.local) p (option_map_or (λ size. Common size (natural_align size)) s.length Undefined)) ≡ s.local
@@ -84,7 +84,7 @@ apart_at (m ∷ ms) (suc j) (suc k) x y apart low at_j at_k same = apart_at ms j
 
 module _ (es : List Entry) (clean : first_fault (symbol_stages es) ≡ None) where
   abbrev ms : List Mention
-  ms = symbols_told (told_in es)
+  ms = symbols_told (declarations_in es)
 
   abbrev ss : List parts.Symbol
   ss = symbols_in es
@@ -104,9 +104,9 @@ module _ (es : List Entry) (clean : first_fault (symbol_stages es) ≡ None) whe
   as_many = length-map (enumerate_from 0 (mentions_in es)) (symbol_of (tables_of es)) ∙ length-enumerate_from 0 (mentions_in es) ∙ ap length (mentions_are es)
 
   -- in the object it is what is seen of it
-  pub symbol_is : (k : ℕ) (x : Mention) → computed_symbol ss (made k x) ≡ symbol_seen k (seen_in (told_in es) x)
+  pub symbol_is : (k : ℕ) (x : Mention) → computed_symbol ss (made k x) ≡ symbol_seen k (seen_in (declarations_in es) x)
   symbol_is k x =
-      ap (λ (b : Binding). record (symbol_seen k (seen_in (told_in es) x)) { binding = b }) (ap (placed_binding ss) (binding_is es x) ∙ plain_binding ss (seen_in (told_in es) x))
+      ap (λ (b : Binding). record (symbol_seen k (seen_in (declarations_in es) x)) { binding = b }) (ap (placed_binding ss) (binding_is es x) ∙ plain_binding ss (seen_in (declarations_in es) x))
 
   -- one that other modules see is not of this module alone
   seen_by_all : (k : ℕ) (x : Mention) → slice_get ms k ≡ Some x → is_local (binding_of (tables_of es) x) ≡ false → x.local ≡ false
@@ -114,7 +114,7 @@ module _ (es : List Entry) (clean : first_fault (symbol_stages es) ≡ None) whe
     where
       by : (b : Bool) → x.local ≡ b → b ≡ false
       by false e = refl
-      by true e = absurd (true≢false (sym e ∙ sym (local_seen (seen_in (told_in es) x) (local_placed es clean k x here e)) ∙ ap is_local (sym (binding_is es x)) ∙ other))
+      by true e = absurd (true≢false (sym e ∙ sym (local_seen (seen_in (declarations_in es) x) (local_placed es clean k x here e)) ∙ ap is_local (sym (binding_is es x)) ∙ other))
 
   mention_there : (xs : List Mention) (k : ℕ) → k < length xs → (x : Mention) × (slice_get xs k ≡ Some x)
   mention_there [] k low = absurd (omega (arith, low))
@@ -138,10 +138,10 @@ module _ (es : List Entry) (clean : first_fault (symbol_stages es) ≡ None) whe
       let first : z.0.local ≡ false = seen_by_all j z.0 z.1 (ap (λ (s : parts.Symbol). is_local s.binding) is ∙ other_j) in
       let second : x.local ≡ false = seen_by_all k x here other in
       let same : z.0 ≡ x = ap (λ (l : Bool). record { local = l; name = z.0.name }) (first ∙ sym second) ∙ ap (λ (n : List ℕ). record { local = x.local; name = n }) (ap (λ (s : parts.Symbol). s.name) is ∙ name) in
-      apart_at ms j k z.0 x (symbols_apart (told_in es)) m.0 z.1 here same)
+      apart_at ms j k z.0 x (symbols_apart (declarations_in es)) m.0 z.1 here same)
 
   -- it is added
-  pub symbol_next : (k : ℕ) (x : Mention) → slice_get ms k ≡ Some x → symbol_added (symboled es k) (symbol_seen k (seen_in (told_in es) x)) ≡ Ok (symboled es (k + 1))
+  pub symbol_next : (k : ℕ) (x : Mention) → slice_get ms k ≡ Some x → symbol_added (symboled es k) (symbol_seen k (seen_in (declarations_in es) x)) ≡ Ok (symboled es (k + 1))
   symbol_next k x here =
       ap (symbol_added (symboled es k)) (sym (symbol_is k x))
       ∙ symbol_more Omf [] (map (stored_section []) (sections_in (tables_of es))) (map (computed_symbol ss) (take k ss)) (computed_symbol ss (made k x)) (new_name k x here)
@@ -149,19 +149,19 @@ module _ (es : List Entry) (clean : first_fault (symbol_stages es) ≡ None) whe
       (sym (map-append (computed_symbol ss) (take k ss) (made k x ∷ [])) ∙ sym (ap (map (computed_symbol ss)) (take_here ss k (made k x) (symbol_here k x here))))
 
   -- what is held of a symbol is what is seen of it
-  held_at : (m : Mentions) → HasHeard (told_in es) m → (k : ℕ) (s : Mentioned) → slice_get m.symbols.items k ≡ Some s → (x : Mention) × (slice_get ms k ≡ Some x) × (seen_of s ≡ seen_in (told_in es) x)
+  held_at : (m : Mentions) → HasDeclarations (declarations_in es) m → (k : ℕ) (s : Mentioned) → slice_get m.symbols.items k ≡ Some s → (x : Mention) × (slice_get ms k ≡ Some x) × (seen_of s ≡ seen_in (declarations_in es) x)
   held_at m has k s here =
-      by (slice_get ms k) refl (sym (slice_get-map (seen_in (told_in es)) ms k) ∙ ap (λ (xs : List Seen). slice_get xs k) (sym has.symbols) ∙ slice_get-map seen_of m.symbols.items k ∙ ap (option_map seen_of) here)
+      by (slice_get ms k) refl (sym (slice_get-map (seen_in (declarations_in es)) ms k) ∙ ap (λ (xs : List ModuleSymbol). slice_get xs k) (sym has.symbols) ∙ slice_get-map seen_of m.symbols.items k ∙ ap (option_map seen_of) here)
     where
-      by : (o : Option Mention) → slice_get ms k ≡ o → option_map (seen_in (told_in es)) o ≡ Some (seen_of s) → (x : Mention) × (slice_get ms k ≡ Some x) × (seen_of s ≡ seen_in (told_in es) x)
+      by : (o : Option Mention) → slice_get ms k ≡ o → option_map (seen_in (declarations_in es)) o ≡ Some (seen_of s) → (x : Mention) × (slice_get ms k ≡ Some x) × (seen_of s ≡ seen_in (declarations_in es) x)
       by None e h = absurd (none-some (seen_of s) h)
-      by (Some x) e h = (x, e, sym (same_Some (seen_in (told_in es) x) (seen_of s) h))
+      by (Some x) e h = (x, e, sym (same_Some (seen_in (declarations_in es) x) (seen_of s) h))
 
   -- so that is added
-  pub symbol_ready : (m : Mentions) → HasHeard (told_in es) m → (k : ℕ) (s : Mentioned) → slice_get m.symbols.items k ≡ Some s → symbol_added (symboled es k) (symbol_seen k (seen_of s)) ≡ Ok (symboled es (k + 1))
+  pub symbol_ready : (m : Mentions) → HasDeclarations (declarations_in es) m → (k : ℕ) (s : Mentioned) → slice_get m.symbols.items k ≡ Some s → symbol_added (symboled es k) (symbol_seen k (seen_of s)) ≡ Ok (symboled es (k + 1))
   symbol_ready m has k s here =
       let x = held_at m has k s here in
-      ap (λ (seen : Seen). symbol_added (symboled es k) (symbol_seen k seen)) x.2 ∙ symbol_next k x.0 x.1
+      ap (λ (seen : ModuleSymbol). symbol_added (symboled es k) (symbol_seen k seen)) x.2 ∙ symbol_next k x.0 x.1
 
   pub symbols_room : (k : ℕ) → length (symboled es k).object.symbols ≤ k
   symbols_room k =
@@ -169,6 +169,6 @@ module _ (es : List Entry) (clean : first_fault (symbol_stages es) ≡ None) whe
       let long = length-take k ss in
       omega (arith, same, long)
 
-  pub all_symbols : (m : Mentions) → HasHeard (told_in es) m → length m.symbols.items ≡ length ss
+  pub all_symbols : (m : Mentions) → HasDeclarations (declarations_in es) m → length m.symbols.items ≡ length ss
   all_symbols m has =
-      sym (length-map m.symbols.items seen_of) ∙ ap length has.symbols ∙ length-map ms (seen_in (told_in es)) ∙ sym as_many
+      sym (length-map m.symbols.items seen_of) ∙ ap length has.symbols ∙ length-map ms (seen_in (declarations_in es)) ∙ sym as_many

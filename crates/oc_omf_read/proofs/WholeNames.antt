@@ -7,21 +7,21 @@ use Rattle.oc_neutral.specs.Invariants.{AreBytes}
 use Rattle.oc_omf_records.specs.declared.records.Entry.{Entry as Record}
 use Rattle.oc_omf_records.specs.NextEntry.{end_of_entry, entry_of}
 use Rattle.oc_omf.specs.declared.cut.Cut.{Cut}
-use Rattle.oc_omf.specs.declared.structures.Base.{Base}
+use Rattle.oc_omf.specs.declared.structures.PublicBase.{PublicBase}
 use Rattle.oc_omf.specs.declared.structures.Communal.{Communal}
 use Rattle.oc_omf.specs.Cursor.{Reading, and_more, each_read, each_upto, index_read, name_read, name_end, next, number_read}
 use Rattle.oc_omf.specs.Structures.{External, Public, base_read, communal_length, communal_read, communal_width, external_read, long_size, public_read}
 use Rattle.oc_omf.specs.Entries.{Entry, all_read, entries_in, is_wide}
 use Rattle.oc_omf.proofs.EachLemmas.{next_goes}
-use Rattle.oc_omf_read.specs.declared.class.Class.{Class}
-use Rattle.oc_omf_read.specs.declared.class.Class.TheVariants as class
+use Rattle.oc_omf_read.specs.declared.class.EntryClass.{EntryClass}
+use Rattle.oc_omf_read.specs.declared.class.EntryClass.TheVariants as class
 use Rattle.oc_omf_read.specs.Classes.{class_of}
 use Rattle.oc_omf_read.specs.Defined.{said}
-use Rattle.oc_omf_read.specs.Heard.{Told, of_external, of_public, publics_behind, publics_told, told_by, told_in}
+use Rattle.oc_omf_read.specs.Declarations.{Declaration, of_external, of_public, publics_behind, public_declarations, declarations_by, declarations_in}
 use Rattle.oc_omf_read.specs.Mentioned.{length_said}
 use Rattle.oc_omf_read.proofs.ContentLemmas.{all_flat}
 use Rattle.oc_omf_read.proofs.DefinedLemmas.{said_by_class}
-use Rattle.oc_omf_read.proofs.HeardLemmas.{communals_are, externals_are, local_externals_are, local_publics_are, publics_are}
+use Rattle.oc_omf_read.proofs.DeclarationLemmas.{communals_are, externals_are, local_externals_are, local_publics_are, publics_are}
 use Rattle.oc_omf_read.proofs.SumLemmas.{said_here}
 use Rattle.oc_omf.specs.declared.cut.Cut.TheVariants as cut
 use Rattle.std.proofs.lemmas.Option.{none-some, same_Some}
@@ -134,18 +134,18 @@ communal_bytes b bytes at x q e =
 -- ... mentions
 
 -- a mention by bytes
-pub record IsOfBytes (t : Told) : Type 0 where
+pub record IsOfBytes (t : Declaration) : Type 0 where
   pub name : AreBytes t.name
   pub length : (n : ℕ) → length_said t.says ≡ Some n → n < 4294967296
 
-mapped : {X : Type 0} (f : X → Told) (Q : X → Type 0) (xs : List X) → ((x : X) → Q x → IsOfBytes (f x)) → AllByRecursion Q xs → AllByRecursion IsOfBytes (map f xs)
+mapped : {X : Type 0} (f : X → Declaration) (Q : X → Type 0) (xs : List X) → ((x : X) → Q x → IsOfBytes (f x)) → AllByRecursion Q xs → AllByRecursion IsOfBytes (map f xs)
 mapped f Q [] one all = tt
 mapped f Q (x ∷ xs) one all = (one x all.0, mapped f Q xs one all.1)
 
-publics_bytes : (wide local : Bool) (b : List ℕ) → AreBytes b → AllByRecursion IsOfBytes (publics_told wide local b)
+publics_bytes : (wide local : Bool) (b : List ℕ) → AreBytes b → AllByRecursion IsOfBytes (public_declarations wide local b)
 publics_bytes wide local b bytes = by (base_read b 0)
   where
-    by : (r : Reading Base) → AllByRecursion IsOfBytes (map of_public (all_read (publics_behind wide local b r)))
+    by : (r : Reading PublicBase) → AllByRecursion IsOfBytes (map of_public (all_read (publics_behind wide local b r)))
     by (Ok r) =
         mapped of_public (λ (p : Public). AreBytes p.name) (all_read (each_read (public_read wide local r.0.segment) b r.1)) (λ p name. record { name = name; length = λ n e. absurd (none-some n e) })
         (all_has (λ (p : Public). AreBytes p.name) (public_read wide local r.0.segment) b (public_bytes wide local r.0.segment b bytes) r.1)
@@ -164,29 +164,29 @@ externals_bytes read b one =
     mapped of_external (λ (y : External). AreBytes y.name × ((c : Communal) → y.communal ≡ Some c → c.length < 4294967296)) (all_read (each_read read b 0)) external_of
     (all_has (λ (y : External). AreBytes y.name × ((c : Communal) → y.communal ≡ Some c → c.length < 4294967296)) read b one 0)
 
-entry_bytes : (r : Record) → AreBytes r.contents → AllByRecursion IsOfBytes (told_by (said r))
+entry_bytes : (r : Record) → AreBytes r.contents → AllByRecursion IsOfBytes (declarations_by (said r))
 entry_bytes r bytes = by (class_of r.kind) refl
   where
-    nothing : (k : Class) → class_of r.kind ≡ k → told_by (said r) ≡ [] → AllByRecursion IsOfBytes (told_by (said r))
+    nothing : (k : EntryClass) → class_of r.kind ≡ k → declarations_by (said r) ≡ [] → AllByRecursion IsOfBytes (declarations_by (said r))
     nothing k is none = subst (AllByRecursion IsOfBytes) (sym none) tt
 
-    by : (k : Class) → class_of r.kind ≡ k → AllByRecursion IsOfBytes (told_by (said r))
+    by : (k : EntryClass) → class_of r.kind ≡ k → AllByRecursion IsOfBytes (declarations_by (said r))
     by class.Publics is = subst (AllByRecursion IsOfBytes) (sym (publics_are r is)) (publics_bytes (is_wide r.kind) false r.contents bytes)
     by class.LocalPublics is = subst (AllByRecursion IsOfBytes) (sym (local_publics_are r is)) (publics_bytes (is_wide r.kind) true r.contents bytes)
     by class.Externals is = subst (AllByRecursion IsOfBytes) (sym (externals_are r is)) (externals_bytes (external_read false) r.contents (external_bytes false r.contents bytes))
     by class.LocalExternals is = subst (AllByRecursion IsOfBytes) (sym (local_externals_are r is)) (externals_bytes (external_read true) r.contents (external_bytes true r.contents bytes))
     by class.Communals is = subst (AllByRecursion IsOfBytes) (sym (communals_are r is)) (externals_bytes communal_read r.contents (communal_bytes r.contents bytes))
-    by class.Names is = nothing class.Names is (ap told_by (said_by_class r class.Names is))
-    by class.Segment is = nothing class.Segment is (ap told_by (said_by_class r class.Segment is))
-    by class.Group is = nothing class.Group is (ap told_by (said_by_class r class.Group is))
-    by class.Plain is = nothing class.Plain is (ap told_by (said_by_class r class.Plain is))
-    by class.Iterated is = nothing class.Iterated is (ap told_by (said_by_class r class.Iterated is))
-    by class.Fixups is = nothing class.Fixups is (ap told_by (said_by_class r class.Fixups is))
-    by class.Nothing is = nothing class.Nothing is (ap told_by (said_by_class r class.Nothing is))
+    by class.Names is = nothing class.Names is (ap declarations_by (said_by_class r class.Names is))
+    by class.Segment is = nothing class.Segment is (ap declarations_by (said_by_class r class.Segment is))
+    by class.Group is = nothing class.Group is (ap declarations_by (said_by_class r class.Group is))
+    by class.Plain is = nothing class.Plain is (ap declarations_by (said_by_class r class.Plain is))
+    by class.Iterated is = nothing class.Iterated is (ap declarations_by (said_by_class r class.Iterated is))
+    by class.Fixups is = nothing class.Fixups is (ap declarations_by (said_by_class r class.Fixups is))
+    by class.Nothing is = nothing class.Nothing is (ap declarations_by (said_by_class r class.Nothing is))
 
 -- each mention of a module
-pub told_bytes : (file : List ℕ) → AreBytes file → AllByRecursion IsOfBytes (told_in (entries_in file))
-unfolding told_in
-told_bytes file bytes = all_flat IsOfBytes told_by (entries_in file) (λ i e here.
+pub told_bytes : (file : List ℕ) → AreBytes file → AllByRecursion IsOfBytes (declarations_in (entries_in file))
+unfolding declarations_in
+told_bytes file bytes = all_flat IsOfBytes declarations_by (entries_in file) (λ i e here.
     let m = said_here file i e here in
-    subst (λ (x : Entry). AllByRecursion IsOfBytes (told_by x)) (sym m.is) (entry_bytes (entry_of file m.at) (range_bytes file (m.at + 3) (end_of_entry file m.at - 1) bytes)))
+    subst (λ (x : Entry). AllByRecursion IsOfBytes (declarations_by x)) (sym m.is) (entry_bytes (entry_of file m.at) (range_bytes file (m.at + 3) (end_of_entry file m.at - 1) bytes)))

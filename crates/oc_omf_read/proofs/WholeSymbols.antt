@@ -21,7 +21,7 @@ use Rattle.oc_shelf.proofs.ReadingLaws.StageLemmas.{all_hold, clean_at, clean_bo
 use Rattle.oc_omf_records.specs.declared.records.Entry.{Entry as Record}
 use Rattle.oc_omf_records.specs.NextEntry.{entry_of}
 use Rattle.oc_omf.specs.declared.cut.Cut.{Cut}
-use Rattle.oc_omf.specs.declared.structures.Base.{Base}
+use Rattle.oc_omf.specs.declared.structures.PublicBase.{PublicBase}
 use Rattle.oc_omf.specs.declared.structures.Communal.{Communal}
 use Rattle.oc_omf.specs.declared.structures.Segment.{Segment}
 use Rattle.oc_omf.specs.Cursor.{Reading, Read, each_read, index_read, name_read, number_read}
@@ -31,18 +31,18 @@ use Rattle.oc_omf.specs.SectionFaults.{section_stage}
 use Rattle.oc_omf.specs.Sections.{section_of, sections_in, segment_size, size_at}
 use Rattle.oc_omf.specs.Symbols.{Mention, symbol_of, symbols_in, same_symbol}
 use Rattle.oc_omf.specs.SymbolFaults as faults
-use Rattle.oc_omf.specs.SymbolFaults.{base_conditions, communal_conditions, external_conditions, externals_before, is_empty, is_other_length, is_undefined, public_conditions, symbol_fault, symbol_stage, symbol_stages, symbol_table, told_conditions}
+use Rattle.oc_omf.specs.SymbolFaults.{base_conditions, communal_conditions, external_conditions, externals_before, is_empty, is_other_length, is_undefined, public_conditions, symbol_fault, symbol_stage, symbol_stages, symbol_table, read_conditions}
 use Rattle.oc_omf.specs.Tables as all
 use Rattle.oc_omf.specs.Tables.{is_indexed, tables_of}
 use Rattle.oc_omf.proofs.EachLemmas.{next_goes}
 use Rattle.oc_omf.proofs.EntryLemmas.{numbered_at}
-use Rattle.oc_omf_read.specs.declared.class.Class.{Class}
-use Rattle.oc_omf_read.specs.declared.class.Class.TheVariants as class
+use Rattle.oc_omf_read.specs.declared.class.EntryClass.{EntryClass}
+use Rattle.oc_omf_read.specs.declared.class.EntryClass.TheVariants as class
 use Rattle.oc_omf_read.specs.Bindings.{binding_seen, place_binding, symbol_seen}
 use Rattle.oc_omf_read.specs.Built.{started}
 use Rattle.oc_omf_read.specs.Classes.{class_of}
 use Rattle.oc_omf_read.specs.Defined.{said}
-use Rattle.oc_omf_read.specs.Heard.{Told, of_external, of_public, told_by, told_in}
+use Rattle.oc_omf_read.specs.Declarations.{Declaration, of_external, of_public, declarations_by, declarations_in}
 use Rattle.oc_omf_read.specs.Mentioned.{length_in, length_said, mention_of, place_in, place_said, seen_in, symbols_told}
 use Rattle.oc_omf_read.proofs.BuildLemmas.{section_at, segment_there}
 use Rattle.oc_omf_read.proofs.ClassLemmas.{publics_by, read_in_file}
@@ -76,11 +76,11 @@ full_name : (name : List ℕ) → is_empty name ≡ false → name ≢ []
 full_name name e same = true≢false (sym (ap is_empty same) ∙ e)
 
 -- a definition of an entry that has no fault
-pub record IsGoodPublic (x : faults.Told) (p : Public) : Type 0 where
+pub record IsGoodPublic (x : faults.EntryContext) (p : Public) : Type 0 where
   pub inside : p.offset ≤ size_at x.before p.segment
   pub full : p.name ≢ []
 
-good_public : (x : faults.Told) (j : ℕ) (at : ℕ × ℕ) (p : Public) → first_broken (public_conditions x j at p) ≡ None → IsGoodPublic x p
+good_public : (x : faults.EntryContext) (j : ℕ) (at : ℕ × ℕ) (p : Public) → first_broken (public_conditions x j at p) ≡ None → IsGoodPublic x p
 unfolding public_conditions
 good_public x j at p clean =
     let holds = all_hold (public_conditions x j at p) clean in
@@ -89,11 +89,11 @@ good_public x j at p clean =
     at_most : (a b : ℕ) → nat_lt a b ≡ false → b ≤ a
     at_most a b e = grind (arith, nat_tests)
 
-good_publics : (x : faults.Told) (n : ℕ) (ss : List (Read Public)) → AllByRecursion IsClean (map (λ (p : ℕ × Read Public). told_conditions x.index (public_conditions x p.0) p.1) (enumerate_from n ss)) → AllByRecursion (IsGoodPublic x) (all_read ss)
+good_publics : (x : faults.EntryContext) (n : ℕ) (ss : List (Read Public)) → AllByRecursion IsClean (map (λ (p : ℕ × Read Public). read_conditions x.index (public_conditions x p.0) p.1) (enumerate_from n ss)) → AllByRecursion (IsGoodPublic x) (all_read ss)
 good_publics x n [] all = tt
 good_publics x n (s ∷ ss) all = by s.part all.0 (good_publics x (n + 1) ss all.1)
   where
-    by : (r : Result Public Cut) → first_broken (told_conditions x.index (public_conditions x n) (record { at = s.at; part = r })) ≡ None → AllByRecursion (IsGoodPublic x) (all_read ss)
+    by : (r : Result Public Cut) → first_broken (read_conditions x.index (public_conditions x n) (record { at = s.at; part = r })) ≡ None → AllByRecursion (IsGoodPublic x) (all_read ss)
         → AllByRecursion (IsGoodPublic x) (all_read (record { at = s.at; part = r } ∷ ss))
     by (Ok p) clean rest = (good_public x n (x.index, s.at) p clean, rest)
     by (Err c) clean rest = absurd (none-some _ (sym clean))
@@ -101,7 +101,7 @@ good_publics x n (s ∷ ss) all = by s.part all.0 (good_publics x (n + 1) ss all
 abbrev IsFull : External → Type 0
 IsFull y = y.name ≢ []
 
-full_external : (x : faults.Told) (j : ℕ) (at : ℕ × ℕ) (y : External) → first_broken (external_conditions x j at y) ≡ None → IsFull y
+full_external : (x : faults.EntryContext) (j : ℕ) (at : ℕ × ℕ) (y : External) → first_broken (external_conditions x j at y) ≡ None → IsFull y
 unfolding external_conditions
 full_external x j at y clean =
     let rest : List Condition =
@@ -110,20 +110,20 @@ full_external x j at y clean =
     let both = clean_both (option_map_or (communal_conditions at) y.communal []) rest clean in
     full_name y.name (all_hold rest both.1).1.0
 
-full_externals : (x : faults.Told) (n : ℕ) (ss : List (Read External)) → AllByRecursion IsClean (map (λ (y : ℕ × Read External). told_conditions x.index (external_conditions x y.0) y.1) (enumerate_from n ss)) → AllByRecursion IsFull (all_read ss)
+full_externals : (x : faults.EntryContext) (n : ℕ) (ss : List (Read External)) → AllByRecursion IsClean (map (λ (y : ℕ × Read External). read_conditions x.index (external_conditions x y.0) y.1) (enumerate_from n ss)) → AllByRecursion IsFull (all_read ss)
 full_externals x n [] all = tt
 full_externals x n (s ∷ ss) all = by s.part all.0 (full_externals x (n + 1) ss all.1)
   where
-    by : (r : Result External Cut) → first_broken (told_conditions x.index (external_conditions x n) (record { at = s.at; part = r })) ≡ None → AllByRecursion IsFull (all_read ss)
+    by : (r : Result External Cut) → first_broken (read_conditions x.index (external_conditions x n) (record { at = s.at; part = r })) ≡ None → AllByRecursion IsFull (all_read ss)
         → AllByRecursion IsFull (all_read (record { at = s.at; part = r } ∷ ss))
     by (Ok y) clean rest = (full_external x n (x.index, s.at) y clean, rest)
     by (Err c) clean rest = absurd (none-some _ (sym clean))
 
 -- a base names a segment
-abbrev IsBased : ℕ → Base → Type 0
+abbrev IsBased : ℕ → PublicBase → Type 0
 IsBased segments b = (1 ≤ b.segment) × (b.segment ≤ segments)
 
-good_base : (groups segments : ℕ) (at : ℕ × ℕ) (b : Base) → first_broken (base_conditions groups segments at b) ≡ None → IsBased segments b
+good_base : (groups segments : ℕ) (at : ℕ × ℕ) (b : PublicBase) → first_broken (base_conditions groups segments at b) ≡ None → IsBased segments b
 unfolding base_conditions
 good_base groups segments at b clean =
     let holds = all_hold (base_conditions groups segments at b) clean in
@@ -139,27 +139,27 @@ good_base groups segments at b clean =
     some_of : (a : ℕ) → nat_eq a 0 ≡ false → 1 ≤ a
     some_of a e = grind (arith, nat_tests)
 
-good_bases : (index groups segments : ℕ) (ss : List (Read Base)) → AllByRecursion IsClean (map (told_conditions index (base_conditions groups segments)) ss) → AllByRecursion (IsBased segments) (all_read ss)
+good_bases : (index groups segments : ℕ) (ss : List (Read PublicBase)) → AllByRecursion IsClean (map (read_conditions index (base_conditions groups segments)) ss) → AllByRecursion (IsBased segments) (all_read ss)
 good_bases index groups segments [] all = tt
 good_bases index groups segments (s ∷ ss) all = by s.part all.0 (good_bases index groups segments ss all.1)
   where
-    by : (r : Result Base Cut) → first_broken (told_conditions index (base_conditions groups segments) (record { at = s.at; part = r })) ≡ None → AllByRecursion (IsBased segments) (all_read ss)
+    by : (r : Result PublicBase Cut) → first_broken (read_conditions index (base_conditions groups segments) (record { at = s.at; part = r })) ≡ None → AllByRecursion (IsBased segments) (all_read ss)
         → AllByRecursion (IsBased segments) (all_read (record { at = s.at; part = r } ∷ ss))
     by (Ok b) clean rest = (good_base groups segments (index, s.at) b clean, rest)
     by (Err c) clean rest = absurd (none-some _ (sym clean))
 
 -- an entry without a fault of symbols
-pub record IsGoodEntry (x : faults.Told) : Type 0 where
+pub record IsGoodEntry (x : faults.EntryContext) : Type 0 where
   pub bases : AllByRecursion (IsBased (length x.before.segments)) (all_read x.entry.bases)
   pub publics : AllByRecursion (IsGoodPublic x) (all_read x.entry.publics)
   pub externals : AllByRecursion IsFull (all_read x.entry.externals)
 
-good_entry : (x : faults.Told) → stage_fault (symbol_stage x) ≡ None → IsGoodEntry x
+good_entry : (x : faults.EntryContext) → stage_fault (symbol_stage x) ≡ None → IsGoodEntry x
 unfolding symbol_table
 good_entry x clean =
-    let bases : List (List Condition) = map (told_conditions x.index (base_conditions (length x.before.groups) (length x.before.segments))) x.entry.bases in
-    let publics : List (List Condition) = map (λ (p : ℕ × Read Public). told_conditions x.index (public_conditions x p.0) p.1) (enumerate_from 0 x.entry.publics) in
-    let externals : List (List Condition) = map (λ (y : ℕ × Read External). told_conditions x.index (external_conditions x y.0) y.1) (enumerate_from 0 x.entry.externals) in
+    let bases : List (List Condition) = map (read_conditions x.index (base_conditions (length x.before.groups) (length x.before.segments))) x.entry.bases in
+    let publics : List (List Condition) = map (λ (p : ℕ × Read Public). read_conditions x.index (public_conditions x p.0) p.1) (enumerate_from 0 x.entry.publics) in
+    let externals : List (List Condition) = map (λ (y : ℕ × Read External). read_conditions x.index (external_conditions x y.0) y.1) (enumerate_from 0 x.entry.externals) in
     let all = all_lists (symbol_table x) (λ j low. clean_at (fault_of (symbol_stage x)) (length (symbol_table x)) j clean low) in
     let rest = behind IsClean bases (publics ++ externals) all in
     record {
@@ -181,15 +181,15 @@ public_segment wide local segment b at x q e =
     let third = next_goes (index_read b second.1) _ x q second.3 in
     sym (ap (λ (r : Reading Public). (value_of x r).segment) third.3)
 
-module _ (P : Base → Type 0) where
+module _ (P : PublicBase → Type 0) where
   abbrev HasBase : Public → Type 0
-  HasBase p = (b : Base) × P b × (p.segment ≡ b.segment)
+  HasBase p = (b : PublicBase) × P b × (p.segment ≡ b.segment)
 
   weaker : {X : Type 0} (Q R : X → Type 0) (xs : List X) → ((x : X) → Q x → R x) → AllByRecursion Q xs → AllByRecursion R xs
   weaker Q R [] f all = tt
   weaker Q R (x ∷ xs) f all = (f x all.0, weaker Q R xs f all.1)
 
-  by_base : (wide local : Bool) (place : ℕ) (b : List ℕ) (r : Reading Base) → AllByRecursion P (all_read (whole place r)) → AllByRecursion HasBase (all_read (publics_by wide local place b r))
+  by_base : (wide local : Bool) (place : ℕ) (b : List ℕ) (r : Reading PublicBase) → AllByRecursion P (all_read (whole place r)) → AllByRecursion HasBase (all_read (publics_by wide local place b r))
   by_base wide local place b (Ok r) all =
       subst (AllByRecursion HasBase) (sym (read_in_file place (each_read (public_read wide local r.0.segment) b r.1)))
       (weaker (λ (p : Public). p.segment ≡ r.0.segment) HasBase (all_read (each_read (public_read wide local r.0.segment) b r.1)) (λ p same. (r.0, all.0, same))
@@ -202,13 +202,13 @@ module _ (P : Base → Type 0) where
       nothing : all_read (said r).publics ≡ [] → AllByRecursion HasBase (all_read (said r).publics)
       nothing none = subst (AllByRecursion HasBase) (sym none) tt
 
-      some : (k : Class) (local : Bool) → (said r).bases ≡ whole r.place (base_read r.contents 0) → (said r).publics ≡ publics_by (is_wide r.kind) local r.place r.contents (base_read r.contents 0)
+      some : (k : EntryClass) (local : Bool) → (said r).bases ≡ whole r.place (base_read r.contents 0) → (said r).publics ≡ publics_by (is_wide r.kind) local r.place r.contents (base_read r.contents 0)
           → AllByRecursion HasBase (all_read (said r).publics)
       some k local bases publics =
           subst (λ (ss : List (Read Public)). AllByRecursion HasBase (all_read ss)) (sym publics)
-          (by_base (is_wide r.kind) local r.place r.contents (base_read r.contents 0) (subst (λ (ss : List (Read Base)). AllByRecursion P (all_read ss)) bases all))
+          (by_base (is_wide r.kind) local r.place r.contents (base_read r.contents 0) (subst (λ (ss : List (Read PublicBase)). AllByRecursion P (all_read ss)) bases all))
 
-      by : (k : Class) → class_of r.kind ≡ k → AllByRecursion HasBase (all_read (said r).publics)
+      by : (k : EntryClass) → class_of r.kind ≡ k → AllByRecursion HasBase (all_read (said r).publics)
       by class.Publics is = some class.Publics false (ap (λ (e : Entry). e.bases) (said_by_class r class.Publics is)) (ap (λ (e : Entry). e.publics) (said_by_class r class.Publics is))
       by class.LocalPublics is = some class.LocalPublics true (ap (λ (e : Entry). e.bases) (said_by_class r class.LocalPublics is)) (ap (λ (e : Entry). e.publics) (said_by_class r class.LocalPublics is))
       by class.Names is = nothing (ap (λ (e : Entry). all_read e.publics) (said_by_class r class.Names is))
@@ -224,22 +224,22 @@ module _ (P : Base → Type 0) where
 
 -- ... places of mentions
 
-place_from : (x : Mention) (ts : List Told) (q : ℕ × ℕ) → place_in x ts ≡ Some q → (j : ℕ) × (t : Told) × (slice_get ts j ≡ Some t) × (place_said t.says ≡ Some q)
+place_from : (x : Mention) (ts : List Declaration) (q : ℕ × ℕ) → place_in x ts ≡ Some q → (j : ℕ) × (t : Declaration) × (slice_get ts j ≡ Some t) × (place_said t.says ≡ Some q)
 place_from x [] q e = absurd (none-some q e)
 place_from x (t ∷ ts) q e = by (same_symbol x (mention_of t)) (place_said t.says) refl e (place_from x ts q)
   where
-    by : (b : Bool) (o : Option (ℕ × ℕ)) → place_said t.says ≡ o → or_else (cond b o None) (place_in x ts) ≡ Some q → (place_in x ts ≡ Some q → (j : ℕ) × (u : Told) × (slice_get ts j ≡ Some u) × (place_said u.says ≡ Some q))
-        → (j : ℕ) × (u : Told) × (slice_get (t ∷ ts) j ≡ Some u) × (place_said u.says ≡ Some q)
+    by : (b : Bool) (o : Option (ℕ × ℕ)) → place_said t.says ≡ o → or_else (cond b o None) (place_in x ts) ≡ Some q → (place_in x ts ≡ Some q → (j : ℕ) × (u : Declaration) × (slice_get ts j ≡ Some u) × (place_said u.says ≡ Some q))
+        → (j : ℕ) × (u : Declaration) × (slice_get (t ∷ ts) j ≡ Some u) × (place_said u.says ≡ Some q)
     by true (Some p) h e rest = (0, t, refl, h ∙ e)
     by true None h e rest = let m = rest e in (suc m.0, m.1, m.2, m.3)
     by false o h e rest = let m = rest e in (suc m.0, m.1, m.2, m.3)
 
-length_from : (x : Mention) (ts : List Told) (q : ℕ) → length_in x ts ≡ Some q → (j : ℕ) × (t : Told) × (slice_get ts j ≡ Some t) × (length_said t.says ≡ Some q)
+length_from : (x : Mention) (ts : List Declaration) (q : ℕ) → length_in x ts ≡ Some q → (j : ℕ) × (t : Declaration) × (slice_get ts j ≡ Some t) × (length_said t.says ≡ Some q)
 length_from x [] q e = absurd (none-some q e)
 length_from x (t ∷ ts) q e = by (same_symbol x (mention_of t)) (length_said t.says) refl e (length_from x ts q)
   where
-    by : (b : Bool) (o : Option ℕ) → length_said t.says ≡ o → or_else (cond b o None) (length_in x ts) ≡ Some q → (length_in x ts ≡ Some q → (j : ℕ) × (u : Told) × (slice_get ts j ≡ Some u) × (length_said u.says ≡ Some q))
-        → (j : ℕ) × (u : Told) × (slice_get (t ∷ ts) j ≡ Some u) × (length_said u.says ≡ Some q)
+    by : (b : Bool) (o : Option ℕ) → length_said t.says ≡ o → or_else (cond b o None) (length_in x ts) ≡ Some q → (length_in x ts ≡ Some q → (j : ℕ) × (u : Declaration) × (slice_get ts j ≡ Some u) × (length_said u.says ≡ Some q))
+        → (j : ℕ) × (u : Declaration) × (slice_get (t ∷ ts) j ≡ Some u) × (length_said u.says ≡ Some q)
     by true (Some p) h e rest = (0, t, refl, h ∙ e)
     by true None h e rest = let m = rest e in (suc m.0, m.1, m.2, m.3)
     by false o h e rest = let m = rest e in (suc m.0, m.1, m.2, m.3)
@@ -259,11 +259,11 @@ module _ (file : List ℕ) (bytes : AreBytes file) (sections : stage_fault (sect
   LiesIn q = (s : Segment) × (slice_get t.segments (q.0 - 1) ≡ Some s) × (q.1 ≤ segment_size s)
 
   -- a mention has a name, and its symbol's place is there
-  pub record IsWhole (m : Told) : Type 0 where
+  pub record IsWhole (m : Declaration) : Type 0 where
     pub full : m.name ≢ []
     pub lies : (q : ℕ × ℕ) → place_said m.says ≡ Some q → LiesIn q
 
-  public_lies : (i : ℕ) (e : Entry) → slice_get es i ≡ Some e → (p : Public) → IsGoodPublic (faults.told_in es (i, e)) p → (b : Base) × IsBased (length (tables_upto file i).segments) b × (p.segment ≡ b.segment) → LiesIn (p.segment, p.offset)
+  public_lies : (i : ℕ) (e : Entry) → slice_get es i ≡ Some e → (p : Public) → IsGoodPublic (faults.entry_context es (i, e)) p → (b : PublicBase) × IsBased (length (tables_upto file i).segments) b × (p.segment ≡ b.segment) → LiesIn (p.segment, p.offset)
   public_lies i e here p good base =
       let first = base.1.0 in
       let last = base.1.1 in
@@ -280,7 +280,7 @@ module _ (file : List ℕ) (bytes : AreBytes file) (sections : stage_fault (sect
       within : (a n : ℕ) → 1 ≤ a → a ≤ n → (nat_le 1 a && nat_le a n) ≡ true
       within a n first last = grind (arith, nat_tests)
 
-  publics_whole : (i : ℕ) (e : Entry) → slice_get es i ≡ Some e → (ps : List Public) → AllByRecursion (IsGoodPublic (faults.told_in es (i, e))) ps → AllByRecursion (HasBase (IsBased (length (tables_upto file i).segments))) ps
+  publics_whole : (i : ℕ) (e : Entry) → slice_get es i ≡ Some e → (ps : List Public) → AllByRecursion (IsGoodPublic (faults.entry_context es (i, e))) ps → AllByRecursion (HasBase (IsBased (length (tables_upto file i).segments))) ps
       → AllByRecursion IsWhole (map of_public ps)
   publics_whole i e here [] good based = tt
   publics_whole i e here (p ∷ ps) good based = (
@@ -296,10 +296,10 @@ module _ (file : List ℕ) (bytes : AreBytes file) (sections : stage_fault (sect
       by None q is = none-some q is
       by (Some c) q is = none-some q is
 
-  told_whole : AllByRecursion IsWhole (told_in es)
-  unfolding told_in
-  told_whole = all_flat IsWhole told_by es (λ i e here.
-      let good = good_entry (faults.told_in es (i, e)) (stage_clean (λ x. symbol_stage (faults.told_in es x)) (enumerate_from 0 es) i (i, e) symbols (numbered_at es i e here)) in
+  told_whole : AllByRecursion IsWhole (declarations_in es)
+  unfolding declarations_in
+  told_whole = all_flat IsWhole declarations_by es (λ i e here.
+      let good = good_entry (faults.entry_context es (i, e)) (stage_clean (λ x. symbol_stage (faults.entry_context es x)) (enumerate_from 0 es) i (i, e) symbols (numbered_at es i e here)) in
       let m = said_here file i e here in
       let segments : ℕ = length (tables_upto file i).segments in
       let based = subst (λ (x : Entry). AllByRecursion (HasBase (IsBased segments)) (all_read x.publics)) (sym m.is)
@@ -315,18 +315,18 @@ module _ (file : List ℕ) (bytes : AreBytes file) (sections : stage_fault (sect
     l.2,
   )
 
-  pub binding_whole : (x : Mention) → IsBinding object (binding_seen (seen_in (told_in es) x))
-  binding_whole x = by (place_in x (told_in es)) (length_in x (told_in es)) refl refl
+  pub binding_whole : (x : Mention) → IsBinding object (binding_seen (seen_in (declarations_in es) x))
+  binding_whole x = by (place_in x (declarations_in es)) (length_in x (declarations_in es)) refl refl
     where
       placed : (local : Bool) (q : ℕ × ℕ) → LiesIn q → IsBinding object (place_binding local q)
       placed true q l = offset_there q l
       placed false q l = offset_there q l
 
-      by : (o : Option (ℕ × ℕ)) (n : Option ℕ) → place_in x (told_in es) ≡ o → length_in x (told_in es) ≡ n → IsBinding object (binding_seen (record { local = x.local; name = x.name; place = o; length = n }))
-      by (Some q) n e f = let m = place_from x (told_in es) q e in placed x.local q ((each_at IsWhole (told_in es) m.0 m.1 told_whole m.2).lies q m.3)
+      by : (o : Option (ℕ × ℕ)) (n : Option ℕ) → place_in x (declarations_in es) ≡ o → length_in x (declarations_in es) ≡ n → IsBinding object (binding_seen (record { local = x.local; name = x.name; place = o; length = n }))
+      by (Some q) n e f = let m = place_from x (declarations_in es) q e in placed x.local q ((each_at IsWhole (declarations_in es) m.0 m.1 told_whole m.2).lies q m.3)
       by None (Some size) e f =
-          let m = length_from x (told_in es) size f in
-          ((each_at IsOfBytes (told_in es) m.0 m.1 (told_bytes file bytes) m.2).length size m.3, natural_aligns size)
+          let m = length_from x (declarations_in es) size f in
+          ((each_at IsOfBytes (declarations_in es) m.0 m.1 (told_bytes file bytes) m.2).length size m.3, natural_aligns size)
       by None None e f = tt
 
   mention_there : (xs : List Mention) (k : ℕ) → k < length xs → (x : Mention) × (slice_get xs k ≡ Some x)
@@ -334,11 +334,11 @@ module _ (file : List ℕ) (bytes : AreBytes file) (sections : stage_fault (sect
   mention_there (x ∷ xs) zero low = (x, refl)
   mention_there (x ∷ xs) (suc k) low = mention_there xs k (omega (arith, low))
 
-  seen_whole : (k : ℕ) (x : Mention) → slice_get (symbols_told (told_in es)) k ≡ Some x → k < 4294967296 → IsSymbol object (symbol_seen k (seen_in (told_in es) x))
+  seen_whole : (k : ℕ) (x : Mention) → slice_get (symbols_told (declarations_in es)) k ≡ Some x → k < 4294967296 → IsSymbol object (symbol_seen k (seen_in (declarations_in es) x))
   seen_whole k x here few =
-      let m = any_there es symbols x (told_in es) (sym (any_told x (told_in es)) ∙ any_at es symbols (symbols_told (told_in es)) k x here) in
-      let whole = each_at IsWhole (told_in es) m.0 m.1 told_whole m.2 in
-      let named = each_at IsOfBytes (told_in es) m.0 m.1 (told_bytes file bytes) m.2 in
+      let m = any_there es symbols x (declarations_in es) (sym (any_told x (declarations_in es)) ∙ any_at es symbols (symbols_told (declarations_in es)) k x here) in
+      let whole = each_at IsWhole (declarations_in es) m.0 m.1 told_whole m.2 in
+      let named = each_at IsOfBytes (declarations_in es) m.0 m.1 (told_bytes file bytes) m.2 in
       let name : m.1.name ≡ x.name = ap (λ (y : Mention). y.name) m.3 in
       record {
         named = subst (λ (n : List ℕ). n ≢ []) name whole.full;
@@ -353,7 +353,7 @@ module _ (file : List ℕ) (bytes : AreBytes file) (sections : stage_fault (sect
   symbol_whole few k s here =
       let low = slice_get_within (symbols_in es) k s here in
       let many = as_many es symbols in
-      let x = mention_there (symbols_told (told_in es)) k (omega (arith, low, many)) in
+      let x = mention_there (symbols_told (declarations_in es)) k (omega (arith, low, many)) in
       let is : symbol_of t (k, x.0) ≡ s = same_Some (symbol_of t (k, x.0)) s (sym (symbol_here es symbols k x.0 x.1) ∙ here) in
       subst (λ (y : parts.Symbol). IsSymbol object (computed_symbol (symbols_in es) y)) is
       (subst (IsSymbol object) (sym (symbol_is es symbols k x.0)) (seen_whole k x.0 x.1 (omega (arith, low, few))))

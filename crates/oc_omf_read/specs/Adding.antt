@@ -11,12 +11,12 @@ use Rattle.oc_omf.specs.Rules.{omf_dialect}
 use Rattle.oc_omf.specs.SectionFaults.{section_stage}
 use Rattle.oc_omf.specs.SymbolFaults.{symbol_stages}
 use Rattle.oc_omf.specs.Tables.{tables_of}
-use Rattle.oc_omf_read.specs.declared.fixes.Sight.{Sight}
+use Rattle.oc_omf_read.specs.declared.fixes.FixupContext.{FixupContext}
 use Rattle.oc_omf_read.specs.Built.{started}
 use Rattle.oc_omf_read.specs.Contents.{AreStored}
 
 -- the stages have no fault, the vectors have the bytes of segments, and what is built before the relocations is what the module starts with
-pub record IsReady (s : Sight) (vectors : List (Vec ℕ Global)) : Type 0 where
+pub record IsReady (s : FixupContext) (vectors : List (Vec ℕ Global)) : Type 0 where
   pub bytes : AreBytes s.omf.now
   pub head : IsModule s.omf.now
   pub sections : stage_fault (section_stage (entries_in s.omf.now)) ≡ None

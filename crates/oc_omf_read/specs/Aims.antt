@@ -22,24 +22,24 @@ use Rattle.oc_omf.specs.Sections.{segment_kind}
 use Rattle.oc_omf.specs.Tables.{Tables, indexed, tables_of}
 use Rattle.oc_omf.specs.Targets.{Meaning, external_at, is_flat, meaning_of, same_named, target_of}
 use Rattle.oc_omf_read.specs.declared.fix.Fix.{Fix}
-use Rattle.oc_omf_read.specs.declared.fix.Framed.{Framed}
-use Rattle.oc_omf_read.specs.declared.fix.Framed.TheVariants as framed
+use Rattle.oc_omf_read.specs.declared.fix.FixupFrame.{FixupFrame}
+use Rattle.oc_omf_read.specs.declared.fix.FixupFrame.TheVariants as framed
 use Rattle.oc_omf_read.specs.declared.fixes.Aim.{Aim}
 use Rattle.oc_omf_read.specs.declared.fixes.Named.{Named}
 use Rattle.oc_omf_read.specs.declared.fixes.Named.TheVariants as named
-use Rattle.oc_omf_read.specs.declared.fixes.Sight.{Sight}
+use Rattle.oc_omf_read.specs.declared.fixes.FixupContext.{FixupContext}
 use Rattle.oc_omf_read.specs.Given.{against}
-use Rattle.oc_omf_read.specs.Heard.{told_in}
-use Rattle.oc_omf_read.specs.Mentioned.{HasHeard, Seen}
+use Rattle.oc_omf_read.specs.Declarations.{declarations_in}
+use Rattle.oc_omf_read.specs.Mentioned.{HasDeclarations, ModuleSymbol}
 use Rattle.oc_omf_judge.specs.Defined.{IsDefined}
 
--- what is known is what the module says
-pub record Sees (s : Sight) : Type 0 where
+-- what is known is what the module gives
+pub record Sees (s : FixupContext) : Type 0 where
   pub knows : IsDefined (tables_of (entries_in s.omf.now)) s.known.now
-  pub heard : HasHeard (told_in (entries_in s.omf.now)) s.mentions.now
+  pub declarations : HasDeclarations (declarations_in (entries_in s.omf.now)) s.mentions.now
 
 -- what indexes mean in the module
-abbrev pub meaning_seen : Sight → Meaning
+abbrev pub meaning_seen : FixupContext → Meaning
 meaning_seen s = meaning_of (entries_in s.omf.now)
 
 -- what is named, as the rules have it
@@ -57,7 +57,7 @@ external_aim m index =
     option_and_then (λ (y : parts.Symbol). option_map (λ (u : file.Target). (target.Symbol (position_of m.symbols y.number), u.named)) (file.symbol_target y)) (external_at m index)
 
 -- what a symbol of that number names
-abbrev pub symbol_named : Seen → ℕ → rules.Named
+abbrev pub symbol_named : ModuleSymbol → ℕ → rules.Named
 symbol_named s number = option_map_or (λ (place : ℕ × ℕ). if s.local then rules.Sectional (place.0 - 1) else rules.Symbolic number) s.place (rules.Symbolic number)
 
 -- the same, as the program has it
@@ -80,24 +80,24 @@ abbrev pub is_home_of : Meaning → ℕ → Method → rules.Named → Bool
 is_home_of m segment frame target = nat_eq frame.number 5 || option_map_or (same_named target) (frame_named m segment frame) false
 
 -- from where a segment-relative fixup counts
-abbrev pub framed_by : Meaning → ℕ → rules.Named → Method → Option Framed
+abbrev pub framed_by : Meaning → ℕ → rules.Named → Method → Option FixupFrame
 framed_by m segment target frame = if is_flat m frame then Some framed.Flat else if is_home_of m segment frame target then Some framed.Home else None
 
 -- from where a fixup counts
-abbrev pub framed_of : Meaning → ℕ → Fixup → Option Method → rules.Named → Option Framed
+abbrev pub framed_of : Meaning → ℕ → Fixup → Option Method → rules.Named → Option FixupFrame
 framed_of m segment f frame target = if f.segment_relative then option_and_then (framed_by m segment target) frame else Some framed.Own
 
 -- ... fixups
 
 -- what a fixup does that is aimed so
 abbrev pub fix_to : Meaning → ℕ → Fixup → Option Method → Target × rules.Named → Option Fix
-fix_to m segment f frame aim = option_map (λ (framed : Framed). record { framed = framed; target = aim.0; displacement = f.displacement }) (framed_of m segment f frame aim.1)
+fix_to m segment f frame aim = option_map (λ (framed : FixupFrame). record { framed = framed; target = aim.0; displacement = f.displacement }) (framed_of m segment f frame aim.1)
 
 -- what a fixup of data of a segment does, with that frame and that target
 abbrev pub fix_by : Meaning → ℕ → Fixup → Option Method → Option Method → Option Fix
 fix_by m segment f frame target = option_and_then (fix_to m segment f frame) (option_and_then (aim_by m) target)
 
--- the segment of an index is there, and kept
+-- the segment of an index exists, and is kept
 abbrev pub is_kept : Tables → Keep → ℕ → Bool
 is_kept t keep segment = option_map_or (λ (s : Segment). keeps keep (segment_kind t segment s)) (indexed t.segments segment) false
 

@@ -38,7 +38,7 @@ section_as known k bytes s kind = record {
   group = None;
 }
 
--- where it is there
+-- where it exists
 abbrev pub section_by : Defined → ℕ → List ℕ → Option Section
 section_by known k bytes = option_and_then (λ (s : Segment). option_map (section_as known k bytes s) (kind_in known k)) (slice_get known.segments.items k)
 

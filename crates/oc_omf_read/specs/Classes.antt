@@ -3,11 +3,11 @@ use Rattle.std.specs.Prelude.{ℕ, if◌then◌else◌, Option, Some, None}
 use Rattle.std.specs.Option.{unwrap_or}
 use Rattle.oc_omf.specs.declared.constants.TheConstants.{EXTDEF, PUBDEF, LNAMES, SEGDEF, GRPDEF, FIXUPP, LEDATA, LIDATA, COMDEF, LEXTDEF, LPUBDEF}
 use Rattle.oc_omf.specs.Entries.{is_kind}
-use Rattle.oc_omf_read.specs.declared.class.Class.{Class}
-use Rattle.oc_omf_read.specs.declared.class.Class.TheVariants as class
+use Rattle.oc_omf_read.specs.declared.class.EntryClass.{EntryClass}
+use Rattle.oc_omf_read.specs.declared.class.EntryClass.TheVariants as class
 
 -- what an entry of symbols speaks of
-abbrev pub symbol_class : ℕ → Option Class
+abbrev pub symbol_class : ℕ → Option EntryClass
 symbol_class kind =
     if is_kind PUBDEF kind then Some class.Publics
     else if is_kind LPUBDEF kind then Some class.LocalPublics
@@ -17,7 +17,7 @@ symbol_class kind =
     else None
 
 -- what another entry speaks of
-abbrev pub other_class : ℕ → Class
+abbrev pub other_class : ℕ → EntryClass
 other_class kind =
     if is_kind LEDATA kind then class.Plain
     else if is_kind LIDATA kind then class.Iterated
@@ -25,7 +25,7 @@ other_class kind =
     else class.Nothing
 
 -- what an entry speaks of
-abbrev pub class_of : ℕ → Class
+abbrev pub class_of : ℕ → EntryClass
 class_of kind =
     if is_kind LNAMES kind then class.Names
     else if is_kind SEGDEF kind then class.Segment

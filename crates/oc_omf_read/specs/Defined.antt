@@ -4,7 +4,7 @@ use Rattle.oc_omf_records.specs.declared.records.Entry.{Entry as Record}
 use Rattle.oc_omf.specs.Cursor.{Reading}
 use Rattle.oc_omf.specs.Entries.{Entry, said_by}
 
--- what an entry says
+-- what an entry gives
 abbrev pub said : Record → Entry
 said r = said_by r.place r.kind r.contents
 

@@ -4,21 +4,21 @@ use Rattle.std.specs.List.{list_any}
 use Rattle.std.specs.Option.{option_and_then, option_map, option_map_or, unwrap_or}
 use Rattle.oc_linking.specs.declared.terms.Keep.{Keep}
 use Rattle.oc_linking.specs.Numbers.{or_else}
-use Rattle.oc_shows.specs.Built.{Given}
+use Rattle.oc_shows.specs.Built.{RelocMap}
 use Rattle.oc_omf_records.specs.Blocks.{Blocks, copies_of, size_of}
 use Rattle.oc_omf.specs.declared.structures.Fixup.{Fixup}
 use Rattle.oc_omf.specs.declared.structures.Method.{Method}
 use Rattle.oc_omf.specs.Entries.{Entry, entries_in}
-use Rattle.oc_omf.specs.Fixups.{Fixed, fixed_in, last_of, placed_upto}
+use Rattle.oc_omf.specs.Fixups.{Fixed, fixed_in, last_of, subrecords_upto}
 use Rattle.oc_omf.specs.Known.{AreInForce}
 use Rattle.oc_omf.specs.Sections.{blocks_in}
 use Rattle.oc_omf.specs.Structures as structures
 use Rattle.oc_omf.specs.Tables.{tables_of}
 use Rattle.oc_omf.specs.Targets.{Meaning}
 use Rattle.oc_omf_read.specs.declared.fields.Behind.{Behind}
-use Rattle.oc_omf_read.specs.declared.fields.Field.{Field}
+use Rattle.oc_omf_read.specs.declared.fields.FixupField.{FixupField}
 use Rattle.oc_omf_read.specs.declared.fix.Fix.{Fix}
-use Rattle.oc_omf_read.specs.declared.fixes.Sight.{Sight}
+use Rattle.oc_omf_read.specs.declared.fixes.FixupContext.{FixupContext}
 use Rattle.oc_omf_read.specs.declared.pieces.Piece.{Piece}
 use Rattle.oc_omf_read.specs.declared.searched.Searched.{Searched}
 use Rattle.oc_omf_read.specs.Aims.{fix_for, meaning_seen, method_told}
@@ -26,23 +26,23 @@ use Rattle.oc_omf_read.specs.Given.{given_at}
 use Rattle.oc_omf_read.specs.Pieces.{ArePieces, IsPiece, row_in}
 
 -- the fields that a fixup makes of the copies in data at an offset of a section
-abbrev pub fields_at : ℕ → ℕ → Fix → List ℕ → List Field
+abbrev pub fields_at : ℕ → ℕ → Fix → List ℕ → List FixupField
 fields_at section offset fix copies = map (λ (copy : ℕ). record { section = section; at = offset + copy; fix = fix }) copies
 
--- where copies stand in some data, none where no content holds the bytes
+-- where copies lie in some data, none where no content holds the bytes
 abbrev pub copies_in : Blocks → ℕ → List ℕ
 copies_in row at = unwrap_or (copies_of row at) []
 
 -- the fields of a fixup of data of a segment at an offset, with that frame and that target
-abbrev pub fields_by : Meaning → Keep → ℕ → ℕ → Blocks → Fixup → Option Method → Option Method → List Field
+abbrev pub fields_by : Meaning → Keep → ℕ → ℕ → Blocks → Fixup → Option Method → Option Method → List FixupField
 fields_by m keep segment offset row f frame target = option_map_or (λ (fix : Fix). fields_at (segment - 1) offset fix (copies_in row f.offset)) (fix_for m keep segment f frame target) []
 
--- the fields of a fixup, where it is behind data
-abbrev pub fields_for : Meaning → Keep → Fixed → List Field
+-- the fields of a fixup, where it comes after data
+abbrev pub fields_for : Meaning → Keep → Fixed → List FixupField
 fields_for m keep x = option_map_or (λ (d : structures.Piece). fields_by m keep d.segment d.offset (blocks_in d.blocks) x.fixup x.frame x.target) x.piece []
 
 -- those of some fixups
-unfoldable pub fields_of : Meaning → Keep → List Fixed → List Field
+unfoldable pub fields_of : Meaning → Keep → List Fixed → List FixupField
 fields_of m keep xs = flat_map (fields_for m keep) xs
 
 -- ... as the program has them
@@ -51,12 +51,12 @@ fields_of m keep xs = flat_map (fields_for m keep) xs
 abbrev pub held : Behind → Option Piece
 held b = option_map (λ (s : Searched). s.piece) b.piece
 
--- what a fixup behind what is held does
+-- what a fixup after what is held does
 abbrev pub fix_behind : Meaning → Keep → Behind → Fixup → Option Fix
 fix_behind m keep b f = option_and_then (λ (p : Piece). fix_for m keep p.segment f (method_told b.threads true f.frame) (method_told b.threads false f.target)) (held b)
 
--- the fields of a fixup behind what is held
-abbrev pub fields_behind : Meaning → Keep → Behind → Fixup → List Field
+-- the fields of a fixup after what is held
+abbrev pub fields_behind : Meaning → Keep → Behind → Fixup → List FixupField
 fields_behind m keep b f =
     option_map_or (λ (p : Piece). fields_by m keep p.segment p.offset (row_in p.data) f (method_told b.threads true f.frame) (method_told b.threads false f.target)) (held b) []
 
@@ -80,19 +80,19 @@ pub record HasData (ds : List structures.Piece) (old new : Behind) : Type 0 wher
   pub threads : new.threads ≡ old.threads
   pub piece : held new ≡ or_else found (held old)
 
--- the fields of the fixups in the first i entries, and what entry i stands behind
-pub record HasFields (s : Sight) (i : ℕ) (fields : List Field) (b : Behind) : Type 0 where
-  pub made : fields ≡ fields_of (meaning_seen s) s.keep (fixed_in (placed_upto (entries_in s.omf.now) i))
-  pub threads : AreInForce (placed_upto (entries_in s.omf.now) i) b.threads
+-- the fields of the fixups in the first i entries, and what comes before entry i
+pub record HasFields (s : FixupContext) (i : ℕ) (fields : List FixupField) (b : Behind) : Type 0 where
+  pub made : fields ≡ fields_of (meaning_seen s) s.keep (fixed_in (subrecords_upto (entries_in s.omf.now) i))
+  pub threads : AreInForce (subrecords_upto (entries_in s.omf.now) i) b.threads
   pub last : IsLast (held b) (last_of (tables_of (take i (entries_in s.omf.now))).pieces)
   pub low : AreLow (held b)
 
 -- ... what is given
 
 -- one of the fields is at an offset of the section at position s
-abbrev pub is_among : List Field → ℕ → ℕ → Bool
-is_among fields s at = list_any (λ (f : Field). nat_eq f.section s && nat_eq f.at at) fields
+abbrev pub is_among : List FixupField → ℕ → ℕ → Bool
+is_among fields s at = list_any (λ (f : FixupField). nat_eq f.section s && nat_eq f.at at) fields
 
 -- what is given for some fields
-abbrev pub given_with : List Entry → Keep → List Field → Given
+abbrev pub given_with : List Entry → Keep → List FixupField → RelocMap
 given_with es keep fields s at = if is_among fields s at then given_at es keep s at else None

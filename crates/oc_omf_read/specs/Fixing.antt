@@ -4,11 +4,11 @@ use Rattle.oc_linking.specs.declared.terms.Width.TheVariants.{Four}
 use Rattle.oc_algebra.specs.Fields.{extended}
 use Rattle.oc_neutral.specs.Omf.Relocs as relocs
 use Rattle.oc_omf_read.specs.declared.fix.Fix.{Fix}
-use Rattle.oc_omf_read.specs.declared.fix.Framed.{Framed}
-use Rattle.oc_omf_read.specs.declared.fix.Framed.TheVariants as framed
+use Rattle.oc_omf_read.specs.declared.fix.FixupFrame.{FixupFrame}
+use Rattle.oc_omf_read.specs.declared.fix.FixupFrame.TheVariants as framed
 
 -- the frame by which the table of fixups has it
-abbrev pub framed_as : Framed → relocs.Framed
+abbrev pub framed_as : FixupFrame → relocs.FixupFrame
 framed_as framed.Flat = relocs.ByFlat
 framed_as framed.Home = relocs.ByTarget
 framed_as framed.Own = relocs.BySelf

@@ -6,7 +6,7 @@ use Rattle.oc_linking.specs.declared.terms.Keep.{Keep}
 use Rattle.oc_linking.specs.Keeping.{keeps}
 use Rattle.oc_linking.specs.Parts as parts
 use Rattle.oc_linking.specs.Targets as file
-use Rattle.oc_shows.specs.Built.{Given}
+use Rattle.oc_shows.specs.Built.{RelocMap}
 use Rattle.oc_shows.specs.Computed.{position_of}
 use Rattle.oc_neutral.specs.declared.reloc.Reloc.{Reloc}
 use Rattle.oc_neutral.specs.declared.reloc.Target.{Target}
@@ -42,5 +42,5 @@ abbrev pub is_kept_at : List Entry → Keep → ℕ → Bool
 is_kept_at es keep s = option_map_or (λ (x : parts.Section). keeps keep x.kind) (slice_get (sections_in (tables_of es)) s) true
 
 -- what is given for the field at an offset of the section at position s, where that is kept: the relocation of the first fixup there
-unfoldable pub given_at : List Entry → Keep → Given
+unfoldable pub given_at : List Entry → Keep → RelocMap
 given_at es keep s at = if is_kept_at es keep s then option_and_then (reloc_by (meaning_of es) s at) (find (relocates s at) (fixups_in es)) else None

@@ -4,11 +4,11 @@ pub mod Bindings
 pub mod Built
 pub mod Classes
 pub mod Contents
+pub mod Declarations
 pub mod Defined
 pub mod Fields
 pub mod Fixing
 pub mod Given
-pub mod Heard
 pub mod Mentioned
 pub mod Pieces
 pub mod Searched

@@ -4,6 +4,6 @@ use Rattle.std.specs.BTreeMap.{BTreeMap, get}
 use Rattle.std.specs.Ordering.{nat_cmp}
 use Rattle.oc_omf_records.specs.Blocks.{Blocks, copies_of}
 
--- at each of these encoded places stand bytes that have no copy
+-- at each of these encoded places lie bytes that have no copy
 abbrev pub AreFruitless : Blocks → BTreeMap ℕ ℕ → Type 0
 AreFruitless blocks places = (at : ℕ) → IsSome (get nat_cmp places at) → copies_of blocks at ≡ Some []

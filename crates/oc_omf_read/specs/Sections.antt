@@ -12,6 +12,6 @@ use Rattle.oc_omf_judge.specs.declared.defined.Defined.{Defined}
 abbrev pub name_in : Defined → ℕ → List ℕ
 name_in known index = unwrap_or (indexed (names_of known.names.items) index) []
 
--- the kind of segment k, counted from 0, where it is there
+-- the kind of segment k, counted from 0, where it exists
 abbrev pub kind_in : Defined → ℕ → Option Kind
 kind_in known k = option_map (λ (s : Segment). omf_kind (name_in known s.class) (get_or known.covered.items k false)) (slice_get known.segments.items k)

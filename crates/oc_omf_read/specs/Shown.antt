@@ -24,6 +24,6 @@ pub record StartsWell (file : List ℕ) (keep : Keep) : Type 0 where
 abbrev pub StartsAreWell : Type 0
 StartsAreWell = (file : List ℕ) (keep : Keep) → StartsWell file keep
 
--- the rules of OMF have the word and the alignments that are told of its format
+-- the rules of OMF have the word and the alignments that are given for its format
 pub omf_is_dialect : IsDialect omf_dialect
 omf_is_dialect = record { word = refl; output_align = λ align. refl; common_align = λ size align. refl }

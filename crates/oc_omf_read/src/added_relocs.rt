@@ -12,14 +12,14 @@ ghost use Rattle.oc_omf_read.specs.Contents.{items_at};
 ghost use Rattle.oc_omf_read.specs.Fields as listed;
 ghost use Rattle.oc_omf_read.specs.Given.{given_at};
 
-use crate::fields::Field;
+use crate::fields::FixupField;
 use crate::fix::reloc_of;
-use crate::fixes::Sight;
+use crate::fixes::FixupContext;
 use oc_base::{NoMemory, u32_in};
 use oc_neutral::Builder;
 
-// the number that stands in a field
-fn number_in(contents: &[Vec<u8>], field: Field) -> u32
+// the number that is written in a field
+fn number_in(contents: &[Vec<u8>], field: FixupField) -> u32
     requires there { field.section < length contents.now }
     requires inside { field.at + 4 ≤ length (items_at contents.now field.section) }
     ensures { result ≡ number_at (items_at contents.now field.section) field.at 4 }
@@ -32,31 +32,31 @@ fn number_in(contents: &[Vec<u8>], field: Field) -> u32
 
 // adds the relocation of field `j`
 fn add_field(
-    sight: &Sight,
+    context: &FixupContext,
     builder: &mut Builder,
     contents: &[Vec<u8>],
-    fields: &[Field],
+    fields: &[FixupField],
     j: usize,
 ) -> Result<(), NoMemory>
-    requires ready { IsReady sight.now contents.now }
-    requires fields { IsPermutation (listed.fields_of (meaning_seen sight.now) sight.now.keep (fixups_in (entries_in sight.now.omf.now))) fields.now }
+    requires ready { IsReady context.now contents.now }
+    requires fields { IsPermutation (listed.fields_of (meaning_seen context.now) context.now.keep (fixups_in (entries_in context.now.omf.now))) fields.now }
     requires there { j < length fields.now }
-    requires before { HasAdded (started sight.now.omf.now) builder.old (listed.given_with (entries_in sight.now.omf.now) sight.now.keep (take j fields.now)) }
-    ensures { OnOk result (HasAdded (started sight.now.omf.now) builder.new (listed.given_with (entries_in sight.now.omf.now) sight.now.keep (take (j + 1) fields.now))) }
+    requires before { HasAdded (started context.now.omf.now) builder.old (listed.given_with (entries_in context.now.omf.now) context.now.keep (take j fields.now)) }
+    ensures { OnOk result (HasAdded (started context.now.omf.now) builder.new (listed.given_with (entries_in context.now.omf.now) context.now.keep (take (j + 1) fields.now))) }
 {
-    let _ = sight;
+    let _ = context;
     let field = fields[j];
     let number = number_in(contents, field);
     builder.add_clean_reloc(field.section, field.at, reloc_of(&field.fix, number))
 }
 
-// where a field stands among all: those of one section stand together, in the order of their offsets
-fn place_of(field: &Field) -> u64 {
+// where a field comes among all: those of one section come together, in the order of their offsets
+fn place_of(field: &FixupField) -> u64 {
     u64::from(field.section) * 4_294_967_296 + u64::from(field.at)
 }
 
 // puts fields in the order of their places
-fn sort_by_place(fields: &mut Vec<Field>)
+fn sort_by_place(fields: &mut Vec<FixupField>)
     ensures { IsPermutation fields.old.items fields.new.items }
 {
     fields.sort_unstable_by_key(|field| place_of(field));
@@ -65,19 +65,19 @@ fn sort_by_place(fields: &mut Vec<Field>)
 /// Adds the relocations of all fields, in the order of their places. `NoMemory` where memory ran out.
 /// The time is that of n log2(n) steps for n fields, in any order.
 pub(crate) fn add_relocations(
-    sight: &Sight,
+    context: &FixupContext,
     builder: &mut Builder,
     contents: &[Vec<u8>],
-    fields: &mut Vec<Field>,
+    fields: &mut Vec<FixupField>,
 ) -> Result<(), NoMemory>
-    requires ready { IsReady sight.now contents.now }
-    requires fields { fields.old.items ≡ listed.fields_of (meaning_seen sight.now) sight.now.keep (fixups_in (entries_in sight.now.omf.now)) }
-    requires before { builder.old ≡ started sight.now.omf.now }
-    ensures { OnOk result (HasAdded (started sight.now.omf.now) builder.new (given_at (entries_in sight.now.omf.now) sight.now.keep)) }
+    requires ready { IsReady context.now contents.now }
+    requires fields { fields.old.items ≡ listed.fields_of (meaning_seen context.now) context.now.keep (fixups_in (entries_in context.now.omf.now)) }
+    requires before { builder.old ≡ started context.now.omf.now }
+    ensures { OnOk result (HasAdded (started context.now.omf.now) builder.new (given_at (entries_in context.now.omf.now) context.now.keep)) }
 {
     sort_by_place(fields);
     for j in 0..fields.len() {
-        add_field(sight, builder, contents, fields.as_slice(), j)?;
+        add_field(context, builder, contents, fields.as_slice(), j)?;
     }
     Ok(())
 }

@@ -4,8 +4,8 @@ ghost use Rattle.oc_linking.specs.FirstFault.{first_fault};
 ghost use Rattle.oc_omf.specs.Entries.{entries_in};
 ghost use Rattle.oc_omf.specs.SymbolFaults.{symbol_stages};
 ghost use Rattle.oc_omf_read.specs.Built as built;
-ghost use Rattle.oc_omf_read.specs.Heard.{told_in};
-ghost use Rattle.oc_omf_read.specs.Mentioned.{HasHeard};
+ghost use Rattle.oc_omf_read.specs.Declarations.{declarations_in};
+ghost use Rattle.oc_omf_read.specs.Mentioned.{HasDeclarations};
 
 use crate::bindings::symbol_of;
 use crate::mentioned::Mentions;
@@ -23,7 +23,7 @@ fn add_symbol(
     k: usize,
 ) -> Result<(), NoMemory>
     requires clean { first_fault (symbol_stages (entries_in omf.now)) ≡ None }
-    requires heard { HasHeard (told_in (entries_in omf.now)) mentions.now }
+    requires declarations { HasDeclarations (declarations_in (entries_in omf.now)) mentions.now }
     requires there { k < length mentions.now.symbols.items }
     requires before { builder.old ≡ built.symboled (entries_in omf.now) k }
     ensures { OnOk result (builder.new ≡ built.symboled (entries_in omf.now) (k + 1)) }
@@ -42,7 +42,7 @@ pub(crate) fn add_symbols(
     builder: &mut Builder,
 ) -> Result<(), NoMemory>
     requires clean { first_fault (symbol_stages (entries_in omf.now)) ≡ None }
-    requires heard { HasHeard (told_in (entries_in omf.now)) mentions.now }
+    requires declarations { HasDeclarations (declarations_in (entries_in omf.now)) mentions.now }
     requires before { builder.old ≡ built.symboled (entries_in omf.now) 0 }
     ensures { OnOk result (builder.new ≡ built.started omf.now) }
 {

@@ -9,7 +9,7 @@ use oc_omf::{
 
 /// What an entry speaks of.
 #[derive(Clone, Copy, Debug, PartialEq, Eq)]
-pub enum Class {
+pub enum EntryClass {
     /// Names.
     Names,
     /// A segment.
@@ -26,7 +26,7 @@ pub enum Class {
     LocalExternals,
     /// Communals.
     Communals,
-    /// Data as they stand.
+    /// Plain data.
     Plain,
     /// Iterated data.
     Iterated,
@@ -37,55 +37,55 @@ pub enum Class {
 }
 
 // what an entry of symbols speaks of, if it is one
-fn symbol_class(kind: u8) -> Option<Class>
+fn symbol_class(kind: u8) -> Option<EntryClass>
     ensures { result ≡ classes.symbol_class kind }
 {
     if is_kind(PUBDEF, kind) {
-        return Some(Class::Publics);
+        return Some(EntryClass::Publics);
     }
     if is_kind(LPUBDEF, kind) {
-        return Some(Class::LocalPublics);
+        return Some(EntryClass::LocalPublics);
     }
     if is_kind(EXTDEF, kind) {
-        return Some(Class::Externals);
+        return Some(EntryClass::Externals);
     }
     if is_kind(LEXTDEF, kind) {
-        return Some(Class::LocalExternals);
+        return Some(EntryClass::LocalExternals);
     }
     if is_kind(COMDEF, kind) {
-        return Some(Class::Communals);
+        return Some(EntryClass::Communals);
     }
     None
 }
 
 // what another entry speaks of
-fn other_class(kind: u8) -> Class
+fn other_class(kind: u8) -> EntryClass
     ensures { result ≡ classes.other_class kind }
 {
     if is_kind(LEDATA, kind) {
-        return Class::Plain;
+        return EntryClass::Plain;
     }
     if is_kind(LIDATA, kind) {
-        return Class::Iterated;
+        return EntryClass::Iterated;
     }
     if is_kind(FIXUPP, kind) {
-        return Class::Fixups;
+        return EntryClass::Fixups;
     }
-    Class::Nothing
+    EntryClass::Nothing
 }
 
 /// What an entry of a type speaks of. Constant time.
-pub(crate) fn class_of(kind: u8) -> Class
+pub(crate) fn class_of(kind: u8) -> EntryClass
     ensures { result ≡ classes.class_of kind }
 {
     if is_kind(LNAMES, kind) {
-        return Class::Names;
+        return EntryClass::Names;
     }
     if is_kind(SEGDEF, kind) {
-        return Class::Segment;
+        return EntryClass::Segment;
     }
     if is_kind(GRPDEF, kind) {
-        return Class::Group;
+        return EntryClass::Group;
     }
     match symbol_class(kind) {
         Some(class) => class,

@@ -4,16 +4,16 @@ ghost use Rattle.oc_linking.specs.FirstFault.{stage_fault};
 ghost use Rattle.oc_omf.specs.Entries.{all_read, entries_in, places_in};
 ghost use Rattle.oc_omf.specs.Fields.{fixups_in};
 ghost use Rattle.oc_omf.specs.SectionFaults.{section_stage};
-ghost use Rattle.oc_omf_read.specs.declared.class.Class.TheVariants as class;
+ghost use Rattle.oc_omf_read.specs.declared.class.EntryClass.TheVariants as class;
 ghost use Rattle.oc_omf_read.specs.Aims as aims;
 ghost use Rattle.oc_omf_read.specs.Classes as classes;
 ghost use Rattle.oc_omf_read.specs.Defined.{said};
 ghost use Rattle.oc_omf_read.specs.Fields as listed;
 ghost use Rattle.oc_omf_read.specs.Pieces.{row_in};
 
-use crate::class::{Class, class_of};
+use crate::class::{EntryClass, class_of};
 use crate::fix::Fix;
-use crate::fixes::{Sight, fix_of};
+use crate::fixes::{FixupContext, fix_of};
 use crate::pieces::piece_of;
 use crate::searched::Searched;
 use oc_base::NoMemory;
@@ -23,7 +23,7 @@ use std::alloc::Global;
 
 /// A field of a fixup.
 #[derive(Clone, Copy, Drop)]
-pub struct Field {
+pub struct FixupField {
     /// The position of its section.
     pub section: u32,
     /// Its offset in the section, in bytes.
@@ -32,7 +32,7 @@ pub struct Field {
     pub fix: Fix,
 }
 
-/// What an entry stands behind.
+/// What comes before an entry.
 #[derive(Drop)]
 pub struct Behind<'a> {
     // the threads in force
@@ -43,7 +43,7 @@ pub struct Behind<'a> {
 
 // adds the fields of a fixup of data at that offset of a section, one for each copy
 fn add_copies(
-    fields: &mut Vec<Field>,
+    fields: &mut Vec<FixupField>,
     section: u32,
     offset: u32,
     fix: Fix,
@@ -54,7 +54,7 @@ fn add_copies(
 {
     for k in 0..copies.len() {
         let at = offset + copies[k];
-        fields.push(Field { section, at, fix })?;
+        fields.push(FixupField { section, at, fix })?;
     }
     Ok(())
 }
@@ -62,7 +62,7 @@ fn add_copies(
 // adds the fields of a fixup of some data
 fn add_fields(
     alloc: Global,
-    fields: &mut Vec<Field>,
+    fields: &mut Vec<FixupField>,
     searched: &mut Searched,
     fix: Fix,
     at: u16,
@@ -78,31 +78,31 @@ fn add_fields(
 }
 
 // what a fixup does
-fn fix_behind(sight: &Sight, behind: &Behind, fixup: &Fixup) -> Option<Fix>
-    requires { aims.Sees sight.now }
-    ensures { result ≡ listed.fix_behind (aims.meaning_seen sight.now) sight.now.keep behind.now fixup.now }
+fn fix_behind(context: &FixupContext, behind: &Behind, fixup: &Fixup) -> Option<Fix>
+    requires { aims.Sees context.now }
+    ensures { result ≡ listed.fix_behind (aims.meaning_seen context.now) context.now.keep behind.now fixup.now }
 {
     match &behind.piece {
-        Some(searched) => fix_of(sight, &behind.threads, searched.piece.segment, fixup),
+        Some(searched) => fix_of(context, &behind.threads, searched.piece.segment, fixup),
         None => None,
     }
 }
 
-// takes up a fixup
+// records a fixup
 fn take_fixup(
     alloc: Global,
-    sight: &Sight,
-    fields: &mut Vec<Field>,
+    context: &FixupContext,
+    fields: &mut Vec<FixupField>,
     behind: &mut Behind,
     fixup: &Fixup,
 ) -> Result<(), NoMemory>
-    requires sees { aims.Sees sight.now }
+    requires sees { aims.Sees context.now }
     requires low { listed.AreLow (listed.held behind.old) }
     ensures threads { OnOk result (behind.new.threads ≡ behind.old.threads) }
     ensures piece { OnOk result (listed.held behind.new ≡ listed.held behind.old) }
-    ensures fields { OnOk result (fields.new.items ≡ fields.old.items ++ listed.fields_behind (aims.meaning_seen sight.now) sight.now.keep behind.old fixup.now) }
+    ensures fields { OnOk result (fields.new.items ≡ fields.old.items ++ listed.fields_behind (aims.meaning_seen context.now) context.now.keep behind.old fixup.now) }
 {
-    match fix_behind(sight, behind, fixup) {
+    match fix_behind(context, behind, fixup) {
         Some(fix) => match &mut behind.piece {
             Some(searched) => {
                 add_fields(alloc, fields, searched, fix, fixup.offset)?;
@@ -114,20 +114,20 @@ fn take_fixup(
     }
 }
 
-// takes up the threads and fixups of entry `i`
+// records the threads and fixups of entry `i`
 fn take_subrecords(
     alloc: Global,
-    sight: &Sight,
-    fields: &mut Vec<Field>,
+    context: &FixupContext,
+    fields: &mut Vec<FixupField>,
     behind: &mut Behind,
     entry: &Entry,
     i: u32,
 ) -> Result<(), NoMemory>
-    requires sees { aims.Sees sight.now }
-    requires here { slice_get (entries_in sight.now.omf.now) i ≡ Some (said entry.now) }
+    requires sees { aims.Sees context.now }
+    requires here { slice_get (entries_in context.now.omf.now) i ≡ Some (said entry.now) }
     requires class { classes.class_of entry.now.kind ≡ class.Fixups }
-    requires before { listed.HasFields sight.now i fields.old.items behind.old }
-    ensures { OnOk result (listed.HasFields sight.now (i + 1) fields.new.items behind.new) }
+    requires before { listed.HasFields context.now i fields.old.items behind.old }
+    ensures { OnOk result (listed.HasFields context.now (i + 1) fields.new.items behind.new) }
 {
     let _ = i;
     let wide = is_wide(entry.kind);
@@ -139,7 +139,7 @@ fn take_subrecords(
                 at = after;
             }
             Ok((Subrecord::Fixup(fixup), after)) => {
-                take_fixup(alloc, sight, fields, behind, &fixup)?;
+                take_fixup(alloc, context, fields, behind, &fixup)?;
                 at = after;
             }
             Err(_) => at = entry.contents.len(),
@@ -148,7 +148,7 @@ fn take_subrecords(
     Ok(())
 }
 
-// takes up the data of an entry, if it has some
+// records the data of an entry, if it has some
 fn take_data<'a>(alloc: Global, behind: &mut Behind<'a>, entry: &Entry<'a>) -> Result<(), NoMemory>
     ensures { OnOk result (listed.HasData (all_read (said entry.now).pieces) behind.old behind.new) }
 {
@@ -161,52 +161,52 @@ fn take_data<'a>(alloc: Global, behind: &mut Behind<'a>, entry: &Entry<'a>) -> R
     }
 }
 
-// takes up entry `i`
+// records entry `i`
 fn take_entry<'f>(
     alloc: Global,
-    sight: &Sight<'_, 'f>,
-    fields: &mut Vec<Field>,
+    context: &FixupContext<'_, 'f>,
+    fields: &mut Vec<FixupField>,
     behind: &mut Behind<'f>,
     i: u32,
 ) -> Result<(), NoMemory>
-    requires sees { aims.Sees sight.now }
-    requires clean { stage_fault (section_stage (entries_in sight.now.omf.now)) ≡ None }
-    requires there { i < length (places_in sight.now.omf.now) }
-    requires before { listed.HasFields sight.now i fields.old.items behind.old }
-    ensures { OnOk result (listed.HasFields sight.now (i + 1) fields.new.items behind.new) }
+    requires sees { aims.Sees context.now }
+    requires clean { stage_fault (section_stage (entries_in context.now.omf.now)) ≡ None }
+    requires there { i < length (places_in context.now.omf.now) }
+    requires before { listed.HasFields context.now i fields.old.items behind.old }
+    ensures { OnOk result (listed.HasFields context.now (i + 1) fields.new.items behind.new) }
 {
-    let entry = sight.omf.entry(i);
+    let entry = context.omf.entry(i);
     match class_of(entry.kind) {
-        Class::Fixups => take_subrecords(alloc, sight, fields, behind, &entry, i),
-        Class::Names
-        | Class::Segment
-        | Class::Group
-        | Class::Publics
-        | Class::LocalPublics
-        | Class::Externals
-        | Class::LocalExternals
-        | Class::Communals
-        | Class::Plain
-        | Class::Iterated
-        | Class::Nothing => take_data(alloc, behind, &entry),
+        EntryClass::Fixups => take_subrecords(alloc, context, fields, behind, &entry, i),
+        EntryClass::Names
+        | EntryClass::Segment
+        | EntryClass::Group
+        | EntryClass::Publics
+        | EntryClass::LocalPublics
+        | EntryClass::Externals
+        | EntryClass::LocalExternals
+        | EntryClass::Communals
+        | EntryClass::Plain
+        | EntryClass::Iterated
+        | EntryClass::Nothing => take_data(alloc, behind, &entry),
     }
 }
 
 /// The fields of a module's fixups, as far as their sections are kept. `NoMemory` where memory ran
 /// out. Linear in the module and the fields; for each of at most 1,024 places in the data of an entry
 /// the blocks of iterated data are walked once more.
-pub(crate) fn fields_in(alloc: Global, sight: &Sight) -> Result<Vec<Field>, NoMemory>
-    requires sees { aims.Sees sight.now }
-    requires clean { stage_fault (section_stage (entries_in sight.now.omf.now)) ≡ None }
-    ensures { IfOk result (λ fields. fields.items ≡ listed.fields_of (aims.meaning_seen sight.now) sight.now.keep (fixups_in (entries_in sight.now.omf.now))) }
+pub(crate) fn fields_in(alloc: Global, context: &FixupContext) -> Result<Vec<FixupField>, NoMemory>
+    requires sees { aims.Sees context.now }
+    requires clean { stage_fault (section_stage (entries_in context.now.omf.now)) ≡ None }
+    ensures { IfOk result (λ fields. fields.items ≡ listed.fields_of (aims.meaning_seen context.now) context.now.keep (fixups_in (entries_in context.now.omf.now))) }
 {
     let mut fields = Vec::new(alloc);
     let mut behind = Behind {
         threads: Threads::new(),
         piece: None,
     };
-    for i in 0..sight.omf.count() {
-        take_entry(alloc, sight, &mut fields, &mut behind, i)?;
+    for i in 0..context.omf.count() {
+        take_entry(alloc, context, &mut fields, &mut behind, i)?;
     }
     Ok(fields)
 }

@@ -13,7 +13,7 @@ use oc_neutral::{Base, Check, Form, Hint, Less, Reloc, Target, Width};
 
 /// From which address a fixup counts (TIS OMF 1.1, "FIXUPP").
 #[derive(Clone, Copy, Debug, PartialEq, Eq)]
-pub enum Framed {
+pub enum FixupFrame {
     /// From 0: it is segment-relative, and its frame is the group FLAT.
     Flat,
     /// From the home of its target: it is segment-relative, and its frame is that of the target.
@@ -26,7 +26,7 @@ pub enum Framed {
 #[derive(Clone, Copy, Debug, PartialEq, Eq)]
 pub struct Fix {
     /// From where it counts.
-    pub framed: Framed,
+    pub framed: FixupFrame,
     /// What it is against.
     pub target: Target,
     /// What is added beside the number in the field.
@@ -34,23 +34,23 @@ pub struct Fix {
 }
 
 // what a fixup takes from the address of its target
-fn less_of(framed: Framed) -> Less
+fn less_of(framed: FixupFrame) -> Less
     ensures { (s : ℕ) → result ≡ rows.less_of (fixup_row (fixing.framed_as framed)).taken s }
 {
     match framed {
-        Framed::Flat => Less::Zero,
-        Framed::Home => Less::Home,
-        Framed::Own => Less::Place,
+        FixupFrame::Flat => Less::Zero,
+        FixupFrame::Home => Less::Home,
+        FixupFrame::Own => Less::Place,
     }
 }
 
-// from how many bytes behind the field's place it counts
-fn behind(framed: Framed) -> u32
+// from how many bytes after the field's place it counts
+fn behind(framed: FixupFrame) -> u32
     ensures { result ≡ (fixup_row (fixing.framed_as framed)).behind }
 {
     match framed {
-        Framed::Flat | Framed::Home => 0,
-        Framed::Own => 4,
+        FixupFrame::Flat | FixupFrame::Home => 0,
+        FixupFrame::Own => 4,
     }
 }
 

@@ -1,11 +1,11 @@
-//! What fixups do, each told by what is in force where it stands.
+//! What fixups do, each by what is in force where it lies.
 ghost use Rattle.std.specs.Prelude.{◌≡◌, true, false};
 ghost use Rattle.std.specs.Option.{option_and_then, option_map};
 ghost use Rattle.oc_omf.specs.Targets as targets;
 ghost use Rattle.oc_omf_read.specs.Aims as aims;
 ghost use Rattle.oc_omf_read.specs.Mentioned.{seen_of};
 
-use crate::fix::{Fix, Framed};
+use crate::fix::{Fix, FixupFrame};
 use crate::known::{kind_in, name_in};
 use crate::mentioned::{Mentioned, Mentions};
 use oc_neutral::{Keep, Target};
@@ -32,7 +32,7 @@ pub struct Aim {
 
 /// A module, with what is known of it where its fixups are read.
 #[derive(Clone, Copy)]
-pub struct Sight<'s, 'f> {
+pub struct FixupContext<'s, 'f> {
     /// The module.
     pub(crate) omf: &'s Module<'f>,
     /// What it defines.
@@ -64,19 +64,19 @@ fn named_by(symbol: &Mentioned, number: u32) -> Named
 }
 
 // what the external of an index is
-fn external_of(sight: &Sight, index: u16) -> Option<Aim>
-    requires { aims.Sees sight.now }
-    ensures { option_map aims.aim_as result ≡ aims.external_aim (aims.meaning_seen sight.now) index }
+fn external_of(context: &FixupContext, index: u16) -> Option<Aim>
+    requires { aims.Sees context.now }
+    ensures { option_map aims.aim_as result ≡ aims.external_aim (aims.meaning_seen context.now) index }
 {
     let index = usize::from(index);
     if index == 0 {
         return None;
     }
-    if index > sight.mentions.externals.len() {
+    if index > context.mentions.externals.len() {
         return None;
     }
-    let number = sight.mentions.externals[index - 1];
-    let named = named_by(&sight.mentions.symbols[number as usize], number);
+    let number = context.mentions.externals[index - 1];
+    let named = named_by(&context.mentions.symbols[number as usize], number);
     Some(Aim {
         target: Target::Symbol(number),
         named,
@@ -84,12 +84,12 @@ fn external_of(sight: &Sight, index: u16) -> Option<Aim>
 }
 
 // what a method names: a segment or an external
-fn aim_of(sight: &Sight, method: Method) -> Option<Aim>
-    requires { aims.Sees sight.now }
-    ensures { option_map aims.aim_as result ≡ aims.aim_by (aims.meaning_seen sight.now) method }
+fn aim_of(context: &FixupContext, method: Method) -> Option<Aim>
+    requires { aims.Sees context.now }
+    ensures { option_map aims.aim_as result ≡ aims.aim_by (aims.meaning_seen context.now) method }
 {
     if method.number == 2 {
-        return external_of(sight, method.index);
+        return external_of(context, method.index);
     }
     if method.number != 0 {
         return None;
@@ -102,9 +102,9 @@ fn aim_of(sight: &Sight, method: Method) -> Option<Aim>
 }
 
 // whether a frame is the group FLAT
-fn is_flat(sight: &Sight, frame: Method) -> bool
-    requires { aims.Sees sight.now }
-    ensures { result ≡ targets.is_flat (aims.meaning_seen sight.now) frame }
+fn is_flat(context: &FixupContext, frame: Method) -> bool
+    requires { aims.Sees context.now }
+    ensures { result ≡ targets.is_flat (aims.meaning_seen context.now) frame }
 {
     let index = usize::from(frame.index);
     if frame.number != 1 {
@@ -113,16 +113,16 @@ fn is_flat(sight: &Sight, frame: Method) -> bool
     if index == 0 {
         return false;
     }
-    if index > sight.known.groups.len() {
+    if index > context.known.groups.len() {
         return false;
     }
-    name_in(sight.known, sight.known.groups[index - 1]) == b"FLAT".as_slice()
+    name_in(context.known, context.known.groups[index - 1]) == b"FLAT".as_slice()
 }
 
 // whether a frame is what the target of a fixup of data of that segment names
-fn is_home(sight: &Sight, segment: u16, frame: Method, target: Named) -> bool
-    requires { aims.Sees sight.now }
-    ensures { result ≡ aims.is_home_of (aims.meaning_seen sight.now) segment frame (aims.named_as target) }
+fn is_home(context: &FixupContext, segment: u16, frame: Method, target: Named) -> bool
+    requires { aims.Sees context.now }
+    ensures { result ≡ aims.is_home_of (aims.meaning_seen context.now) segment frame (aims.named_as target) }
 {
     if frame.number == 5 {
         return true;
@@ -130,63 +130,74 @@ fn is_home(sight: &Sight, segment: u16, frame: Method, target: Named) -> bool
     if frame.number == 4 {
         return target == Named::Section(u32::from(segment).saturating_sub(1));
     }
-    match aim_of(sight, frame) {
+    match aim_of(context, frame) {
         Some(aim) => aim.named == target,
         None => false,
     }
 }
 
 // from where a segment-relative fixup counts
-fn framed_by(sight: &Sight, segment: u16, frame: Method, target: Named) -> Option<Framed>
-    requires { aims.Sees sight.now }
-    ensures { result ≡ aims.framed_by (aims.meaning_seen sight.now) segment (aims.named_as target) frame }
+fn framed_by(
+    context: &FixupContext,
+    segment: u16,
+    frame: Method,
+    target: Named,
+) -> Option<FixupFrame>
+    requires { aims.Sees context.now }
+    ensures { result ≡ aims.framed_by (aims.meaning_seen context.now) segment (aims.named_as target) frame }
 {
-    if is_flat(sight, frame) {
-        return Some(Framed::Flat);
+    if is_flat(context, frame) {
+        return Some(FixupFrame::Flat);
     }
-    if is_home(sight, segment, frame, target) {
-        return Some(Framed::Home);
+    if is_home(context, segment, frame, target) {
+        return Some(FixupFrame::Home);
     }
     None
 }
 
 // from where a fixup counts
 fn framed_of(
-    sight: &Sight,
+    context: &FixupContext,
     threads: &Threads,
     segment: u16,
     fixup: &Fixup,
     target: Named,
-) -> Option<Framed>
-    requires { aims.Sees sight.now }
-    ensures { result ≡ aims.framed_of (aims.meaning_seen sight.now) segment fixup.now (aims.method_told threads.now true fixup.now.frame) (aims.named_as target) }
+) -> Option<FixupFrame>
+    requires { aims.Sees context.now }
+    ensures { result ≡ aims.framed_of (aims.meaning_seen context.now) segment fixup.now (aims.method_told threads.now true fixup.now.frame) (aims.named_as target) }
 {
     if !fixup.segment_relative {
-        return Some(Framed::Own);
+        return Some(FixupFrame::Own);
     }
     match method_of(threads, true, fixup.frame) {
-        Some(frame) => framed_by(sight, segment, frame, target),
+        Some(frame) => framed_by(context, segment, frame, target),
         None => None,
     }
 }
 
 // what the target of a fixup is
-fn target_of(sight: &Sight, threads: &Threads, fixup: &Fixup) -> Option<Aim>
-    requires { aims.Sees sight.now }
-    ensures { option_map aims.aim_as result ≡ option_and_then (aims.aim_by (aims.meaning_seen sight.now)) (aims.method_told threads.now false fixup.now.target) }
+fn target_of(context: &FixupContext, threads: &Threads, fixup: &Fixup) -> Option<Aim>
+    requires { aims.Sees context.now }
+    ensures { option_map aims.aim_as result ≡ option_and_then (aims.aim_by (aims.meaning_seen context.now)) (aims.method_told threads.now false fixup.now.target) }
 {
     match method_of(threads, false, fixup.target) {
-        Some(method) => aim_of(sight, method),
+        Some(method) => aim_of(context, method),
         None => None,
     }
 }
 
 // what a fixup of data of a segment does that is aimed so
-fn fix_to(sight: &Sight, threads: &Threads, segment: u16, fixup: &Fixup, aim: Aim) -> Option<Fix>
-    requires { aims.Sees sight.now }
-    ensures { result ≡ aims.fix_to (aims.meaning_seen sight.now) segment fixup.now (aims.method_told threads.now true fixup.now.frame) (aims.aim_as aim) }
+fn fix_to(
+    context: &FixupContext,
+    threads: &Threads,
+    segment: u16,
+    fixup: &Fixup,
+    aim: Aim,
+) -> Option<Fix>
+    requires { aims.Sees context.now }
+    ensures { result ≡ aims.fix_to (aims.meaning_seen context.now) segment fixup.now (aims.method_told threads.now true fixup.now.frame) (aims.aim_as aim) }
 {
-    match framed_of(sight, threads, segment, fixup, aim.named) {
+    match framed_of(context, threads, segment, fixup, aim.named) {
         Some(framed) => Some(Fix {
             framed,
             target: aim.target,
@@ -197,40 +208,45 @@ fn fix_to(sight: &Sight, threads: &Threads, segment: u16, fixup: &Fixup, aim: Ai
 }
 
 // what a fixup of data of a segment does
-fn fix_by(sight: &Sight, threads: &Threads, segment: u16, fixup: &Fixup) -> Option<Fix>
-    requires { aims.Sees sight.now }
-    ensures { result ≡ aims.fix_by (aims.meaning_seen sight.now) segment fixup.now (aims.method_told threads.now true fixup.now.frame) (aims.method_told threads.now false fixup.now.target) }
+fn fix_by(context: &FixupContext, threads: &Threads, segment: u16, fixup: &Fixup) -> Option<Fix>
+    requires { aims.Sees context.now }
+    ensures { result ≡ aims.fix_by (aims.meaning_seen context.now) segment fixup.now (aims.method_told threads.now true fixup.now.frame) (aims.method_told threads.now false fixup.now.target) }
 {
-    match target_of(sight, threads, fixup) {
-        Some(aim) => fix_to(sight, threads, segment, fixup, aim),
+    match target_of(context, threads, fixup) {
+        Some(aim) => fix_to(context, threads, segment, fixup, aim),
         None => None,
     }
 }
 
 // whether the segment of an index is kept
-fn is_kept(sight: &Sight, segment: u16) -> bool
-    requires { aims.Sees sight.now }
-    ensures { result ≡ aims.is_kept (aims.meaning_seen sight.now).tables sight.now.keep segment }
+fn is_kept(context: &FixupContext, segment: u16) -> bool
+    requires { aims.Sees context.now }
+    ensures { result ≡ aims.is_kept (aims.meaning_seen context.now).tables context.now.keep segment }
 {
     let index = usize::from(segment);
     if index == 0 {
         return false;
     }
-    if index > sight.known.segments.len() {
+    if index > context.known.segments.len() {
         return false;
     }
-    sight.keep.keeps(kind_in(sight.known, index - 1))
+    context.keep.keeps(kind_in(context.known, index - 1))
 }
 
 /// What a fixup of data of a segment does, where that is kept and the fixup has a row. Constant time,
 /// but for the names of groups.
 #[tactic(auto, unfolding(crate::specs::Aims::fix_for))]
-pub(crate) fn fix_of(sight: &Sight, threads: &Threads, segment: u16, fixup: &Fixup) -> Option<Fix>
-    requires { aims.Sees sight.now }
-    ensures { result ≡ aims.fix_for (aims.meaning_seen sight.now) sight.now.keep segment fixup.now (aims.method_told threads.now true fixup.now.frame) (aims.method_told threads.now false fixup.now.target) }
+pub(crate) fn fix_of(
+    context: &FixupContext,
+    threads: &Threads,
+    segment: u16,
+    fixup: &Fixup,
+) -> Option<Fix>
+    requires { aims.Sees context.now }
+    ensures { result ≡ aims.fix_for (aims.meaning_seen context.now) context.now.keep segment fixup.now (aims.method_told threads.now true fixup.now.frame) (aims.method_told threads.now false fixup.now.target) }
 {
-    if fixup.location == OFFSET_32 && is_kept(sight, segment) {
-        return fix_by(sight, threads, segment, fixup);
+    if fixup.location == OFFSET_32 && is_kept(context, segment) {
+        return fix_by(context, threads, segment, fixup);
     }
     None
 }

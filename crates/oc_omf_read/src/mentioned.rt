@@ -3,10 +3,10 @@ ghost use Rattle.std.specs.Prelude.{◌≡◌, ◌+◌, ◌-◌, ◌<◌, ◌^�
 ghost use Rattle.std.specs.List.{list_any};
 ghost use Rattle.std.specs.Map.{update};
 ghost use Rattle.oc_omf.specs.Symbols.{Mention, same_symbol};
-ghost use Rattle.oc_omf_read.specs.Heard.{all_told};
+ghost use Rattle.oc_omf_read.specs.Declarations.{all_declarations};
 ghost use Rattle.oc_omf_read.specs.Mentioned as seen;
 
-use crate::heard::{Heard, What};
+use crate::declarations::{DeclarationKind, DeclarationRef};
 use oc_base::NoMemory;
 use std::alloc::Global;
 use std::collections::BTreeMap;
@@ -58,7 +58,7 @@ fn number_held<'a>(mentions: &Mentions<'a>, local: bool, name: &'a [u8]) -> Opti
     }
 }
 
-// takes up the number of a name
+// records the number of a name
 fn take_number<'a>(
     numbers: &mut BTreeMap<&'a [u8], u32>,
     name: &'a [u8],
@@ -70,7 +70,7 @@ fn take_number<'a>(
     Ok(())
 }
 
-// takes up the number of a symbol
+// records the number of a symbol
 fn hold_number<'a>(
     mentions: &mut Mentions<'a>,
     local: bool,
@@ -90,7 +90,7 @@ fn hold_number<'a>(
     }
 }
 
-// takes up a symbol that is new
+// records a symbol that is new
 fn add_symbol<'a>(mentions: &mut Mentions<'a>, local: bool, name: &'a [u8]) -> Result<u32, NoMemory>
     requires few { length mentions.old.symbols.items < 2 ^ 32 }
     requires numbered { seen.AreNumbered mentions.old }
@@ -111,7 +111,7 @@ fn add_symbol<'a>(mentions: &mut Mentions<'a>, local: bool, name: &'a [u8]) -> R
     Ok(number)
 }
 
-// the number of a symbol, which is taken up where it is new
+// the number of a symbol, which is recorded where it is new
 fn number_for<'a>(mentions: &mut Mentions<'a>, local: bool, name: &'a [u8]) -> Result<u32, NoMemory>
     requires few { length mentions.old.symbols.items < 2 ^ 32 }
     requires numbered { seen.AreNumbered mentions.old }
@@ -131,49 +131,56 @@ fn number_for<'a>(mentions: &mut Mentions<'a>, local: bool, name: &'a [u8]) -> R
     }
 }
 
-// takes up what a mention says of its symbol
-fn say(symbol: &mut Mentioned, says: What)
+// records what a declaration says of its symbol
+fn say(symbol: &mut Mentioned, says: DeclarationKind)
     ensures { seen.seen_of symbol.new ≡ seen.seen_more says (seen.seen_of symbol.old) }
 {
     match says {
-        What::Defined { segment, offset } => {
+        DeclarationKind::Defined { segment, offset } => {
             symbol.place = symbol.place.or(Some((segment, offset)));
         }
-        What::Communal { length } => {
+        DeclarationKind::Communal { length } => {
             symbol.length = symbol.length.or(Some(length));
         }
-        What::External => {}
+        DeclarationKind::External => {}
     }
 }
 
-// takes up mention `i`
-fn hear<'a>(mentions: &mut Mentions<'a>, heard: &[Heard<'a>], i: usize) -> Result<(), NoMemory>
-    requires few { length heard.now < 2 ^ 31 - 1 }
-    requires there { i < length heard.now }
-    requires before { seen.HasHeard (all_told (take i heard.now)) mentions.old }
-    ensures { OnOk result (seen.HasHeard (all_told (take (i + 1) heard.now)) mentions.new) }
+// records declaration `i`
+fn take_declaration<'a>(
+    mentions: &mut Mentions<'a>,
+    declarations: &[DeclarationRef<'a>],
+    i: usize,
+) -> Result<(), NoMemory>
+    requires few { length declarations.now < 2 ^ 31 - 1 }
+    requires there { i < length declarations.now }
+    requires before { seen.HasDeclarations (all_declarations (take i declarations.now)) mentions.old }
+    ensures { OnOk result (seen.HasDeclarations (all_declarations (take (i + 1) declarations.now)) mentions.new) }
 {
-    let told = heard[i];
+    let told = declarations[i];
     let number = number_for(mentions, told.local, told.name)?;
     say(&mut mentions.symbols[number as usize], told.says);
     match told.says {
-        What::Defined { .. } => Ok(()),
-        What::External => {
+        DeclarationKind::Defined { .. } => Ok(()),
+        DeclarationKind::External => {
             mentions.externals.push(number)?;
             Ok(())
         }
-        What::Communal { .. } => {
+        DeclarationKind::Communal { .. } => {
             mentions.externals.push(number)?;
             Ok(())
         }
     }
 }
 
-/// The symbols of a module with these mentions. `NoMemory` where memory ran out. The time is that of
+/// The symbols of a module with these declarations. `NoMemory` where memory ran out. The time is that of
 /// a look into a sorted map for each mention, whoever chose the names.
-pub(crate) fn mentions_of<'a>(alloc: Global, heard: &[Heard<'a>]) -> Result<Mentions<'a>, NoMemory>
-    requires { length heard.now < 2 ^ 31 - 1 }
-    ensures { IfOk result (λ mentions. seen.HasHeard (all_told heard.now) mentions) }
+pub(crate) fn mentions_of<'a>(
+    alloc: Global,
+    declarations: &[DeclarationRef<'a>],
+) -> Result<Mentions<'a>, NoMemory>
+    requires { length declarations.now < 2 ^ 31 - 1 }
+    ensures { IfOk result (λ mentions. seen.HasDeclarations (all_declarations declarations.now) mentions) }
 {
     let mut mentions = Mentions {
         locals: BTreeMap::new(alloc),
@@ -181,8 +188,8 @@ pub(crate) fn mentions_of<'a>(alloc: Global, heard: &[Heard<'a>]) -> Result<Ment
         symbols: Vec::new(alloc),
         externals: Vec::new(alloc),
     };
-    for i in 0..heard.len() {
-        hear(&mut mentions, heard, i)?;
+    for i in 0..declarations.len() {
+        take_declaration(&mut mentions, declarations, i)?;
     }
     Ok(mentions)
 }

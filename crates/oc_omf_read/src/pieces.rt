@@ -7,7 +7,7 @@ ghost use Rattle.oc_omf.specs.Structures.{blocks_by, piece_read};
 ghost use Rattle.oc_omf_read.specs.Defined.{read_in, said};
 ghost use Rattle.oc_omf_read.specs.Pieces as pieces;
 
-use crate::class::{Class, class_of};
+use crate::class::{EntryClass, class_of};
 use oc_base::{NoMemory, View};
 use oc_omf::{Data, is_wide, read_index, read_long};
 use oc_omf_records::{BlockFault, Entry};
@@ -85,17 +85,17 @@ pub(crate) fn piece_of<'a>(alloc: Global, entry: &Entry<'a>) -> Result<Option<Pi
     ensures { IfOk result (λ piece. pieces.ArePieces piece (all_read (said entry.now).pieces)) }
 {
     match class_of(entry.kind) {
-        Class::Plain => read_piece(alloc, entry, false),
-        Class::Iterated => read_piece(alloc, entry, true),
-        Class::Names
-        | Class::Segment
-        | Class::Group
-        | Class::Publics
-        | Class::LocalPublics
-        | Class::Externals
-        | Class::LocalExternals
-        | Class::Communals
-        | Class::Fixups
-        | Class::Nothing => Ok(None),
+        EntryClass::Plain => read_piece(alloc, entry, false),
+        EntryClass::Iterated => read_piece(alloc, entry, true),
+        EntryClass::Names
+        | EntryClass::Segment
+        | EntryClass::Group
+        | EntryClass::Publics
+        | EntryClass::LocalPublics
+        | EntryClass::Externals
+        | EntryClass::LocalExternals
+        | EntryClass::Communals
+        | EntryClass::Fixups
+        | EntryClass::Nothing => Ok(None),
     }
 }

@@ -15,9 +15,9 @@ ghost use Rattle.oc_omf_judge.specs.Defined.{IsDefined};
 
 use crate::added_relocs::add_relocations;
 use crate::contents::contents_in;
+use crate::declarations::declared_in;
 use crate::fields::fields_in;
-use crate::fixes::Sight;
-use crate::heard::heard_in;
+use crate::fixes::FixupContext;
 use crate::mentioned::mentions_of;
 use crate::started::start;
 use crate::weight::weigh_segments;
@@ -48,18 +48,18 @@ pub(crate) fn object_of<'f>(
     are_bytes(file);
     weigh_segments(known)?;
     let contents = contents_in(alloc, omf, known)?;
-    let heard = heard_in(alloc, omf)?;
-    let mentions = mentions_of(alloc, heard.as_slice())?;
+    let declarations = declared_in(alloc, omf)?;
+    let mentions = mentions_of(alloc, declarations.as_slice())?;
     let mut builder = start(alloc, omf, known, contents.as_slice(), &mentions)?;
     builder.is_draft();
-    let sight = Sight {
+    let context = FixupContext {
         omf,
         known,
         mentions: &mentions,
         keep: *keep,
     };
-    let mut fields = fields_in(alloc, &sight)?;
-    add_relocations(&sight, &mut builder, contents.as_slice(), &mut fields)?;
+    let mut fields = fields_in(alloc, &context)?;
+    add_relocations(&context, &mut builder, contents.as_slice(), &mut fields)?;
     Ok(builder.finish())
 }
 

@@ -35,7 +35,7 @@ impl<'a> Searched<'a> {
         }
     }
 
-    // where the copies of the four bytes at an encoded place stand
+    // where the copies of the four bytes at an encoded place lie
     fn seek(&self, alloc: Global, at: u16) -> Result<Vec<u32>, CopyFault>
         requires { size_of (row_in self.now.piece.data) < 2 ^ 31 }
         ensures well { IfOk result (λ places. copies_of (row_in self.now.piece.data) at ≡ Some places.items) }
@@ -50,9 +50,9 @@ impl<'a> Searched<'a> {
         }
     }
 
-    /// Where the copies of the four bytes at an encoded place stand, as offsets; none where no content
-    /// holds these. `NoMemory` where memory ran out. The cost is that of `Data::copies`, and where
-    /// there were none before, that of a look-up.
+    /// Where the copies of the four bytes at an encoded place lie, as offsets; none where no
+    /// content holds these. `NoMemory` where memory ran out. The cost is that of `Data::copies`,
+    /// and where there were none before, that of a look-up.
     pub(crate) fn copies(&mut self, alloc: Global, at: u16) -> Result<Vec<u32>, NoMemory>
         requires { size_of (row_in self.old.piece.data) < 2 ^ 31 }
         ensures piece { OnOk result (self.new.piece ≡ self.old.piece) }

@@ -8,8 +8,8 @@ ghost use Rattle.oc_omf.specs.Tables.{tables_of};
 ghost use Rattle.oc_omf_judge.specs.Defined.{IsDefined};
 ghost use Rattle.oc_omf_read.specs.Built.{started};
 ghost use Rattle.oc_omf_read.specs.Contents.{AreStored};
-ghost use Rattle.oc_omf_read.specs.Heard.{told_in};
-ghost use Rattle.oc_omf_read.specs.Mentioned.{HasHeard};
+ghost use Rattle.oc_omf_read.specs.Declarations.{declarations_in};
+ghost use Rattle.oc_omf_read.specs.Mentioned.{HasDeclarations};
 
 use crate::built_sections::add_sections;
 use crate::built_symbols::add_symbols;
@@ -33,7 +33,7 @@ pub(crate) fn start(
     requires symbols { first_fault (symbol_stages (entries_in omf.now)) ≡ None }
     requires known { IsDefined (tables_of (entries_in omf.now)) known.now }
     requires contents { AreStored (tables_of (entries_in omf.now)) (tables_of (entries_in omf.now)) contents.now }
-    requires heard { HasHeard (told_in (entries_in omf.now)) mentions.now }
+    requires declarations { HasDeclarations (declarations_in (entries_in omf.now)) mentions.now }
     ensures { IfOk result (λ b. b ≡ started omf.now) }
 {
     let mut builder = Builder::new(alloc, Format::Omf);

@@ -10,12 +10,12 @@ use Rattle.oc_omf_records.specs.Blocks.{Blocks, none, content, nested, append}
 abbrev pub Reading : Type 0
 Reading = Result (Blocks × ℕ) BlockFault
 
--- a row of blocks, and behind it what is read
+-- a row of blocks, and after it what is read
 abbrev pub in_front : Blocks → Reading → Reading
 in_front row (Ok r) = Ok (append row r.0, r.1)
 in_front row (Err fault) = Err fault
 
--- what is read, and behind it what is read from the place after it
+-- what is read, and after it what is read from the place where it ends
 abbrev pub followed : Reading → (ℕ → Reading) → Reading
 followed (Ok r) next = in_front r.0 (next r.1)
 followed (Err fault) next = Err fault
@@ -34,7 +34,7 @@ repeats_row count (Err fault) = Err fault
 abbrev pub after_content : List ℕ → ℕ → ℕ
 after_content b at = at + 1 + number_at b at 1
 
--- a block with this repeat count, whose length byte and content stand at a place
+-- a block with this repeat count, whose length byte and content lie at a place
 abbrev pub content_at : List ℕ → ℕ → ℕ → Reading
 content_at b count at =
     if nat_le (at + 1) (length b) && nat_le (after_content b at) (length b)

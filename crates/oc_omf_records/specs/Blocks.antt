@@ -1,13 +1,13 @@
 -- Iterated data (TIS OMF 1.1, "LIDATA: Logical Iterated Data Record").
 use Rattle.std.specs.Prelude.{ℕ, zero, suc, ◌+◌, ◌*◌, ◌-◌, ◌&&◌, nat_le, if◌then◌else◌, List, [], ◌∷◌, ◌++◌, length, map, Option, Some, None, option_map}
 
--- blocks in a row: none; a block of content, whose bytes stand at a place of the encoded data, and the row behind it; or a block of blocks and the row behind it
+-- blocks in a row: none; a block of content, whose bytes lie at a place of the encoded data, and the row after it; or a block of blocks and the row after it
 pub data Blocks : Type 0 where
   none : Blocks
   content : (count : ℕ) (place : ℕ) (bytes : List ℕ) (rest : Blocks) → Blocks
   nested : (count : ℕ) (inside : Blocks) (rest : Blocks) → Blocks
 
--- a row, and behind it another
+-- a row, and after it another
 abbrev pub append : Blocks → Blocks → Blocks
 append none last = last
 append (content count place bytes rest) last = content count place bytes (append rest last)
@@ -39,16 +39,16 @@ abbrev pub in_each : ℕ → ℕ → List ℕ → List ℕ
 in_each zero size places = []
 in_each (suc n) size places = in_each n size places ++ moved (n * size) places
 
--- where four bytes at an encoded place stand in the content of so many bytes at a place, if it holds them
+-- where four bytes at an encoded place lie in the content of so many bytes at a place, if it holds them
 abbrev pub in_content : ℕ → ℕ → ℕ → Option (List ℕ)
 in_content at place size = if nat_le place at && nat_le (at + 4) (place + size) then Some ((at - place) ∷ []) else None
 
--- what is found in some blocks, of so many bytes, or else in those behind them
+-- what is found in some blocks, of so many bytes, or else in those after them
 abbrev pub found : Option (List ℕ) → ℕ → Option (List ℕ) → Option (List ℕ)
 found (Some places) size later = Some places
 found None size later = option_map (moved size) later
 
--- where the copies of the four content bytes at an encoded place stand among the bytes of a row, in ascending order; none where no content holds them
+-- where the copies of the four content bytes at an encoded place lie among the bytes of a row, in ascending order; none where no content holds them
 abbrev pub copies_of : Blocks → ℕ → Option (List ℕ)
 copies_of none at = None
 copies_of (content count place bytes rest) at =

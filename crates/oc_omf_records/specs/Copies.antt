@@ -18,6 +18,6 @@ abbrev pub CopiesAreCopies : Type 0
 CopiesAreCopies = (wide : Bool) (b : List ℕ) (row : Blocks) (at : ℕ) (places : List ℕ) → blocks_of wide b ≡ Ok row → copies_of row at ≡ Some places
     → All (IsCopy b at (denotation row)) places × AreApart places
 
--- so many bytes are stood for as the size says
+-- a row stands for as many bytes as its size
 abbrev pub SizesAreLengths : Type 0
 SizesAreLengths = (row : Blocks) → length (denotation row) ≡ size_of row

@@ -1,4 +1,4 @@
--- The counts at the front of a block (TIS OMF 1.1, "LIDATA: Logical Iterated Data Record").
+-- The counts at the start of a block (TIS OMF 1.1, "LIDATA: Logical Iterated Data Record").
 use Rattle.std.specs.Prelude.{ℕ, Bool, List}
 use Rattle.oc_omf_records.specs.declared.reading.Counts.{Counts}
 use Rattle.oc_omf_records.specs.BlockReading.{repeat_count, block_count, after_counts}

@@ -4,7 +4,7 @@ use Rattle.oc_base.specs.Numbers.{bytes_of_number}
 use Rattle.oc_omf_records.specs.Blocks.{Blocks, none, content, nested}
 use Rattle.oc_omf_records.specs.BlockReading.{count_size, most_levels, blocks_of}
 
--- how many blocks stand in a row
+-- how many blocks are in a row
 abbrev pub row_length : Blocks → ℕ
 row_length none = 0
 row_length (content count place bytes rest) = row_length rest + 1
@@ -29,7 +29,7 @@ abbrev pub ReadingIsWritten : Type 0
 ReadingIsWritten = (wide : Bool) (b : List ℕ) (row : Blocks) → All (λ byte. byte < 256) b → blocks_of wide b ≡ Ok row
     → (encoded wide row ≡ b) × (levels_of row ≤ most_levels)
 
--- a row can be written at a place: its counts and lengths fit their fields, a block of blocks has some, and each content says where it stands
+-- a row can be written at a place: its counts and lengths fit their fields, a block of blocks has some, and each content gives the place where it lies
 abbrev pub CanBeWritten : Bool → ℕ → Blocks → Type 0
 CanBeWritten wide at none = Unit {0}
 CanBeWritten wide at (content count place bytes rest) =

@@ -6,7 +6,7 @@ use Rattle.oc_base.specs.Numbers.{number_at}
 abbrev pub first_byte : List ℕ → ℕ → ℕ
 first_byte b at = number_at b at 1
 
--- each byte of the index is there: one, or two where the first has its top bit set
+-- each byte of the index is present: one, or two where the first has its top bit set
 abbrev pub HasIndex : List ℕ → ℕ → Type 0
 HasIndex b at = (at + 1 ≤ length b) × (128 ≤ first_byte b at → at + 2 ≤ length b)
 

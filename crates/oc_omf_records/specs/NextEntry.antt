@@ -45,7 +45,7 @@ next_entry r = if nat_eq r.place (length r.bytes) then Ok None else some_entry (
     some_entry (Ok entry) = Ok (Some entry)
     some_entry (Err fault) = Err fault
 
--- where the reader stands after that answer: past the entry, and else where it stood
+-- where the reader is after that result: past the entry, or else where it was
 abbrev pub after_next : Reached → Reached
 after_next r = past (next_entry r)
   where

@@ -1,4 +1,4 @@
--- Refusals of iterated data (our profile); want of memory may come anywhere.
+-- Refusals of iterated data (our profile); lack of memory may come anywhere.
 use Rattle.std.specs.Prelude.{ℕ, ◌≡◌, List, Option, None, Result, Err}
 use Rattle.oc_omf_records.specs.declared.faults.BlockFault.{BlockFault}
 use Rattle.oc_omf_records.specs.declared.faults.BlockFault.TheVariants.{BadBlock, TooDeep, NoMemory}

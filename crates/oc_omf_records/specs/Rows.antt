@@ -6,7 +6,7 @@ use Rattle.oc_omf_records.specs.declared.iterated.Iterated.TheOpen.{Iterated-F, 
 use Rattle.oc_omf_records.specs.declared.iterated.Iterated.TheFolds.{fold-Iterated}
 use Rattle.oc_omf_records.specs.Blocks.{Blocks, none, content, nested, append, size_of}
 
--- rows, one behind another
+-- rows, one after another
 abbrev pub joined : List Blocks → Blocks
 joined [] = none
 joined (row ∷ rows) = append row (joined rows)

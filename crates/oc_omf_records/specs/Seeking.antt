@@ -10,12 +10,12 @@ use Rattle.oc_omf_records.specs.Blocks.{Blocks, size_of, copies_of}
 abbrev pub places_in : Option (Vec ℕ Global) → Option (List ℕ)
 places_in places = option_map (λ v. v.items) places
 
--- places as they are; and no place where a count of 0 stands around them
+-- places as they are; and no place where a block around them has the count 0
 abbrev pub kept : Bool → Option (List ℕ) → Option (List ℕ)
 kept true places = places
 kept false places = option_map (λ _. []) places
 
--- the walk gives where the copies stand in the row; or that the row does not hold the content, and the size of the row
+-- the walk gives where the copies lie in the row; or that the row does not hold the content, and the size of the row
 abbrev pub Finds : Bool → Blocks → ℕ → Sought → Type 0
 Finds live row at (Found places) = Some places.items ≡ kept live (copies_of row at)
 Finds live row at (Beyond size) = (copies_of row at ≡ None) × (size ≡ min (size_of row) (2 ^ 32))

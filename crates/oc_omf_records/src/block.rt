@@ -27,13 +27,13 @@ impl Block {
     ghost use Rattle.oc_omf_records.specs.Refusals.{Refuses, RefusesCopies};
     ghost use Rattle.oc_omf_records.specs.Shown.{shown};
 
-    /// The blocks in `view`, which follow one another to its end. Repeat counts have four bytes where
-    /// `wide`, and else two.
+    /// The blocks in `view`, which follow one another to its end. Repeat counts have four bytes
+    /// where `wide`, and else two.
     ///
-    /// The blocks are read from the front. `TooDeep` comes exactly where a block nested more than 32
-    /// deep is met and no count or content before it passes the end, and `BadBlock` exactly where a
-    /// count or a content passes the end and `TooDeep` does not come. Time and memory are linear in
-    /// the view, and the recursion is at most 32 blocks deep.
+    /// The blocks are read from the start. `TooDeep` is returned exactly where a block nested more
+    /// than 32 deep is met and no count or content before it passes the end, and `BadBlock` exactly
+    /// where a count or a content passes the end and `TooDeep` is not returned. Time and memory are
+    /// linear in the view, and the recursion is at most 32 blocks deep.
     pub fn read(alloc: Global, view: &View<'_>, wide: bool) -> Result<Block, BlockFault>
         ensures well { IfOk result (λ block. blocks_of wide view.now ≡ Ok (shown block)) }
         ensures refused { IfErr result (λ fault. Refuses fault (blocks_of wide view.now)) }
@@ -68,14 +68,14 @@ impl Block {
         Ok(Bytes::from_vec(out))
     }
 
-    /// Where the copies of four content bytes stand among the expanded bytes, as offsets in ascending
-    /// order. `at` is the encoded place of the first of the four, counted from the first byte of the
-    /// first block. There is no copy where a count of 0 stands around them.
+    /// Where the copies of four content bytes lie among the expanded bytes, as offsets in ascending
+    /// order. `at` is the encoded place of the first of the four, counted from the first byte of
+    /// the first block. There is no copy where a block around them has a count of 0.
     ///
-    /// `NotContent` comes exactly where the four bytes do not lie in one content. The blocks before
-    /// the content are walked once, and those behind it not at all. Time is linear in the blocks walked
-    /// and, at each of the at most 32 levels around the content, in the copies there, which are never
-    /// more than those given. Memory is linear in the places given.
+    /// `NotContent` is returned exactly where the four bytes do not lie in one content. The blocks
+    /// before the content are walked once, and those after it not at all. Time is linear in the
+    /// blocks walked and, at each of the at most 32 levels around the content, in the copies there,
+    /// which are never more than those given. Memory is linear in the places given.
     pub fn copies(&self, alloc: Global, at: u32) -> Result<Places, CopyFault>
         requires { size_of (shown self.now) < 2 ^ 31 }
         ensures well { IfOk result (λ places. copies_of (shown self.now) at ≡ Some places) }

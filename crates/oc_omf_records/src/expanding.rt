@@ -6,7 +6,7 @@ ghost use Rattle.oc_omf_records.specs.Rows.{row_of, rows_of};
 use crate::iterated::Iterated;
 use std::alloc::AllocError;
 
-/// Puts the bytes that the block stands for behind `out`. What is in the block is walked once,
+/// Appends the bytes that the block stands for to `out`. What is in the block is walked once,
 /// whatever its repeat count, and not at all where that is 0.
 #[cycle(expanding)]
 fn expand_block(block: &Iterated, out: &mut Vec<u8>) -> Result<(), AllocError>
@@ -31,7 +31,7 @@ fn expand_block(block: &Iterated, out: &mut Vec<u8>) -> Result<(), AllocError>
     }
 }
 
-/// Puts the bytes that the blocks stand for behind `out`. Linear in the encoded blocks and in what
+/// Appends the bytes that the blocks stand for to `out`. Linear in the encoded blocks and in what
 /// is added.
 #[cycle(expanding)]
 pub fn expand_row(blocks: &[Iterated], out: &mut Vec<u8>) -> Result<(), AllocError>
@@ -43,7 +43,7 @@ pub fn expand_row(blocks: &[Iterated], out: &mut Vec<u8>) -> Result<(), AllocErr
     Ok(())
 }
 
-/// Repeats what stands from `start` on, so that it is there `count` times. Linear in what is added.
+/// Repeats what lies from `start` on, so that it is present `count` times. Linear in what is added.
 fn repeat_from(out: &mut Vec<u8>, start: usize, count: u32) -> Result<(), AllocError>
     requires inside { start ≤ vec_len out.old }
     requires there { 0 < count }

@@ -9,7 +9,7 @@ pub const MOST_BYTES: u64 = 1 << 32;
 /// A block of iterated data (TIS OMF 1.1, "LIDATA: Logical Iterated Data Record").
 #[derive(Debug, Drop)]
 pub enum Iterated {
-    /// Content, `count` times. Its bytes stand at `place` of the encoded blocks, an offset in bytes.
+    /// Content, `count` times. Its bytes lie at `place` of the encoded blocks, an offset in bytes.
     Content {
         count: u32,
         place: u64,

@@ -12,13 +12,13 @@ pub fn written_is_read()
     ensures { WrittenIsRead }
 {}
 
-/// At each place that `Block::copies` gives stand the four bytes that it was asked for, and no two
-/// of the copies meet.
+/// At each place that `Block::copies` gives lie the four bytes that it was asked for, and no two of
+/// the copies meet.
 pub fn copies_are_copies()
     ensures { CopiesAreCopies }
 {}
 
-/// As many bytes are expanded as the size says.
+/// The number of bytes that are expanded is the size.
 pub fn sizes_are_lengths()
     ensures { SizesAreLengths }
 {}

@@ -14,7 +14,7 @@ use std::alloc::Global;
 /// How deep blocks may be nested, which is our profile's limit. A block in no other has one level.
 pub const MOST_LEVELS: u32 = 32;
 
-/// The counts at the front of a block.
+/// The counts at the start of a block.
 #[derive(Clone, Copy)]
 struct Counts {
     /// How often the block repeats what is in it.
@@ -61,7 +61,7 @@ fn read_repeats(view: &View<'_>, wide: bool, at: u64) -> Result<u32, OutOfView>
     Ok(repeats.into())
 }
 
-/// A block of content, whose length byte stands at `at`, and the place after it.
+/// A block of content, whose length byte lies at `at`, and the place after it.
 fn read_content(
     alloc: Global,
     view: &View<'_>,

@@ -11,9 +11,9 @@ use thiserror::Error;
 pub struct Entry<'a> {
     /// The type byte.
     pub kind: u8,
-    /// The offset of the type byte, in bytes from the front of the module.
+    /// The offset of the type byte, in bytes from the start of the module.
     pub place: u64,
-    /// What stands between the length field and the checksum byte.
+    /// What lies between the length field and the checksum byte.
     pub contents: View<'a>,
 }
 
@@ -39,7 +39,7 @@ impl From<OutOfView> for RecordFault {
     }
 }
 
-/// The entries of a module, from the front. Contracts see the bytes and the place that is reached.
+/// The entries of a module, from the start. Contracts see the bytes and the place that is reached.
 #[derive(Debug, Drop)]
 pub struct Records<'a> {
     view: View<'a>,
@@ -61,7 +61,7 @@ impl<'a> Records<'a> {
     ghost use Rattle.std.specs.Prelude.{◌≡◌, ◌<◌, ◌≤◌, length, IfOk, IfSome};
     ghost use Rattle.oc_omf_records.specs.NextEntry.{next_entry, after_next};
 
-    /// The entries of the module in `view`, from its front. Constant time, no memory.
+    /// The entries of the module in `view`, from its start. Constant time, no memory.
     pub fn new(view: View<'a>) -> Records<'a>
         ensures { result ≡ record { bytes = view.entry; place = 0 } }
     {

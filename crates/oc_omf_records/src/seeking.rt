@@ -1,4 +1,4 @@
-//! Where the copies of four content bytes stand.
+//! Where the copies of four content bytes lie.
 ghost use Rattle.std.specs.Prelude.{◌≡◌, ◌+◌, ◌^◌, ◌<◌, ◌++◌, ◌&&◌, min, nat_lt, All, IfOk, OnOk, IsTrue, true};
 ghost use Rattle.oc_omf_records.specs.Blocks.{moved, in_each, in_content, size_of};
 ghost use Rattle.oc_omf_records.specs.Rows.{row_of, rows_of, is_sized, are_sized};
@@ -10,16 +10,16 @@ use std::alloc::{AllocError, Global};
 /// What a walk over blocks finds of four content bytes.
 #[derive(Debug, Drop)]
 pub enum Sought {
-    /// Where their copies stand among the bytes that the blocks stand for. Where a count of 0 stands
-    /// around the blocks, there are none.
+    /// Where their copies lie among the bytes that the blocks stand for. Where a block around these
+    /// blocks has a count of 0, there are none.
     Found(Vec<u32>),
     /// The blocks do not hold them, and stand for so many bytes, or 2^32 where there are more.
     Beyond(u64),
 }
 
 /// Walks the blocks for the four content bytes at `at`, an encoded place, and no further than the
-/// block that holds them. No count of 0 stands around the blocks exactly where `live`; else no place
-/// is computed.
+/// block that holds them. No block around these blocks has a count of 0 exactly where `live`; else
+/// no place is computed.
 #[cycle(seeking)]
 pub fn seek_row(
     alloc: Global,
@@ -75,14 +75,14 @@ fn seek_block(alloc: Global, block: &Iterated, at: u32, live: bool) -> Result<So
     }
 }
 
-/// Whether no count of 0 stands around what is in a block with this repeat count.
+/// Whether no block around what is in a block with this repeat count has a count of 0.
 fn is_live(live: bool, count: u32) -> bool
     ensures { result ≡ (live && nat_lt 0 count) }
 {
     live && count > 0
 }
 
-/// Where the four bytes at `at` stand in the content of `size` bytes at `place`, if they lie in it.
+/// Where the four bytes at `at` lie in the content of `size` bytes at `place`, if they lie in it.
 fn seek_content(
     alloc: Global,
     place: u64,
@@ -150,7 +150,7 @@ fn in_each(alloc: Global, count: u32, size: u64, places: &[u32]) -> Result<Vec<u
     Ok(all)
 }
 
-/// Puts the places behind `all`, each that much further.
+/// Appends the places to `all`, each that much further on.
 fn push_moved(all: &mut Vec<u32>, by: u64, places: &[u32]) -> Result<(), AllocError>
     requires { All (λ place. by + place < 2 ^ 32) places.now }
     ensures { OnOk result (all.new.items ≡ all.old.items ++ moved by places.now) }

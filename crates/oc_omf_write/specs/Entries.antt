@@ -19,7 +19,7 @@ type_of (entry.Data k from to) = wide LEDATA
 type_of (entry.Fixups k from to) = wide FIXUPP
 type_of entry.End = MODEND
 
--- the entry of an output; one of names is told by their positions, and has these elsewhere
+-- the entry of an output; one of names is given by their positions, which it gets elsewhere
 abbrev pub entry_for : Output → Entry
 entry_for Header = entry.Header
 entry_for (Names names) = entry.Names 0 0

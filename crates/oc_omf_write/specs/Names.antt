@@ -38,11 +38,11 @@ IsNameOf count (name.Class k) = k < count
 abbrev pub given_for : List Section → List (List ℕ)
 given_for sections = flat_map (λ (s : Section). s.name ∷ class_of s ∷ []) sections
 
--- the names of sections, once each: the empty one and FLAT stand first
+-- the names of sections, once each: the empty one and FLAT come first
 abbrev pub names_for : List Section → List (List ℕ)
 names_for sections = fold with_name [] ([] ∷ codes "FLAT" ∷ given_for sections)
 
--- where a text stands among names
+-- where a text comes among names
 abbrev pub place_among : List (List ℕ) → List ℕ → Option ℕ
 place_among names text = if list_any (bytes_eq text) names then Some (position_or_len (bytes_eq text) names) else None
 

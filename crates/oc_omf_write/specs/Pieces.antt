@@ -8,20 +8,20 @@ use Rattle.oc_omf_write.specs.declared.entries.Entry.TheVariants as entry
 use Rattle.oc_omf_write.specs.declared.fixups.Fixup.{Fixup}
 use Rattle.oc_omf_write.specs.Written.{between}
 
--- where the fields of fixups stand
+-- where the fields of fixups lie
 abbrev pub places_of : List Fixup → List ℕ
 places_of fixups = map (λ (f : Fixup). f.at) fixups
 
--- those that stand below an offset
+-- those that lie below an offset
 abbrev pub below : ℕ → List Fixup → List Fixup
 below to fixups = filter (λ (f : Fixup). nat_lt f.at to) fixups
 
--- fields of four bytes stand in order from a place on, and end up to another
+-- fields of four bytes lie in order from a place on, and end at another or before it
 abbrev pub FollowWithin : ℕ → ℕ → List Fixup → Type 0
 FollowWithin from size [] = Unit {0}
 FollowWithin from size (f ∷ fixups) = (from ≤ f.at) × (f.at + 4 ≤ size) × FollowWithin (f.at + 4) size fixups
 
--- fields of four bytes stand in order from a place on
+-- fields of four bytes lie in order from a place on
 abbrev pub Follow : ℕ → List Fixup → Type 0
 Follow from [] = Unit {0}
 Follow from (f ∷ fixups) = (from ≤ f.at) × Follow (f.at + 4) fixups
@@ -45,7 +45,7 @@ fixups_at fixups k = slice_index_or fixups k []
 abbrev pub data_entries : List (List Fixup) → List Section → List Entry
 data_entries fixups sections = flat_map (λ (x : ℕ × Section). section_entries x.0 (fixups_at fixups x.0) (length x.1.bytes)) (enumerate_from 0 sections)
 
--- the fixups of each section stand in it, in order
+-- the fixups of each section lie in it, in order
 pub record AreInSections (sections : List Section) (fixups : List (List Fixup)) : Type 0 where
   pub counted : length fixups ≡ length sections
   pub small : (k : ℕ) (s : Section) → slice_get sections k ≡ Some s → length s.bytes < 2 ^ 31

@@ -1,4 +1,4 @@
--- Planned files: their entries, one behind another (TIS OMF 1.1, "Record Format"; our profile).
+-- Planned files: their entries, one after another (TIS OMF 1.1, "Record Format"; our profile).
 use Rattle.std.specs.Prelude.{◌≡◌, ℕ, List, [], ◌∷◌, ◌++◌, length, map}
 use Rattle.std.specs.List.{AllByRecursion, range_with_len}
 use Rattle.oc_neutral.specs.Objects.{Object}

@@ -6,7 +6,7 @@ use Rattle.oc_neutral.specs.Objects.{Object}
 use Rattle.oc_plans.specs.Numbered.{Numbering, all_with_numbers}
 use Rattle.oc_omf_file.specs.Fixups.{field_number}
 
--- the number in the field of a relocation of an object, wherever it stands
+-- the number in the field of a relocation of an object, wherever it lies
 abbrev pub addend_in : Object → Numbering
 addend_in n s at r = field_number n r
 

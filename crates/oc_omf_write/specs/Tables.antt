@@ -70,7 +70,7 @@ IsSmallPublic s = (length s.name ≤ 255) × ((x : Place) → global_place s.bin
 abbrev pub IsPieceOf : ℕ → ℕ → ℕ → Section → Type 0
 IsPieceOf k from to s = (k + 1 < 32768) × (from ≤ to) × (to ≤ length s.bytes) × (to ≤ from + 1024)
 
--- what stands at a position passes
+-- the item at a position passes
 pub record IsAt {X : Type 0} (P : X → Type 0) (xs : List X) (k : ℕ) : Type 0 where
   pub item : X
   pub here : slice_get xs k ≡ Some item
@@ -90,7 +90,7 @@ CanPut t (entry.Fixups k from to) =
     (k < length t.fixups.items) × (from ≤ to) × AllByRecursion (IsSmallFixup from) (between from to (fixups_at (fixups_of t) k)) × (length (between from to (fixups_at (fixups_of t) k)) ≤ 256)
 CanPut t entry.End = Unit {0}
 
--- the names are short and those of sections, and the fixups stand in order
+-- the names are short and those of sections, and the fixups are in order
 pub record AreSound (t : Tables) : Type 0 where
   pub named : AllByRecursion (IsNameOf (length t.sections.items)) t.names.items
   pub short : AreShort (texts_of t)

@@ -25,7 +25,7 @@ use Rattle.oc_omf_write.specs.declared.fixups.Fixup.{Fixup}
 abbrev pub fixup_bytes_of : ℕ → Fixup → List ℕ
 fixup_bytes_of from f = fixup_bytes f.self_relative (f.at - from) f.frame f.target
 
--- it stands near the front of such data, and its numbers fit their fields
+-- it lies near the start of such data, and its numbers fit their fields
 pub record IsSmallFixup (from : ℕ) (f : Fixup) : Type 0 where
   pub low : from ≤ f.at
   pub near : f.at - from < 1024

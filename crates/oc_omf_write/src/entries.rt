@@ -8,7 +8,7 @@ use oc_omf::{COMDEF, EXTDEF, FIXUPP, GRPDEF, LEDATA, LNAMES, MODEND, PUBDEF, SEG
 /// its names or bytes.
 #[derive(Clone, Copy, Debug)]
 pub(crate) enum Entry {
-    /// The front of the module.
+    /// The header of the module.
     Header,
     /// Names.
     Names {

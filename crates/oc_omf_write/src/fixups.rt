@@ -21,7 +21,7 @@ use std::alloc::Global;
 /// A fixup of a 32-bit offset, without a displacement.
 #[derive(Clone, Copy, Debug)]
 pub(crate) struct Fixup {
-    /// Where the field stands, an offset in its section.
+    /// Where the field lies, an offset in its section.
     pub(crate) at: u32,
     /// Whether it is self-relative, and not segment-relative.
     pub(crate) self_relative: bool,

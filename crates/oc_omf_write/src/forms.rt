@@ -21,7 +21,7 @@ pub(crate) const BY_TARGET: u16 = 1;
 /// The row of a self-relative fixup.
 pub(crate) const BY_SELF: u16 = 2;
 
-/// How many bytes behind its field a self-relative fixup counts from (TIS OMF 1.1, "FIXUPP").
+/// How many bytes after its field a self-relative fixup counts from (TIS OMF 1.1, "FIXUPP").
 const SELF_BEHIND: u8 = 4;
 
 // the row of a form, where the format has it

@@ -11,8 +11,8 @@ use oc_base::NoMemory;
 use oc_shelf::Layout;
 use std::alloc::Global;
 
-/// Where these entries begin, one behind another. `NoMemory` where memory ran out. Linear in the file,
-/// but for the logarithm of a section's fixups.
+/// Where these entries begin, one after another. `NoMemory` where memory ran out. Linear in the
+/// file, but for the logarithm of a section's fixups.
 pub(crate) fn layout_of(
     alloc: Global,
     tables: &Tables,

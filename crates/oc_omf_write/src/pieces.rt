@@ -13,7 +13,7 @@ use oc_omf::MOST_ENTRY_BYTES;
 /// How many bytes a field has.
 const FIELD: u32 = 4;
 
-// how many of the fixups stand below an offset
+// how many of the fixups lie below an offset
 fn count_below(fixups: &[Fixup], to: u32) -> usize
     requires { pieces.AreInOrder fixups.now }
     ensures count { result ≡ length (pieces.below to fixups.now) }

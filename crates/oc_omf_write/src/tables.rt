@@ -17,7 +17,7 @@ use crate::names::{Name, text_of};
 use crate::pieces::fixups_between;
 use oc_neutral::{Binding, Section, Symbol};
 use oc_omf::{
-    Base, Contents, Segment, put_communal, put_data, put_external, put_fixup, put_public,
+    Contents, PublicBase, Segment, put_communal, put_data, put_external, put_fixup, put_public,
     put_segment,
 };
 
@@ -90,7 +90,7 @@ fn put_fixups(out: &mut Contents, from: u32, fixups: &[Fixup])
     }
 }
 
-// the size of a communal; of what is none there is no size, and 0 stands for it
+// the size of a communal; what is no communal has no size, and 0 stands for it
 fn size_by(binding: Binding) -> u64
     ensures { result ≡ size_by binding }
 {
@@ -117,7 +117,7 @@ fn put_symbol(out: &mut Contents, symbol: &Symbol)
     ensures { out.new ≡ out.old ++ tables.public_by symbol.now }
 {
     if let Some((section, offset)) = global_place(symbol.binding) {
-        let base = Base {
+        let base = PublicBase {
             group: 1,
             segment: (section + 1) as u16,
         };

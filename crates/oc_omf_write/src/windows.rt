@@ -9,7 +9,7 @@ ghost use Rattle.oc_omf.specs.declared.contents.TheConstants.{ROOM};
 use oc_omf::Contents;
 use oc_shelf::copy_window;
 
-/// How many bytes of an entry stand before its contents.
+/// How many bytes of an entry come before its contents.
 const HEAD: usize = 3;
 
 /// How many bytes an entry has beside its contents: those before them, and the checksum.
@@ -25,7 +25,7 @@ fn head_of(record_type: u8, contents: &[u8]) -> [u8; HEAD]
     [record_type, low, high]
 }
 
-// the sum of bytes modulo 256, behind others that have this sum
+// the sum of bytes modulo 256, after others that have this sum
 fn sum_behind(start: u8, bytes: &[u8]) -> u8
     ensures { result ≡ (start + sum bytes.now) % 256 }
 {

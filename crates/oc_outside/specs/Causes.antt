@@ -1,7 +1,7 @@
 -- Our profile: what the counts of failed calls show.
 use Rattle.std.specs.Prelude.{◌≡◌, ℕ, ◌+◌, ◌-◌, ◌^◌, ◌≤◌, min}
 
--- the count rose, or stands at its last value 2^64 - 1
+-- the count rose, or is at its last value 2^64 - 1
 abbrev pub Rose : ℕ → ℕ → Type 0
 Rose before now = min (before + 1) (2 ^ 64 - 1) ≤ now
 

@@ -30,15 +30,15 @@ with_file name bytes m = insert m name bytes
 abbrev pub without_file : List ℕ → Held → Held
 without_file name m = remove m name
 
--- the file is there and empty, and all others stay
+-- the file exists and is empty, and all others stay
 abbrev pub emptied : List ℕ → Held → Held
 emptied name m = insert m name []
 
--- the piece stands at the file's end, and all others stay
+-- the piece is at the file's end, and all others stay
 abbrev pub extended : List ℕ → List ℕ → Held → Held
 extended name piece m = insert m name (unwrap_or (get m name) [] ++ piece)
 
--- the bytes of the file, where files are told and it is held
+-- the bytes of the file, where contracts see the files and it is held
 abbrev pub bytes_of : List ℕ → Option Held → Option (List ℕ)
 bytes_of name files = option_and_then (file_of name) files
 
@@ -67,7 +67,7 @@ beside_stream text count = record {
   text = text;
 }
 
--- the files are as they were, or the file holds some front of these bytes and all others stay
+-- the files are as they were, or the file holds some prefix of these bytes and all others stay
 abbrev pub HasPart : List ℕ → List ℕ → Option Held → Option Held → Type 0
 HasPart name bytes before now =
     (now ≡ before)

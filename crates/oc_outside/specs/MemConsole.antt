@@ -38,6 +38,6 @@ fails_next s = is_due (next_call s.calls) s.failing
 abbrev pub refuses_out : ConsoleState → ℕ → Bool
 refuses_out s len = fails_next s || passes_room s.out_room s.shown len
 
--- whether so many bytes cannot be told: also where they would pass the room of standard error
+-- whether so many bytes cannot be written to standard error: also where they would pass its room
 abbrev pub refuses_err : ConsoleState → ℕ → Bool
 refuses_err s len = fails_next s || passes_room s.err_room s.told len

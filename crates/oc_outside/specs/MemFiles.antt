@@ -61,7 +61,7 @@ refuses_create s name = fails_next s || is_none (room_of name s.rooms)
 abbrev pub refuses_append : FilesState → List ℕ → ℕ → Bool
 refuses_append s name len = fails_next s || lacks_room name len s.held s.rooms
 
--- the front of the buffer has all bytes of the file from `at` on, or as many as it has place for, and the rest of it stays
+-- the start of the buffer has all bytes of the file from `at` on, or as many as it has room for, and the rest of it stays
 pub record ReadsAll (file : List ℕ) (at : ℕ) (before now : List ℕ) (n : ℕ) : Type 0 where
   pub count : n ≡ min (length before) (length file - at)
   pub buffer : now ≡ take n (drop at file) ++ drop n before

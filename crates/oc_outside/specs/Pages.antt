@@ -1,7 +1,7 @@
 -- Our profile: bytes in memory that grow within their room.
 use Rattle.std.specs.Prelude.{ℕ, ◌+◌, Bool, List, length, nat_lt}
 
--- bytes, and how many may stand there
+-- bytes, and how many there is room for
 pub record PageState : Type 0 where
   pub bytes : List ℕ
   pub room : ℕ

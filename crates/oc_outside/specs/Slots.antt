@@ -6,7 +6,7 @@ use Rattle.std.specs.FinMap.{empty, get, insert}
 use Rattle.oc_outside.specs.Held.{Named, Held, put, file_of}
 use Rattle.oc_outside.specs.Pages.{passes_room}
 
--- a name, its file, if that is there, and its room
+-- a name, its file, if that exists, and its room
 pub record SlotState : Type 0 where
   pub name : List ℕ
   pub file : Option (List ℕ)

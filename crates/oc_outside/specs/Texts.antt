@@ -1,12 +1,12 @@
--- Our profile: texts that grow at their end, where they are told.
+-- Our profile: texts that grow at their end, where contracts see them.
 use Rattle.std.specs.Prelude.{◌≡◌, ℕ, ◌≤◌, List, ◌++◌, length, take, Option}
 use Rattle.std.specs.Option.{option_map}
 
--- the text with this piece at its end, where it is told
+-- the text with this piece at its end, where contracts see it
 unfoldable pub grown : List ℕ → Option (List ℕ) → Option (List ℕ)
 grown piece text = option_map (λ bytes. bytes ++ piece) text
 
--- the text grew by some front of these bytes
+-- the text grew by some prefix of these bytes
 abbrev pub TakesPrefix : List ℕ → Option (List ℕ) → Option (List ℕ) → Type 0
 TakesPrefix bytes before now = (k : ℕ) × (k ≤ length bytes) × (now ≡ grown (take k bytes) before)
 

@@ -6,15 +6,15 @@ use crate::failed::Failed;
 
 /// The two texts that a program writes: standard output and standard error.
 ///
-/// What was written may be told, as of texts in memory, or not, as of real streams. Failed calls
-/// are counted, one count for each text. No count falls, a call leaves the other call's text and
-/// count, and one that succeeds leaves both counts. A count that stands at its last value, 2^64 - 1,
-/// is said to rise as well.
+/// Contracts may see what was written, as for texts in memory, or not, as for real streams. Failed
+/// calls are counted, one count for each text. No count falls, a call leaves the other call's text
+/// and count, and one that succeeds leaves both counts. A count that is at its last value,
+/// 2^64 - 1, counts as rising as well.
 pub trait Console {
-    /// What standard output was given so far, where that is told.
+    /// What standard output was given so far, where contracts see it.
     ghost shown: { Self → Option (List ℕ) };
 
-    /// What standard error was given so far, where that is told.
+    /// What standard error was given so far, where contracts see it.
     ghost told: { Self → Option (List ℕ) };
 
     /// How many calls of `out` failed.
@@ -23,8 +23,8 @@ pub trait Console {
     /// How many calls of `err` failed.
     ghost err_faults: { Self → ℕ };
 
-    /// Writes the front of `piece` to standard output, and gives the number of bytes taken, which
-    /// is at least 1.
+    /// Writes a prefix of `piece` to standard output, and gives the number of bytes taken, which is
+    /// at least 1.
     ///
     /// After Failed nothing was written, and the count of `out` rose.
     fn out(&mut self, piece: &[u8]) -> Result<usize, Failed>
@@ -38,7 +38,7 @@ pub trait Console {
         ensures other { LeavesOther (told self.old) (told self.new)
             (err_faults self.old) (err_faults self.new) };
 
-    /// Writes the front of `piece` to standard error, and gives the number of bytes taken, which is
+    /// Writes a prefix of `piece` to standard error, and gives the number of bytes taken, which is
     /// at least 1.
     ///
     /// After Failed nothing was written, and the count of `err` rose.

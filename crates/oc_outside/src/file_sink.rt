@@ -6,7 +6,7 @@ use crate::failed::Failed;
 use crate::files::Files;
 use crate::sink::Sink;
 
-/// A file that is there, as a sink: what it takes is appended to the file.
+/// A file that exists, as a sink: what it takes is appended to the file.
 ///
 /// Its bytes are the file's, its count is that of failed writes, and beside them lie the name, the
 /// count of failed reads and all other files.
@@ -17,7 +17,7 @@ pub struct FileSink<'f, F: Files> {
 }
 
 impl<'f, F: Files> FileSink<'f, F> {
-    /// The sink at the end of the file `name`, which is among the files where those are told.
+    /// The sink at the end of the file `name`, which is among the files where contracts see those.
     pub fn new(files: &'f mut F, name: &'f str) -> FileSink<'f, F>
         requires { ForSome (F.held files.old) (λ m. IsSome (file_of name.now m)) }
         ensures same_reference { result.files.ghost_name ≡ files.entry.ghost_name }

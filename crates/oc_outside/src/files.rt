@@ -8,12 +8,12 @@ use crate::failed::Failed;
 
 /// Files by name, of which a program reads parts, which it creates and to which it appends.
 ///
-/// What the files hold may be told, as of files in memory, or not, as of those of an operating
-/// system. Failed calls are counted, reading and writing apart. No count falls, a call leaves the
-/// count that is not its own, and one that succeeds leaves both. A count that stands at its last
-/// value, 2^64 - 1, is said to rise as well.
+/// Contracts may see what the files hold, as for files in memory, or not, as for those of an
+/// operating system. Failed calls are counted, reading and writing apart. No count falls, a call
+/// leaves the count that is not its own, and one that succeeds leaves both. A count that is at its
+/// last value, 2^64 - 1, counts as rising as well.
 pub trait Files {
-    /// What each file holds, by its name, where that is told.
+    /// What each file holds, by its name, where contracts see it.
     ghost held: { Self → Option Held };
 
     /// How many calls of `read_at` failed.
@@ -22,12 +22,12 @@ pub trait Files {
     /// How many calls of `create` and `append` failed.
     ghost write_faults: { Self → ℕ };
 
-    /// Reads from the file `name`, from its byte `at` on, into the front of `to`, and gives the
+    /// Reads from the file `name`, from its byte `at` on, into the start of `to`, and gives the
     /// number of bytes read.
     ///
     /// No more than `to` has room for. Ok(0) into a buffer that is not empty is the end of the
-    /// file. What stands in `to` past the bytes read is not said. Failed comes only where the count
-    /// of reads rose, or where the files are told and `name` is not among them.
+    /// file. What `to` holds past the bytes read is not specified. Failed is returned only where
+    /// the count of reads rose, or where contracts see the files and `name` is not among them.
     fn read_at(&mut self, name: &str, at: u64, to: &mut [u8]) -> Result<usize, Failed>
         ensures bound { IfOk result (λ n. n ≤ length to.new) }
         ensures bytes { ForSome (held self.old) (λ m.
@@ -51,7 +51,7 @@ pub trait Files {
         ensures steady { OnOk result (write_faults self.new ≡ write_faults self.old) }
         ensures cause { OnErr result (Rose (write_faults self.old) (write_faults self.new)) };
 
-    /// Appends the front of `piece` to the file `name`, and gives the number of bytes taken, which
+    /// Appends a prefix of `piece` to the file `name`, and gives the number of bytes taken, which
     /// is at least 1.
     ///
     /// All other files stay. After Failed nothing was appended, and the count of writes rose.

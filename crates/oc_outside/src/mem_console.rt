@@ -98,7 +98,7 @@ impl MemConsole {
         self.err.as_slice()
     }
 
-    /// Counts one more call of the trait, and says whether it is to fail.
+    /// Counts one more call of the trait, and gives whether it is to fail.
     fn begin(&mut self) -> bool
         ensures due { result ≡ fails_next self.old }
         ensures call { self.new ≡ called self.old }

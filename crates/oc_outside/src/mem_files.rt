@@ -111,7 +111,7 @@ impl MemFiles {
         file_in(self.slots.as_slice(), name)
     }
 
-    /// Counts one more call of the trait, and says whether it is to fail.
+    /// Counts one more call of the trait, and gives whether it is to fail.
     fn begin(&mut self) -> bool
         ensures due { result ≡ fails_next self.old }
         ensures call { self.new ≡ called self.old }
@@ -209,7 +209,7 @@ impl Files for MemFiles {
     }
 }
 
-/// Copies the bytes of `file` from `at` on into the front of `to`, as many as it has place for, and
+/// Copies the bytes of `file` from `at` on into the start of `to`, as many as it has room for, and
 /// gives their number.
 fn copy_front(file: &[u8], at: u64, to: &mut [u8]) -> usize
     ensures { ReadsAll file.now at to.old to.new result }

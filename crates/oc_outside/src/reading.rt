@@ -54,13 +54,13 @@ fn zeros(alloc: Global, len: usize) -> Result<Vec<u8>, AllocError>
     vec![in alloc; 0u8; len]
 }
 
-/// The bytes of the file `name`: all of them or, where there are more than `limit`, a front of them
-/// that is longer than `limit`.
+/// The bytes of the file `name`: all of them or, where there are more than `limit`, a prefix of
+/// them that is longer than `limit`.
 ///
-/// It reads `BUFFER` bytes at a time, and nothing once more than `limit` are there or a read failed.
-/// `Input` comes only where the count of reads rose, or where the files are told and `name` is not
-/// among them; where that count grew, it comes.
-/// `NoMemory` may come at any time. The memory grows by doubling, so a byte is copied a few times.
+/// It reads `BUFFER` bytes at a time, and nothing once it has more than `limit` or a read failed.
+/// `Input` is returned only where the count of reads rose, or where contracts see the files and
+/// `name` is not among them; where that count grew, it is returned. `NoMemory` may be returned at
+/// any time. The memory grows by doubling, so a byte is copied a few times.
 pub fn read_file<F: Files>(
     alloc: Global,
     files: &mut F,

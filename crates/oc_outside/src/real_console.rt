@@ -4,7 +4,7 @@ use crate::console::Console;
 use crate::failed::Failed;
 use std::io::Print;
 
-/// The two standard streams of the process. What was written is not told.
+/// The two standard streams of the process. Contracts do not see what was written.
 #[derive(Drop)]
 pub struct RealConsole<O: Print, E: Print> {
     out: O,

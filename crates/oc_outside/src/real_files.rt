@@ -9,16 +9,16 @@ use std::rt;
 
 // a file that stays open for the next call
 #[derive(Drop)]
-struct Kept<T> {
+struct OpenFile<T> {
     // the name that it was opened by, or nothing where no memory was found for the name
     name: Option<String>,
     file: T,
 }
 
-impl<T> Kept<T> {
+impl<T> OpenFile<T> {
     // the file as one to keep
-    fn new(alloc: Global, name: &str, file: T) -> Kept<T> {
-        Kept {
+    fn new(alloc: Global, name: &str, file: T) -> OpenFile<T> {
+        OpenFile {
             name: String::from_str(alloc, name).ok(),
             file,
         }
@@ -33,22 +33,22 @@ impl<T> Kept<T> {
     }
 }
 
-/// The files of the operating system. What they hold is not told.
+/// The files of the operating system. Contracts do not see what they hold.
 ///
 /// The file that was read last stays open until its end is read, and so does the one that was
 /// appended to last. A call by the same name goes on with it, even if the name stands for another
 /// file by then: what is read or appended call by call is one file. `create`, a call that fails and
-/// one by another name let it go. The next call opens the file that has its name at that moment.
+/// one by another name close it. The next call opens the file that has its name at that moment.
 ///
-/// A file that is not there is a fault of the call that opens it. Names are paths. What cannot be
-/// read from a place on, as a pipe, is not read. Takes memory for two names; where there is none,
-/// each call opens its file.
+/// A file that does not exist is a fault of the call that opens it. Names are paths. What cannot be
+/// read from a given place, such as a pipe, is not read. Takes memory for two names; where there is
+/// none, each call opens its file.
 #[derive(Drop)]
 pub struct RealFiles<'r, R: rt::Files> {
     alloc: Global,
     rt: &'r R,
-    reading: Option<Kept<R::File>>,
-    appending: Option<Kept<R::File>>,
+    reading: Option<OpenFile<R::File>>,
+    appending: Option<OpenFile<R::File>>,
     read_faults: u64,
     write_faults: u64,
 }
@@ -70,7 +70,7 @@ impl<'r, R: rt::Files> RealFiles<'r, R> {
     }
 
     // the file for reads of this name: the one that is kept, or else one that is opened now
-    fn reader(&mut self, name: &str) -> io::Result<Kept<R::File>>
+    fn reader(&mut self, name: &str) -> io::Result<OpenFile<R::File>>
         ensures read_faults { self.new.read_faults ≡ self.old.read_faults }
         ensures write_faults { self.new.write_faults ≡ self.old.write_faults }
     {
@@ -78,13 +78,13 @@ impl<'r, R: rt::Files> RealFiles<'r, R> {
             Some(kept) if kept.is_of(name) => Ok(kept),
             _ => {
                 let file = fs::open(self.rt, name)?;
-                Ok(Kept::new(self.alloc, name, file))
+                Ok(OpenFile::new(self.alloc, name, file))
             }
         }
     }
 
     // the file for appends to this name: the one that is kept, or else one that is opened now
-    fn appender(&mut self, name: &str) -> io::Result<Kept<R::File>>
+    fn appender(&mut self, name: &str) -> io::Result<OpenFile<R::File>>
         ensures read_faults { self.new.read_faults ≡ self.old.read_faults }
         ensures write_faults { self.new.write_faults ≡ self.old.write_faults }
     {
@@ -92,7 +92,7 @@ impl<'r, R: rt::Files> RealFiles<'r, R> {
             Some(kept) if kept.is_of(name) => Ok(kept),
             _ => {
                 let file = OpenOptions::new().append(true).open(self.rt, name)?;
-                Ok(Kept::new(self.alloc, name, file))
+                Ok(OpenFile::new(self.alloc, name, file))
             }
         }
     }

@@ -8,10 +8,11 @@ use crate::failed::Failed;
 
 /// Something that takes bytes in order: a file that grows, or a stream.
 ///
-/// What it took may be told or not. Failed calls are counted: the count never falls, and a call that
-/// succeeds leaves it. A count that stands at its last value, 2^64 - 1, is said to rise as well.
+/// Contracts may or may not see what it took. Failed calls are counted: the count never falls, and
+/// a call that succeeds leaves it. A count that is at its last value, 2^64 - 1, counts as rising as
+/// well.
 pub trait Sink {
-    /// The bytes that it took so far, where they are told.
+    /// The bytes that it took so far, where contracts see them.
     ghost taken: { Self → Option (List ℕ) };
 
     /// How many calls of `put` failed.
@@ -23,7 +24,7 @@ pub trait Sink {
     /// The borrow that it holds, if any, which no `put` changes.
     ghost borrow: { Self → Option GName };
 
-    /// Takes the front of `piece`, and gives the number of bytes taken, which is at least 1.
+    /// Takes a prefix of `piece`, and gives the number of bytes taken, which is at least 1.
     ///
     /// After Failed nothing was taken, and the count rose.
     fn put(&mut self, piece: &[u8]) -> Result<usize, Failed>

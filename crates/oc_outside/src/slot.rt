@@ -8,7 +8,7 @@ use oc_base::NoMemory;
 use std::alloc::Global;
 use std::marker::Model;
 
-/// A name, its file, if that is there, and its room, which may come before the file.
+/// A name, its file, if that exists, and its room, which may come before the file.
 #[derive(Debug, Drop)]
 pub(crate) struct Slot {
     name: String,
@@ -57,7 +57,7 @@ impl Slot {
         }
     }
 
-    /// The file is there and empty.
+    /// The file exists and is empty.
     pub(crate) fn clear(&mut self)
         ensures { self.new ≡ record self.old { file = Some [] } }
     {

@@ -26,7 +26,7 @@ pub(crate) fn file_in<'s>(slots: &'s [Slot], name: &str) -> Option<&'s [u8]>
     slots[place].file()
 }
 
-/// The file of that name is there and empty, where the name has room.
+/// The file of that name exists and is empty, where the name has room.
 pub(crate) fn create_in(slots: &mut [Slot], name: &str) -> Result<(), Failed>
     ensures fails { is_err result ≡ is_none (room_of name.now (rooms_of slots.old)) }
     ensures ok { OnOk result (held_of slots.new ≡ emptied name.now (held_of slots.old)) }

@@ -9,7 +9,7 @@ use crate::writing::put_all;
 
 /// Writes all of the text to standard error, in pieces of `PIECE` bytes, the last one shorter.
 ///
-/// After Failed some front of the text was written, and the count of `err` rose. Takes no memory.
+/// After Failed some prefix of the text was written, and the count of `err` rose. Takes no memory.
 pub fn tell_all<C: Console>(console: &mut C, text: &[u8]) -> Result<(), Failed>
     ensures ok { OnOk result (C.told console.new ≡ grown text.now (C.told console.old)) }
     ensures err { OnErr result (TakesPrefix text.now (C.told console.old) (C.told console.new)) }
@@ -24,7 +24,7 @@ pub fn tell_all<C: Console>(console: &mut C, text: &[u8]) -> Result<(), Failed>
 
 /// Writes all of the text to standard output, in pieces of `PIECE` bytes, the last one shorter.
 ///
-/// After Failed some front of the text was written, and the count of `out` rose. Takes no memory.
+/// After Failed some prefix of the text was written, and the count of `out` rose. Takes no memory.
 pub fn show_all<C: Console>(console: &mut C, text: &[u8]) -> Result<(), Failed>
     ensures ok { OnOk result (C.shown console.new ≡ grown text.now (C.shown console.old)) }
     ensures err { OnErr result (TakesPrefix text.now (C.shown console.old) (C.shown console.new)) }

@@ -15,7 +15,7 @@ pub const PIECE: usize = 4096;
 /// Puts all the bytes, in order, in pieces of `PIECE` bytes, the last one shorter. What a call did
 /// not take is put again.
 ///
-/// After Failed the sink took some front of the bytes, and its count rose. Takes no memory.
+/// After Failed the sink took some prefix of the bytes, and its count rose. Takes no memory.
 pub fn put_all<S: Sink>(sink: &mut S, bytes: &[u8]) -> Result<(), Failed>
     ensures ok { OnOk result (S.taken sink.new ≡ grown bytes.now (S.taken sink.old)) }
     ensures err { OnErr result (TakesPrefix bytes.now (S.taken sink.old) (S.taken sink.new)) }
@@ -37,7 +37,7 @@ pub fn put_all<S: Sink>(sink: &mut S, bytes: &[u8]) -> Result<(), Failed>
 
 /// Writes the file `name`, so that it holds these bytes and nothing else. All other files stay.
 ///
-/// After Failed the file is as it was or holds some front of the bytes, and the count of writes
+/// After Failed the file is as it was or holds some prefix of the bytes, and the count of writes
 /// rose. Takes no memory.
 pub fn write_file<F: Files>(files: &mut F, name: &str, bytes: &[u8]) -> Result<(), Failed>
     ensures ok { OnOk result (F.held files.new ≡ option_map (with_file name.now bytes.now) (F.held files.old)) }

@@ -10,8 +10,8 @@ use Rattle.oc_linking.specs.Numbers.{modulus}
 use Rattle.oc_linking.specs.Placing.{IsSite}
 use Rattle.oc_place.specs.declared.spot.Spot.{Spot}
 use Rattle.oc_place.specs.declared.spot.Outside.{Outside}
-use Rattle.oc_place.specs.declared.entry.Entry.{Entry}
-use Rattle.oc_place.specs.declared.entry.Entry.TheVariants as entry
+use Rattle.oc_place.specs.declared.entry.PlacementLine.{PlacementLine}
+use Rattle.oc_place.specs.declared.entry.PlacementLine.TheVariants as entry
 use Rattle.oc_place.specs.declared.fault.PlaceCode.{PlaceCode}
 use Rattle.oc_place.specs.declared.fault.PlaceCode.TheVariants.{Repeated, TooLarge}
 use Rattle.oc_place.specs.Entries.{Shape, line_of}
@@ -111,7 +111,7 @@ module _ (footprint : Footprint) where
   w = footprint.word
 
   -- an entry whose numbers are small
-  numbers_small : (notes : Notes) (e : Entry) (name : List ℕ) → AreSmall w notes → is_entry_large w e ≡ false → IfOk (with_numbers footprint notes e name) (AreSmall w)
+  numbers_small : (notes : Notes) (e : PlacementLine) (name : List ℕ) → AreSmall w notes → is_entry_large w e ≡ false → IfOk (with_numbers footprint notes e name) (AreSmall w)
   numbers_small notes (entry.Image h) name all is = image_small w notes all h (small w h is)
   numbers_small notes (entry.Got h) name all is = got_small w notes all h (small w h is)
   numbers_small notes (entry.Section k spot) name all is = section_small w notes all spot (position_in (length notes.spots) k) (spot_small w spot is)
@@ -122,7 +122,7 @@ module _ (footprint : Footprint) where
   numbers_small notes (entry.Slot slot) name all is =
       outside_small w notes all (record { spot = None; slot = slot }) (symbol_named footprint.symbols name) (tt, small w slot is)
 
-  entry_small : (notes : Notes) (e : Entry) (name : List ℕ) → AreSmall w notes → IfOk (with_entry footprint notes e name) (AreSmall w)
+  entry_small : (notes : Notes) (e : PlacementLine) (name : List ℕ) → AreSmall w notes → IfOk (with_entry footprint notes e name) (AreSmall w)
   entry_small notes e name all = by (is_entry_large w e) refl
     where
       by : (t : Bool) → is_entry_large w e ≡ t → IfOk (cond t (Err TooLarge) (with_numbers footprint notes e name)) (AreSmall w)

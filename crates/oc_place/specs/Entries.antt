@@ -2,34 +2,34 @@
 use Rattle.std.specs.Prelude.{ℕ, bytes_eq, codes, if◌then◌else◌, List, [], ◌∷◌, Option, Some, None}
 use Rattle.std.specs.Option.{option_map, option_and_then}
 use Rattle.oc_place.specs.declared.spot.Spot.{Spot}
-use Rattle.oc_place.specs.declared.entry.Entry.{Entry}
-use Rattle.oc_place.specs.declared.entry.Entry.TheVariants as entry
+use Rattle.oc_place.specs.declared.entry.PlacementLine.{PlacementLine}
+use Rattle.oc_place.specs.declared.entry.PlacementLine.TheVariants as entry
 use Rattle.oc_place.specs.NameTexts.{name_of}
 use Rattle.oc_place.specs.Parts.{parts_of, hex_next, decimal_next, spot_next, whole, only}
 
 -- what a line says, and the text of the name that it is about; an entry about no name has no text
 abbrev pub Shape : Type 0
-Shape = Entry × List ℕ
+Shape = PlacementLine × List ℕ
 
 -- an entry about no name
-abbrev pub unnamed : Option Entry → Option Shape
+abbrev pub unnamed : Option PlacementLine → Option Shape
 unnamed e = option_map (λ e. (e, [])) e
 
 -- `image H`
-abbrev pub image_in : List (List ℕ) → Option Entry
+abbrev pub image_in : List (List ℕ) → Option PlacementLine
 image_in parts = option_and_then (λ (h : ℕ × List (List ℕ)). whole (entry.Image h.0) h.1) (hex_next parts)
 
 -- `got H`
-abbrev pub got_in : List (List ℕ) → Option Entry
+abbrev pub got_in : List (List ℕ) → Option PlacementLine
 got_in parts = option_and_then (λ (h : ℕ × List (List ℕ)). whole (entry.Got h.0) h.1) (hex_next parts)
 
 -- `section K H H H`
-abbrev pub section_in : List (List ℕ) → Option Entry
+abbrev pub section_in : List (List ℕ) → Option PlacementLine
 section_in parts =
     option_and_then (λ (k : ℕ × List (List ℕ)). option_and_then (λ (s : Spot × List (List ℕ)). whole (entry.Section k.0 s.0) s.1) (spot_next k.1)) (decimal_next parts)
 
 -- `drop K`
-abbrev pub drop_in : List (List ℕ) → Option Entry
+abbrev pub drop_in : List (List ℕ) → Option PlacementLine
 drop_in parts = option_and_then (λ (k : ℕ × List (List ℕ)). whole (entry.Drop k.0) k.1) (decimal_next parts)
 
 -- `name H H H H NAME`
@@ -67,11 +67,11 @@ abbrev pub no_name : List ℕ
 no_name = []
 
 -- an entry with the name that a text means
-abbrev pub with_name : Entry → List ℕ → Option Shape
+abbrev pub with_name : PlacementLine → List ℕ → Option Shape
 with_name e text = option_map (λ name. (e, name)) (name_of text)
 
 -- an entry with the name that it is about, by that text
-abbrev pub named_by : Entry → List ℕ → Option Shape
+abbrev pub named_by : PlacementLine → List ℕ → Option Shape
 named_by (entry.Image h) text = Some (entry.Image h, no_name)
 named_by (entry.Got h) text = Some (entry.Got h, no_name)
 named_by (entry.Section k s) text = Some (entry.Section k s, no_name)
@@ -83,6 +83,6 @@ named_by (entry.Slot g) text = with_name (entry.Slot g) text
 abbrev pub named : Shape → Option Shape
 named shape = named_by shape.0 shape.1
 
--- what a line says; none where it is not of a form
+-- what a line says; none where it has none of the forms
 unfoldable pub line_of : List ℕ → Option Shape
 line_of line = option_and_then named (shape_of line)

@@ -5,7 +5,7 @@ use Rattle.oc_place.specs.declared.fault.PlaceFault.{PlaceFault}
 use Rattle.oc_place.specs.declared.fault.PlaceFault.TheVariants as fault
 use Rattle.oc_place.specs.Written.{Notes, Bad}
 
--- the fault is the one of the result; want of memory says nothing
+-- the fault is the one of the result; lack of memory needs no cause
 abbrev pub IsBadOf : {X : Type 0} → Result X Bad → PlaceFault → Type 0
 IsBadOf r (fault.Bad line code) = r ≡ Err (record { line = line; code = code })
 IsBadOf r fault.NoMemory = Unit {0}

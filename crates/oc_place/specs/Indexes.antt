@@ -25,7 +25,7 @@ abbrev pub AddsName : Bool → List ℕ → ℕ → List Named → List Named �
 AddsName true name at old new = new ≡ old
 AddsName false name at old new = (x : Named) × (new ≡ old ++ x ∷ []) × (x.name.now ≡ name) × (x.at ≡ at)
 
--- the names that are there
+-- the names that are present
 abbrev pub present : NameList → List (List ℕ)
 present [] = []
 present (None ∷ names) = present names

@@ -7,8 +7,8 @@ use Rattle.oc_linking.specs.Parts as parts
 use Rattle.oc_strings.specs.Repeats.{NameList, nonlocal_name, place_of}
 use Rattle.oc_place.specs.declared.spot.Spot.{Spot}
 use Rattle.oc_place.specs.declared.spot.Outside.{Outside}
-use Rattle.oc_place.specs.declared.entry.Entry.{Entry}
-use Rattle.oc_place.specs.declared.entry.Entry.TheVariants as entry
+use Rattle.oc_place.specs.declared.entry.PlacementLine.{PlacementLine}
+use Rattle.oc_place.specs.declared.entry.PlacementLine.TheVariants as entry
 use Rattle.oc_place.specs.declared.fault.PlaceCode.{PlaceCode}
 use Rattle.oc_place.specs.declared.fault.PlaceCode.TheVariants.{BadLine, TooLarge, BadSection, NoSymbol, Repeated}
 use Rattle.oc_place.specs.Entries.{Shape, line_of}
@@ -54,7 +54,7 @@ abbrev pub is_spot_large : Word → Spot → Bool
 is_spot_large w s = is_large w s.address || (is_large w s.home || is_large w s.number)
 
 -- one of the numbers of an entry is; the number of a section or a group is none of them
-abbrev pub is_entry_large : Word → Entry → Bool
+abbrev pub is_entry_large : Word → PlacementLine → Bool
 is_entry_large w (entry.Image h) = is_large w h
 is_entry_large w (entry.Got h) = is_large w h
 is_entry_large w (entry.Section k spot) = is_spot_large w spot
@@ -90,7 +90,7 @@ with_outside notes given None = Err NoSymbol
 with_outside notes given (Some k) = if is_some (get_or notes.given k None) then Err Repeated else Ok (record notes { given = slice_set notes.given k (Some given) })
 
 -- the notes with an entry more, whose numbers are small enough, about that name; a `slot` line gives no address
-abbrev pub with_numbers : Footprint → Notes → Entry → List ℕ → Result Notes PlaceCode
+abbrev pub with_numbers : Footprint → Notes → PlacementLine → List ℕ → Result Notes PlaceCode
 with_numbers footprint notes (entry.Image h) name = with_image notes h
 with_numbers footprint notes (entry.Got h) name = with_got notes h
 with_numbers footprint notes (entry.Section k spot) name = with_spot notes spot (position_in (length notes.spots) k)
@@ -99,7 +99,7 @@ with_numbers footprint notes (entry.Name spot slot) name = with_outside notes (r
 with_numbers footprint notes (entry.Slot slot) name = with_outside notes (record { spot = None; slot = slot }) (symbol_named footprint.symbols name)
 
 -- the notes with an entry more, about that name: TooLarge comes before what else is wrong with it
-abbrev pub with_entry : Footprint → Notes → Entry → List ℕ → Result Notes PlaceCode
+abbrev pub with_entry : Footprint → Notes → PlacementLine → List ℕ → Result Notes PlaceCode
 with_entry footprint notes e name = if is_entry_large footprint.word e then Err TooLarge else with_numbers footprint notes e name
 
 -- the same, where the line is of a form

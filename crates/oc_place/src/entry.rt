@@ -8,7 +8,7 @@ use oc_linking::modulus;
 
 /// What a line says; its name, where it is about one, is kept beside it.
 #[derive(Clone, Copy, Debug, PartialEq, Eq)]
-pub(crate) enum Entry {
+pub(crate) enum PlacementLine {
     /// The base of the image.
     Image(u64),
     /// The base of the global offset table.
@@ -47,19 +47,19 @@ fn is_spot_large(word: Word, spot: Spot) -> bool
     is_large(word, spot.address) || is_large(word, spot.home) || is_large(word, spot.number)
 }
 
-impl Entry {
+impl PlacementLine {
     /// Whether one of the numbers of an entry is 2^W or more, where addresses have W bits. The number
     /// of a section or a group is none of them. Constant time, no memory.
     pub(crate) fn is_large(self, word: Word) -> bool
         ensures { result ≡ lines.is_entry_large word self }
     {
         match self {
-            Entry::Image(base) => is_large(word, base),
-            Entry::Got(base) => is_large(word, base),
-            Entry::Section { spot, .. } => is_spot_large(word, spot),
-            Entry::Drop(_) => false,
-            Entry::Name { spot, slot } => is_spot_large(word, spot) || is_large(word, slot),
-            Entry::Slot(slot) => is_large(word, slot),
+            PlacementLine::Image(base) => is_large(word, base),
+            PlacementLine::Got(base) => is_large(word, base),
+            PlacementLine::Section { spot, .. } => is_spot_large(word, spot),
+            PlacementLine::Drop(_) => false,
+            PlacementLine::Name { spot, slot } => is_spot_large(word, spot) || is_large(word, slot),
+            PlacementLine::Slot(slot) => is_large(word, slot),
         }
     }
 }

@@ -9,7 +9,7 @@ ghost use Rattle.oc_place.specs.Placings.{is_dropped, nothing_given};
 ghost use Rattle.oc_place.specs.Footprints.{footprint_of};
 ghost use Rattle.oc_place.specs.Written as lines;
 
-use crate::entry::Entry;
+use crate::entry::PlacementLine;
 use crate::fault::PlaceCode;
 use crate::index::{Named, position_of};
 use crate::spot::{Outside, Spot};
@@ -149,7 +149,7 @@ impl Notebook {
         &mut self,
         object: &Neutral,
         names: &[Named<'_>],
-        entry: Entry,
+        entry: PlacementLine,
         name: &[u8],
     ) -> Result<(), PlaceCode>
         requires index { IsIndex (lines.names_of (shown_symbols object.now)) names.now }
@@ -163,15 +163,15 @@ impl Notebook {
             return Err(PlaceCode::TooLarge);
         }
         match entry {
-            Entry::Image(base) => self.add_image(base),
-            Entry::Got(base) => self.add_got(base),
-            Entry::Section { number, spot } => self.add_spot(number, spot),
-            Entry::Drop(number) => self.add_drop(number),
-            Entry::Name { spot, slot } => {
+            PlacementLine::Image(base) => self.add_image(base),
+            PlacementLine::Got(base) => self.add_got(base),
+            PlacementLine::Section { number, spot } => self.add_spot(number, spot),
+            PlacementLine::Drop(number) => self.add_drop(number),
+            PlacementLine::Name { spot, slot } => {
                 let spot = Some(spot);
                 self.add_outside(Outside { spot, slot }, position_of(object, names, name))
             }
-            Entry::Slot(slot) => {
+            PlacementLine::Slot(slot) => {
                 let spot = None;
                 self.add_outside(Outside { spot, slot }, position_of(object, names, name))
             }
@@ -192,7 +192,7 @@ impl Notebook {
         self.got.unwrap_or(0)
     }
 
-    /// Where a section lies, if a line says so. Constant time, no memory.
+    /// Where a section lies, if a line gives it. Constant time, no memory.
     pub(crate) fn spot(&self, section: u32) -> Option<Spot>
         requires { section < length self.now.spots }
         ensures { result ≡ get_or self.now.spots section None }

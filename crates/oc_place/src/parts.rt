@@ -3,7 +3,7 @@ ghost use Rattle.std.specs.Prelude.{◌≡◌, ◌∷◌, None, Some, MatchOptio
 ghost use Rattle.oc_place.specs.Parts as parts;
 
 use crate::digits::{decimal_of, hex_of};
-use crate::entry::Entry;
+use crate::entry::PlacementLine;
 use crate::spot::Spot;
 use memchr::memchr;
 
@@ -58,7 +58,7 @@ pub(crate) fn spot_next<'a>(left: Option<&'a [u8]>) -> Option<(Spot, Option<&'a 
 }
 
 /// The entry, where nothing is left. Constant time, no memory.
-pub(crate) fn whole(entry: Entry, left: Option<&[u8]>) -> Option<Entry>
+pub(crate) fn whole(entry: PlacementLine, left: Option<&[u8]>) -> Option<PlacementLine>
     ensures { result ≡ parts.whole entry (parts.left left.entry) }
 {
     match left {

@@ -13,14 +13,14 @@ use crate::checks::check;
 use crate::fault::{PlaceCode, PlaceFault};
 use crate::index::{Named, index_of};
 use crate::notebook::Notebook;
-use crate::placed::{Placed, into_placed};
+use crate::placements::{Placements, into_placed};
 use crate::shapes::line_of;
 use memchr::memchr;
 use oc_base::NoMemory;
 use oc_neutral::Neutral;
 use std::alloc::Global;
 
-// adds what a line says, whose number is counted from 1
+// adds what a line says; the number of the line is counted from 1
 #[tactic(auto, unfolding(crate::specs::Written::with_line))]
 fn read_line(
     alloc: Global,
@@ -118,7 +118,7 @@ fn read_lines(
 /// Time is linear in the text and the object, but for a sort of the symbols' names and a search for
 /// each name; takes memory for the names, sections, groups and symbols.
 #[tactic(auto, unfolding(crate::specs::Placings::placed_in))]
-pub fn read_place(alloc: Global, text: &[u8], object: &Neutral) -> Result<Placed, PlaceFault>
+pub fn read_place(alloc: Global, text: &[u8], object: &Neutral) -> Result<Placements, PlaceFault>
     requires { length text.now ≤ MOST_INPUT }
     ensures ok { IfOk result (λ placed. placed_in (footprint_of object.now) text.now ≡ Ok placed) }
     ensures err { IfErr result (IsBadOf (placed_in (footprint_of object.now) text.now)) }

@@ -3,68 +3,68 @@ ghost use Rattle.std.specs.Prelude.{◌≡◌, None, Some, IfOk, MatchOption};
 ghost use Rattle.oc_place.specs.Entries as entries;
 ghost use Rattle.oc_place.specs.Parts.{left};
 
-use crate::entry::Entry;
+use crate::entry::PlacementLine;
 use crate::name_text::name_of;
 use crate::parts::{cut, decimal_next, hex_next, only, spot_next, whole};
 use oc_base::{Bytes, NoMemory};
 use std::alloc::Global;
 
 // `image H`
-fn image_in(rest: Option<&[u8]>) -> Option<Entry>
+fn image_in(rest: Option<&[u8]>) -> Option<PlacementLine>
     ensures { result ≡ entries.image_in (left rest.entry) }
 {
     let (base, rest) = hex_next(rest)?;
-    whole(Entry::Image(base), rest)
+    whole(PlacementLine::Image(base), rest)
 }
 
 // `got H`
-fn got_in(rest: Option<&[u8]>) -> Option<Entry>
+fn got_in(rest: Option<&[u8]>) -> Option<PlacementLine>
     ensures { result ≡ entries.got_in (left rest.entry) }
 {
     let (base, rest) = hex_next(rest)?;
-    whole(Entry::Got(base), rest)
+    whole(PlacementLine::Got(base), rest)
 }
 
 // `section K H H H`
-fn section_in(rest: Option<&[u8]>) -> Option<Entry>
+fn section_in(rest: Option<&[u8]>) -> Option<PlacementLine>
     ensures { result ≡ entries.section_in (left rest.entry) }
 {
     let (number, rest) = decimal_next(rest)?;
     let (spot, rest) = spot_next(rest)?;
-    whole(Entry::Section { number, spot }, rest)
+    whole(PlacementLine::Section { number, spot }, rest)
 }
 
 // `drop K`
-fn drop_in(rest: Option<&[u8]>) -> Option<Entry>
+fn drop_in(rest: Option<&[u8]>) -> Option<PlacementLine>
     ensures { result ≡ entries.drop_in (left rest.entry) }
 {
     let (number, rest) = decimal_next(rest)?;
-    whole(Entry::Drop(number), rest)
+    whole(PlacementLine::Drop(number), rest)
 }
 
 // `name H H H H NAME`
-fn name_in<'a>(rest: Option<&'a [u8]>) -> Option<(Entry, &'a [u8])>
+fn name_in<'a>(rest: Option<&'a [u8]>) -> Option<(PlacementLine, &'a [u8])>
     ensures { MatchOption result (entries.name_in (left rest.entry) ≡ None)
         (λ x. entries.name_in (left rest.entry) ≡ Some (x.0, x.1.now)) }
 {
     let (spot, rest) = spot_next(rest)?;
     let (slot, rest) = hex_next(rest)?;
     let text = only(rest)?;
-    Some((Entry::Name { spot, slot }, text))
+    Some((PlacementLine::Name { spot, slot }, text))
 }
 
 // `slot H NAME`
-fn slot_in<'a>(rest: Option<&'a [u8]>) -> Option<(Entry, &'a [u8])>
+fn slot_in<'a>(rest: Option<&'a [u8]>) -> Option<(PlacementLine, &'a [u8])>
     ensures { MatchOption result (entries.slot_in (left rest.entry) ≡ None)
         (λ x. entries.slot_in (left rest.entry) ≡ Some (x.0, x.1.now)) }
 {
     let (slot, rest) = hex_next(rest)?;
     let text = only(rest)?;
-    Some((Entry::Slot(slot), text))
+    Some((PlacementLine::Slot(slot), text))
 }
 
 // an entry about no name
-fn unnamed<'a>(entry: Option<Entry>) -> Option<(Entry, &'a [u8])>
+fn unnamed<'a>(entry: Option<PlacementLine>) -> Option<(PlacementLine, &'a [u8])>
     ensures { MatchOption result (entries.unnamed entry ≡ None) (λ x. entries.unnamed entry ≡ Some (x.0, x.1.now)) }
 {
     let entry = entry?;
@@ -73,7 +73,7 @@ fn unnamed<'a>(entry: Option<Entry>) -> Option<(Entry, &'a [u8])>
 
 // the shape of a line with this first word
 #[tactic(auto, unfolding(crate::specs::Entries::shape_by))]
-fn shape_by<'a>(word: &[u8], rest: Option<&'a [u8]>) -> Option<(Entry, &'a [u8])>
+fn shape_by<'a>(word: &[u8], rest: Option<&'a [u8]>) -> Option<(PlacementLine, &'a [u8])>
     ensures { MatchOption result (entries.shape_by word.now (left rest.entry) ≡ None)
         (λ x. entries.shape_by word.now (left rest.entry) ≡ Some (x.0, x.1.now)) }
 {
@@ -96,7 +96,7 @@ fn shape_by<'a>(word: &[u8], rest: Option<&'a [u8]>) -> Option<(Entry, &'a [u8])
 
 // the shape of a line
 #[tactic(auto, unfolding(crate::specs::Entries::shape_of))]
-fn shape_of(line: &[u8]) -> Option<(Entry, &[u8])>
+fn shape_of(line: &[u8]) -> Option<(PlacementLine, &[u8])>
     ensures { MatchOption result (entries.shape_of line.now ≡ None)
         (λ x. entries.shape_of line.now ≡ Some (x.0, x.1.now)) }
 {
@@ -105,7 +105,11 @@ fn shape_of(line: &[u8]) -> Option<(Entry, &[u8])>
 }
 
 // an entry with the name that a text means
-fn with_name(alloc: Global, entry: Entry, text: &[u8]) -> Result<Option<(Entry, Bytes)>, NoMemory>
+fn with_name(
+    alloc: Global,
+    entry: PlacementLine,
+    text: &[u8],
+) -> Result<Option<(PlacementLine, Bytes)>, NoMemory>
     ensures { IfOk result (λ line. line ≡ entries.with_name entry text.now) }
 {
     match name_of(alloc, text)? {
@@ -115,30 +119,37 @@ fn with_name(alloc: Global, entry: Entry, text: &[u8]) -> Result<Option<(Entry, 
 }
 
 // an entry about no name
-fn without_name(alloc: Global, entry: Entry) -> Option<(Entry, Bytes)>
+fn without_name(alloc: Global, entry: PlacementLine) -> Option<(PlacementLine, Bytes)>
     ensures { result ≡ Some (entry, entries.no_name) }
 {
     Some((entry, Bytes::from_vec(Vec::new(alloc))))
 }
 
 // an entry with the name that it is about
-fn named(alloc: Global, entry: Entry, text: &[u8]) -> Result<Option<(Entry, Bytes)>, NoMemory>
+fn named(
+    alloc: Global,
+    entry: PlacementLine,
+    text: &[u8],
+) -> Result<Option<(PlacementLine, Bytes)>, NoMemory>
     ensures { IfOk result (λ line. line ≡ entries.named (entry, text.now)) }
 {
     match entry {
-        Entry::Image(_) => Ok(without_name(alloc, entry)),
-        Entry::Got(_) => Ok(without_name(alloc, entry)),
-        Entry::Section { .. } => Ok(without_name(alloc, entry)),
-        Entry::Drop(_) => Ok(without_name(alloc, entry)),
-        Entry::Name { .. } => with_name(alloc, entry, text),
-        Entry::Slot(_) => with_name(alloc, entry, text),
+        PlacementLine::Image(_) => Ok(without_name(alloc, entry)),
+        PlacementLine::Got(_) => Ok(without_name(alloc, entry)),
+        PlacementLine::Section { .. } => Ok(without_name(alloc, entry)),
+        PlacementLine::Drop(_) => Ok(without_name(alloc, entry)),
+        PlacementLine::Name { .. } => with_name(alloc, entry, text),
+        PlacementLine::Slot(_) => with_name(alloc, entry, text),
     }
 }
 
 /// What a line says, and the name that it is about, empty where it is about none; `None` exactly
 /// where the line is of no form. Linear in the line, takes memory for the name.
 #[tactic(auto, unfolding(crate::specs::Entries::line_of))]
-pub(crate) fn line_of(alloc: Global, line: &[u8]) -> Result<Option<(Entry, Bytes)>, NoMemory>
+pub(crate) fn line_of(
+    alloc: Global,
+    line: &[u8],
+) -> Result<Option<(PlacementLine, Bytes)>, NoMemory>
     ensures { IfOk result (λ shape. shape ≡ entries.line_of line.now) }
 {
     match shape_of(line) {

@@ -1,5 +1,6 @@
-//! What the plans of all formats stand on, with no word of a format: sections with the numbers of their
-//! relocations in their fields, files of parts, and a smallest object to try a plan on.
+//! What the plans of all formats are built on, with nothing of any one format: sections with the
+//! numbers of their relocations in their fields, files of parts, and a smallest object to try a
+//! plan on.
 #![tactic(auto)]
 
 mod alone;

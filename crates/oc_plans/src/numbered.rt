@@ -11,12 +11,12 @@ ghost use Rattle.oc_plans.specs.Numbered.{AreAll, Numbering, all_with_numbers};
 use oc_chains::Walk;
 use oc_neutral::{Reloc, Relocs, Section};
 
-/// What tells the numbers in the fields of relocations.
+/// What gives the numbers in the fields of relocations.
 pub trait FieldNumbers {
     /// These are the numbers.
     ghost tells: { Self → Numbering → Type 0 };
 
-    /// The number of a relocation of the section at a position can be told: what it refers to is there.
+    /// The number of a relocation of the section at a position is known: what it refers to exists.
     ghost leads: { Self → ℕ → Entry → Type 0 };
 
     /// The number in the field of a relocation at an offset of the section at a position. Constant time.

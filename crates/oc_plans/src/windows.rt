@@ -14,7 +14,7 @@ pub trait Parts {
     /// What is known of them, so that each can be given.
     ghost sound: { Self → Type 0 };
 
-    /// Puts the bytes of part `k` from `from` on, an offset in the part, into the front of `out`, as
+    /// Puts the bytes of part `k` from `from` on, an offset in the part, into the start of `out`, as
     /// many as both have, and gives their number. The rest of `out` stays.
     fn part_window(&self, k: usize, from: u64, out: &mut [u8]) -> usize
         requires there { k < length (parts self.now) }

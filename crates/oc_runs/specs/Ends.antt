@@ -33,7 +33,7 @@ module _ (IsNamed : ℕ → Type 0) where
     pub unwritten : LeavesFiles status → after.write_faults ≡ before.write_faults
     pub shown : LeavesOutput status → after.shown ≡ before.shown
     pub unshown : LeavesOutput status → after.out_faults ≡ before.out_faults
-    -- what is told
+    -- what is reported
     pub quiet : (status ≡ 0) ⊎ (status ≡ 6) → after.told ≡ before.told
     pub told_input : status ≡ 4 → Tells input_text before.told after.told before.err_faults after.err_faults
     pub told_output : status ≡ 5 → Tells output_text before.told after.told before.err_faults after.err_faults
@@ -44,7 +44,7 @@ module _ (IsNamed : ℕ → Type 0) where
     pub outs : before.out_faults ≤ after.out_faults
     pub errs : before.err_faults ≤ after.err_faults
 
--- the words ask for nothing that the program does: the text was told, and nothing was read, changed or shown
+-- the words ask for nothing that the program does: the text was reported, and nothing was read, changed or shown
 pub record IsWordless (text : List ℕ) (before : State) (status : ℕ) (after : State) : Type 0 where
   pub named : status ≡ 3
   pub told : Tells text before.told after.told before.err_faults after.err_faults

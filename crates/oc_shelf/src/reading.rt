@@ -10,7 +10,7 @@ mod texts;
 
 pub use bitmap::Bitmap;
 pub use first::earlier;
-pub use order::{Placed, sort_by_place};
+pub use order::{PlacedEntry, sort_by_place};
 pub use rows::Rows;
 pub use slots::Slots;
 pub use spans::Spans;

@@ -10,19 +10,19 @@ use Rattle.oc_linking.specs.declared.terms.Keep.{Keep}
 use Rattle.oc_linking.specs.Rules.{Field}
 use Rattle.oc_neutral.specs.declared.reloc.Reloc.{Reloc}
 use Rattle.oc_neutral.specs.Building.{Draft, reloc_added}
-use Rattle.oc_shows.specs.Built.{AreApart, AreOfFile, DifferencesFit, Given, HasAdded, IsField, IsStarted, and_one}
+use Rattle.oc_shows.specs.Built.{AreApart, AreOfFile, DifferencesFit, RelocMap, HasAdded, IsField, IsStarted, and_one}
 use Rattle.oc_neutral.specs.Dialects.{Dialect, kept_fields}
 use Rattle.oc_neutral.specs.Invariants.{CanAdd}
 use Rattle.oc_shows.proofs.BuiltSteps.{added_more, added_same, can_still}
 use Rattle.oc_shows.proofs.CleanLaws.{clean_is_added}
-use Rattle.oc_shelf.specs.declared.reading.order.Placed.{Placed}
+use Rattle.oc_shelf.specs.declared.reading.order.PlacedEntry.{PlacedEntry}
 use Rattle.oc_shelf.specs.Reading.Order.{is_among}
 
 -- what is given for some places alone
-abbrev pub given_where : Given → (ℕ → ℕ → Bool) → Given
+abbrev pub given_where : RelocMap → (ℕ → ℕ → Bool) → RelocMap
 given_where given done s at = cond (done s at) (given s at) None
 
-one_more : (given : Given) (done more : ℕ → ℕ → Bool) (s at : ℕ) (r : Reloc) → given s at ≡ Some r → ((t x : ℕ) → more t x ≡ (done t x || nat_eq t s && nat_eq at x))
+one_more : (given : RelocMap) (done more : ℕ → ℕ → Bool) (s at : ℕ) (r : Reloc) → given s at ≡ Some r → ((t x : ℕ) → more t x ≡ (done t x || nat_eq t s && nat_eq at x))
     → (t x : ℕ) → and_one (given_where given done) s at r t x ≡ given_where given more t x
 one_more given done more s at r is grown t x = by (nat_eq t s) (nat_eq at x) refl refl ∙ ap (λ b. cond b (given t x) None) (sym (grown t x))
   where
@@ -46,7 +46,7 @@ one_more given done more s at r is grown t x = by (nat_eq t s) (nat_eq at x) ref
         of false = refl
 
 -- each relocation that is given for a file can be added to what was built of it
-pub record AreAddable (base : Draft) (given : Given) : Type 0 where
+pub record AreAddable (base : Draft) (given : RelocMap) : Type 0 where
   pub dialect : Dialect
   pub file : List ℕ
   pub keep : Keep
@@ -57,14 +57,14 @@ pub record AreAddable (base : Draft) (given : Given) : Type 0 where
   pub can : (s at : ℕ) (r : Reloc) → given s at ≡ Some r → CanAdd base.object s at r
 
 -- a relocation is added, and then these are
-pub record IsTaken (base d : Draft) (s at : ℕ) (r : Reloc) (given : Given) : Type 0 where
+pub record IsTaken (base d : Draft) (s at : ℕ) (r : Reloc) (given : RelocMap) : Type 0 where
   pub can : CanAdd d.object s at r
   pub next : Draft
   pub ok : reloc_added d s at r ≡ Ok next
   pub added : HasAdded base next given
 
 -- it is, at a place where none is yet
-pub taken : (base : Draft) (given : Given) → AreAddable base given → (done more : ℕ → ℕ → Bool) (d : Draft) (s at : ℕ) (r : Reloc) → given s at ≡ Some r → HasAdded base d (given_where given done) → done s at ≡ false
+pub taken : (base : Draft) (given : RelocMap) → AreAddable base given → (done more : ℕ → ℕ → Bool) (d : Draft) (s at : ℕ) (r : Reloc) → given s at ≡ Some r → HasAdded base d (given_where given done) → done s at ≡ false
     → ((t x : ℕ) → more t x ≡ (done t x || nat_eq t s && nat_eq at x)) → IsTaken base d s at r (given_where given more)
 taken base given a done more d s at r is has new grown = record {
   can = can;
@@ -92,12 +92,12 @@ taken base given a done more d s at r is has new grown = record {
 -- ... a table whose entries are added in the order of their places
 
 -- places in the sections before, and those of the first j entries of the section at position p
-abbrev pub done_upto : (ℕ → Bool) → ℕ → List Placed → ℕ → ℕ → ℕ → Bool
+abbrev pub done_upto : (ℕ → Bool) → ℕ → List PlacedEntry → ℕ → ℕ → ℕ → Bool
 done_upto before p entries j s at = before s || nat_eq s p && is_among (take j entries) at
 
 -- entry j is added, where none before it is at its place
-pub entry_taken : (base : Draft) (given : Given) → AreAddable base given → (before : ℕ → Bool) (p : ℕ) → before p ≡ false
-    → (entries : List Placed) (j : ℕ) (e : Placed) → j < length entries → is_among (take j entries) (get_or entries j e).place ≡ false
+pub entry_taken : (base : Draft) (given : RelocMap) → AreAddable base given → (before : ℕ → Bool) (p : ℕ) → before p ≡ false
+    → (entries : List PlacedEntry) (j : ℕ) (e : PlacedEntry) → j < length entries → is_among (take j entries) (get_or entries j e).place ≡ false
     → (d : Draft) → HasAdded base d (given_where given (done_upto before p entries j)) → (at : ℕ) → at ≡ (get_or entries j e).place → (r : Reloc) → given p at ≡ Some r
     → IsTaken base d p at r (given_where given (done_upto before p entries (j + 1)))
 entry_taken base given a before p none entries j e below free d has at place r is =
@@ -112,7 +112,7 @@ entry_taken base given a before p none entries j e below free d has at place r i
 
     grown : (s x : ℕ) → done_upto before p entries (j + 1) s x ≡ (done_upto before p entries j s x || nat_eq s p && nat_eq at x)
     grown s x =
-        ap (λ b. before s || nat_eq s p && b) (list_any_more (λ (y : Placed). nat_eq y.place x) entries j e below)
+        ap (λ b. before s || nat_eq s p && b) (list_any_more (λ (y : PlacedEntry). nat_eq y.place x) entries j e below)
         ∙ by (before s) (nat_eq s p) (is_among (take j entries) x) (nat_eq (get_or entries j e).place x)
         ∙ ap (λ (q : ℕ). done_upto before p entries j s x || nat_eq s p && nat_eq q x) (sym place)
       where
@@ -122,7 +122,7 @@ entry_taken base given a before p none entries j e below free d has at place r i
         by false true false f = refl
         by false false c f = refl
 
-module _ (given : Given) (before after : ℕ → Bool) (p : ℕ) (alike : (s : ℕ) → (s ≡ p → ⊥) → after s ≡ before s) where
+module _ (given : RelocMap) (before after : ℕ → Bool) (p : ℕ) (alike : (s : ℕ) → (s ≡ p → ⊥) → after s ≡ before s) where
   -- a section for which nothing is given is passed
   pub given_passed : ((at : ℕ) → given p at ≡ None) → (s at : ℕ) → cond (before s) (given s at) None ≡ cond (after s) (given s at) None
   given_passed none s at = elim (cases_eq s p) [
@@ -137,7 +137,7 @@ module _ (given : Given) (before after : ℕ → Bool) (p : ℕ) (alike : (s : �
       both false false e = refl
 
   -- with all entries the section is done
-  pub table_done : after p ≡ true → (entries : List Placed) → ((at : ℕ) (r : Reloc) → given p at ≡ Some r → is_among entries at ≡ true)
+  pub table_done : after p ≡ true → (entries : List PlacedEntry) → ((at : ℕ) (r : Reloc) → given p at ≡ Some r → is_among entries at ≡ true)
       → (s at : ℕ) → cond (done_upto before p entries (length entries) s at) (given s at) None ≡ cond (after s) (given s at) None
   table_done done entries among s at = elim (cases_eq s p) [
     | inl same ↦ here same (before s) (after s) (ap after same ∙ done) (nat_eq s p) (eq-eqb s p same) (is_among (take (length entries) entries) at) refl
@@ -154,7 +154,7 @@ module _ (given : Given) (before after : ℕ → Bool) (p : ℕ) (alike : (s : �
       none_left : s ≡ p → is_among (take (length entries) entries) at ≡ false → (o : Option Reloc) → given s at ≡ o → None ≡ o
       none_left same free None e = refl
       none_left same free (Some r) e =
-          absurd (true≢false (sym (among at r (ap (λ (q : ℕ). given q at) (sym same) ∙ e)) ∙ ap (λ (es : List Placed). is_among es at) (sym (take-length entries)) ∙ free))
+          absurd (true≢false (sym (among at r (ap (λ (q : ℕ). given q at) (sym same) ∙ e)) ∙ ap (λ (es : List PlacedEntry). is_among es at) (sym (take-length entries)) ∙ free))
 
       here : s ≡ p → (a b : Bool) → b ≡ true → (q : Bool) → q ≡ true → (c : Bool) → is_among (take (length entries) entries) at ≡ c → cond (a || q && c) (given s at) None ≡ cond b (given s at) None
       here same true true h true k c g = refl
@@ -179,7 +179,7 @@ lt_stays s p other = by (nat_lt s p) refl
     by false e = elim (cases_eq s p) [ inl same ↦ absurd (other same) | inr ne ↦ grind (arith, nat_tests) ]
 
 -- for all sections all is given
-pub given_all : (given : Given) (p : ℕ) → ((s at : ℕ) → p ≤ s → given s at ≡ None) → (s at : ℕ) → cond (nat_lt s p) (given s at) None ≡ given s at
+pub given_all : (given : RelocMap) (p : ℕ) → ((s at : ℕ) → p ≤ s → given s at ≡ None) → (s at : ℕ) → cond (nat_lt s p) (given s at) None ≡ given s at
 given_all given p none s at = by (nat_lt s p) refl
   where
     past : nat_lt s p ≡ false → p ≤ s

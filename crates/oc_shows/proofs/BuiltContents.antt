@@ -30,7 +30,7 @@ use Rattle.oc_neutral.specs.Invariants.{HasItsBytes}
 use Rattle.oc_neutral.specs.Faces.{contents_of, shown_section, frame_of}
 use Rattle.oc_neutral.specs.Dialects.{Dialect, is_difference, is_folded, patches_in}
 use Rattle.oc_shows.specs.Shows.{IsTrueToFixed}
-use Rattle.oc_shows.specs.Built.{Given, IsFree, IsGiven}
+use Rattle.oc_shows.specs.Built.{RelocMap, IsFree, IsGiven}
 use Rattle.oc_shows.specs.Again.{IsCovered}
 use Rattle.oc_neutral.proofs.Adding.{wide_enough}
 use Rattle.oc_shows.proofs.BuiltSeen.{under-from, under-given}
@@ -82,7 +82,7 @@ content-zero x i e = ap (λ z. get_or {A = ℕ} (cond z (replicate x.size 0) x.b
 pub content-stored : (x : Section) (i : ℕ) → is_zero x.kind ≡ false → get_or (contents_of x) i 0 ≡ get_or x.bytes i 0
 content-stored x i e = ap (λ z. get_or {A = ℕ} (cond z (replicate x.size 0) x.bytes) i 0) e
 
-module _ (f : Dialect) (b : List ℕ) (keep : Keep) (base n : Object) (given : Given) (start : IsBase f b keep base) (has : IsShowing base n given)
+module _ (f : Dialect) (b : List ℕ) (keep : Keep) (base n : Object) (given : RelocMap) (start : IsBase f b keep base) (has : IsShowing base n given)
     (all : (s at : ℕ) → IsFree f b keep given s at ⊎ IsGiven f b keep base given s at)
     (p : Placement) (v : Valuation) (fixed : IsTrueToFixed f.rules.word (f.rules.symbols b keep) p v) where
   abbrev under : Patches

@@ -37,7 +37,7 @@ use Rattle.oc_neutral.specs.declared.reloc.Reloc.{Reloc}
 use Rattle.oc_neutral.specs.declared.reloc.Target.TheVariants as target
 use Rattle.oc_neutral.specs.declared.normal.Folded.{Folded}
 use Rattle.oc_neutral.specs.Building.{Draft, is_zero, reloc_added, with_constant, with_number, with_reloc}
-use Rattle.oc_shows.specs.Built.{Entry, given_by, HasAdded, IsFree, IsGiven, IsStarted}
+use Rattle.oc_shows.specs.Built.{AddedReloc, given_by, HasAdded, IsFree, IsGiven, IsStarted}
 use Rattle.oc_neutral.specs.Dialects.{Dialect, is_kept}
 use Rattle.oc_neutral.specs.Faces.{contents_of}
 use Rattle.oc_shows.specs.Computed.{computed_symbol, keys_in}
@@ -210,7 +210,7 @@ first-added : reloc_added with_one 0 0 first ≡ Ok with_both
 unfolding reloc_added place_among by_section folded residue_of reduced_number fold_of
 first-added = refl
 
-abbrev entries : List Entry
+abbrev entries : List AddedReloc
 entries = record { section = 0; at = 0; reloc = first } ∷ record { section = 0; at = 4; reloc = second } ∷ []
 
 added : HasAdded start with_both (given_by entries)

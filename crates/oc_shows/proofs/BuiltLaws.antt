@@ -10,7 +10,7 @@ use Rattle.oc_neutral.specs.Building.{Draft}
 use Rattle.oc_neutral.specs.Dialects.{Dialect}
 use Rattle.oc_neutral.specs.Faces.{shown_section, shown_symbol, frame_of}
 use Rattle.oc_shows.specs.Shows.{Shows}
-use Rattle.oc_shows.specs.Built.{Given, IsFree, IsGiven, IsStarted, BuiltShows}
+use Rattle.oc_shows.specs.Built.{RelocMap, IsFree, IsGiven, IsStarted, BuiltShows}
 use Rattle.oc_shows.proofs.BuiltContents.{contents-shown}
 use Rattle.oc_shows.proofs.BuiltSeen.{looks-shown, patches-shown, patches-apart, patches-fit}
 use Rattle.oc_shows.proofs.Holding.{holds_all}
@@ -21,7 +21,7 @@ frames_of groups [] = refl
 frames_of groups (z ∷ zs) = ap (λ (ws : List parts.Section). frame_of (shown_section groups z) ∷ ws) (frames_of groups zs)
 
 -- an object with what is given shows the file, where what is given are the file's fields
-pub showing_shows : (f : Dialect) (b : List ℕ) (keep : Keep) (base n : Object) (given : Given) → IsBase f b keep base → IsShowing base n given
+pub showing_shows : (f : Dialect) (b : List ℕ) (keep : Keep) (base n : Object) (given : RelocMap) → IsBase f b keep base → IsShowing base n given
     → ((s at : ℕ) → IsFree f b keep given s at ⊎ IsGiven f b keep base given s at) → Shows f b keep n
 showing_shows f b keep base n given start is all = record {
   format = is.format ∙ start.format;

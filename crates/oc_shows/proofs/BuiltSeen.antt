@@ -26,7 +26,7 @@ use Rattle.oc_neutral.specs.Faces.{named_of, shown_symbol, field_of}
 use Rattle.oc_neutral.specs.Worth.{IsTrueToLocals, residue_at}
 use Rattle.oc_neutral.specs.Dialects.{Dialect, Look, kept_fields, is_difference, is_folded, look_of, looks_in, patches_in}
 use Rattle.oc_shows.specs.Shows.{looks_of, patches_of, IsTrueToFixed}
-use Rattle.oc_shows.specs.Built.{Given, IsFree, IsGiven, IsField, named_in}
+use Rattle.oc_shows.specs.Built.{RelocMap, IsFree, IsGiven, IsField, named_in}
 use Rattle.oc_neutral.proofs.Added.{kept_of}
 use Rattle.oc_shows.proofs.Showing.{IsBase, IsShowing, left_in, normal_in}
 use Rattle.oc_shows.proofs.Looking.{folds, normal_look, patch_at, look_among, look-normal, patch-normal, number-normal, fits-normal, cancels-named, true_to_locals}
@@ -64,7 +64,7 @@ module _ (f : Dialect) (b : List ℕ) (keep : Keep) (base : Object) (start : IsB
       (subst (λ (ys : List parts.Symbol). IsTrueToFixed f.rules.word ys p v) (sym start.symbols) fixed))
 
 -- the draft that has the file's sections and symbols, and one that holds what is given
-module _ (f : Dialect) (b : List ℕ) (keep : Keep) (base n : Object) (given : Given) (start : IsBase f b keep base) (has : IsShowing base n given)
+module _ (f : Dialect) (b : List ℕ) (keep : Keep) (base n : Object) (given : RelocMap) (start : IsBase f b keep base) (has : IsShowing base n given)
     (all : (s at : ℕ) → IsFree f b keep given s at ⊎ IsGiven f b keep base given s at) where
   abbrev word : Word
   word = word_for base.format

@@ -13,7 +13,7 @@ use Rattle.oc_neutral.specs.declared.section.Section.{Section}
 use Rattle.oc_neutral.specs.declared.reloc.Reloc.{Reloc}
 use Rattle.oc_neutral.specs.declared.fault.BuildFault.{BuildFault}
 use Rattle.oc_neutral.specs.Building.{Draft, has_name, limit_by, limit_passed, reloc_added, size_sum, stored_size, stored_sum}
-use Rattle.oc_shows.specs.Built.{Entry, Given, and_one, given_by, HasAdded, Makes}
+use Rattle.oc_shows.specs.Built.{AddedReloc, RelocMap, and_one, given_by, HasAdded, Makes}
 use Rattle.oc_shows.specs.Computed.{computed_symbol, placed_binding}
 use Rattle.oc_neutral.specs.Invariants.{CanAdd, IsDraft}
 use Rattle.oc_neutral.specs.Keeping.{is_again}
@@ -26,7 +26,7 @@ pub added_none : (base : Draft) → HasAdded base base (given_by [])
 added_none base = record { entries = []; made = refl; each = λ s at. refl }
 
 -- one entry more
-pub added_more : (base d e : Draft) (given : Given) (s at : ℕ) (r : Reloc) → HasAdded base d given → CanAdd d.object s at r → reloc_added d s at r ≡ Ok e → HasAdded base e (and_one given s at r)
+pub added_more : (base d e : Draft) (given : RelocMap) (s at : ℕ) (r : Reloc) → HasAdded base d given → CanAdd d.object s at r → reloc_added d s at r ≡ Ok e → HasAdded base e (and_one given s at r)
 added_more base d e given s at r has can ok = record {
   entries = record { section = s; at = at; reloc = r } ∷ has.entries;
   made = (d, has.made, record { can = can; added = ok });
@@ -34,11 +34,11 @@ added_more base d e given s at r has can ok = record {
 }
 
 -- what is given may be said in another way
-pub added_same : (base d : Draft) (given other : Given) → HasAdded base d given → ((s at : ℕ) → given s at ≡ other s at) → HasAdded base d other
+pub added_same : (base d : Draft) (given other : RelocMap) → HasAdded base d given → ((s at : ℕ) → given s at ≡ other s at) → HasAdded base d other
 added_same base d given other has same = record { entries = has.entries; made = has.made; each = λ s at. has.each s at ∙ same s at }
 
 -- what can be added to the base can be added still, where it does not meet what was added
-can_by : (base d : Draft) (entries : List Entry) → IsDraft base → ((s : ℕ) → list_of base.object.relocs s ≡ []) → ((s : ℕ) → list_of base.folded s ≡ []) → Makes base entries d
+can_by : (base d : Draft) (entries : List AddedReloc) → IsDraft base → ((s : ℕ) → list_of base.object.relocs s ≡ []) → ((s : ℕ) → list_of base.folded s ≡ []) → Makes base entries d
     → (s at : ℕ) (r : Reloc) → CanAdd base.object s at r → CanAdd d.object s at r
 can_by base d [] draft relocs folded made s at r can = subst (λ (z : Draft). CanAdd z.object s at r) (sym made) can
 can_by base e (x ∷ entries) draft relocs folded made s at r can =
@@ -46,7 +46,7 @@ can_by base e (x ∷ entries) draft relocs folded made s at r can =
     can-added d x.section x.at x.reloc _ e (added d x.section x.at x.reloc e (holds_by base d entries draft relocs folded made.1).draft made.2.can made.2.added) s at r
     (can_by base d entries draft relocs folded made.1 s at r can)
 
-pub can_still : (base d : Draft) (given : Given) → IsDraft base → ((s : ℕ) → list_of base.object.relocs s ≡ []) → ((s : ℕ) → list_of base.folded s ≡ []) → HasAdded base d given
+pub can_still : (base d : Draft) (given : RelocMap) → IsDraft base → ((s : ℕ) → list_of base.object.relocs s ≡ []) → ((s : ℕ) → list_of base.folded s ≡ []) → HasAdded base d given
     → (s at : ℕ) (r : Reloc) → CanAdd base.object s at r → CanAdd d.object s at r
 can_still base d given draft relocs folded has = can_by base d has.entries draft relocs folded has.made
 

@@ -31,7 +31,7 @@ use Rattle.oc_neutral.specs.Faces.{shown_section, frame_of}
 use Rattle.oc_neutral.specs.GivenTags.{can_have, is_blank_type}
 use Rattle.oc_neutral.specs.Invariants.{CanAdd, HasItsBytes, HasOffset, IsAlign, IsBinding, IsDraft, IsFallback, IsHinted, IsSymbol, IsValue, HaveKeys, AreBegun, NamesOriginal, groups_of}
 use Rattle.oc_shows.specs.Readable.{AreZeros}
-use Rattle.oc_shows.specs.Built.{Entry, Given, given_by, Makes}
+use Rattle.oc_shows.specs.Built.{AddedReloc, RelocMap, given_by, Makes}
 use Rattle.oc_shows.specs.Finished.{BuiltIsComplete, BuiltIsReadable}
 use Rattle.oc_shows.specs.Again.{IsCovered}
 use Rattle.oc_neutral.proofs.Added.{added}
@@ -48,7 +48,7 @@ all_from P [] each = tt
 all_from P (x ∷ xs) each = (each 0 x refl, all_from P xs (λ k. each (suc k)))
 
 -- what holds of the normal form of each entry holds of each relocation
-fields_hold : (P : ℕ → Reloc → Type 0) (base d : Draft) (entries : List Entry) → IsDraft base → ((s : ℕ) → list_of base.object.relocs s ≡ []) → ((s : ℕ) → list_of base.folded s ≡ [])
+fields_hold : (P : ℕ → Reloc → Type 0) (base d : Draft) (entries : List AddedReloc) → IsDraft base → ((s : ℕ) → list_of base.object.relocs s ≡ []) → ((s : ℕ) → list_of base.folded s ≡ [])
     → Makes base entries d → ((t x : ℕ) (r q : Reloc) → given_by entries t x ≡ Some r → normal_in base.object t x r ≡ normal.Kept q → P t q)
     → (t : ℕ) → AllByRecursion (λ (x : Field Reloc). P t x.item) (list_of d.object.relocs t)
 fields_hold P base d [] draft relocs folded made each = λ t.
@@ -70,7 +70,7 @@ fields_hold P base e (x ∷ entries) draft relocs folded made each =
     by d has can ok (constant number same) rest = subst (λ (z : Draft). (t : ℕ) → AllByRecursion (λ (y : Field Reloc). P t y.item) (list_of z.object.relocs t)) (sym same) rest
 
 -- a draft that holds what is given, and the one before
-module _ (base d : Draft) (given : Given) (has : IsHolding base d given) where
+module _ (base d : Draft) (given : RelocMap) (has : IsHolding base d given) where
   framed : (k : ℕ) (x z : Section) → slice_get d.object.sections k ≡ Some x → slice_get base.object.sections k ≡ Some z
       → frame_of (shown_section base.object.groups x) ≡ frame_of (shown_section base.object.groups z)
   framed k x z here was =

@@ -21,7 +21,7 @@ use Rattle.oc_neutral.specs.Dialects.{Dialect, is_difference, kept_fields}
 use Rattle.oc_shows.specs.Computed.{zero_values, zeros_outside}
 use Rattle.oc_shows.specs.Shows.{IsTrueToFixed}
 use Rattle.oc_neutral.specs.Worth.{residue_at}
-use Rattle.oc_shows.specs.Built.{Given, IsField, IsStarted, AreApart, AreOfFile, DifferencesFit, CleanIsAdded}
+use Rattle.oc_shows.specs.Built.{RelocMap, IsField, IsStarted, AreApart, AreOfFile, DifferencesFit, CleanIsAdded}
 use Rattle.oc_neutral.proofs.Adding.{have_common, wide_enough}
 use Rattle.oc_shows.proofs.BuiltSeen.{folds-field, locals-fixed, word-started}
 use Rattle.oc_neutral.proofs.HeldLemmas.{reloc_unmet}
@@ -42,7 +42,7 @@ disjoint i m j n wide long before behind differ = elim (cases_lt i j) [
   ]
 ]
 
-module _ (f : Dialect) (b : List ℕ) (keep : Keep) (base d : Draft) (given : Given) (start : IsStarted f b keep base) (apart : AreApart f b keep) (fit : DifferencesFit f b keep)
+module _ (f : Dialect) (b : List ℕ) (keep : Keep) (base d : Draft) (given : RelocMap) (start : IsStarted f b keep base) (apart : AreApart f b keep) (fit : DifferencesFit f b keep)
     (has : IsHolding base d given) (part : AreOfFile f b keep base.object given)
     (s at : ℕ) (r : Reloc) (x : Field) (here : kept_fields f b keep s at ≡ Some x) (is : IsField f b keep base.object s at r x) (new : given s at ≡ None) where
   -- it meets no field that was given

@@ -11,7 +11,7 @@ use Rattle.oc_linking.specs.Rules.{Field}
 use Rattle.oc_neutral.specs.declared.reloc.Reloc.{Reloc}
 use Rattle.oc_neutral.specs.declared.reloc.Target.{Target}
 use Rattle.oc_neutral.specs.declared.reloc.Target.TheVariants as target
-use Rattle.oc_shows.specs.Built.{AreOfFile, DifferencesFit, Given, IsField, IsFree, IsGiven}
+use Rattle.oc_shows.specs.Built.{AreOfFile, DifferencesFit, RelocMap, IsField, IsFree, IsGiven}
 use Rattle.oc_neutral.specs.Dialects.{Dialect, kept_fields, target_by}
 use Rattle.oc_neutral.specs.Normal.{cancels}
 use Rattle.oc_neutral.specs.Objects.{Object}
@@ -29,7 +29,7 @@ no_difference base.Slot t l none e = true≢false (sym e)
 no_difference base.GotBase t l none e = true≢false (sym e)
 no_difference base.HomeNumber t l none e = true≢false (sym e)
 
-module _ (f : Dialect) (b : List ℕ) (keep : Keep) (n : Object) (given : Given) (each : (s at : ℕ) → IsFree f b keep given s at ⊎ IsGiven f b keep n given s at) where
+module _ (f : Dialect) (b : List ℕ) (keep : Keep) (n : Object) (given : RelocMap) (each : (s at : ℕ) → IsFree f b keep given s at ⊎ IsGiven f b keep n given s at) where
   -- what is given is a field
   pub are_of_file : AreOfFile f b keep n given
   are_of_file s at r e = by (each s at)

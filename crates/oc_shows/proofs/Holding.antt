@@ -18,7 +18,7 @@ use Rattle.oc_neutral.specs.Normal.{normal_of}
 use Rattle.oc_neutral.specs.Building.{Draft, is_met, stored_size, reloc_added}
 use Rattle.oc_neutral.specs.Invariants.{CanAdd, IsDraft, groups_of}
 use Rattle.oc_neutral.specs.Faces.{shown_section, frame_of}
-use Rattle.oc_shows.specs.Built.{Entry, Given, and_one, given_by, Makes, HasAdded}
+use Rattle.oc_shows.specs.Built.{AddedReloc, RelocMap, and_one, given_by, Makes, HasAdded}
 use Rattle.oc_shows.specs.Again.{IsCovered}
 use Rattle.oc_neutral.proofs.Added.{kept_of, number_left, IsFitting, IsAdded, added}
 use Rattle.oc_shows.proofs.Addable.{sections-added}
@@ -28,14 +28,14 @@ use Rattle.oc_neutral.proofs.DraftAdded.{draft_added, groups_added}
 use Rattle.oc_neutral.proofs.WrittenBytes.{byte_at, lies_in}
 
 -- k bytes from an offset of section s on meet the field of one that is given
-pub record IsMetBy (given : Given) (s at k : ℕ) : Type 0 where
+pub record IsMetBy (given : RelocMap) (s at k : ℕ) : Type 0 where
   pub from : ℕ
   pub reloc : Reloc
   pub here : given s from ≡ Some reloc
   pub common : have_common from (bytes_of reloc.form.width) at k ≡ true
 
 -- d holds base and what is given
-pub record IsHolding (base d : Draft) (given : Given) : Type 0 where
+pub record IsHolding (base d : Draft) (given : RelocMap) : Type 0 where
   pub draft : IsDraft d
   pub showing : IsShowing base.object d.object given
   pub members : groups_of d.object.sections ≡ groups_of base.object.sections
@@ -66,7 +66,7 @@ holds_none base draft relocs folded = record {
 }
 
 -- what is given may be said in another way
-shows_same : (base n : Object) (given other : Given) → ((s at : ℕ) → given s at ≡ other s at) → IsShowing base n given → IsShowing base n other
+shows_same : (base n : Object) (given other : RelocMap) → ((s at : ℕ) → given s at ≡ other s at) → IsShowing base n given → IsShowing base n other
 shows_same base n given other same is = record {
   whole = is.whole;
   format = is.format;
@@ -82,7 +82,7 @@ shows_same base n given other same is = record {
   apart = λ t i j q r here there low. is.apart t i j q r (same t i ∙ here) (same t j ∙ there) low;
 }
 
-pub holds_same : (base d : Draft) (given other : Given) → ((s at : ℕ) → given s at ≡ other s at) → IsHolding base d given → IsHolding base d other
+pub holds_same : (base d : Draft) (given other : RelocMap) → ((s at : ℕ) → given s at ≡ other s at) → IsHolding base d given → IsHolding base d other
 holds_same base d given other same is = record {
   draft = is.draft;
   showing = shows_same base.object d.object given other same is.showing;
@@ -102,21 +102,21 @@ either true b e = inl refl
 either false b e = inr e
 
 -- the normal form is the one among the symbols of the base
-pub normal-base : (base d : Draft) (given : Given) → IsHolding base d given → (s at : ℕ) (r : Reloc) → normal_of (word_for d.object.format) d.object.symbols s at r ≡ normal_in base.object s at r
+pub normal-base : (base d : Draft) (given : RelocMap) → IsHolding base d given → (s at : ℕ) (r : Reloc) → normal_of (word_for d.object.format) d.object.symbols s at r ≡ normal_in base.object s at r
 normal-base base d given has s at r =
     ap (λ (f : Format). normal_of (word_for f) d.object.symbols s at r) has.showing.format
     ∙ ap (λ (symbols : List Symbol). normal_of (word_for base.object.format) symbols s at r) has.showing.symbols
 
 -- one more is found at its place
-pub found-more : (given : Given) (s at : ℕ) (r : Reloc) → and_one given s at r s at ≡ Some r
+pub found-more : (given : RelocMap) (s at : ℕ) (r : Reloc) → and_one given s at r s at ≡ Some r
 found-more given s at r = ap (λ c. cond (c && eqb at at) (Some r) (given s at)) (eq-eqb s s refl) ∙ ap (λ c. cond c (Some r) (given s at)) (eq-eqb at at refl)
 
 -- one entry more
-module _ (base d : Draft) (given : Given) (has : IsHolding base d given) (s at : ℕ) (r : Reloc) (e : Draft) (can : CanAdd d.object s at r) (ok : reloc_added d s at r ≡ Ok e) where
+module _ (base d : Draft) (given : RelocMap) (has : IsHolding base d given) (s at : ℕ) (r : Reloc) (e : Draft) (can : CanAdd d.object s at r) (ok : reloc_added d s at r ≡ Ok e) where
   abbrev k : ℕ
   k = bytes_of r.form.width
 
-  abbrev more : Given
+  abbrev more : RelocMap
   more = and_one given s at r
 
   is : IsAdded d s at r (normal_of (word_for d.object.format) d.object.symbols s at r) e
@@ -295,12 +295,12 @@ module _ (base d : Draft) (given : Given) (has : IsHolding base d given) (s at :
       after = draft_added d s at r has.draft can e ok
 
 -- what a draft holds to which entries were added
-pub holds_by : (base d : Draft) (entries : List Entry) → IsDraft base → ((s : ℕ) → list_of base.object.relocs s ≡ []) → ((s : ℕ) → list_of base.folded s ≡ []) → Makes base entries d
+pub holds_by : (base d : Draft) (entries : List AddedReloc) → IsDraft base → ((s : ℕ) → list_of base.object.relocs s ≡ []) → ((s : ℕ) → list_of base.folded s ≡ []) → Makes base entries d
     → IsHolding base d (given_by entries)
 holds_by base d [] draft relocs folded made = subst (λ (z : Draft). IsHolding base z (given_by [])) (sym made) (holds_none base draft relocs folded)
 holds_by base e (x ∷ entries) draft relocs folded made =
     let d : Draft = made.0 in
     holds_more base d (given_by entries) (holds_by base d entries draft relocs folded made.1) x.section x.at x.reloc e made.2.can made.2.added
 
-pub holds_all : (base d : Draft) (given : Given) → IsDraft base → ((s : ℕ) → list_of base.object.relocs s ≡ []) → ((s : ℕ) → list_of base.folded s ≡ []) → HasAdded base d given → IsHolding base d given
+pub holds_all : (base d : Draft) (given : RelocMap) → IsDraft base → ((s : ℕ) → list_of base.object.relocs s ≡ []) → ((s : ℕ) → list_of base.folded s ≡ []) → HasAdded base d given → IsHolding base d given
 holds_all base d given draft relocs folded has = holds_same base d (given_by has.entries) given has.each (holds_by base d has.entries draft relocs folded has.made)

@@ -18,7 +18,7 @@ use Rattle.oc_neutral.specs.Dialects.{Dialect}
 use Rattle.oc_neutral.specs.Faces.{shown_section, shown_sections, shown_symbols, frame_of}
 use Rattle.oc_neutral.specs.Invariants.{HasItsBytes}
 use Rattle.oc_shows.specs.Shows.{AreNumbered}
-use Rattle.oc_shows.specs.Built.{Given}
+use Rattle.oc_shows.specs.Built.{RelocMap}
 use Rattle.oc_shows.specs.Again.{IsCovered}
 use Rattle.oc_neutral.proofs.Added.{kept_of, number_left, IsFitting}
 use Rattle.oc_neutral.proofs.WrittenBytes.{byte_at}
@@ -45,7 +45,7 @@ pub record IsBase (f : Dialect) (b : List ℕ) (keep : Keep) (base : Object) : T
   pub numbered : AreNumbered (f.rules.symbols b keep)
 
 -- n is that object with what is given: a relocation in normal form, or its constant, at each place
-pub record IsShowing (base n : Object) (given : Given) : Type 0 where
+pub record IsShowing (base n : Object) (given : RelocMap) : Type 0 where
   pub whole : AllByRecursion HasItsBytes n.sections
   pub format : n.format ≡ base.format
   pub groups : n.groups ≡ base.groups

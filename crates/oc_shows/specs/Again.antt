@@ -11,10 +11,10 @@ use Rattle.oc_neutral.specs.Invariants.{IsObject}
 use Rattle.oc_neutral.specs.Faces.{contents_of, shown_sections, shown_symbols, frame_of}
 use Rattle.oc_neutral.specs.Dialects.{Dialect}
 use Rattle.oc_shows.specs.Shows.{AreNumbered, Shows}
-use Rattle.oc_shows.specs.Built.{Given, IsFree, IsGiven}
+use Rattle.oc_shows.specs.Built.{RelocMap, IsFree, IsGiven}
 
 -- byte i of section s is in the field of one that is given
-pub record IsCovered (given : Given) (s i : ℕ) : Type 0 where
+pub record IsCovered (given : RelocMap) (s i : ℕ) : Type 0 where
   pub at : ℕ
   pub reloc : Reloc
   pub here : given s at ≡ Some reloc

@@ -22,37 +22,37 @@ use Rattle.oc_shows.specs.Computed.{zero_values}
 use Rattle.oc_shows.specs.Shows.{AreNumbered, IsTrueToFixed, Shows}
 
 -- a relocation that is added at an offset of a section, as the file has it
-pub record Entry : Type 0 where
+pub record AddedReloc : Type 0 where
   pub section : ℕ
   pub at : ℕ
   pub reloc : Reloc
 
 -- relocations by section and offset
-abbrev pub Given : Type 0
-Given = ℕ → ℕ → Option Reloc
+abbrev pub RelocMap : Type 0
+RelocMap = ℕ → ℕ → Option Reloc
 
 -- these, and one at an offset of section s
-abbrev pub and_one : Given → ℕ → ℕ → Reloc → Given
+abbrev pub and_one : RelocMap → ℕ → ℕ → Reloc → RelocMap
 and_one given s at r t x = if nat_eq t s && nat_eq at x then Some r else given t x
 
 -- those of entries
-abbrev pub given_by : List Entry → Given
+abbrev pub given_by : List AddedReloc → RelocMap
 given_by [] = λ t x. None
 given_by (e ∷ entries) = and_one (given_by entries) e.section e.at e.reloc
 
 -- an entry is added to a draft
-pub record IsStep (d : Draft) (x : Entry) (e : Draft) : Type 0 where
+pub record IsStep (d : Draft) (x : AddedReloc) (e : Draft) : Type 0 where
   pub can : CanAdd d.object x.section x.at x.reloc
   pub added : reloc_added d x.section x.at x.reloc ≡ Ok e
 
 -- entries are added, the last of the list first
-abbrev pub Makes : Draft → List Entry → Draft → Type 0
+abbrev pub Makes : Draft → List AddedReloc → Draft → Type 0
 Makes base [] e = e ≡ base
 Makes base (x ∷ entries) e = (d : Draft) × Makes base entries d × IsStep d x e
 
 -- d is base with these relocations, which were added in some order
-pub record HasAdded (base d : Draft) (given : Given) : Type 0 where
-  pub entries : List Entry
+pub record HasAdded (base d : Draft) (given : RelocMap) : Type 0 where
+  pub entries : List AddedReloc
   pub made : Makes base entries d
   pub each : (s at : ℕ) → given_by entries s at ≡ given s at
 
@@ -81,13 +81,13 @@ pub record IsField (f : Dialect) (b : List ℕ) (keep : Keep) (n : Object) (s at
   pub target : named_in n.symbols r.target ≡ x.target
   pub residue : (p : Placement) (v : Valuation) → IsTrueToFixed f.rules.word (f.rules.symbols b keep) p v → residue_at f.rules.word n.symbols p v s at r ≡ x.residue p v
 
--- no field stands at an offset of section s, and none is given
-pub record IsFree (f : Dialect) (b : List ℕ) (keep : Keep) (given : Given) (s at : ℕ) : Type 0 where
+-- no field lies at an offset of section s, and none is given
+pub record IsFree (f : Dialect) (b : List ℕ) (keep : Keep) (given : RelocMap) (s at : ℕ) : Type 0 where
   pub field : kept_fields f b keep s at ≡ None
   pub none : given s at ≡ None
 
--- a field stands there, and it is given
-pub record IsGiven (f : Dialect) (b : List ℕ) (keep : Keep) (n : Object) (given : Given) (s at : ℕ) : Type 0 where
+-- a field lies there, and it is given
+pub record IsGiven (f : Dialect) (b : List ℕ) (keep : Keep) (n : Object) (given : RelocMap) (s at : ℕ) : Type 0 where
   pub field : Field
   pub reloc : Reloc
   pub here : kept_fields f b keep s at ≡ Some field
@@ -96,7 +96,7 @@ pub record IsGiven (f : Dialect) (b : List ℕ) (keep : Keep) (n : Object) (give
 
 -- an object that was built so shows the file
 abbrev pub BuiltShows : Type 0
-BuiltShows = (f : Dialect) (b : List ℕ) (keep : Keep) (base d : Draft) (given : Given) → IsStarted f b keep base → HasAdded base d given
+BuiltShows = (f : Dialect) (b : List ℕ) (keep : Keep) (base d : Draft) (given : RelocMap) → IsStarted f b keep base → HasAdded base d given
     → ((s at : ℕ) → IsFree f b keep given s at ⊎ IsGiven f b keep base.object given s at) → Shows f b keep d.object
 
 -- no two fields of a file meet
@@ -109,12 +109,12 @@ DifferencesFit f b keep = (s at : ℕ) (x : Field) → kept_fields f b keep s at
     → fits f.rules.word x.width x.check (x.residue zeros (zero_values f b keep)) ≡ true
 
 -- what is given are fields of the file
-abbrev pub AreOfFile : Dialect → List ℕ → Keep → Object → Given → Type 0
+abbrev pub AreOfFile : Dialect → List ℕ → Keep → Object → RelocMap → Type 0
 AreOfFile f b keep n given = (s at : ℕ) (r : Reloc) → given s at ≡ Some r → (x : Field) × (kept_fields f b keep s at ≡ Some x) × IsField f b keep n s at r x
 
 -- a Builder that was given fields of such a file refuses none of the others
 abbrev pub CleanIsAdded : Type 0
-CleanIsAdded = (f : Dialect) (b : List ℕ) (keep : Keep) (base d : Draft) (given : Given) → IsStarted f b keep base → AreApart f b keep → DifferencesFit f b keep
+CleanIsAdded = (f : Dialect) (b : List ℕ) (keep : Keep) (base d : Draft) (given : RelocMap) → IsStarted f b keep base → AreApart f b keep → DifferencesFit f b keep
     → HasAdded base d given → AreOfFile f b keep base.object given
     → (s at : ℕ) (r : Reloc) (x : Field) → kept_fields f b keep s at ≡ Some x → IsField f b keep base.object s at r x → given s at ≡ None
     → (e : Draft) × (reloc_added d s at r ≡ Ok e)

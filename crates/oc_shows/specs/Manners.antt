@@ -1,4 +1,4 @@
--- What each family of formats says of an object that was written, and what it leaves out (gABI, "Symbol Table"; PE/COFF, "COFF Symbol Table";
+-- What each family of formats records of an object that was written, and what it leaves out (gABI, "Symbol Table"; PE/COFF, "COFF Symbol Table";
 -- Mach-O reference, "nlist"; TIS OMF 1.1, "FIXUPP"; our profile).
 use Rattle.std.specs.Prelude.{ℕ, ◌+◌, Bool, true, false, if◌then◌else◌, List, length}
 use Rattle.std.specs.Option.{unwrap_or}
@@ -26,7 +26,7 @@ use Rattle.oc_neutral.specs.Coff.Kinds.{coff_kind}
 use Rattle.oc_neutral.specs.Mach.Kinds.{segment_of, section_of, mach_kind}
 use Rattle.oc_shows.specs.SymbolLines.{Line, is_defined, elf_lines, coff_lines, mach_lines, omf_lines}
 
--- what a family says of an object that was written
+-- what a family records of an object that was written
 pub record Manner : Type 0 where
   -- the number of the first section; the others follow it
   pub first_section : Object → ℕ

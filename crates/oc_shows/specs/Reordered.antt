@@ -1,5 +1,5 @@
--- An object whose symbols stand in another order looks alike (our profile). It may have other Locals and other numbers, and its relocations other
--- targets, where they have their values.
+-- An object whose symbols come in another order looks alike (our profile). It may have other Locals and other numbers, and its relocations may have
+-- other targets, as long as they have the same values.
 use Rattle.std.specs.Prelude.{◌≡◌, ℕ, false, map, slice_get, Some}
 use Rattle.std.specs.Option.{option_map}
 use Rattle.oc_base.specs.Formats.{word_for}
@@ -16,7 +16,7 @@ use Rattle.oc_neutral.specs.Faces.{contents_of, shown_binding, shown_sections, s
 use Rattle.oc_neutral.specs.Worth.{residue_at}
 use Rattle.oc_shows.specs.Written.{LooksAlike}
 
--- two symbols are alike for linking: they are the same thing, are worth the same, and export the same wherever groups are discarded
+-- two symbols are alike for linking: they are the same thing, have the same value, and export the same wherever groups are discarded
 pub record AreAlike (m n : Object) (t s : Symbol) : Type 0 where
   pub name : t.name ≡ s.name
   pub sort : sort_of (λ size align. align) (shown_binding m.symbols t.binding) ≡ sort_of (λ size align. align) (shown_binding n.symbols s.binding)

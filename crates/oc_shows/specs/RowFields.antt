@@ -33,11 +33,12 @@ row_field w row k a s at t = record {
   hint = row.hint;
 }
 
--- the number that a row adds where it stands in the field, at an offset of these contents: the field's bytes, sign-extended
+-- the number that a row adds where the field holds it, at an offset of these contents: the field's bytes, sign-extended
 abbrev pub number_in : Row → List ℕ → ℕ → ℤ
 number_in row contents at = extended row.width (number_at contents at (bytes_of row.width))
 
--- the field of an entry at an offset of section s with these contents, where the number that is added stands in the field; a section that is taken is the field's own
+-- the field of an entry at an offset of section s with these contents, where the field holds the number that is added;
+-- a section that is taken is the field's own
 abbrev pub field_in_place : Word → Row → List ℕ → ℕ → ℕ → file.Target → Field
 field_in_place w row contents s at t = row_field w row s (number_in row contents at) s at t
 
@@ -51,7 +52,7 @@ abbrev pub RowsAreFields : Type 0
 RowsAreFields = (f : Dialect) (b : List ℕ) (keep : Keep) (n : Object) (s at : ℕ) (row : Row) (k : ℕ) (a : ℤ) (t : Target) (u : file.Target)
     → IsTarget f b keep n t u → IsField f b keep n s at (row_reloc f.rules.word row k a t) (row_field f.rules.word row k a s at u)
 
--- an offset in a section, as the file's symbol for it says it; it has no slot
+-- an offset in a section, as the file's symbol for it gives it; it has no slot
 abbrev pub place_target : Word → ℕ → ℕ → file.Target
 place_target w s offset = record { named = Sectional s; worth = λ p v. record { site = place_site w p s offset; slot = 0 } }
 

@@ -26,7 +26,7 @@ abbrev pub shown_from : ℕ → List Line → List (ℕ × ℕ)
 shown_from number [] = []
 shown_from number (l ∷ lines) = option_map_or (λ k. (k, number) ∷ shown_from (number + l.entries) lines) l.shows (shown_from (number + l.entries) lines)
 
--- where the symbol at a position stands among those that are shown
+-- where the symbol at a position comes among those that are shown
 abbrev pub new_position : List (ℕ × ℕ) → ℕ → ℕ
 new_position shown k = position_or_len (λ (x : ℕ × ℕ). nat_eq x.0 k) shown
 
@@ -47,7 +47,7 @@ seen_section m n x = record {
   group = x.1.group;
 }
 
--- a fallback: a Name is the place of the Global that it names, where the family says places
+-- a fallback: a Name is the place of the Global that it names, where the family gives places
 abbrev pub seen_fallback : Manner → Object → List (ℕ × ℕ) → Fallback → Fallback
 seen_fallback m n shown (fallback.Place s offset) = fallback.Place s offset
 seen_fallback m n shown fallback.Zero = fallback.Zero
@@ -87,7 +87,7 @@ target_place n l (target.Symbol k) = option_and_then (λ (place : Place). if tak
 abbrev pub section_place : Manner → Object → Reloc → Option Place
 section_place m n r = if m.by_section r.form.less then target_place n r.form.less r.target else None
 
--- a target: a symbol stands at its new position
+-- a target: a symbol is at its new position
 abbrev pub seen_target : List (ℕ × ℕ) → Target → Target
 seen_target shown (target.Section k) = target.Section k
 seen_target shown (target.Symbol k) = target.Symbol (new_position shown k)

@@ -58,7 +58,7 @@ pub record AreShowable (f : Dialect) (b : List ℕ) (keep : Keep) : Type 0 where
   pub word : f.rules.word ≡ word_for f.format
   -- a section of zeros holds zeros
   pub zeros : (k : ℕ) (s : parts.Section) → slice_get (f.rules.sections b) k ≡ Some s → is_zero s.kind ≡ true → s.contents ≡ replicate s.size 0
-  -- a fallback Name names a symbol that is there
+  -- a fallback Name names a symbol that exists
   pub names : (k number : ℕ) (s : parts.Symbol) → slice_get (f.rules.symbols b keep) k ≡ Some s → s.binding ≡ Weak (fallback.Name number)
       → is_some (numbered (f.rules.symbols b keep) number) ≡ true
   pub numbered : AreNumbered (f.rules.symbols b keep)

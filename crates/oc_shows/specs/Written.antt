@@ -12,7 +12,7 @@ use Rattle.oc_neutral.specs.Dialects.{Dialect}
 use Rattle.oc_shows.specs.Shows.{Shows}
 use Rattle.oc_shows.specs.Seen.{seen}
 
--- linking sees the same of two objects wherever a linker may discard groups, though their symbols may stand in another order and have other numbers
+-- linking sees the same of two objects wherever a linker may discard groups, though their symbols may come in another order and have other numbers
 pub record LooksAlike (m n : Object) : Type 0 where
   pub word : word_for m.format ≡ word_for n.format
   pub shapes : map (shape_of (λ align. align) (λ key. key)) (shown_sections m) ≡ map (shape_of (λ align. align) (λ key. key)) (shown_sections n)

@@ -27,7 +27,7 @@ pub fn built_shows()
 {}
 
 /// A Builder to which a file's relocations were added can finish where it could before, if their
-/// hints stand where they can and they name no aliases; and what it gives is readable where it was
+/// hints lie where they can and they name no aliases; and what it gives is readable where it was
 /// before, if nothing is given in sections that have no bytes.
 pub fn built_is_whole()
     ensures complete { BuiltIsComplete }

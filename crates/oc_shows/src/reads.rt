@@ -28,6 +28,6 @@ pub trait Reads {
         ensures readable { IfOk result IsReadable }
         ensures fault { IfErr result (IsStop (dialect.rules.fault bytes.now keep.now)) };
 
-    /// The dialect says of words and alignments what its format does.
+    /// The dialect says the same of words and alignments as its format.
     ghost law: { IsDialect dialect };
 }

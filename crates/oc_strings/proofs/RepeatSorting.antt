@@ -20,39 +20,39 @@ use Rattle.std.proofs.lemmas.Map.Text.{is_eq-slice_cmp}
 use Rattle.std.proofs.lemmas.Option.{none-some, same_Some, slice_get-get_or, slice_get-map}
 use denote.Ref.{Bor}
 use Rattle.std.proofs.lemmas.Slice.Eq.{bytes_eq-Decides}
-use Rattle.oc_strings.specs.declared.repeats.Entry.{Entry}
+use Rattle.oc_strings.specs.declared.repeats.SortKey.{SortKey}
 use Rattle.oc_strings.specs.declared.repeats.Repeat.{Repeat}
 use Rattle.oc_strings.specs.Repeats.{NameList, are_tied, bytes_at, entries_of, first_repeat, number_after, name_at, names_of, order, sooner}
 use Rattle.oc_strings.proofs.RepeatLemmas.{IsRepeat, named_within, no_repeat, repeat_first}
 
 -- an entry has the number of the name at its position
-pub record IsEntry (names : NameList) (e : Entry) : Type 0 where
+pub record IsEntry (names : NameList) (e : SortKey) : Type 0 where
   pub name : List ℕ
   pub here : name_at names e.at ≡ Some name
   pub number : e.number ≡ number_after 0 name
 
-abbrev entry : ℕ → List ℕ → Entry
+abbrev entry : ℕ → List ℕ → SortKey
 entry k name = record { number = number_after 0 name; at = k }
 
 -- entries at one position
-abbrev same_at : Entry → Entry → Bool
+abbrev same_at : SortKey → SortKey → Bool
 same_at x y = nat_eq x.at y.at
 
-abbrev none : Entry
+abbrev none : SortKey
 none = record { number = 0; at = 0 }
 
 -- the positions of neighbours that tie
-abbrev IsPair : NameList → List Entry → Repeat → Type 0
+abbrev IsPair : NameList → List SortKey → Repeat → Type 0
 IsPair names es r = (k : ℕ) × (k + 1 < length es)
-    × ((d : Entry) → (are_tied names (get_or es k d) (get_or es (k + 1) d) ≡ true) × (r ≡ record { earlier = (get_or es k d).at; later = (get_or es (k + 1) d).at }))
+    × ((d : SortKey) → (are_tied names (get_or es k d) (get_or es (k + 1) d) ≡ true) × (r ≡ record { earlier = (get_or es k d).at; later = (get_or es (k + 1) d).at }))
 
 -- what was found among the pairs of neighbours up to entry n is the one that ends least
-pub record IsLeast (names : NameList) (es : List Entry) (n : ℕ) (found : Option Repeat) : Type 0 where
-  pub met : (k : ℕ) (d : Entry) → k + 1 < n → are_tied names (get_or es k d) (get_or es (k + 1) d) ≡ true → (r : Repeat) × (found ≡ Some r) × (r.later ≤ (get_or es (k + 1) d).at)
+pub record IsLeast (names : NameList) (es : List SortKey) (n : ℕ) (found : Option Repeat) : Type 0 where
+  pub met : (k : ℕ) (d : SortKey) → k + 1 < n → are_tied names (get_or es k d) (get_or es (k + 1) d) ≡ true → (r : Repeat) × (found ≡ Some r) × (r.later ≤ (get_or es (k + 1) d).at)
   pub from : (r : Repeat) → found ≡ Some r → IsPair names es r
 
 module _ (names : NameList) where
-  abbrev with_last : ℕ → Option (List ℕ) → List Entry
+  abbrev with_last : ℕ → Option (List ℕ) → List SortKey
   with_last n o = entries_of names n ++ option_to_list (option_map (entry n) o)
 
   -- each is one, of a position below n
@@ -72,13 +72,13 @@ module _ (names : NameList) where
   entries_apart zero = record {}
   entries_apart (suc n) = by (entries_apart n) (name_at names n)
     where
-      other : (name : List ℕ) (e : Entry) → e.at < n → same_at (entry n name) e ≡ false
+      other : (name : List ℕ) (e : SortKey) → e.at < n → same_at (entry n name) e ≡ false
       other name e low = grind (arith, nat_tests)
 
       by : IsDistinct same_at (entries_of names n) → (o : Option (List ℕ)) → IsDistinct same_at (with_last n o)
       by before None = subst (λ es. IsDistinct same_at es) (sym (append-nil (entries_of names n))) before
       by before (Some name) =
-          IsDistinct-push (on_equiv (λ (e : Entry). e.at) nat_eq_equiv) (entries_of names n) (entry n name) before
+          IsDistinct-push (on_equiv (λ (e : SortKey). e.at) nat_eq_equiv) (entries_of names n) (entry n name) before
           (list_any_none (same_at (entry n name)) (entries_of names n)
           (All-weaker (λ e. IsEntry names e × (e.at < n)) (λ e. same_at (entry n name) e ≡ false) (λ e is. other name e is.1) (entries_of names n) (each_entry n)))
 
@@ -95,17 +95,17 @@ module _ (names : NameList) where
 
   pub order_total : IsTotalOrder (order names)
   order_total =
-      then_total (on_total (λ (e : Entry). e.number) nat_cmp_total)
-      (then_total (on_total (λ (e : Entry). bytes_at names e.at) nat_list_cmp_total) (on_total (λ (e : Entry). e.at) nat_cmp_total))
+      then_total (on_total (λ (e : SortKey). e.number) nat_cmp_total)
+      (then_total (on_total (λ (e : SortKey). bytes_at names e.at) nat_list_cmp_total) (on_total (λ (e : SortKey). e.at) nat_cmp_total))
 
   -- the order but for the positions
-  abbrev front : Entry → Entry → Ordering
+  abbrev front : SortKey → SortKey → Ordering
   front x y = ordering_then (nat_cmp x.number y.number) (slice_cmp nat_cmp (bytes_at names x.at) (bytes_at names y.at))
 
   front_total : IsTotalOrder front
-  front_total = then_total (on_total (λ (e : Entry). e.number) nat_cmp_total) (on_total (λ (e : Entry). bytes_at names e.at) nat_list_cmp_total)
+  front_total = then_total (on_total (λ (e : SortKey). e.number) nat_cmp_total) (on_total (λ (e : SortKey). bytes_at names e.at) nat_list_cmp_total)
 
-  order_front : (x y : Entry) → order names x y ≡ ordering_then (front x y) (nat_cmp x.at y.at)
+  order_front : (x y : SortKey) → order names x y ≡ ordering_then (front x y) (nat_cmp x.at y.at)
   order_front x y = joined (nat_cmp x.number y.number) (slice_cmp nat_cmp (bytes_at names x.at) (bytes_at names y.at)) (nat_cmp x.at y.at)
     where
       joined : (a b c : Ordering) → ordering_then a (ordering_then b c) ≡ ordering_then (ordering_then a b) c
@@ -114,7 +114,7 @@ module _ (names : NameList) where
       joined Greater b c = refl
 
   -- entries tie exactly where only their positions tell them apart
-  tied_is : (x y : Entry) → are_tied names x y ≡ is_eq (front x y)
+  tied_is : (x y : SortKey) → are_tied names x y ≡ is_eq (front x y)
   tied_is x y =
       ap (λ t. t && bytes_eq (bytes_at names x.at) (bytes_at names y.at)) (sym (same_numbers x.number y.number))
       ∙ ap (λ t. is_eq (nat_cmp x.number y.number) && t) (sym (is_eq-slice_cmp (bytes_at names x.at) (bytes_at names y.at)))
@@ -134,7 +134,7 @@ module _ (names : NameList) where
           by true e = sym (below e)
           by false e = equal (nat_eq k x)
 
-  front_tied : (x y : Entry) → are_tied names x y ≡ true → front x y ≡ Equal
+  front_tied : (x y : SortKey) → are_tied names x y ≡ true → front x y ≡ Equal
   front_tied x y tied = equal (front x y) (sym (tied_is x y) ∙ tied)
     where
       equal : (o : Ordering) → is_eq o ≡ true → o ≡ Equal
@@ -143,7 +143,7 @@ module _ (names : NameList) where
       equal Greater e = cc
 
   -- what is not below is not below by number and name
-  front_kept : (x y : Entry) → is_lt (order names x y) ≡ false → is_lt (front x y) ≡ false
+  front_kept : (x y : SortKey) → is_lt (order names x y) ≡ false → is_lt (front x y) ≡ false
   front_kept x y e = by (front x y) (nat_cmp x.at y.at) (ap is_lt (sym (order_front x y)) ∙ e)
     where
       by : (o p : Ordering) → is_lt (ordering_then o p) ≡ false → is_lt o ≡ false
@@ -152,7 +152,7 @@ module _ (names : NameList) where
       by Greater p e = refl
 
   -- what stands between two that tie ties with them
-  between : (x y z : Entry) → front x z ≡ Equal → is_lt (front y x) ≡ false → is_lt (front z y) ≡ false → front y z ≡ Equal
+  between : (x y z : SortKey) → front x z ≡ Equal → is_lt (front y x) ≡ false → is_lt (front z y) ≡ false → front y z ≡ Equal
   between x y z tied from to =
       let alike : front x y ≡ front z y = front_total.congr x z y tied in
       tied_back front_total z y (sym alike ∙ level (front x y) (ap is_lt (sym (front_total.antisymm y x)) ∙ from) (ap is_lt alike ∙ to))
@@ -162,24 +162,24 @@ module _ (names : NameList) where
       level Equal e f = refl
       level Greater e f = cc
 
-  bytes_are : (e : Entry) (name : List ℕ) → name_at names e.at ≡ Some name → bytes_at names e.at ≡ name
+  bytes_are : (e : SortKey) (name : List ℕ) → name_at names e.at ≡ Some name → bytes_at names e.at ≡ name
   bytes_are e name here = ap (λ o. unwrap_or o []) here
 
-  module _ (es : List Entry) (moved : IsPermutation (entries_of names (length names)) es) (sorted : IsSorted (order names) es) where
-    entry_at : (k : ℕ) (d : Entry) → k < length es → IsEntry names (get_or es k d)
+  module _ (es : List SortKey) (moved : IsPermutation (entries_of names (length names)) es) (sorted : IsSorted (order names) es) where
+    entry_at : (k : ℕ) (d : SortKey) → k < length es → IsEntry names (get_or es k d)
     entry_at k d low =
         All-permutation (IsEntry names) (entries_of names (length names)) es moved
         (All-weaker (λ e. IsEntry names e × (e.at < length names)) (IsEntry names) (λ e is. is.0) (entries_of names (length names)) (each_entry (length names))) k d low
 
     apart : IsDistinct same_at es
-    apart = IsDistinct-IsPermutation same_at (on_equiv (λ (e : Entry). e.at) nat_eq_equiv).symm (entries_of names (length names)) es moved (entries_apart (length names))
+    apart = IsDistinct-IsPermutation same_at (on_equiv (λ (e : SortKey). e.at) nat_eq_equiv).symm (entries_of names (length names)) es moved (entries_apart (length names))
 
     -- neighbours that tie are a repeat
-    pub pair_is : (k : ℕ) (d : Entry) → k + 1 < length es → are_tied names (get_or es k d) (get_or es (k + 1) d) ≡ true
+    pub pair_is : (k : ℕ) (d : SortKey) → k + 1 < length es → are_tied names (get_or es k d) (get_or es (k + 1) d) ≡ true
         → IsRepeat names (record { earlier = (get_or es k d).at; later = (get_or es (k + 1) d).at })
     pair_is k d low tied =
-        let x : Entry = get_or es k d in
-        let y : Entry = get_or es (k + 1) d in
+        let x : SortKey = get_or es k d in
+        let y : SortKey = get_or es (k + 1) d in
         let here = entry_at k d (omega (arith, low)) in
         let there = entry_at (k + 1) d low in
         let name : there.name ≡ here.name
@@ -197,16 +197,16 @@ module _ (names : NameList) where
 
     -- each repeat ends where a pair of neighbours that tie does
     pub pair_of : (r : Repeat) → IsRepeat names r
-        → (k : ℕ) × (k + 1 < length es) × ((d : Entry) → (are_tied names (get_or es k d) (get_or es (k + 1) d) ≡ true) × ((get_or es (k + 1) d).at ≡ r.later))
+        → (k : ℕ) × (k + 1 < length es) × ((d : SortKey) → (are_tied names (get_or es k d) (get_or es (k + 1) d) ≡ true) × ((get_or es (k + 1) d).at ≡ r.later))
     pair_of r is =
         let up = rises there.0 there.1 there.2 in
         let same : there.0 - 1 + 1 ≡ there.0 = omega (arith, up) in
         by (there.0 - 1) (omega (arith, same, there.1)) (subst (λ q. get_or es q z ≡ z) (sym same) there.2) (omega (arith, up))
       where
-        x : Entry
+        x : SortKey
         x = entry r.earlier is.name
 
-        z : Entry
+        z : SortKey
         z = entry r.later is.name
 
         within : r.later < length names
@@ -250,19 +250,19 @@ module _ (names : NameList) where
         ]
 
         by : (k : ℕ) → k + 1 < length es → get_or es (k + 1) z ≡ z → here.0 ≤ k
-            → (k : ℕ) × (k + 1 < length es) × ((d : Entry) → (are_tied names (get_or es k d) (get_or es (k + 1) d) ≡ true) × ((get_or es (k + 1) d).at ≡ r.later))
+            → (k : ℕ) × (k + 1 < length es) × ((d : SortKey) → (are_tied names (get_or es k d) (get_or es (k + 1) d) ≡ true) × ((get_or es (k + 1) d).at ≡ r.later))
         by k low at_z up = (
           k,
           low,
           λ d.
               let last : get_or es (k + 1) d ≡ z = get_or_default es (k + 1) d z low ∙ at_z in
-              let y : Entry = get_or es k d in
+              let y : SortKey = get_or es k d in
               let first : get_or es here.0 d ≡ x = get_or_default es here.0 d x here.1 ∙ here.2 in
               let from : is_lt (order names y x) ≡ false
               = ap (λ e. is_lt (order names y e)) (sym first) ∙ sorted_far (λ a b. is_lt (order names a b)) (ranks_by order_total (λ e. e)) es sorted here.0 k d up (omega (arith, low)) in
               let to : is_lt (order names z y) ≡ false = ap (λ e. is_lt (order names e y)) (sym last) ∙ sorted k d (omega arith) low in
               let level : front y z ≡ Equal = between x y z (front_tied x z tied) (front_kept y x from) (front_kept z y to) in
-              (ap (are_tied names y) last ∙ tied_is y z ∙ ap is_eq level, ap (λ (e : Entry). e.at) last),
+              (ap (are_tied names y) last ∙ tied_is y z ∙ ap is_eq level, ap (λ (e : SortKey). e.at) last),
         )
 
     -- the least of the pairs that tie is the first repeat
@@ -282,8 +282,8 @@ module _ (names : NameList) where
         omega (arith, m.2, ap (λ (s : Repeat). s.later) same, (p.2 none).1)))
 
 -- one entry more is looked at
-module _ (names : NameList) (es : List Entry) (i : ℕ) (found : Option Repeat) (x y : Entry) (is : IsLeast names es i found) (some : 1 ≤ i) (low : i < length es)
-    (at_x : (d : Entry) → x ≡ get_or es (i - 1) d) (at_y : (d : Entry) → y ≡ get_or es i d) where
+module _ (names : NameList) (es : List SortKey) (i : ℕ) (found : Option Repeat) (x y : SortKey) (is : IsLeast names es i found) (some : 1 ≤ i) (low : i < length es)
+    (at_x : (d : SortKey) → x ≡ get_or es (i - 1) d) (at_y : (d : SortKey) → y ≡ get_or es i d) where
   abbrev pair : Repeat
   pair = record { earlier = x.at; later = y.at }
 
@@ -297,7 +297,7 @@ module _ (names : NameList) (es : List Entry) (i : ℕ) (found : Option Repeat) 
     from = is.from;
   }
     where
-      here : (j : ℕ) (d : Entry) → j + 1 ≡ i → are_tied names (get_or es j d) (get_or es (j + 1) d) ≡ true → are_tied names x y ≡ true
+      here : (j : ℕ) (d : SortKey) → j + 1 ≡ i → are_tied names (get_or es j d) (get_or es (j + 1) d) ≡ true → are_tied names x y ≡ true
       here j d same tied =
           let first : x ≡ get_or es j d = at_x d ∙ ap (λ k. get_or es k d) (omega (arith, same)) in
           let last : y ≡ get_or es (j + 1) d = at_y d ∙ ap (λ k. get_or es k d) (sym same) in
@@ -308,7 +308,7 @@ module _ (names : NameList) (es : List Entry) (i : ℕ) (found : Option Repeat) 
     least_with : (new : Repeat) → new.later ≤ y.at → ((r : Repeat) → found ≡ Some r → new.later ≤ r.later) → (new ≡ pair) ⊎ (found ≡ Some new) → IsLeast names es (i + 1) (Some new)
     least_with new le least one = record {
       met = λ j d l other. elim (cases_eq (j + 1) i) [
-        | inl same ↦ (new, refl, omega (arith, le, ap (λ (e : Entry). e.at) (at_y d ∙ ap (λ k. get_or es k d) (sym same))))
+        | inl same ↦ (new, refl, omega (arith, le, ap (λ (e : SortKey). e.at) (at_y d ∙ ap (λ k. get_or es k d) (sym same))))
         | inr differ ↦ let m = is.met j d (omega (arith, l, differ)) other in (new, refl, omega (arith, m.2, least m.0 m.1))
       ];
       from = λ r e. subst (IsPair names es) (same_Some new r e) (stands one);
@@ -323,7 +323,7 @@ module _ (names : NameList) (es : List Entry) (i : ℕ) (found : Option Repeat) 
               λ d.
                   let last : y ≡ get_or es (i - 1 + 1) d = at_y d ∙ ap (λ k. get_or es k d) (sym next) in (
                     ap (are_tied names (get_or es (i - 1) d)) (sym last) ∙ ap (λ e. are_tied names e y) (sym (at_x d)) ∙ tied,
-                    e ∙ ap (λ (e : Entry). record { earlier = e.at; later = y.at }) (at_x d) ∙ ap (λ (e : Entry). record { earlier = (get_or es (i - 1) d).at; later = e.at }) last,
+                    e ∙ ap (λ (e : SortKey). record { earlier = e.at; later = y.at }) (at_x d) ∙ ap (λ (e : SortKey). record { earlier = (get_or es (i - 1) d).at; later = e.at }) last,
                   ),
             )
 
@@ -347,7 +347,7 @@ module _ (names : NameList) (es : List Entry) (i : ℕ) (found : Option Repeat) 
         by (Some r) e = chosen r e (nat_le r.later y.at) refl
 
 -- one position more is looked at
-pub entries_more : (names : NameList) (n : ℕ) (es : List Entry) (o : Option (List ℕ)) → name_at names n ≡ o → es ≡ entries_of names n → es ++ option_to_list (option_map (entry n) o) ≡ entries_of names (n + 1)
+pub entries_more : (names : NameList) (n : ℕ) (es : List SortKey) (o : Option (List ℕ)) → name_at names n ≡ o → es ≡ entries_of names n → es ++ option_to_list (option_map (entry n) o) ≡ entries_of names (n + 1)
 entries_more names n es o here are =
     let next : suc n ≡ n + 1 = omega arith in
     ap (λ xs. xs ++ option_to_list (option_map (entry n) o)) are ∙ ap (with_last names n) (sym here) ∙ ap (entries_of names) next

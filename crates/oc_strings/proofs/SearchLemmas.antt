@@ -7,7 +7,7 @@ use Rattle.std.specs.Ordering.{nat_cmp, is_lt, ordering_reverse}
 use Rattle.std.specs.Cmp.Lexicographic.{slice_cmp}
 use Rattle.std.specs.declared.cmp.Ordering.TheVariants.{Less, Equal, Greater}
 use Rattle.oc_base.specs.Strings.{is_given, table_place, tops_of, place_from}
-use Rattle.oc_strings.specs.declared.table.Place.{Place}
+use Rattle.oc_strings.specs.declared.table.NameSpan.{NameSpan}
 use Rattle.oc_strings.specs.Order.{is_before, name_at}
 use Rattle.oc_strings.specs.Inside.{name_in, names_in, pick, IsSearchable, IsTable}
 use Rattle.oc_strings.proofs.GivenLemmas.{place_of_given}
@@ -96,11 +96,11 @@ module _ (names : List (List ℕ)) (order : List ℕ) (s : IsSearchable names or
   no_place head e = cond-false (is_given names name) (place_from head (tops_of names) name) None e
 
 -- the given name whose place is known
-pub given_is : (head : ℕ) (bytes : List ℕ) (given : List Place) (near : ℕ) → near < length given
-    → (place : Place) → ((d : Place) → place ≡ get_or given near d) → name_at (names_in head bytes given) near ≡ name_in head bytes place
+pub given_is : (head : ℕ) (bytes : List ℕ) (given : List NameSpan) (near : ℕ) → near < length given
+    → (place : NameSpan) → ((d : NameSpan) → place ≡ get_or given near d) → name_at (names_in head bytes given) near ≡ name_in head bytes place
 given_is head bytes given near l place e = get_or-map (name_in head bytes) given near place [] l ∙ ap (name_in head bytes) (sym (e place))
 
-module _ (head : ℕ) (bytes : List ℕ) (given : List Place) (order : List ℕ) (t : IsTable head bytes given order) (name : List ℕ) (m : ℕ) (l : m < length order) where
+module _ (head : ℕ) (bytes : List ℕ) (given : List NameSpan) (order : List ℕ) (t : IsTable head bytes given order) (name : List ℕ) (m : ℕ) (l : m < length order) where
   number_within : get_or order m 0 < length given
   number_within = omega (arith, t.searchable.numbers m l, length-map given (name_in head bytes))
 

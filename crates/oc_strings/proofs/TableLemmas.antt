@@ -8,7 +8,7 @@ use Rattle.std.specs.List.{Contains, slice_range, sum_by}
 use Rattle.std.specs.Option.{is_some, option_map, IfSome}
 use Rattle.std.specs.Prelude.{if◌then◌else◌}
 use Rattle.oc_base.specs.Strings.{is_given, tops_of, text_of, place_from, table_text, table_place}
-use Rattle.oc_strings.specs.declared.table.Place.{Place}
+use Rattle.oc_strings.specs.declared.table.NameSpan.{NameSpan}
 use Rattle.oc_strings.specs.Tables.{StandsAt, capped, offset_of}
 use Rattle.oc_strings.specs.declared.order.Entry.{Entry}
 use Rattle.oc_strings.specs.Order.{name_at, names_of, numbers_of, StrictlyAscends, IsOrder}
@@ -123,8 +123,8 @@ module _ (head : ℕ) (names : List (List ℕ)) (offsets : List ℕ) (fits : hea
       count [] = omega arith
       count (x ∷ xs) = omega (arith, count xs, sum_by-cons (λ (name : List ℕ). length name + 1) x xs)
 
-  module _ (places : List Place) (p : ArePlaces names offsets places) where
-    place_reads : (k : ℕ) (d : Place) → k < length places → name_in head (table_text names) (get_or places k d) ≡ name_at names k
+  module _ (places : List NameSpan) (p : ArePlaces names offsets places) where
+    place_reads : (k : ℕ) (d : NameSpan) → k < length places → name_in head (table_text names) (get_or places k d) ≡ name_at names k
     place_reads k d l =
         let in' : k < length names = omega (arith, p.whole) in
         let s = stands_in head names (name_at names k) (get_or offsets k 0) (exact k in') in
@@ -137,7 +137,7 @@ module _ (head : ℕ) (names : List (List ℕ)) (offsets : List ℕ) (fits : hea
     names_are =
         same_lists (names_in head (table_text names) places) names (length-map places (name_in head (table_text names)) ∙ p.whole)
         (λ k d l.
-        let none : Place = record { at = 0; len = 0 } in
+        let none : NameSpan = record { at = 0; len = 0 } in
         let l' : k < length places = omega (arith, length-map places (name_in head (table_text names))) in
         let in' : k < length names = omega (arith, p.whole) in
         get_or-map (name_in head (table_text names)) places k none d l' ∙ place_reads k none l' ∙ get_or_default names k [] d in')

@@ -1,4 +1,4 @@
--- The order of names by their bytes, read from the last one on: a name stands right before the names that it ends.
+-- The order of names by their bytes, read from the last one on: a name comes right before the names that it ends.
 use Rattle.std.specs.Prelude.{◌≡◌, ℕ, ◌+◌, ◌-◌, ◌<◌, ◌≤◌, Bool, ◌&&◌, nat_lt, if◌then◌else◌, true, false, List, [], Option, Some, None, length, map, reverse, fold, take, drop, slice_get, slice_index, slice_index_or}
 use Rattle.std.specs.Ordering.{nat_cmp, is_lt}
 use Rattle.std.specs.Option.{option_map}
@@ -7,7 +7,7 @@ use Rattle.oc_base.specs.Strings.{ends, with_top, place_from}
 use Rattle.oc_strings.specs.Tables.{capped}
 use Rattle.oc_strings.specs.declared.order.Entry.{Entry}
 
--- the name stands before the other one
+-- the name comes before the other one
 abbrev pub is_before : List ℕ → List ℕ → Bool
 is_before a b = is_lt (slice_cmp nat_cmp (reverse a) (reverse b))
 
@@ -15,11 +15,11 @@ is_before a b = is_lt (slice_cmp nat_cmp (reverse a) (reverse b))
 abbrev pub SharesEnd : ℕ → List ℕ → List ℕ → Type 0
 SharesEnd n a b = (n ≤ length a) × (n ≤ length b) × (drop (length a - n) a ≡ drop (length b - n) b)
 
--- no name stands before the one in front of it
+-- no name comes, in this order, before the previous one
 abbrev pub Ascends : List (List ℕ) → Type 0
 Ascends names = (k : ℕ) (d : List ℕ) → k + 1 < length names → is_before (slice_index_or names (k + 1) d) (slice_index_or names k d) ≡ false
 
--- each name stands before the next one
+-- each name comes before the next one
 abbrev pub StrictlyAscends : List (List ℕ) → Type 0
 StrictlyAscends names = (k : ℕ) (d : List ℕ) → k + 1 < length names → is_before (slice_index_or names k d) (slice_index_or names (k + 1) d) ≡ true
 
@@ -40,7 +40,7 @@ pub record IsNumbered (names : List (List ℕ)) (entries : List Entry) : Type 0 
 abbrev pub EndsWithName : List Entry → List ℕ → Type 0
 EndsWithName entries name = (0 < length entries) × ((d : Entry) → (slice_index_or entries (length entries - 1) d).name.now ≡ name)
 
--- the entries are the given names in ascending order, once each, and each given name's rank is where it stands among them
+-- the entries are the given names in ascending order, once each, and each given name's rank is its position among them
 pub record IsOrder (names : List (List ℕ)) (entries : List Entry) (ranks : List ℕ) : Type 0 where
   pub ascends : StrictlyAscends (names_of entries)
   pub named : (k : ℕ) (d : Entry) → k < length entries → slice_get names (slice_index_or entries k d).number ≡ Some (slice_index_or entries k d).name.now
@@ -64,11 +64,11 @@ ends_next names k = nat_lt (k + 1) (length names) && ends (name_at names k) (nam
 abbrev pub AreNextTails : List (List ℕ) → List (Option ℕ) → Type 0
 AreNextTails names tails = (k : ℕ) (d : Option ℕ) → k < length tails → IsNextTail names k (slice_index_or tails k d)
 
--- where a name stands in a text that begins at a place, if it ends the text
+-- where a name lies in a text that begins at a place, if it ends the text
 abbrev pub place_in : ℕ → List ℕ → List ℕ → Option ℕ
 place_in at text name = if ends name text then Some (capped (at + (length text - length name))) else None
 
--- the layout of the first names: their tops, and where each of the names of the order stands in them
+-- the layout of the first names: their tops, and where each of the names of the order lies in them
 pub record IsLaidOut (head : ℕ) (names order : List (List ℕ)) (used : ℕ) (tops : List (List ℕ)) (offsets : List (Option ℕ)) : Type 0 where
   pub tops_are : tops ≡ fold (with_top names) [] (take used names)
   pub whole : length offsets ≡ length order

@@ -1,4 +1,4 @@
--- Names that stand twice in a list (our profile).
+-- Names that occur twice in a list (our profile).
 use Rattle.std.specs.Prelude.{ℕ, zero, suc, Bool, false, ◌&&◌, nat_eq, nat_le, bytes_eq, if◌then◌else◌, List, [], ◌∷◌, ◌++◌, ◌+◌, ◌*◌, ◌%◌, ◌^◌, length, map, slice_get, Option, Some, None}
 use Rattle.std.specs.Option.{option_and_then, option_copied, option_flatten, option_map, option_map_or, option_to_list, unwrap_or}
 use Rattle.std.specs.declared.cmp.Ordering.{Ordering}
@@ -9,7 +9,7 @@ use Rattle.oc_linking.specs.declared.terms.Binding.{Binding}
 use Rattle.oc_linking.specs.Numbers.{first_upto}
 use Rattle.oc_linking.specs.Parts.{is_local}
 use Rattle.oc_strings.specs.declared.repeats.Repeat.{Repeat}
-use Rattle.oc_strings.specs.declared.repeats.Entry.{Entry}
+use Rattle.oc_strings.specs.declared.repeats.SortKey.{SortKey}
 use Rattle.oc_strings.specs.declared.repeats.TheConstants.{SPREAD}
 
 -- names by position; a position may have none
@@ -24,15 +24,15 @@ names_of names = map option_copied names
 abbrev pub name_at : NameList → ℕ → Option (List ℕ)
 name_at names k = option_flatten (slice_get names k)
 
--- the first of the n lowest positions at which the name stands
+-- the first of the n lowest positions at which the name occurs
 abbrev pub place_of : NameList → ℕ → List ℕ → Option ℕ
 place_of names n name = first_upto (λ k. if option_map_or (bytes_eq name) (name_at names k) false then Some k else None) n
 
--- that the name at a position stood before, and where it stood first
+-- that the name at a position occurred before, and where it first occurred
 abbrev pub repeat_at : NameList → ℕ → Option Repeat
 repeat_at names k = option_map (λ place. record { earlier = place; later = k }) (option_and_then (place_of names k) (name_at names k))
 
--- the first position at which a name stands that stood before
+-- the first position at which a name occurs that occurred before
 abbrev pub first_repeat : NameList → Option Repeat
 first_repeat names = first_upto (repeat_at names) (length names)
 
@@ -50,16 +50,16 @@ abbrev pub bytes_at : NameList → ℕ → List ℕ
 bytes_at names k = unwrap_or (name_at names k) []
 
 -- an entry for each name among the first n positions
-abbrev pub entries_of : NameList → ℕ → List Entry
+abbrev pub entries_of : NameList → ℕ → List SortKey
 entries_of names zero = []
 entries_of names (suc n) = entries_of names n ++ option_to_list (option_map (λ name. record { number = number_after 0 name; at = n }) (name_at names n))
 
 -- entries are sorted by their numbers, then by their names, then by their positions
-abbrev pub order : NameList → Entry → Entry → Ordering
+abbrev pub order : NameList → SortKey → SortKey → Ordering
 order names x y = ordering_then (nat_cmp x.number y.number) (ordering_then (slice_cmp nat_cmp (bytes_at names x.at) (bytes_at names y.at)) (nat_cmp x.at y.at))
 
 -- two entries have the same name
-abbrev pub are_tied : NameList → Entry → Entry → Bool
+abbrev pub are_tied : NameList → SortKey → SortKey → Bool
 are_tied names x y = nat_eq x.number y.number && bytes_eq (bytes_at names x.at) (bytes_at names y.at)
 
 -- the one of two repeats whose later position is the lower

@@ -4,7 +4,7 @@ use Rattle.std.specs.Option.{option_map}
 use denote.Ref.{Bor}
 use Rattle.oc_base.specs.Strings.{table_place}
 
--- a string table: where in the file's table its first text stands, and the names that were given, in their order
+-- a string table: where in the file's table its first text lies, and the names that were given, in their order
 pub record StringTable : Type 0 where
   pub head : ℕ
   pub names : List (List ℕ)
@@ -13,7 +13,7 @@ pub record StringTable : Type 0 where
 abbrev pub texts : List (Bor (List ℕ)) → List (List ℕ)
 texts slices = map (λ slice. slice.now) slices
 
--- the bytes have the name at the place, and a NUL right behind it
+-- the bytes have the name at the place, and a NUL right after it
 pub record StandsAt (name bytes : List ℕ) (at : ℕ) : Type 0 where
   pub there : slice_range bytes at (at + length name) ≡ name
   pub ended : slice_get bytes (at + length name) ≡ Some 0
@@ -22,6 +22,6 @@ pub record StandsAt (name bytes : List ℕ) (at : ℕ) : Type 0 where
 abbrev pub capped : ℕ → ℕ
 capped n = min n (2 ^ 64 - 1)
 
--- where a name stands in the table of these names, if it is one of them, with no limit on their lengths
+-- where a name lies in the table of these names, if it is one of them, with no limit on their lengths
 abbrev pub offset_of : ℕ → List (List ℕ) → List ℕ → Option ℕ
 offset_of head names name = option_map capped (table_place head names name)

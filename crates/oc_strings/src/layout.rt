@@ -1,4 +1,4 @@
-//! The layout of a string table: its texts in their order, and where each given name stands.
+//! The layout of a string table: its texts in their order, and where each given name lies.
 ghost use Rattle.std.specs.Prelude.{◌≡◌, ℕ, ◌<◌, List, ◌&&◌, All, IfOk, IsSome, is_none, not, length, map, slice_index_or};
 ghost use Rattle.oc_base.specs.Strings.{tops_of};
 ghost use Rattle.oc_strings.specs.Tables.{texts, offset_of};
@@ -9,9 +9,9 @@ use crate::tails::{is_top, next_tails, place_tails};
 use oc_base::NoMemory;
 use std::alloc::Global;
 
-/// The texts of a table, and where the names stand.
+/// The texts of a table, and where the names lie.
 #[derive(Drop)]
-pub(crate) struct Placed<'a> {
+pub(crate) struct EntryLayout<'a> {
     /// The maximal names, once each, in the order of their first use.
     pub tops: Vec<&'a [u8]>,
     /// For each entry its offset, or the largest number where it passes that.
@@ -27,14 +27,14 @@ fn is_new_top(entries: &[Entry], offsets: &[Option<u64>], k: usize) -> bool
     offsets[k].is_none() && is_top(entries, k)
 }
 
-/// Puts the texts one behind the other from `head` on, each where it is used first, and gives each
+/// Puts the texts one after another from `head` on, each where it is used first, and gives each
 /// name the offset in the first text that it ends.
 fn place<'a>(
     alloc: Global,
     head: u32,
     names: &[&'a [u8]],
     order: &Order<'a>,
-) -> Result<Placed<'a>, NoMemory>
+) -> Result<EntryLayout<'a>, NoMemory>
     requires { IsOrder (texts names.now) order.now.entries.items order.now.ranks.items }
     ensures { IfOk result (λ placed. IsLaidOut head (texts names.now) (names_of order.now.entries.items) (length names.now) (texts placed.tops.items) placed.offsets.items) }
 {
@@ -51,7 +51,7 @@ fn place<'a>(
             at = at.saturating_add(name.len() as u64).saturating_add(1);
         }
     }
-    Ok(Placed { tops, offsets })
+    Ok(EntryLayout { tops, offsets })
 }
 
 /// For each rank the offset with that rank.
@@ -71,7 +71,7 @@ fn by_rank(alloc: Global, offsets: &[Option<u64>], ranks: &[usize]) -> Result<Ve
 /// The layout of the table of given names.
 #[derive(Drop)]
 pub(crate) struct Layout<'a> {
-    /// The texts, in the order in which they stand.
+    /// The texts, in the order in which they lie.
     pub tops: Vec<&'a [u8]>,
     /// For each given name, in the order in which they were given, its offset.
     pub offsets: Vec<u64>,
@@ -80,7 +80,7 @@ pub(crate) struct Layout<'a> {
 }
 
 impl<'a> Layout<'a> {
-    /// Lays the table out whose first text stands at `head`.
+    /// Lays out the table whose first text lies at `head`.
     pub fn of(alloc: Global, head: u32, names: &[&'a [u8]]) -> Result<Layout<'a>, NoMemory>
         ensures tops { IfOk result (λ layout. texts layout.tops.items ≡ tops_of (texts names.now)) }
         ensures offsets { IfOk result (λ layout. map Some layout.offsets.items ≡ map (offset_of head (texts names.now)) (texts names.now)) }
@@ -97,8 +97,8 @@ impl<'a> Layout<'a> {
     }
 }
 
-/// The offset in bytes of each of the names, in their order, in the table whose first text stands
-/// at `head`. The names may be longer together than a `Table` can be: an offset past the largest
+/// The offset in bytes of each of the names, in their order, in the table whose first text lies at
+/// `head`. The names may be longer together than a `Table` can be: an offset past the largest
 /// number of 64 bits is that number. The names are not copied.
 ///
 /// `NoMemory` is the only refusal. Time and memory are those of `Table::of` without its bytes.

@@ -1,4 +1,4 @@
-//! String tables in which names share their tails: where each name stands, and the bytes.
+//! String tables in which names share their tails: where each name lies, and the bytes.
 #![tactic(auto)]
 
 mod layout;

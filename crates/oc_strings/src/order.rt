@@ -121,7 +121,7 @@ fn compare_ends(a: &[u8], b: &[u8]) -> Ordering
     }
 }
 
-/// Compares two names from their last bytes on. A name stands before those that it ends.
+/// Compares two names from their last bytes on. A name comes before those that it ends.
 pub(crate) fn compare_backward(a: &[u8], b: &[u8]) -> Ordering
     ensures { result ≡ slice_cmp nat_cmp (reverse a.now) (reverse b.now) }
 {
@@ -165,7 +165,7 @@ fn sorted<'a>(alloc: Global, names: &[&'a [u8]]) -> Result<Vec<Entry<'a>>, NoMem
     Ok(entries)
 }
 
-/// The given names in ascending order, and where each stands among them.
+/// The given names in ascending order, and where each comes among them.
 #[derive(Drop)]
 pub(crate) struct Order<'a> {
     /// Each name once, with a place of it among the given ones.
@@ -185,7 +185,7 @@ fn ends_with_name(entries: &[Entry], name: &[u8]) -> bool
 }
 
 impl<'a> Order<'a> {
-    /// Sorts the names, and drops those that are there already.
+    /// Sorts the names, and drops those that are present already.
     pub fn of(alloc: Global, names: &[&'a [u8]]) -> Result<Order<'a>, NoMemory>
         ensures { IfOk result (λ order. IsOrder (texts names.now) order.entries.items order.ranks.items) }
     {

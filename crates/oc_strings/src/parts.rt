@@ -6,7 +6,7 @@ ghost use Rattle.oc_strings.specs.Order.{numbers_of};
 ghost use Rattle.oc_strings.specs.Parts.{ArePlaces};
 
 use crate::order::Entry;
-use crate::table::Place;
+use crate::table::NameSpan;
 use oc_base::{Bytes, NoMemory};
 use std::alloc::Global;
 
@@ -21,7 +21,7 @@ pub(crate) fn slices(alloc: Global, names: &[Bytes]) -> Result<Vec<&[u8]>, NoMem
     Ok(slices)
 }
 
-/// Each text with a NUL behind it.
+/// Each text with a NUL after it.
 pub(crate) fn bytes_of(alloc: Global, tops: &[&[u8]]) -> Result<Vec<u8>, NoMemory>
     ensures { IfOk result (λ bytes. bytes.items ≡ text_of (texts tops.now)) }
 {
@@ -38,7 +38,7 @@ pub(crate) fn places(
     alloc: Global,
     names: &[&[u8]],
     offsets: &[u64],
-) -> Result<Vec<Place>, NoMemory>
+) -> Result<Vec<NameSpan>, NoMemory>
     requires offsets_fit { All (λ offset. offset < 2 ^ 32) offsets.now }
     requires lengths_fit { All (λ name. length name.now < 2 ^ 32) names.now }
     requires whole { length offsets.now ≡ length names.now }
@@ -46,7 +46,7 @@ pub(crate) fn places(
 {
     let mut places = Vec::with_capacity(alloc, names.len())?;
     for (k, name) in names.iter().enumerate() {
-        places.push(Place {
+        places.push(NameSpan {
             at: offsets[k] as u32,
             len: name.len() as u32,
         })?;

@@ -1,4 +1,4 @@
-//! Names that stand twice in a list.
+//! Names that occur twice in a list.
 ghost use Rattle.std.specs.Prelude.{◌≡◌, IfOk, length};
 ghost use Rattle.std.specs.List.Sorted.{IsPermutation, IsSorted};
 ghost use Rattle.oc_strings.specs.Repeats as repeats;
@@ -10,9 +10,9 @@ use std::cmp::Ordering;
 /// Two positions at which a list has the same name.
 #[derive(Clone, Copy, Debug, PartialEq, Eq)]
 pub struct Repeat {
-    /// Where the name stands first.
+    /// Where the name occurs first.
     pub earlier: usize,
-    /// Where it stands again.
+    /// Where it occurs again.
     pub later: usize,
 }
 
@@ -20,9 +20,9 @@ pub struct Repeat {
 /// in one byte alone get different numbers.
 const SPREAD: u64 = 0x9e37_79b9_7f4a_7c15;
 
-/// What is sorted: a number of the name, and where the name stands.
+/// What is sorted: a number of the name, and where the name lies.
 #[derive(Clone, Copy, Drop)]
-struct Entry {
+struct SortKey {
     number: u64,
     at: usize,
 }
@@ -49,7 +49,7 @@ fn bytes_at<'a>(names: &[Option<&'a [u8]>], at: usize) -> &'a [u8]
 }
 
 // by the number, then by the name, then by the position
-fn order(names: &[Option<&[u8]>], x: &Entry, y: &Entry) -> Ordering
+fn order(names: &[Option<&[u8]>], x: &SortKey, y: &SortKey) -> Ordering
     ensures { result ≡ repeats.order (repeats.names_of names.now) x.now y.now }
 {
     if x.number != y.number {
@@ -62,7 +62,7 @@ fn order(names: &[Option<&[u8]>], x: &Entry, y: &Entry) -> Ordering
 }
 
 // whether two entries have the same name
-fn are_tied(names: &[Option<&[u8]>], x: Entry, y: Entry) -> bool
+fn are_tied(names: &[Option<&[u8]>], x: SortKey, y: SortKey) -> bool
     ensures { result ≡ repeats.are_tied (repeats.names_of names.now) x y }
 {
     x.number == y.number && bytes_at(names, x.at) == bytes_at(names, y.at)
@@ -79,13 +79,13 @@ fn sooner(found: Option<Repeat>, next: Repeat) -> Repeat
 }
 
 // an entry for each name
-fn entries_of(alloc: Global, names: &[Option<&[u8]>]) -> Result<Vec<Entry>, NoMemory>
+fn entries_of(alloc: Global, names: &[Option<&[u8]>]) -> Result<Vec<SortKey>, NoMemory>
     ensures { IfOk result (λ entries. entries.items ≡ repeats.entries_of (repeats.names_of names.now) (length names.now)) }
 {
     let mut entries = Vec::with_capacity(alloc, names.len())?;
     for at in 0..names.len() {
         if let Some(name) = names[at] {
-            entries.push(Entry {
+            entries.push(SortKey {
                 number: number_of(name),
                 at,
             })?;
@@ -95,20 +95,20 @@ fn entries_of(alloc: Global, names: &[Option<&[u8]>]) -> Result<Vec<Entry>, NoMe
 }
 
 // puts the entries in order
-fn sort(names: &[Option<&[u8]>], entries: &mut Vec<Entry>)
+fn sort(names: &[Option<&[u8]>], entries: &mut Vec<SortKey>)
     ensures same { IsPermutation entries.old.items entries.new.items }
     ensures sorted { IsSorted (repeats.order (repeats.names_of names.now)) entries.new.items }
 {
     entries.sort_unstable_by(|x, y| order(names, x, y));
 }
 
-/// The first position at which a name stands that stood before, and where it stood. A position
+/// The first position at which a name occurs that occurred before, and where it did. A position
 /// without a name counts for nothing.
 ///
 /// `NoMemory` where memory ran out; it takes sixteen bytes a position. The time is that of about
 /// n log2(n) comparisons for n names, whoever chose them. A comparison takes constant time but for
-/// names that agree in number, which few do that were not made for it: it then walks along both up to
-/// where they differ.
+/// names that agree in number, which few do that were not made for it: it then walks along both up
+/// to where they differ.
 pub fn first_repeat(alloc: Global, names: &[Option<&[u8]>]) -> Result<Option<Repeat>, NoMemory>
     ensures { IfOk result (λ found. found ≡ repeats.first_repeat (repeats.names_of names.now)) }
 {

@@ -4,11 +4,11 @@ ghost use Rattle.oc_base.specs.Strings.{table_place};
 ghost use Rattle.oc_strings.specs.Inside.{name_in, names_in, AreWithin, IsGivenAt, IsSearchable, IsTable};
 
 use crate::order::compare_backward;
-use crate::table::Place;
+use crate::table::NameSpan;
 use std::cmp::Ordering;
 
 /// The name at a place of the table.
-fn name_at(head: u32, bytes: &[u8], place: Place) -> &[u8]
+fn name_at(head: u32, bytes: &[u8], place: NameSpan) -> &[u8]
     requires above { head ≤ place.at }
     requires within { place.at - head + place.len ≤ length bytes.now }
     ensures { result.now ≡ name_in head bytes.now place }
@@ -21,7 +21,7 @@ fn name_at(head: u32, bytes: &[u8], place: Place) -> &[u8]
 pub(crate) fn find(
     head: u32,
     bytes: &[u8],
-    given: &[Place],
+    given: &[NameSpan],
     order: &[u32],
     name: &[u8],
 ) -> Option<u32>
@@ -43,7 +43,7 @@ pub(crate) fn find(
 }
 
 /// Whether the given name at a position is this one.
-fn is_given_at(head: u32, bytes: &[u8], given: &[Place], near: usize, name: &[u8]) -> bool
+fn is_given_at(head: u32, bytes: &[u8], given: &[NameSpan], near: usize, name: &[u8]) -> bool
     requires { AreWithin head bytes.now given.now }
     ensures { IsTrue result ↔ IsGivenAt (names_in head bytes.now given.now) near name.now }
 {
@@ -54,11 +54,11 @@ fn is_given_at(head: u32, bytes: &[u8], given: &[Place], near: usize, name: &[u8
 }
 
 /// The offset of a name in the table that consists of these parts, which is looked for first where
-/// the given name at `near` stands.
+/// the given name at `near` lies.
 pub(crate) fn find_near(
     head: u32,
     bytes: &[u8],
-    given: &[Place],
+    given: &[NameSpan],
     order: &[u32],
     near: usize,
     name: &[u8],

@@ -10,20 +10,20 @@ use oc_base::{Bytes, NoMemory};
 use std::alloc::Global;
 use std::marker::Model;
 
-/// Where a name stands: its offset in the table, and how long it is, in bytes.
+/// Where a name lies: its offset in the table, and how long it is, in bytes.
 #[derive(Clone, Copy, Debug)]
-pub(crate) struct Place {
+pub(crate) struct NameSpan {
     pub at: u32,
     pub len: u32,
 }
 
-/// A string table. Contracts see the offset at which its first text stands, and the given names.
+/// A string table. Contracts see the offset at which its first text lies, and the given names.
 #[derive(Debug, Drop)]
 pub struct Table {
     head: u32,
     bytes: Vec<u8>,
-    /// Where each given name stands, in the order in which they were given.
-    given: Vec<Place>,
+    /// Where each given name lies, in the order in which they were given.
+    given: Vec<NameSpan>,
     /// The numbers of the given names in ascending order of the names, each name once.
     order: Vec<u32>,
 }
@@ -53,10 +53,10 @@ impl Table {
         total <= u64::from(u32::MAX)
     }
 
-    /// The table of the names, whose first text stands at `head`, an offset in bytes. A name that
-    /// is the tail of no other, longer name stands there itself, once, with a NUL behind it: these
-    /// texts follow one another in the order of their first use. Every other name stands at the
-    /// tail of the first text that it ends. A name may hold any bytes.
+    /// The table of the names, whose first text lies at `head`, an offset in bytes. A name that is
+    /// the tail of no other, longer name lies there itself, once, with a NUL after it: these texts
+    /// follow one another in the order of their first use. Every other name lies at the tail of the
+    /// first text that it ends. A name may hold any bytes.
     ///
     /// `NoMemory` is the only refusal. The names are sorted, so the time is at most the sum of
     /// their lengths times the logarithm of their number; besides the bytes, the memory is a few
@@ -83,7 +83,7 @@ impl Table {
     pub fn offset(&self, name: &[u8]) -> Option<u32>
         ensures place { result ≡ table_place self.now.head self.now.names name.now }
         ensures given { IsSome result ↔ Contains self.now.names name.now }
-        // The name stands there in the bytes, which begin at the head.
+        // The name lies there in the bytes, which begin at the head.
         ensures stands { IfSome result (λ at. (self.now.head ≤ at) × StandsAt name.now (table_text self.now.names) (at - self.now.head)) }
     {
         find(self.head, &self.bytes, &self.given, &self.order, name)
@@ -91,12 +91,12 @@ impl Table {
 
     /// The offset of the name in bytes as `offset` gives it, and `None` exactly where it was not
     /// given. `near` is the position among the given names at which it is looked for first; any
-    /// number may be given. No memory. Where the name stands there, the time is constant but for
+    /// number may be given. No memory. Where the name lies there, the time is constant but for
     /// comparing it with that name; else it is that of `offset`.
     pub fn offset_near(&self, near: usize, name: &[u8]) -> Option<u32>
         ensures place { result ≡ table_place self.now.head self.now.names name.now }
         ensures given { IsSome result ↔ Contains self.now.names name.now }
-        // The name stands there in the bytes, which begin at the head.
+        // The name lies there in the bytes, which begin at the head.
         ensures stands { IfSome result (λ at. (self.now.head ≤ at) × StandsAt name.now (table_text self.now.names) (at - self.now.head)) }
     {
         find_near(self.head, &self.bytes, &self.given, &self.order, near, name)

@@ -7,7 +7,7 @@ use crate::order::Entry;
 use oc_base::NoMemory;
 use std::alloc::Global;
 
-/// Whether the name with this place ends no other one. The names that it ends stand right behind it.
+/// Whether the name with this place ends no other one. The names that it ends come right after it.
 pub(crate) fn is_top(entries: &[Entry], k: usize) -> bool
     requires { k < length entries.now }
     ensures { result ≡ not (ends_next (names_of entries.now) k) }

@@ -24,7 +24,7 @@ use Rattle.oc_neutral.specs.HomeNames.{output_names, names_across}
 use Rattle.oc_neutral.specs.Objects.{Object, reloc_among, reloc_at}
 use Rattle.oc_neutral.specs.TargetSections.{each_of, section_count, section_conditions, conditions_at, section_stages}
 use Rattle.oc_neutral.specs.TargetSymbols.{symbol_count, symbol_conditions, symbol_stages}
-use Rattle.oc_neutral.specs.TargetRelocations.{Standing, standing_in, standing_from, standing, spot_of, reloc_conditions, standing_conditions, relocation_stages}
+use Rattle.oc_neutral.specs.TargetRelocations.{PlacedReloc, placed_relocs_in, placed_relocs_from, placed_relocs, spot_of, reloc_conditions, standing_conditions, relocation_stages}
 
 -- no condition is broken
 abbrev pub AreMet : List Condition → Type 0
@@ -71,33 +71,33 @@ get_there (y ∷ xs) (suc k) x d h = get_there xs k x d h
 
 -- a field of a section is one of those of the object
 stands_among : (s : ℕ) (lists : Lists Reloc) (k i : ℕ) (x : Field Reloc) → slice_get (list_of lists k) i ≡ Some x
-    → (j : ℕ) × (slice_get (standing_from s lists) j ≡ Some (record { section = s + k; at = x.at; reloc = x.item }))
+    → (j : ℕ) × (slice_get (placed_relocs_from s lists) j ≡ Some (record { section = s + k; at = x.at; reloc = x.item }))
 stands_among s [] k i x here = absurd (none-some x here)
-stands_among s (fields ∷ lists) zero i x here = (i, first (standing_in s fields) (standing_from (s + 1) lists) i z own)
+stands_among s (fields ∷ lists) zero i x here = (i, first (placed_relocs_in s fields) (placed_relocs_from (s + 1) lists) i z own)
   where
-    z : Standing
+    z : PlacedReloc
     z = record { section = s + 0; at = x.at; reloc = x.item }
 
-    own : slice_get (standing_in s fields) i ≡ Some z
+    own : slice_get (placed_relocs_in s fields) i ≡ Some z
     own =
         let e : s ≡ s + 0 = omega arith in
         slice_get-map (λ (y : Field Reloc). record { section = s; at = y.at; reloc = y.item }) fields i
         ∙ ap (option_map (λ (y : Field Reloc). record { section = s; at = y.at; reloc = y.item })) here
         ∙ ap (λ m. Some (record { section = m; at = x.at; reloc = x.item })) e
 
-    first : (xs ys : List Standing) (j : ℕ) (y : Standing) → slice_get xs j ≡ Some y → slice_get (xs ++ ys) j ≡ Some y
+    first : (xs ys : List PlacedReloc) (j : ℕ) (y : PlacedReloc) → slice_get xs j ≡ Some y → slice_get (xs ++ ys) j ≡ Some y
     first [] ys j y h = absurd (none-some y h)
     first (w ∷ xs) ys zero y h = h
     first (w ∷ xs) ys (suc j) y h = first xs ys j y h
 stands_among s (fields ∷ lists) (suc k) i x here =
     let r = stands_among (s + 1) lists k i x here in
     let e : s + 1 + k ≡ s + suc k = omega arith in (
-      length (standing_in s fields) + r.0,
-      second (standing_in s fields) (standing_from (s + 1) lists) r.0 (record { section = s + 1 + k; at = x.at; reloc = x.item }) r.1
+      length (placed_relocs_in s fields) + r.0,
+      second (placed_relocs_in s fields) (placed_relocs_from (s + 1) lists) r.0 (record { section = s + 1 + k; at = x.at; reloc = x.item }) r.1
           ∙ ap (λ m. Some (record { section = m; at = x.at; reloc = x.item })) e,
     )
   where
-    second : (xs ys : List Standing) (j : ℕ) (y : Standing) → slice_get ys j ≡ Some y → slice_get (xs ++ ys) (length xs + j) ≡ Some y
+    second : (xs ys : List PlacedReloc) (j : ℕ) (y : PlacedReloc) → slice_get ys j ≡ Some y → slice_get (xs ++ ys) (length xs + j) ≡ Some y
     second [] ys j y h = let e : j ≡ 0 + j = omega arith in ap (slice_get ys) (sym e) ∙ h
     second (w ∷ xs) ys j y h =
         let e : suc (length xs) + j ≡ suc (length xs + j) = omega arith in
@@ -174,11 +174,11 @@ module _ (target : Format) (n : Object) (fits : IsFitted target n) where
       let m = field_found (list_of n.relocs s) at r here in
       let j = stands_among 0 n.relocs s m.0 m.1 m.2 in
       let e : 0 + s ≡ s = omega arith in
-      let z : Standing = record { section = s; at = at; reloc = r } in
-      let own : slice_get (standing n) j.0 ≡ Some z
+      let z : PlacedReloc = record { section = s; at = at; reloc = r } in
+      let own : slice_get (placed_relocs n) j.0 ≡ Some z
       = j.1 ∙ ap (λ q. Some (record { section = q; at = m.1.at; reloc = m.1.item })) e ∙ ap (λ q. Some (record { section = s; at = q; reloc = m.1.item })) m.4
       ∙ ap (λ q. Some (record { section = s; at = at; reloc = q })) m.3 in
       let met : AreMet (standing_conditions target n z)
-      = each_met (standing_conditions target n) (standing n) j.0 z own
-      (stage_met stages 4 (record { count = length (standing n); conditions = λ i. option_map_or (standing_conditions target n) (slice_get (standing n) i) [] }) none refl j.0 (below_length (standing n) j.0 z own)) in
+      = each_met (standing_conditions target n) (placed_relocs n) j.0 z own
+      (stage_met stages 4 (record { count = length (placed_relocs n); conditions = λ i. option_map_or (standing_conditions target n) (slice_get (placed_relocs n) i) [] }) none refl j.0 (below_length (placed_relocs n) j.0 z own)) in
       subst (λ b. AreMet (cond b [] (reloc_conditions target n at r (spot_of n s at)))) (fits.stored s at r here) met

@@ -19,7 +19,7 @@ use Rattle.oc_target.specs.Fitted.{fitted_binding, IsFitted}
 use Rattle.oc_target.specs.Meets.{MeetsReloc}
 use Rattle.oc_neutral.specs.Objects.{Object, reloc_at}
 use Rattle.oc_target.specs.OmfMeets.{OmfSection, OmfSymbol, OmfReloc, FittedMeetsOmf}
-use Rattle.oc_neutral.specs.Omf.Relocs.{Framed, ByFlat, ByTarget, BySelf, fixup_row}
+use Rattle.oc_neutral.specs.Omf.Relocs.{FixupFrame, ByFlat, ByTarget, BySelf, fixup_row}
 use Rattle.oc_neutral.specs.RelocTables.{rows_of}
 use Rattle.oc_neutral.specs.Rows.{Row}
 use Rattle.oc_neutral.specs.TargetSections.{is_debug_kept, section_conditions}
@@ -46,7 +46,7 @@ own_align align e = by (find (nat_le align) omf_aligns) refl e
     by (Some a) h e = let f = found_there (nat_le align) omf_aligns a h in (f.0, f.1 ∙ ap Some e)
 
 -- a row of the table is that of a fixup
-framed_row : (k : ℕ) (row : Row) → slice_get (rows_of Omf) k ≡ Some row → (framed : Framed) × (fixup_row framed ≡ row)
+framed_row : (k : ℕ) (row : Row) → slice_get (rows_of Omf) k ≡ Some row → (framed : FixupFrame) × (fixup_row framed ≡ row)
 framed_row zero row h = (ByFlat, same_Some _ row h)
 framed_row (suc zero) row h = (ByTarget, same_Some _ row h)
 framed_row (suc (suc zero)) row h = (BySelf, same_Some _ row h)

@@ -26,7 +26,7 @@ use Rattle.oc_neutral.specs.RelocTables.{row_of}
 use Rattle.oc_neutral.specs.Rows.{taken_of, shift_of}
 use Rattle.oc_neutral.specs.WrittenSymbols.{is_written}
 
--- the names that are given to the string table of an output, and where one stands
+-- the names that are given to the string table of an output, and where one lies
 abbrev pub strings_of : Format → Object → List (List ℕ)
 strings_of format n = coff_strings (family_of format).writes_local (output_names format n) n
 
@@ -36,7 +36,7 @@ offset_of format n = string_offset (family_of format).writes_local (output_names
 -- a section
 pub record CoffSection (format : Format) (n : Object) (s : Section) : Type 0 where
   pub uncut : IsUncut n s
-  -- a name that has no room in the header stands in the string table, at an offset of at most seven digits
+  -- a name that has no room in the header lies in the string table, at an offset of at most seven digits
   pub given : is_tabled s.name ≡ true → is_given (strings_of format n) s.name ≡ true
   pub near : is_tabled s.name ≡ true → offset_of format n s.name ≤ MOST_NAME_OFFSET
   -- a group has its key symbol
@@ -60,7 +60,7 @@ pub record IsNaturalCommon (size align : ℕ) : Type 0 where
 -- a symbol
 pub record CoffSymbol (format : Format) (n : Object) (s : Symbol) : Type 0 where
   pub name : has_nul s.name ≡ false
-  -- a long name stands in the string table, and so does that of the symbol for a fallback
+  -- a long name lies in the string table, and so does that of the symbol for a fallback
   pub given : is_written format s ≡ true → is_long s.name ≡ true → is_given (strings_of format n) s.name ≡ true
   pub default : (f : Fallback) → s.binding ≡ Weak f → has_default f ≡ true → is_given (strings_of format n) (default_name s.name) ≡ true
   pub absolute : (x : ℕ) → s.binding ≡ Global (Absolute x) → x < 2 ^ 32
@@ -69,7 +69,7 @@ pub record CoffSymbol (format : Format) (n : Object) (s : Symbol) : Type 0 where
 -- a relocation
 pub record CoffReloc (format : Format) (n : Object) (s at : ℕ) (r : Reloc) : Type 0 where
   pub meets : MeetsReloc format n s at r
-  -- the type is one entry's, is found by its number of sixteen bits, and says something
+  -- the type is one entry's, is found by its number of sixteen bits, and has an effect
   pub found : row_of format meets.row.number ≡ Some meets.row
   pub number : (0 < meets.row.number) × (meets.row.number < 2 ^ 16)
   pub single : meets.row.second ≡ None

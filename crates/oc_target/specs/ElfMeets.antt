@@ -48,9 +48,9 @@ pub record ElfSymbol (n : Object) (s : Symbol) : Type 0 where
 -- a relocation
 pub record ElfReloc (format : Format) (n : Object) (s at : ℕ) (r : Reloc) : Type 0 where
   pub meets : MeetsReloc format n s at r
-  -- it stands in a section that has bytes in the file
+  -- it lies in a section that has bytes in the file
   pub stored : is_nobits_tag meets.section.tag ≡ false
-  -- the type is one entry's, is found by its number of eight bits, and says something
+  -- the type is that of one entry, is found by its number of eight bits, and has an effect
   pub found : row_of format meets.row.number ≡ Some meets.row
   pub number : (0 < meets.row.number) × (meets.row.number < 2 ^ 8)
   pub single : meets.row.second ≡ None

@@ -64,14 +64,14 @@ pub record IsWrittenDifference (n : Object) (at : ℕ) (r : Reloc) (k : ℕ) : T
 -- a relocation
 pub record MachReloc (format : Format) (n : Object) (s at : ℕ) (r : Reloc) : Type 0 where
   pub meets : MeetsReloc format n s at r
-  -- it stands in a section that has bytes in the file
+  -- it lies in a section that has bytes in the file
   pub stored : is_zerofill_tag meets.section.tag ≡ false
   -- the entry is found by its type, r_pcrel and r_length
   pub entry : MachRow
   pub row : entry.row ≡ meets.row
   pub found : entry_among (mach_entries (word_for format)) meets.row.number entry.pcrel (length_of meets.row.width) ≡ Some entry
   pub number : meets.row.number < 2 ^ 4
-  -- in mac32 what is taken is as the row says, and every addend is held
+  -- in mac32 what is taken is what the row gives, and every addend is held
   pub taken : format ≡ Mac32 → meets.row.taken ≡ taken_of r.form.less
   pub holds : (shift : ℤ) → format ≡ Mac32 → HoldsAddend format r shift
   pub difference : (k : ℕ) → format ≡ Mac32 → r.form.less ≡ less.Section k → IsWrittenDifference n at r k

@@ -17,7 +17,7 @@ use Rattle.oc_target.specs.Fitted.{IsFitted}
 use Rattle.oc_target.specs.Meets.{AreBounded, MeetsReloc, HoldsAddend}
 use Rattle.oc_neutral.specs.Objects.{Object, reloc_at}
 use Rattle.oc_neutral.specs.Omf.Kinds.{omf_kind, omf_class, omf_tag}
-use Rattle.oc_neutral.specs.Omf.Relocs.{Framed, fixup_row}
+use Rattle.oc_neutral.specs.Omf.Relocs.{FixupFrame, fixup_row}
 use Rattle.oc_neutral.specs.Rows.{taken_of}
 
 -- a section
@@ -43,7 +43,7 @@ pub record OmfSymbol (s : Symbol) : Type 0 where
 pub record OmfReloc (n : Object) (s at : ℕ) (r : Reloc) : Type 0 where
   pub meets : MeetsReloc Omf n s at r
   -- it is one of the three fixups
-  pub framed : Framed
+  pub framed : FixupFrame
   pub row : fixup_row framed ≡ meets.row
   pub taken : meets.row.taken ≡ taken_of r.form.less
   pub width : r.form.width ≡ Four

@@ -82,7 +82,7 @@ fn key_place(neutral: &Neutral, symbol: &Symbol) -> Option<u32>
     }
 }
 
-/// Marks the one at a position, where it is there. Constant time, no memory.
+/// Marks the one at a position, where it exists. Constant time, no memory.
 pub(crate) fn mark(marked: &mut Vec<bool>, group: Option<u32>)
     ensures marked { (g : ℕ) → g < length marked.old.items → slice_index_or marked.new.items g false ≡ (slice_index_or marked.old.items g false || option_map_or (nat_eq g) group false) }
     ensures counted { length marked.new.items ≡ length marked.old.items }
@@ -138,7 +138,7 @@ pub fn has_nul(name: &[u8]) -> bool
     name.iter().any(|byte| 0 == *byte)
 }
 
-/// The key of the group at a position, where it is there. Constant time, no memory.
+/// The key of the group at a position, where it exists. Constant time, no memory.
 pub fn key_of(neutral: &Neutral, group: u32) -> Option<&[u8]>
     ensures { held result ≡ faces.key_of neutral.now.groups group }
 {

@@ -25,7 +25,10 @@ pub use dress::{align_commons, dress_sections};
 pub use fitted::Fitted;
 pub use formats::{keeps_debug, most_align, same_format, takes_exceptions};
 pub use forms::{NoForm, Spelling, lookup, written_row};
-pub use keys::{cut_keys, global_place, group_at, has_nul, is_key, is_marked, key_of, keyed_groups, keyed_sections};
+pub use keys::{
+    cut_keys, global_place, group_at, has_nul, is_key, is_marked, key_of, keyed_groups,
+    keyed_sections,
+};
 pub use locals::{is_local, is_long_number, is_written, is_written_local};
 pub use names::output_names;
 pub use rows::Row;
@@ -33,5 +36,8 @@ pub use section_symbols::{needed_count, needed_sections};
 pub use shifts::field_shift;
 pub use signatures::signature_count;
 pub use stored::is_relocated;
-pub use target_laws::{fit_is_computed, fitted_meets_coff, fitted_meets_elf, fitted_meets_mach, fitted_meets_omf, seen_is_object, seen_looks_alike};
+pub use target_laws::{
+    fit_is_computed, fitted_meets_coff, fitted_meets_elf, fitted_meets_mach, fitted_meets_omf,
+    seen_is_object, seen_looks_alike,
+};
 pub use writes::{Emits, Writes};

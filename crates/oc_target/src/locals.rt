@@ -63,11 +63,7 @@ pub fn is_written(alloc: Global, target: Format, symbol: &Symbol) -> Result<bool
 
 /// Whether a symbol is a Local that a target writes. `NoMemory` where memory ran out. Time is linear
 /// in the name.
-pub fn is_written_local(
-    alloc: Global,
-    target: Format,
-    symbol: &Symbol,
-) -> Result<bool, NoMemory>
+pub fn is_written_local(alloc: Global, target: Format, symbol: &Symbol) -> Result<bool, NoMemory>
     ensures { IfOk result (λ b. b ≡ (parts.is_local symbol.now.binding && written.is_written target symbol.now)) }
 {
     if !is_local(symbol.binding) {

@@ -51,7 +51,7 @@ fn is_given(names: &[Bytes], name: &[u8]) -> bool
     false
 }
 
-// where the first comma stands
+// where the first comma lies
 fn comma_at(name: &[u8]) -> Option<usize>
     ensures { result ≡ comma_place name.now }
 {

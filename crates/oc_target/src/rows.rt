@@ -2,8 +2,8 @@
 
 use oc_neutral::{Base, Check, Hint, Less, Width};
 
-/// What a type of relocation takes from the base. Which section it takes, the entry says and not the
-/// type.
+/// What a type of relocation takes from the base. Which section it takes is given by the entry and
+/// not by the type.
 #[derive(Clone, Copy, PartialEq, Eq)]
 pub enum Taken {
     /// Nothing.
@@ -37,6 +37,6 @@ pub struct Row {
     pub taken: Taken,
     /// How an instruction uses the field.
     pub hint: Hint,
-    /// A self-relative value is taken from so many bytes behind the field's place.
+    /// A self-relative value is taken from so many bytes after the field's place.
     pub behind: u8,
 }

@@ -6,8 +6,7 @@ ghost use Rattle.oc_neutral.specs.Mach.SectionSymbols as section_symbols;
 ghost use Rattle.oc_neutral.specs.Mach.SelfReferences as references;
 ghost use Rattle.oc_neutral.specs.Normal.{takes_section};
 
-use crate::keys::mark;
-use crate::keys::is_marked;
+use crate::keys::{is_marked, mark};
 use oc_base::NoMemory;
 use oc_neutral::{Form, Less, Neutral, Reloc, Target, is_long_distance, is_section};
 use std::alloc::Global;

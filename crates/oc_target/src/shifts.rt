@@ -11,7 +11,7 @@ use crate::rows::{Row, Taken};
 use oc_base::Format;
 use oc_neutral::{Less, Reloc};
 
-// whether there is a field for every addend: in elf64 it stands in the entry, and in mac32 and omf all
+// whether there is a field for every addend: in elf64 it is in the entry, and in mac32 and omf all
 // fields have as many bits as an address
 fn holds_all_addends(target: Format) -> bool
     ensures { result ≡ (family_of target).holds_all_addends }

@@ -6,8 +6,8 @@ use crate::rows::{Row, Taken};
 use oc_base::Format;
 use oc_neutral::{Base, Check, Hint, Width, coff, elf, mach};
 
-// a row: the number, and what it means; of a pair both numbers; where it says so, from so many bytes
-// behind the field's place
+// a row: the number, and what it means; of a pair both numbers; where it says so, from so many
+// bytes after the field's place
 macro_rules! row {
     ($number:expr, $second:expr, $behind:expr; $width:ident $check:ident $base:ident $taken:ident $hint:ident) => {
         Row {

@@ -21,14 +21,16 @@ pub trait Emits {
     fn len(&self) -> u64
         ensures { result ≡ length (file self.now) };
 
-    /// Puts the bytes from `at` on, an offset in the file, into the front of `to`, as many as both
+    /// Puts the bytes from `at` on, an offset in the file, into the start of `to`, as many as both
     /// have, and gives their number; none from the end of the file on. The rest of `to` stays.
     fn window(&self, at: u64, to: &mut [u8]) -> usize
         ensures { IsFilled (file self.now) at to.old to.new result };
 
-    /// Puts the file to a sink, in pieces of `PIECE` bytes, the last one shorter. It holds one piece.
+    /// Puts the file to a sink, in pieces of `PIECE` bytes, the last one shorter. It holds one
+    /// piece.
     ///
-    /// After Failed the sink took some front of the file, and its count rose; else that count stays.
+    /// After Failed the sink took some prefix of the file, and its count rose; else that count
+    /// stays.
     fn emit<S: Sink>(&self, sink: &mut S) -> Result<(), Failed>
         ensures ok { OnOk result (S.taken sink.new ≡ grown (file self.now) (S.taken sink.old)) }
         ensures err { OnErr result (TakesPrefix (file self.now) (S.taken sink.old) (S.taken sink.new)) }
@@ -67,7 +69,8 @@ pub trait Writes {
         requires { fitted.format ≡ dialect.format }
         ensures { IfOk result (λ plan. Self.Plan.file plan ≡ canonical fitted) };
 
-    /// The dialect says of words and alignments what its format does, and the file of each object that is
-    /// ready for the format is well formed, and shows what a reader of the format shows of the object.
+    /// The dialect has the words and alignments of its format, and the file of each object that is
+    /// ready for the format is well formed, and shows what a reader of the format shows of the
+    /// object.
     ghost law: { WritesCanonical dialect canonical };
 }

@@ -16,8 +16,8 @@ use Rattle.oc_words.specs.declared.fault.WordCode.{WordCode}
 use Rattle.oc_words.specs.declared.fault.WordCode.TheVariants.{Conflict, SameFile}
 use Rattle.oc_words.specs.declared.fault.WordFault.{WordFault}
 use Rattle.oc_words.specs.declared.fault.WordFault.TheVariants as fault
-use Rattle.oc_words.specs.declared.option.Said.{Said}
-use Rattle.oc_words.specs.declared.option.Said.TheVariants as said
+use Rattle.oc_words.specs.declared.option.Argument.{Argument}
+use Rattle.oc_words.specs.declared.option.Argument.TheVariants as said
 use Rattle.oc_words.specs.declared.reading.Names.{Names}
 use Rattle.oc_words.specs.declared.reading.Names.TheVariants.{NoName, Input, Both}
 use Rattle.oc_words.specs.declared.reading.Reading.{Reading}
@@ -52,14 +52,14 @@ last_choice-more xs None = refl
 last_choice-more xs (Some c) = last_choice-append Auto xs c
 
 -- the wishes with what is said besides
-abbrev more_wishes : Said → Wishes → Wishes
+abbrev more_wishes : Argument → Wishes → Wishes
 more_wishes s w = record {
   edits = appended w.edits (jobs.edit_said s);
   debug = unwrap_or (jobs.debug_said s) w.debug;
   exceptions = unwrap_or (jobs.exceptions_said s) w.exceptions;
 }
 
-wishes-more : (front : List (List ℕ)) (word : List ℕ) (s : Said) → said_by word ≡ s → wishes_of (front ++ word ∷ []) ≡ more_wishes s (wishes_of front)
+wishes-more : (front : List (List ℕ)) (word : List ℕ) (s : Argument) → said_by word ≡ s → wishes_of (front ++ word ∷ []) ≡ more_wishes s (wishes_of front)
 wishes-more front word s e =
     let edits : jobs.edits (front ++ word ∷ []) ≡ appended (jobs.edits front) (jobs.edit_said s) = filter_map-more (λ word. jobs.edit_said (said_by word)) front word _ (ap jobs.edit_said e) in
     let debug : jobs.debug_choice (front ++ word ∷ []) ≡ unwrap_or (jobs.debug_said s) (jobs.debug_choice front)
@@ -68,10 +68,10 @@ wishes-more front word s e =
     = ap (last_choice Auto) (filter_map-more (λ word. jobs.exceptions_said (said_by word)) front word _ (ap jobs.exceptions_said e)) ∙ last_choice-more _ (jobs.exceptions_said s) in
     rw (edits, debug, exceptions) refl
 
-targets-more : (front : List (List ℕ)) (word : List ℕ) (s : Said) → said_by word ≡ s → targets (front ++ word ∷ []) ≡ appended (targets front) (jobs.target_said s)
+targets-more : (front : List (List ℕ)) (word : List ℕ) (s : Argument) → said_by word ≡ s → targets (front ++ word ∷ []) ≡ appended (targets front) (jobs.target_said s)
 targets-more front word s e = filter_map-more (λ word. jobs.target_said (said_by word)) front word _ (ap jobs.target_said e)
 
-operands-more : (front : List (List ℕ)) (word : List ℕ) (s : Said) → said_by word ≡ s
+operands-more : (front : List (List ℕ)) (word : List ℕ) (s : Argument) → said_by word ≡ s
     → operands (front ++ word ∷ []) ≡ (if jobs.is_name s then operands front ++ word ∷ [] else operands front)
 operands-more front word s e = filter-more (λ word. jobs.is_name (said_by word)) front word _ (ap jobs.is_name e)
 
@@ -97,7 +97,7 @@ target_more to xs None e = (ap (λ ys. ys ++ to ∷ []) e, ap target_fault e)
 target_more to xs (Some t) e = ap target_fault e
 
 -- one more word is taken up, or at fault
-abbrev IsTakenUp : List (List ℕ) → List ℕ → Said → Result Reading WordCode → Type 0
+abbrev IsTakenUp : List (List ℕ) → List ℕ → Argument → Result Reading WordCode → Type 0
 IsTakenUp front word s step =
     MatchResult step (λ after. IsReadingOf (front ++ word ∷ []) after × (fault_after front word s ≡ None)) (λ code. fault_after front word s ≡ Some code)
 
@@ -115,16 +115,16 @@ aimed_at : (front : List (List ℕ)) (word : List ℕ) (to : Format) (r : Readin
 aimed_at front word to r targets wishes names (Ok after) m = (record { to = targets ∙ m.0; wishes = wishes; names = names }, m.1)
 aimed_at front word to r targets wishes names (Err code) m = m
 
-chosen : (front : List (List ℕ)) (word : List ℕ) (s : Said) (after : Reading) (b : Bool) → fault_after front word s ≡ (if b then Some Conflict else None)
+chosen : (front : List (List ℕ)) (word : List ℕ) (s : Argument) (after : Reading) (b : Bool) → fault_after front word s ≡ (if b then Some Conflict else None)
     → IsReadingOf (front ++ word ∷ []) after → IsTakenUp front word s (if b then Err Conflict else Ok after)
 chosen front word s after true f r = f
 chosen front word s after false f r = (r, f)
 
 -- a word is taken up
-pub taken_up : (front : List (List ℕ)) (word : List ℕ) (s : Said) (r : Reading) → said_by word ≡ s → IsReadingOf front r → IsTakenUp front word s (with_said r word s)
+pub taken_up : (front : List (List ℕ)) (word : List ℕ) (s : Argument) (r : Reading) → said_by word ≡ s → IsReadingOf front r → IsTakenUp front word s (with_said r word s)
 taken_up front word s r e is = cases s e
   where
-    cases : (s : Said) → said_by word ≡ s → IsTakenUp front word s (with_said r word s)
+    cases : (s : Argument) → said_by word ≡ s → IsTakenUp front word s (with_said r word s)
     cases said.Operand e =
         named front word r (targets-more front word said.Operand e ∙ is.to) (wishes-more front word said.Operand e ∙ is.wishes) (operands-more front word said.Operand e)
         (with_name r.names word) (names_more word (operands front) r.names is.names)
@@ -166,7 +166,7 @@ code_at-there : (words : List (List ℕ)) (i : ℕ) (word : List ℕ) → slice_
 code_at-there words i word e = ap (option_and_then (λ word. fault_after (take i words) word (said_by word))) e
 
 -- a word that was taken up is not at fault
-pub step_taken : (words : List (List ℕ)) (i : ℕ) (word : List ℕ) (s : Said) (r after : Reading) → slice_get words i ≡ Some word → s ≡ said_by word
+pub step_taken : (words : List (List ℕ)) (i : ℕ) (word : List ℕ) (s : Argument) (r after : Reading) → slice_get words i ≡ Some word → s ≡ said_by word
     → first_upto (bad_at words) i ≡ None → IsReadingOf (take i words) r → with_said r word s ≡ Ok after
     → (first_upto (bad_at words) (i + 1) ≡ None) × IsReadingOf (take (i + 1) words) after
 step_taken words i word s r after there said clean is ok =
@@ -176,7 +176,7 @@ step_taken words i word s r after there said clean is ok =
     (rw add-one (rw (clean, here) refl), rw (take-next words i word there) taken.0)
 
 -- a word that was not taken up is the first at fault
-pub step_bad : (words : List (List ℕ)) (i : ℕ) (word : List ℕ) (s : Said) (r : Reading) (fault : WordFault) → slice_get words i ≡ Some word → s ≡ said_by word
+pub step_bad : (words : List (List ℕ)) (i : ℕ) (word : List ℕ) (s : Argument) (r : Reading) (fault : WordFault) → slice_get words i ≡ Some word → s ≡ said_by word
     → first_upto (bad_at words) i ≡ None → IsReadingOf (take i words) r → IsFaultAt i (with_said r word s) fault → IsFaultOf (conversion_of words) fault
 unfolding conversion_of
 step_bad words i word s r (fault.Bad index code) there said clean is at =

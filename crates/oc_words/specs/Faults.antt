@@ -13,12 +13,12 @@ pub record BadWord : Type 0 where
 abbrev pub bad : {X : Type 0} → ℕ → WordCode → Result X BadWord
 bad index code = Err (record { index = index; code = code })
 
--- the fault is that of the words; want of memory says nothing
+-- the fault is that of the words; lack of memory needs no cause
 abbrev pub IsFaultOf : {X : Type 0} → Result X BadWord → WordFault → Type 0
 IsFaultOf asked (fault.Bad index code) = asked ≡ bad index code
 IsFaultOf asked fault.NoMemory = Unit {0}
 
--- the fault stands at the word that was taken up; want of memory says nothing
+-- the fault is at the word that was to be recorded; lack of memory needs no cause
 abbrev pub IsFaultAt : {X : Type 0} → ℕ → Result X WordCode → WordFault → Type 0
 IsFaultAt at step (fault.Bad index code) = (index ≡ at) × (step ≡ Err code)
 IsFaultAt at step fault.NoMemory = Unit {0}

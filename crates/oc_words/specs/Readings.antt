@@ -1,35 +1,35 @@
--- A conversion's words, taken up one after the other. What they say together stands in Jobs.
+-- A conversion's words, recorded one after another. What they mean together is defined in Jobs.
 use Rattle.std.specs.Prelude.{◌≡◌, ℕ, bytes_eq, if◌then◌else◌, List, [], ◌∷◌, length, Option, Some, None, Result, Ok, Err}
 use Rattle.oc_base.specs.declared.format.Format.{Format}
 use Rattle.oc_names.specs.Wishes.{with_edit, with_debug, with_exceptions}
 use Rattle.oc_words.specs.declared.fault.WordCode.{WordCode}
 use Rattle.oc_words.specs.declared.fault.WordCode.TheVariants.{SecondTarget, Conflict, ExtraName, SameFile}
-use Rattle.oc_words.specs.declared.option.Said.{Said}
-use Rattle.oc_words.specs.declared.option.Said.TheVariants as said
+use Rattle.oc_words.specs.declared.option.Argument.{Argument}
+use Rattle.oc_words.specs.declared.option.Argument.TheVariants as said
 use Rattle.oc_words.specs.declared.reading.Names.{Names}
 use Rattle.oc_words.specs.declared.reading.Names.TheVariants.{NoName, Input, Both}
 use Rattle.oc_words.specs.declared.reading.Reading.{Reading}
 use Rattle.oc_words.specs.Jobs.{targets, wishes_of, operands, conflicts, bad_at}
 use Rattle.oc_linking.specs.Numbers.{first_upto}
 
--- the names of files that were taken up
+-- the names of files that were recorded
 abbrev pub listed : Names → List (List ℕ)
 listed NoName = []
 listed (Input input) = input ∷ []
 listed (Both input output) = input ∷ output ∷ []
 
--- the target that was taken up
+-- the target that was recorded
 abbrev pub listed_target : Option Format → List Format
 listed_target None = []
 listed_target (Some to) = to ∷ []
 
--- what was taken up is what the words say
+-- what was recorded is what the words mean
 pub record IsReadingOf (words : List (List ℕ)) (reading : Reading) : Type 0 where
   pub to : targets words ≡ listed_target reading.to
   pub wishes : wishes_of words ≡ reading.wishes
   pub names : operands words ≡ listed reading.names
 
--- no word is at fault, and what was taken up is what they say
+-- no word is at fault, and what was recorded is what they mean
 pub record HasRead (words : List (List ℕ)) (reading : Reading) : Type 0 where
   pub clean : first_upto (bad_at words) (length words) ≡ None
   pub all : IsReadingOf words reading
@@ -45,18 +45,18 @@ abbrev pub with_target : Option Format → Format → Result (Option Format) Wor
 with_target None to = Ok (Some to)
 with_target (Some before) to = Err SecondTarget
 
--- what was taken up with these names
+-- what was recorded, with these names
 abbrev pub renamed : Reading → Result Names WordCode → Result Reading WordCode
 renamed r (Ok names) = Ok (record { to = r.to; wishes = r.wishes; names = names })
 renamed r (Err code) = Err code
 
--- what was taken up with this target
+-- what was recorded, with this target
 abbrev pub aimed : Reading → Result (Option Format) WordCode → Result Reading WordCode
 aimed r (Ok to) = Ok (record { to = to; wishes = r.wishes; names = r.names })
 aimed r (Err code) = Err code
 
--- what was taken up with what one more word says
-abbrev pub with_said : Reading → List ℕ → Said → Result Reading WordCode
+-- what was recorded, with what one more word means
+abbrev pub with_said : Reading → List ℕ → Argument → Result Reading WordCode
 with_said r word said.Operand = renamed r (with_name r.names word)
 with_said r word (said.Target to) = aimed r (with_target r.to to)
 with_said r word (said.Asks edit) = Ok (record { to = r.to; wishes = with_edit r.wishes edit; names = r.names })

@@ -9,7 +9,7 @@ abbrev pub looked_up : {X : Type 0} → List (List ℕ × X) → List ℕ → Op
 looked_up [] text = None
 looked_up (row ∷ rows) text = if bytes_eq text row.0 then Some row.1 else looked_up rows text
 
--- what stands behind the prefix, where the text begins with it
+-- what comes after the prefix, where the text begins with it
 abbrev pub behind : List ℕ → List ℕ → Option (List ℕ)
 behind prefix text = if starts_with nat_eq text prefix then Some (drop (length prefix) text) else None
 

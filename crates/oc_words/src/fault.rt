@@ -12,7 +12,7 @@ pub enum WordCode {
     SecondTarget,
     /// It is an option that names symbols, and lacks a colon, or a name that may not be empty.
     BadPair,
-    /// A choice to strip or to keep stands before it, and it chooses the other.
+    /// A choice to strip or to keep comes before it, and it chooses the other.
     Conflict,
     /// It is one name more than the command takes.
     ExtraName,

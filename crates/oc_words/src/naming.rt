@@ -4,7 +4,7 @@ ghost use Rattle.oc_words.specs.Texts.{looked_up};
 ghost use Rattle.oc_words.specs.Options as options;
 
 use crate::fault::WordCode;
-use crate::option::Said;
+use crate::option::Argument;
 use crate::text::cut;
 use oc_base::{Bytes, NoMemory};
 use oc_names::Edit;
@@ -38,7 +38,7 @@ pub enum NameHead {
 
 /// The head of an option that names symbols.
 #[derive(Clone, Copy)]
-pub enum Head {
+pub enum OptionHead {
     /// An old and a new name follow.
     OfPair(PairHead),
     /// One name follows.
@@ -46,25 +46,25 @@ pub enum Head {
 }
 
 // the head with this text
-fn head_of(text: &str) -> Option<Head>
+fn head_of(text: &str) -> Option<OptionHead>
     ensures { result ≡ looked_up options.heads text.now }
 {
     if text == "-nr" {
-        Some(Head::OfPair(PairHead::Rename))
+        Some(OptionHead::OfPair(PairHead::Rename))
     } else if text == "-np" {
-        Some(Head::OfPair(PairHead::Prefix))
+        Some(OptionHead::OfPair(PairHead::Prefix))
     } else if text == "-ns" {
-        Some(Head::OfPair(PairHead::Suffix))
+        Some(OptionHead::OfPair(PairHead::Suffix))
     } else if text == "-ar" {
-        Some(Head::OfPair(PairHead::Alias))
+        Some(OptionHead::OfPair(PairHead::Alias))
     } else if text == "-ap" {
-        Some(Head::OfPair(PairHead::AliasPrefix))
+        Some(OptionHead::OfPair(PairHead::AliasPrefix))
     } else if text == "-as" {
-        Some(Head::OfPair(PairHead::AliasSuffix))
+        Some(OptionHead::OfPair(PairHead::AliasSuffix))
     } else if text == "-nw" {
-        Some(Head::OfName(NameHead::Weaken))
+        Some(OptionHead::OfName(NameHead::Weaken))
     } else if text == "-nl" {
-        Some(Head::OfName(NameHead::MakeLocal))
+        Some(OptionHead::OfName(NameHead::MakeLocal))
     } else {
         None
     }
@@ -110,63 +110,63 @@ impl NameHead {
 }
 
 // what an old and a new name say
-fn said_pair(alloc: Global, head: PairHead, old: &str, new: &str) -> Result<Said, NoMemory>
+fn said_pair(alloc: Global, head: PairHead, old: &str, new: &str) -> Result<Argument, NoMemory>
     ensures { IfOk result (λ said. said ≡ options.said_pair head (record { before = old.now; after = new.now })) }
 {
     if old.is_empty() || (new.is_empty() && !head.takes_empty()) {
-        return Ok(Said::Faulty(WordCode::BadPair));
+        return Ok(Argument::Faulty(WordCode::BadPair));
     }
     let from = Bytes::from_slice(alloc, old.as_bytes())?;
     let to = Bytes::from_slice(alloc, new.as_bytes())?;
-    Ok(Said::Asks(head.edit(from, to)))
+    Ok(Argument::Asks(head.edit(from, to)))
 }
 
-// what one name says
-fn said_name(alloc: Global, head: NameHead, name: &str) -> Result<Said, NoMemory>
+// what one name means
+fn said_name(alloc: Global, head: NameHead, name: &str) -> Result<Argument, NoMemory>
     ensures { IfOk result (λ said. said ≡ options.said_name head name.now) }
 {
     if name.is_empty() {
-        return Ok(Said::Faulty(WordCode::BadPair));
+        return Ok(Argument::Faulty(WordCode::BadPair));
     }
     let name = Bytes::from_slice(alloc, name.as_bytes())?;
-    Ok(Said::Asks(head.edit(name)))
+    Ok(Argument::Asks(head.edit(name)))
 }
 
-// what a head says with the text behind its colon
-fn said_with(alloc: Global, head: Head, text: &str) -> Result<Said, NoMemory>
+// what a head means with the text after its colon
+fn said_with(alloc: Global, head: OptionHead, text: &str) -> Result<Argument, NoMemory>
     ensures { IfOk result (λ said. said ≡ options.said_with head text.now) }
 {
     match head {
-        Head::OfPair(head) => match cut(text) {
+        OptionHead::OfPair(head) => match cut(text) {
             Some((old, new)) => said_pair(alloc, head, old, new),
-            None => Ok(Said::Faulty(WordCode::BadPair)),
+            None => Ok(Argument::Faulty(WordCode::BadPair)),
         },
-        Head::OfName(head) => said_name(alloc, head, text),
+        OptionHead::OfName(head) => said_name(alloc, head, text),
     }
 }
 
-// what an option says that is cut at its first colon
-fn said_cut(alloc: Global, head: &str, text: &str) -> Result<Said, NoMemory>
+// what an option that is cut at its first colon means
+fn said_cut(alloc: Global, head: &str, text: &str) -> Result<Argument, NoMemory>
     ensures { IfOk result (λ said. said ≡ options.said_cut (record { before = head.now; after = text.now })) }
 {
     match head_of(head) {
         Some(head) => said_with(alloc, head, text),
-        None => Ok(Said::Faulty(WordCode::UnknownOption)),
+        None => Ok(Argument::Faulty(WordCode::UnknownOption)),
     }
 }
 
-// what an option says that has no colon
-fn said_bare(word: &str) -> Said
+// what an option that has no colon means
+fn said_bare(word: &str) -> Argument
     ensures { result ≡ options.said_bare word.now }
 {
     match head_of(word) {
-        Some(_) => Said::Faulty(WordCode::BadPair),
-        None => Said::Faulty(WordCode::UnknownOption),
+        Some(_) => Argument::Faulty(WordCode::BadPair),
+        None => Argument::Faulty(WordCode::UnknownOption),
     }
 }
 
-/// What an option with a head says. `NoMemory` where there is none for the names. Linear.
-pub(crate) fn headed_word(alloc: Global, word: &str) -> Result<Said, NoMemory>
+/// What an option with a head means. `NoMemory` where there is no memory for the names. Linear.
+pub(crate) fn headed_word(alloc: Global, word: &str) -> Result<Argument, NoMemory>
     ensures { IfOk result (λ said. said ≡ options.headed_word word.now) }
 {
     match cut(word) {

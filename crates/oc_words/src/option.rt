@@ -1,4 +1,4 @@
-//! What one word of a conversion says by itself.
+//! What one word of a conversion means by itself.
 ghost use Rattle.std.specs.Prelude.{◌≡◌, IfOk};
 ghost use Rattle.oc_words.specs.Options as options;
 
@@ -10,9 +10,9 @@ use oc_base::{Format, NoMemory};
 use oc_names::{Choice, Edit};
 use std::alloc::Global;
 
-/// What one word of a conversion says by itself.
+/// What one word of a conversion means by itself.
 #[derive(Drop)]
-pub enum Said {
+pub enum Argument {
     /// It is the name of a file.
     Operand,
     /// It names the target.
@@ -23,24 +23,24 @@ pub enum Said {
     Debug(Choice),
     /// It chooses what becomes of Exception sections: Strip or Keep.
     Exceptions(Choice),
-    /// It is at fault, whatever stands before it.
+    /// It is at fault, whatever comes before it.
     Faulty(WordCode),
 }
 
-// what a fixed word says
-fn fixed_word(word: &str) -> Option<Said>
+// what a fixed word means
+fn fixed_word(word: &str) -> Option<Argument>
     ensures { result ≡ options.fixed_word word.now }
 {
     if word == "-nu" {
-        Some(Said::Asks(Edit::Underscore))
+        Some(Argument::Asks(Edit::Underscore))
     } else if word == "--strip-debug" {
-        Some(Said::Debug(Choice::Strip))
+        Some(Argument::Debug(Choice::Strip))
     } else if word == "--keep-debug" {
-        Some(Said::Debug(Choice::Keep))
+        Some(Argument::Debug(Choice::Keep))
     } else if word == "--strip-exceptions" {
-        Some(Said::Exceptions(Choice::Strip))
+        Some(Argument::Exceptions(Choice::Strip))
     } else if word == "--keep-exceptions" {
-        Some(Said::Exceptions(Choice::Keep))
+        Some(Argument::Exceptions(Choice::Keep))
     } else {
         None
     }
@@ -64,27 +64,28 @@ fn is_option(word: &str) -> bool
     }
 }
 
-// what an option says
-fn option_word(alloc: Global, word: &str) -> Result<Said, NoMemory>
+// what an option means
+fn option_word(alloc: Global, word: &str) -> Result<Argument, NoMemory>
     ensures { IfOk result (λ said. said ≡ options.option_word word.now) }
 {
     if let Some(said) = fixed_word(word) {
         return Ok(said);
     }
     if let Some(to) = target_word(word) {
-        return Ok(Said::Target(to));
+        return Ok(Argument::Target(to));
     }
     headed_word(alloc, word)
 }
 
-/// What a word says by itself. `NoMemory` where there is none for its names. Linear in the word.
+/// What a word means by itself. `NoMemory` where there is no memory for its names. Linear in the
+/// word.
 #[tactic(auto, unfolding(crate::specs::Options::said_by))]
-pub(crate) fn said_by(alloc: Global, word: &str) -> Result<Said, NoMemory>
+pub(crate) fn said_by(alloc: Global, word: &str) -> Result<Argument, NoMemory>
     ensures { IfOk result (λ said. said ≡ options.said_by word.now) }
 {
     if is_option(word) {
         option_word(alloc, word)
     } else {
-        Ok(Said::Operand)
+        Ok(Argument::Operand)
     }
 }

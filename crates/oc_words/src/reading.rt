@@ -1,4 +1,4 @@
-//! A conversion's words, taken up one after the other.
+//! A conversion's words, recorded one after another.
 ghost use Rattle.std.specs.Prelude.{◌≡◌, ◌<◌, [], IfOk, IfErr, length, take, slice_get, Some};
 ghost use Rattle.oc_words.specs.Faults.{IsFaultAt, IsFaultOf};
 ghost use Rattle.oc_words.specs.Jobs as jobs;
@@ -6,12 +6,12 @@ ghost use Rattle.oc_words.specs.Readings.{IsReadingOf, listed, listed_target, wi
 
 use crate::fault::{WordCode, WordFault};
 use crate::job::Job;
-use crate::option::Said;
+use crate::option::Argument;
 use oc_base::{Format, Text};
 use oc_names::{Choice, Edit, Edits};
 use std::alloc::Global;
 
-/// The names of files that were taken up.
+/// The recorded names of files.
 #[derive(Drop)]
 pub enum Names {
     /// None yet.
@@ -22,7 +22,7 @@ pub enum Names {
     Both(Text, Text),
 }
 
-/// What a conversion's words say that were taken up.
+/// What the recorded words of a conversion mean.
 #[derive(Drop)]
 pub struct Reading {
     /// The target.
@@ -70,7 +70,7 @@ impl Names {
 }
 
 impl Reading {
-    /// Nothing was taken up. Constant time, no memory.
+    /// Nothing is recorded yet. Constant time, no memory.
     pub(crate) fn new(alloc: Global) -> Reading
         ensures { IsReadingOf [] result }
     {
@@ -83,8 +83,8 @@ impl Reading {
 
     // with one more name of a file, the word at `index`
     fn with_operand(self, alloc: Global, index: u32, name: &str) -> Result<Reading, WordFault>
-        ensures ok { IfOk result (λ after. with_said self name.now Said.Operand ≡ Ok after) }
-        ensures err { IfErr result (IsFaultAt index (with_said self name.now Said.Operand)) }
+        ensures ok { IfOk result (λ after. with_said self name.now Argument.Operand ≡ Ok after) }
+        ensures err { IfErr result (IsFaultAt index (with_said self name.now Argument.Operand)) }
     {
         let Reading { to, wishes, names } = self;
         let names = names.with_name(alloc, index, name)?;
@@ -93,8 +93,8 @@ impl Reading {
 
     // with a target, which the word at `index` names
     fn with_target(self, index: u32, to: Format) -> Result<Reading, WordFault>
-        ensures ok { IfOk result (λ after. with_said self [] (Said.Target to) ≡ Ok after) }
-        ensures err { IfErr result (IsFaultAt index (with_said self [] (Said.Target to))) }
+        ensures ok { IfOk result (λ after. with_said self [] (Argument.Target to) ≡ Ok after) }
+        ensures err { IfErr result (IsFaultAt index (with_said self [] (Argument.Target to))) }
     {
         match self.to {
             None => Ok(Reading {
@@ -108,7 +108,7 @@ impl Reading {
 
     // with one more edit
     fn with_edit(mut self, edit: Edit) -> Result<Reading, WordFault>
-        ensures ok { IfOk result (λ after. with_said self [] (Said.Asks edit) ≡ Ok after) }
+        ensures ok { IfOk result (λ after. with_said self [] (Argument.Asks edit) ≡ Ok after) }
         ensures err { IfErr result (λ fault. fault ≡ WordFault.NoMemory) }
     {
         self.wishes.push(edit)?;
@@ -117,8 +117,8 @@ impl Reading {
 
     // with a choice for Debug sections, which the word at `index` makes
     fn with_debug(mut self, index: u32, choice: Choice) -> Result<Reading, WordFault>
-        ensures ok { IfOk result (λ after. with_said self [] (Said.Debug choice) ≡ Ok after) }
-        ensures err { IfErr result (IsFaultAt index (with_said self [] (Said.Debug choice))) }
+        ensures ok { IfOk result (λ after. with_said self [] (Argument.Debug choice) ≡ Ok after) }
+        ensures err { IfErr result (IsFaultAt index (with_said self [] (Argument.Debug choice))) }
     {
         if conflicts(self.wishes.debug(), choice) {
             return Err(bad(index, WordCode::Conflict));
@@ -129,8 +129,8 @@ impl Reading {
 
     // with a choice for Exception sections, which the word at `index` makes
     fn with_exceptions(mut self, index: u32, choice: Choice) -> Result<Reading, WordFault>
-        ensures ok { IfOk result (λ after. with_said self [] (Said.Exceptions choice) ≡ Ok after) }
-        ensures err { IfErr result (IsFaultAt index (with_said self [] (Said.Exceptions choice))) }
+        ensures ok { IfOk result (λ after. with_said self [] (Argument.Exceptions choice) ≡ Ok after) }
+        ensures err { IfErr result (IsFaultAt index (with_said self [] (Argument.Exceptions choice))) }
     {
         if conflicts(self.wishes.exceptions(), choice) {
             return Err(bad(index, WordCode::Conflict));
@@ -139,25 +139,25 @@ impl Reading {
         Ok(self)
     }
 
-    /// With what the word at `index` says. The fault stands at that word; `NoMemory` where there is
-    /// none for a name. Linear in the word.
+    /// With what the word at `index` means. The fault is at that word; `NoMemory` where there is no
+    /// memory for a name. Linear in the word.
     pub(crate) fn with_said(
         self,
         alloc: Global,
         index: u32,
         word: &str,
-        said: Said,
+        said: Argument,
     ) -> Result<Reading, WordFault>
         ensures ok { IfOk result (λ after. with_said self word.now said ≡ Ok after) }
         ensures err { IfErr result (IsFaultAt index (with_said self word.now said)) }
     {
         match said {
-            Said::Operand => self.with_operand(alloc, index, word),
-            Said::Target(to) => self.with_target(index, to),
-            Said::Asks(edit) => self.with_edit(edit),
-            Said::Debug(choice) => self.with_debug(index, choice),
-            Said::Exceptions(choice) => self.with_exceptions(index, choice),
-            Said::Faulty(code) => Err(bad(index, code)),
+            Argument::Operand => self.with_operand(alloc, index, word),
+            Argument::Target(to) => self.with_target(index, to),
+            Argument::Asks(edit) => self.with_edit(edit),
+            Argument::Debug(choice) => self.with_debug(index, choice),
+            Argument::Exceptions(choice) => self.with_exceptions(index, choice),
+            Argument::Faulty(code) => Err(bad(index, code)),
         }
     }
 

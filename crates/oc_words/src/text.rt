@@ -2,8 +2,8 @@
 ghost use Rattle.std.specs.Prelude.{◌≡◌, MatchOption, Some, None};
 ghost use Rattle.oc_words.specs.Texts as texts;
 
-/// What stands behind the prefix; `None` exactly where the text does not begin with it. Linear in
-/// the prefix, no memory.
+/// What comes after the prefix; `None` exactly where the text does not begin with it. Linear in the
+/// prefix, no memory.
 pub(crate) fn behind<'t>(prefix: &str, text: &'t str) -> Option<&'t str>
     ensures { MatchOption result (texts.behind prefix.now text.now ≡ None)
         (λ rest. texts.behind prefix.now text.now ≡ Some rest.now) }
@@ -11,8 +11,8 @@ pub(crate) fn behind<'t>(prefix: &str, text: &'t str) -> Option<&'t str>
     text.strip_prefix(prefix)
 }
 
-/// What stands before and behind the first colon; `None` exactly where the text has none. Linear,
-/// no memory.
+/// What comes before and after the first colon; `None` exactly where the text has none. Linear, no
+/// memory.
 pub(crate) fn cut(text: &str) -> Option<(&str, &str)>
     ensures { MatchOption result (texts.cut text.now ≡ None)
         (λ parts. texts.cut text.now ≡ Some (record { before = parts.0.now; after = parts.1.now })) }

@@ -33,7 +33,7 @@ impl Words {
         }
     }
 
-    /// Adds a copy of a word behind the others. `NoMemory` leaves the words as they were. Amortized
+    /// Adds a copy of a word after the others. `NoMemory` leaves the words as they were. Amortized
     /// linear in the word.
     pub fn push(&mut self, word: &str) -> Result<(), NoMemory>
         requires { length self.old < 2 ^ 32 - 1 }

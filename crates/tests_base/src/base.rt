@@ -13,7 +13,7 @@ const HEADER: [u8; 20] = [
 const NAMES: [u8; 11] = [0, 0x6D, 0x61, 0x69, 0x6E, 0, 0x66, 0x6F, 0x6F, 0, 0x78];
 
 /// The numbers of one, two, four and eight bytes at an offset of the header, on both sides of the
-/// last at which each is there.
+/// last at which each exists.
 const NUMBERS: [(u64, Option<u8>, Option<u16>, Option<u32>, Option<u64>); 9] = [
     (
         0,

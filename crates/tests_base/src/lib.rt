@@ -1,4 +1,5 @@
-//! Tests of the crates on which all formats stand, by what those make public: a module for each crate.
+//! Tests of the crates on which all formats are built, by what those make public: a module for each
+//! crate.
 #![tactic(auto)]
 
 #[cfg(test)]

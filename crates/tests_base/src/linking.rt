@@ -104,7 +104,7 @@ fn least_of_the_overflows(rt: HostRuntime) -> Result<(), Fail> {
         (fit, fit, unfit, (1, 0)),
     ];
     for (first, second, third, (section, offset)) in cases {
-        // the fields stand in no order
+        // the fields are in no order
         let fields = [
             four_bytes(1, 0, Check::Signed, third),
             four_bytes(0, 6, Check::Signed, second),

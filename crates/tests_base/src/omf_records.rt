@@ -12,7 +12,7 @@ const MODULE: [u8; 11] = [
 ];
 
 /// The blocks of the fixup to ELF: three times twice four bytes, with repeat counts of four bytes.
-/// The content stands at place 13.
+/// The content lies at place 13.
 const THREE_OF_TWO: [u8; 17] = [3, 0, 0, 0, 1, 0, 2, 0, 0, 0, 0, 0, 4, 7, 8, 9, 10];
 
 /// The content of those blocks, six times.
@@ -23,19 +23,19 @@ const SIX_TIMES: [u8; 24] = [
 /// The block of the lying repeat count: 0xFFFFFFFF times one byte.
 const LYING_COUNT: [u8; 8] = [0xFF, 0xFF, 0xFF, 0xFF, 0, 0, 1, 0];
 
-/// No time, over four levels of 0xFFFFFFFF times. The content stands at place 31.
+/// A block 0 times, which holds four levels of 0xFFFFFFFF times. The content lies at place 31.
 const NO_TIME: [u8; 35] = [
     0, 0, 0, 0, 1, 0, 0xFF, 0xFF, 0xFF, 0xFF, 1, 0, 0xFF, 0xFF, 0xFF, 0xFF, 1, 0, 0xFF, 0xFF, 0xFF,
     0xFF, 1, 0, 0xFF, 0xFF, 0xFF, 0xFF, 0, 0, 4, 7, 8, 9, 10,
 ];
 
-/// What is there no time in those blocks.
+/// What is repeated 0 times in those blocks.
 const MANY_TIMES: [u8; 29] = [
     0xFF, 0xFF, 0xFF, 0xFF, 1, 0, 0xFF, 0xFF, 0xFF, 0xFF, 1, 0, 0xFF, 0xFF, 0xFF, 0xFF, 1, 0, 0xFF,
     0xFF, 0xFF, 0xFF, 0, 0, 4, 7, 8, 9, 10,
 ];
 
-/// 0xFFFFFFFF times 0xFFFFFFFF times a content that is there no time.
+/// 0xFFFFFFFF times 0xFFFFFFFF times a content that is repeated 0 times.
 const OVER_NO_TIME: [u8; 23] = [
     0xFF, 0xFF, 0xFF, 0xFF, 1, 0, 0xFF, 0xFF, 0xFF, 0xFF, 1, 0, 0, 0, 0, 0, 0, 0, 4, 7, 8, 9, 10,
 ];
@@ -46,7 +46,7 @@ const ROWS: [u8; 23] = [
     2, 0, 2, 0, 1, 0, 0, 0, 2, 0x61, 0x62, 3, 0, 0, 0, 1, 0x63, 1, 0, 0, 0, 1, 0x64,
 ];
 
-/// No time a row of `7 8 9 10` and three times `x`. The content stands at place 9.
+/// 0 times a row of `7 8 9 10` and three times `x`. The content lies at place 9.
 const FIRST_NO_TIME: [u8; 19] = [0, 0, 2, 0, 1, 0, 0, 0, 4, 7, 8, 9, 10, 3, 0, 0, 0, 1, 0x78];
 
 /// That row once.
@@ -55,7 +55,7 @@ const FIRST_ONCE: [u8; 19] = [1, 0, 2, 0, 1, 0, 0, 0, 4, 7, 8, 9, 10, 3, 0, 0, 0
 /// That row twice.
 const FIRST_TWICE: [u8; 19] = [2, 0, 2, 0, 1, 0, 0, 0, 4, 7, 8, 9, 10, 3, 0, 0, 0, 1, 0x78];
 
-/// No time a row of three times `x` and `7 8 9 10`. The content stands at place 15.
+/// 0 times a row of three times `x` and `7 8 9 10`. The content lies at place 15.
 const LAST_NO_TIME: [u8; 19] = [0, 0, 2, 0, 3, 0, 0, 0, 1, 0x78, 1, 0, 0, 0, 4, 7, 8, 9, 10];
 
 /// That row once.
@@ -65,18 +65,18 @@ const LAST_ONCE: [u8; 19] = [1, 0, 2, 0, 3, 0, 0, 0, 1, 0x78, 1, 0, 0, 0, 4, 7, 
 const LAST_TWICE: [u8; 19] = [2, 0, 2, 0, 3, 0, 0, 0, 1, 0x78, 1, 0, 0, 0, 4, 7, 8, 9, 10];
 
 /// Twice a row of a block and `y`; in the block once `7 8 9 10` and three times `x`. The content
-/// stands at place 13.
+/// lies at place 13.
 const ONCE_IN_TWICE: [u8; 29] = [
     2, 0, 2, 0, 1, 0, 2, 0, 1, 0, 0, 0, 4, 7, 8, 9, 10, 3, 0, 0, 0, 1, 0x78, 1, 0, 0, 0, 1, 0x79,
 ];
 
-/// Twice a row of `y` and a block; in the block twice `x` and `7 8 9 10`. The content stands at
-/// place 25.
+/// Twice a row of `y` and a block; in the block twice `x` and `7 8 9 10`. The content lies at place
+/// 25.
 const TWICE_IN_TWICE: [u8; 29] = [
     2, 0, 2, 0, 1, 0, 0, 0, 1, 0x79, 2, 0, 2, 0, 1, 0, 0, 0, 1, 0x78, 1, 0, 0, 0, 4, 7, 8, 9, 10,
 ];
 
-/// No time `7 8 9 10`, and after it `y`. The content stands at place 5.
+/// 0 times `7 8 9 10`, and after it `y`. The content lies at place 5.
 const NOT_THERE: [u8; 15] = [0, 0, 0, 0, 4, 7, 8, 9, 10, 1, 0, 0, 0, 1, 0x79];
 
 /// One byte in so many levels of blocks, each there once.

@@ -40,12 +40,12 @@ fn expect(rt: &impl Abort, table: &Table, places: &[(&[u8], Option<u32>)]) {
     }
 }
 
-/// Where `a`, `ba` and `cba` stand in their one text.
+/// Where `a`, `ba` and `cba` lie in their one text.
 const CHAIN: &[(&[u8], Option<u32>)] = &[(b"cba", Some(1)), (b"ba", Some(2)), (b"a", Some(3))];
 
 const CASES: [Case; 11] = [
-    // The string table of a canonical COFF file with these two symbols: the first text stands
-    // after the four bytes of the size.
+    // The string table of a canonical COFF file with these two symbols: the first text comes after
+    // the four bytes of the size.
     (
         4,
         &[b"my_function", b"_my_function"],
@@ -63,7 +63,7 @@ const CASES: [Case; 11] = [
     (1, &[b"ba", b"cba", b"a"], b"cba\0", CHAIN),
     (1, &[b"cba", b"a", b"ba"], b"cba\0", CHAIN),
     (1, &[b"cba", b"ba", b"a"], b"cba\0", CHAIN),
-    // `bar` ends both texts, and stands in the one that is used first.
+    // `bar` ends both texts, and lies in the one that is used first.
     (
         1,
         &[b"bar", b"foobar", b"xbar"],
@@ -76,7 +76,7 @@ const CASES: [Case; 11] = [
         b"xbar\0foobar\0",
         &[(b"bar", Some(2)), (b"foobar", Some(6))],
     ),
-    // Equal names stand once. A name of one byte and one with a NUL are names like any other.
+    // Equal names are stored once. A name of one byte and one with a NUL are names like any other.
     (
         0,
         &[b"b", b"a", b"b", b"x\0a", b"a", b"x\0a"],

@@ -1,10 +1,11 @@
-//! COFF objects of many sections, read, and their faults, told by hand from the structures of winnt.h.
+//! COFF objects of many sections, read, and their faults, worked out by hand from the structures of
+//! winnt.h.
 ghost use Rattle.std.specs.Prelude.{◌≤◌, length};
 ghost use Rattle.oc_base.specs.declared.limits.TheConstants.{MOST_INPUT};
 
 use crate::cases::{Edits, KEEP, expected, fault_in, put};
-use oc_base::Code::{BadHeader, BadSymbol, BadTable, Short, self};
-use oc_base::Phase::{Header, Section, Symbol, self};
+use oc_base::Code::{self, BadHeader, BadSymbol, BadTable, Short};
+use oc_base::Phase::{self, Header, Section, Symbol};
 use oc_base::{Fault, Word};
 use oc_big_coff::{BigCoffReader32, BigCoffReader64};
 use oc_shows::Reads;

@@ -1,4 +1,4 @@
-//! Faults of COFF objects, told by hand from the rules and by an independent program.
+//! Faults of COFF objects, worked out by hand from the rules and by an independent program.
 mod headers;
 mod objects;
 mod relocations;
@@ -10,8 +10,8 @@ ghost use Rattle.oc_base.specs.declared.limits.TheConstants.{MOST_INPUT};
 
 use crate::cases::{Case, Edits, KEEP, expected, fault_in, put};
 use objects::{ALL, CALL, COMPILED, COUNT, FLAGS, R_SYMBOL, R_TYPE, SELECTION, STRINGS};
-use oc_base::Code::{Group, RelocKind, self};
-use oc_base::Phase::{Header, Relocation, Section, Symbol, self};
+use oc_base::Code::{self, Group, RelocKind};
+use oc_base::Phase::{self, Header, Relocation, Section, Symbol};
 use oc_base::{Fault, Word};
 use oc_coff_read::{CoffReader32, CoffReader64};
 use oc_neutral::Keep;
@@ -26,11 +26,11 @@ static GOOD: [(usize, Edits); 7] = [
     (STRINGS, &[]),
     // with its count in the only relocation
     (ALL, &[(FLAGS + 3, &[0x61]), (COUNT, &[0xFF, 0xFF])]),
-    // copies of which one may stand
+    // copies, of which only one may exist
     (ALL, &[(FLAGS + 1, &[0x10]), (SELECTION, &[1])]),
     // copies with a key
     (ALL, &[(FLAGS + 1, &[0x10]), (SELECTION, &[2])]),
-    // an entry that says nothing
+    // an entry that has no effect
     (ALL, &[(R_TYPE, &[0]), (R_SYMBOL, &[9])]),
     // its own symbol as the target
     (ALL, &[(R_SYMBOL, &[0])]),
@@ -100,7 +100,7 @@ fn fault_of(alloc: Global, word: Word, file: &[u8], keep: &Keep) -> Option<Fault
     }
 }
 
-// the first fault of the front of an object, into which these bytes are put
+// the first fault of a prefix of an object, into which these bytes are put
 fn found(
     alloc: Global,
     word: Word,
@@ -117,7 +117,7 @@ fn found(
 }
 
 /// Each condition that is broken alone, and then with the next one that can be broken too: the
-/// earlier is told.
+/// earlier is reported.
 #[test]
 fn conditions_in_their_order(rt: HostRuntime) -> Result<(), Fail> {
     let phases = [

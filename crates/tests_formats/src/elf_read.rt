@@ -1,4 +1,4 @@
-//! Faults of ELF objects, told by hand from the rules and by an independent program.
+//! Faults of ELF objects, worked out by hand from the rules and by an independent program.
 mod elf64;
 mod headers;
 mod limits;
@@ -33,7 +33,7 @@ fn fault_of(alloc: Global, class: ElfClass, file: &[u8]) -> Option<Fault>
     }
 }
 
-/// What an object of a class is said to have at fault, where these bytes are put into it.
+/// The fault that is reported of an object of a class, where these bytes are put into it.
 fn found(alloc: Global, class: ElfClass, file: &mut [u8], len: usize, edits: Edits) -> Option<Fault>
     requires { length file.old ≤ MOST_INPUT }
 {
@@ -68,12 +68,12 @@ const GOOD: [Edits; 12] = [
     ],
     // a field at the end of its section
     &[(R_OFFSET, &[2])],
-    // an entry that says nothing
+    // an entry that has no effect
     &[(R_OFFSET, &[0xFF]), (R_TYPE, &[0, 9])],
 ];
 
 /// Each condition that is broken alone, and then with the next one that can be broken too: the
-/// earlier is told.
+/// earlier is reported.
 #[test]
 fn conditions_in_their_order(rt: HostRuntime) -> Result<(), Fail> {
     let phases = [

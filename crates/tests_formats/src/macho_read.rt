@@ -1,4 +1,4 @@
-//! Faults of Mach-O objects, told by hand from the rules and by an independent program.
+//! Faults of Mach-O objects, worked out by hand from the rules and by an independent program.
 mod headers;
 mod objects;
 mod relocations;
@@ -51,7 +51,7 @@ const GOOD: [Edits; 17] = [
     &[(204, &[0xA])],
     // the greatest alignment
     &[(TEXT + ALIGN, &[0xF])],
-    // commas behind the segment's name and in the section's
+    // commas after the segment's name and in the section's
     &[(TEXT + SEGNAME + 7, &[0x2C]), (TEXT + 1, &[0x2C])],
     // an entry for debuggers without a name
     &[(MAIN, &[0x10]), (MAIN + N_TYPE, &[0x2B])],
@@ -82,7 +82,7 @@ const GOOD_PAIRS: [Edits; 6] = [
     &[],
     // an external symbol with a place is taken
     &[(444, &[0xF])],
-    // a field behind another
+    // a field after another
     &[(424, &[0xC]), (432, &[0xC])],
     // a difference of a symbol and itself
     &[(420, &[0])],
@@ -108,7 +108,7 @@ const GOOD_SCATTERED: [Edits; 4] = [
 ];
 
 /// Each condition that is broken alone, and then with the next one that can be broken too: the
-/// earlier is told.
+/// earlier is reported.
 #[test]
 fn conditions_in_their_order(rt: HostRuntime) -> Result<(), Fail> {
     let phases = [

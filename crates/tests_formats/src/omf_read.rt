@@ -10,8 +10,8 @@ use oc_shows::Reads;
 use std::alloc::Global;
 use std::test::Fail;
 
-/// Two fixups by threads: the frame is the group FLAT, and the target `b`; before the second fixup, a
-/// later thread of the same number says `c`.
+/// Two fixups by threads: the frame is the group FLAT, and the target `b`; before the second fixup,
+/// a later thread of the same number gives `c`.
 const THREADS: [u8; 98] = [
     0x80, 3, 0, 1, 0x61, 0, 0x96, 0x18, 0, 0, 4, 0x46, 0x4C, 0x41, 0x54, 4, 0x43, 0x4F, 0x44, 0x45,
     6, 0x44, 0x45, 0x42, 0x53, 0x59, 0x4D, 4, 0x44, 0x41, 0x54, 0x41, 0, 0x99, 9, 0, 0x29, 8, 0, 0,
@@ -20,8 +20,8 @@ const THREADS: [u8; 98] = [
     0x8C, 0, 0x8A, 2, 0, 0, 0,
 ];
 
-/// A self-relative fixup of `b` in a content of four bytes that stands twice in a block, which stands
-/// three times.
+/// A self-relative fixup of `b` in a content of four bytes that is repeated twice in a block, which
+/// is repeated three times.
 const ITERATED: [u8; 91] = [
     0x80, 3, 0, 1, 0x61, 0, 0x96, 0x18, 0, 0, 4, 0x46, 0x4C, 0x41, 0x54, 4, 0x43, 0x4F, 0x44, 0x45,
     6, 0x44, 0x45, 0x42, 0x53, 0x59, 0x4D, 4, 0x44, 0x41, 0x54, 0x41, 0, 0x99, 9, 0, 0x29, 0x18, 0,
@@ -29,7 +29,7 @@ const ITERATED: [u8; 91] = [
     0, 0, 0, 0, 0, 4, 0, 0, 0, 0, 0, 0x9D, 5, 0, 0xA4, 0x0D, 0x56, 1, 0, 0x8A, 2, 0, 0, 0,
 ];
 
-/// The same content in a block that stands no times.
+/// The same content in a block that is repeated 0 times.
 const NONE: [u8; 91] = [
     0x80, 3, 0, 1, 0x61, 0, 0x96, 0x18, 0, 0, 4, 0x46, 0x4C, 0x41, 0x54, 4, 0x43, 0x4F, 0x44, 0x45,
     6, 0x44, 0x45, 0x42, 0x53, 0x59, 0x4D, 4, 0x44, 0x41, 0x54, 0x41, 0, 0x99, 9, 0, 0x29, 4, 0, 0,

@@ -52,7 +52,7 @@ pub record IsAlone (s : Section) : Type 0 where
 abbrev pub IsStrongFirst : List Symbol → Type 0
 IsStrongFirst symbols = (s : Symbol) × (slice_get symbols 0 ≡ Some s) × (is_strong s.binding ≡ true)
 
--- an object of such a section and such symbols, in which symbol 0 may be said to be strong
+-- an object of such a section and such symbols, in which symbol 0 is strong where that is asked for
 pub record IsSmall (strong : Bool) (n : Object) : Type 0 where
   pub groups : n.groups ≡ []
   pub section : Section

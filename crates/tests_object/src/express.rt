@@ -9,7 +9,9 @@ ghost use Rattle.tests_object.specs.Elf.{IsGiven, elf_of};
 use crate::small::{add_first, begun, plain};
 use oc_base::{Bytes, Code, Format, NoMemory, Phase, Stop, Word, word_of};
 use oc_express::fit;
-use oc_neutral::{Base, Binding, Check, Fallback, Form, Hint, Kind, Less, Neutral, Section, Symbol, Width};
+use oc_neutral::{
+    Base, Binding, Check, Fallback, Form, Hint, Kind, Less, Neutral, Section, Symbol, Width,
+};
 use oc_target::{NoForm, Spelling, lookup};
 use std::alloc::Global;
 use std::test::Fail;
@@ -81,7 +83,7 @@ fn named(alloc: Global, name: &[u8], kind: Kind, tag: u64) -> Result<Section, No
     })
 }
 
-/// A section of ELF, whose name stands in a string table of COFF. Its tag is the type, PROGBITS or
+/// A section of ELF, whose name lies in a string table of COFF. Its tag is the type, PROGBITS or
 /// INIT_ARRAY, above the bits for EXECINSTR, ALLOC and WRITE.
 fn section(alloc: Global, purpose: For) -> Result<Section, NoMemory>
     ensures bytes { IfOk result HasItsBytes }

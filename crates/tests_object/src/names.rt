@@ -1,4 +1,4 @@
-//! Edits of small lists of symbols. What they become is worked by hand; two cases stand in the
+//! Edits of small lists of symbols. What they become is worked out by hand; two cases are among the
 //! worked cases of the whole program.
 ghost use Rattle.std.specs.Prelude.{◌≡◌, IfOk, IfSome, OnOk};
 ghost use Rattle.tests_object.specs.Small.{IsBare, IsPlain, Speaks};

@@ -29,7 +29,7 @@ pub(crate) fn code(alloc: Global, bytes: &[u8]) -> Result<Section, NoMemory>
     })
 }
 
-/// A symbol of that name, binding and number, of which nothing else is said.
+/// A symbol of that name, binding and number, of which nothing else is given.
 pub(crate) fn plain(
     alloc: Global,
     name: &[u8],
@@ -75,7 +75,7 @@ fn can_be_named(binding: Binding) -> bool
     }
 }
 
-/// Adds the first symbol, and says whether it is strong.
+/// Adds the first symbol, and gives whether it is strong.
 pub(crate) fn add_first(builder: &mut Builder, symbol: Symbol) -> Result<bool, BuildFault>
     requires bare { IsBare false builder.old.object }
     requires none { builder.old.object.symbols ≡ [] }

@@ -1,8 +1,9 @@
-//! Converts worked objects, and compares each output with stored bytes: what an independent model of
-//! the conversion gives, or, for objects of real tools, what other tools confirmed (`data/README`).
+//! Converts worked objects, and compares each output with stored bytes: what an independent model
+//! of the conversion gives, or, for objects of real tools, what other tools confirmed
+//! (`data/README`).
 //!
-//! `worked_conversions TARGET IN WANT ..` prints a line for each three words: TARGET is an option, as
-//! `-fcoff32`, IN and WANT are files. The output stands in `out.obj`.
+//! `worked_conversions TARGET IN WANT ..` prints a line for each three words: TARGET is an option,
+//! as `-fcoff32`, IN and WANT are files. The output is written to `out.obj`.
 #![tactic(auto)]
 
 use anyhow::{Result, anyhow};
@@ -12,7 +13,7 @@ use oc_outside::{LIMIT, RealConsole, RealFiles, read_file};
 use std::alloc::Global;
 use std::env;
 
-/// Where an output stands.
+/// The file that holds an output.
 const OUT: &str = "out.obj";
 
 // the words of a conversion

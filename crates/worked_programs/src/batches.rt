@@ -1,9 +1,10 @@
-//! Batches over files and a console in memory: each status but that for want of memory, each call that
-//! fails, what parts words and lines, and jobs of which one is not done.
+//! Batches over files and a console in memory: each status but that for lack of memory, each call
+//! that fails, what separates words and lines, and jobs of which one is not done.
 //!
-//! A line for each batch tells the status, the text on standard error, what the files `b` and `c` hold, and
-//! what was shown. What must be printed comes from the command's description (docs/OBJBATCH.md); the object
-//! `batch_b.obj` comes from an independent model of the conversion of `batch_a.o`.
+//! A line for each batch gives the status, the text on standard error, what the files `b` and `c`
+//! hold, and what was shown. What must be printed comes from the command's description
+//! (docs/OBJBATCH.md); the object `batch_b.obj` comes from an independent model of the conversion
+//! of `batch_a.o`.
 ghost use Rattle.std.specs.Prelude.{◌-◌, ◌^◌, None};
 
 use anyhow::{Result, anyhow};
@@ -64,7 +65,8 @@ const BACK: Batch = Batch {
     failing: None,
 };
 
-/// A job that is no job, and a listing: a text is told, a line, the listing and a line are shown.
+/// A job that is no job, and a listing: a text is written to standard error; a line, the listing
+/// and a line are shown.
 const BAD_JOB: Batch = Batch {
     name: "a job that is no job, an empty line, and a listing",
     list: Some(b"-fcoff32\n\n-ds a\n"),
@@ -304,7 +306,7 @@ impl Batch {
         Ok(console)
     }
 
-    // runs the batch, and says what came of it
+    // runs the batch, and gives what came of it
     fn outcome(&self, alloc: Global, objects: &Objects) -> Result<Outcome> {
         let words = words_of(alloc, self.words)?;
         let mut files = self.files(alloc, objects)?;

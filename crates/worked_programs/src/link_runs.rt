@@ -42,7 +42,7 @@ impl<'a> LinkRun<'a> {
         }
     }
 
-    /// Runs the command, and says what came of it.
+    /// Runs the command, and gives what came of it.
     pub fn outcome(&self, alloc: Global) -> Result<Outcome> {
         let mut files = MemFiles::new(alloc);
         if let Some(object) = self.object {

@@ -41,7 +41,7 @@ impl<'a> ListRun<'a> {
         }
     }
 
-    /// Runs the command, and says what came of it.
+    /// Runs the command, and gives what came of it.
     pub fn outcome(&self, alloc: Global) -> Result<Outcome> {
         let mut files = MemFiles::new(alloc);
         if let Some(object) = self.object {

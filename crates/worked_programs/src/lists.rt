@@ -115,7 +115,7 @@ fn failing_calls(rt: &HostRuntime, alloc: Global, object: &[u8]) -> Result<()> {
     Ok(())
 }
 
-// runs where there is no object, and where a text is not told
+// runs where there is no object, and where a text is not written
 fn without_object(rt: &HostRuntime, alloc: Global) -> Result<()> {
     let absent = ListRun {
         words: RELOCATIONS,

@@ -1,6 +1,7 @@
-//! Runs `objlink`, `objlist` and batches over files and consoles in memory, a line a run: its status, the text
-//! on standard error, and what was shown. What must be printed comes from the descriptions of the programs,
-//! and where an object is linked from arithmetic that stands beside the row.
+//! Runs `objlink`, `objlist` and batches over files and consoles in memory, a line a run: its
+//! status, the text on standard error, and what was shown. What must be printed comes from the
+//! descriptions of the programs, and, where an object is linked, from arithmetic that is written
+//! beside the row.
 #![tactic(auto)]
 
 mod batches;

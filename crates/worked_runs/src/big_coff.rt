@@ -17,7 +17,7 @@ pub const SECTIONS: u32 = 70_000;
 /// Code that is run and read, at multiples of 1 (PE/COFF, "Section Flags").
 const CODE: u32 = 0x6010_0020;
 
-/// A call, with zeros where its distance stands.
+/// A call, with zeros where its distance lies.
 const CALL: &[u8; 5] = b"\xe8\0\0\0\0";
 
 /// A machine, and the type of a relocation that is a distance of four bytes (PE/COFF, "Type Indicators").
@@ -48,7 +48,7 @@ const FUNCTIONS: [(&[u8; 8], u32); 4] = [
     (b"last\0\0\0\0", SECTIONS),
 ];
 
-// appends the file header, where the symbols stand at `table`
+// appends the file header, where the symbols lie at `table`
 fn put_header(bytes: &mut Vec<u8>, machine: u16, table: u32) -> Result<(), NoMemory> {
     for number in [0, 0xFFFF, 2, machine, 0, 0] {
         half(bytes, number)?;

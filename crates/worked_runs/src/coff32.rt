@@ -94,8 +94,8 @@ pub fn many_sections(alloc: Global, count: u16) -> Result<Vec<u8>> {
     Ok(file)
 }
 
-/// Two sections whose names stand among the strings: after one of 9,999,995 letters, the offset of the
-/// other takes eight digits.
+/// Two sections whose names lie among the strings: after one of 9,999,995 letters, the offset of
+/// the other takes eight digits.
 pub fn far_names(alloc: Global) -> Result<Vec<u8>> {
     let mut file = Vec::new(alloc);
     put_header(&mut file, 2, HEADER_SIZE + 2 * SECTION_SIZE, 0)?;
@@ -103,7 +103,7 @@ pub fn far_names(alloc: Global) -> Result<Vec<u8>> {
         flags: DATA,
         ..Section::default()
     };
-    // here the second name stands first, at 4, and the long one at 14
+    // here the second name comes first, at 4, and the long one at 14
     put_section(&mut file, b"/14\0\0\0\0\0", section)?;
     put_section(&mut file, b"/4\0\0\0\0\0\0", section)?;
     word(&mut file, 14 + 9_999_995 + 1)?;

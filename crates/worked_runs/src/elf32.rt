@@ -61,8 +61,8 @@ pub fn put_relocation(
 /// The names of the last three sections of an object.
 const TABLES: &[u8] = b".symtab\0.strtab\0.shstrtab\0";
 
-/// The sections of an object so far: their names, their bytes, which stand behind the file header, and
-/// their headers.
+/// The sections of an object so far: their names, their bytes, which come after the file header,
+/// and their headers.
 #[derive(Drop)]
 pub struct Object {
     alloc: Global,
@@ -87,7 +87,7 @@ impl Object {
         })
     }
 
-    // where the next byte stands in the file
+    // where the next byte comes in the file
     fn end(&self) -> Result<u32> {
         Ok(u32::try_from(EHDR_SIZE.saturating_add(self.parts.len()))?)
     }
@@ -102,7 +102,7 @@ impl Object {
         Ok(())
     }
 
-    /// Adds a section of these bytes behind the others, at a multiple of its alignment.
+    /// Adds a section of these bytes after the others, at a multiple of its alignment.
     pub fn section(&mut self, shdr: Shdr, bytes: &[u8]) -> Result<()> {
         self.align(shdr.sh_addralign)?;
         let sh_offset = self.end()?;

@@ -1,11 +1,13 @@
-//! Runs the command over files and a console in memory: with each option, between every two formats of one
-//! word, with every refusal, `--make` in each format, with a device call that fails, with inputs that are
-//! cut to each of their lengths, with inputs whose numbers lie or that are big, and with many sections.
+//! Runs the command over files and a console in memory: with each option, between every two formats
+//! of one word, with every refusal, `--make` in each format, with a device call that fails, with
+//! inputs that are cut to each of their lengths, with inputs whose numbers lie or that are big, and
+//! with many sections.
 //!
-//! A line for each run tells the status, the text on standard error, what OUT holds, and what was shown. What
-//! must be printed comes from the command's description, the outputs from an independent model of the
-//! conversion and, for the options, `--make` and the sums (FNV-1a), from the layouts of canonical files
-//! (`data/layouts.py`, `data/made.py`, `data/big.py`); the inputs of refusals are made by `data/refusals.py`.
+//! A line for each run gives the status, the text on standard error, what OUT holds, and what was
+//! shown. What must be printed comes from the command's description, the outputs from an
+//! independent model of the conversion and, for the options, `--make` and the sums (FNV-1a), from
+//! the layouts of canonical files (`data/layouts.py`, `data/made.py`, `data/big.py`); the inputs of
+//! refusals are made by `data/refusals.py`.
 #![tactic(auto)]
 
 mod big;

@@ -49,7 +49,7 @@ impl<'a> Run<'a> {
         }
     }
 
-    /// Runs the command, and says what came of it.
+    /// Runs the command, and gives what came of it.
     pub fn outcome(&self, alloc: Global) -> Result<Outcome> {
         let (outcome, _files) = self.ended(alloc)?;
         Ok(outcome)

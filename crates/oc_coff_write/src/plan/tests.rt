@@ -1,4 +1,5 @@
 //! What a plan holds of a file: the bytes of sections, and the numbers of its structures.
+use super::CoffParts;
 use crate::writer::CoffWriter64;
 use oc_base::Format;
 use oc_express::fit;
@@ -6,7 +7,6 @@ use oc_plans::object_of_data;
 use oc_shelf::Layout;
 use oc_target::Writes;
 use std::test::Fail;
-use super::CoffParts;
 
 /// How many bytes the one section has.
 const SIZE: u32 = 100_000;

@@ -1,4 +1,5 @@
 //! What a plan holds of a file: the bytes of sections, and the numbers of its structures; and its windows.
+use super::MachParts;
 use crate::bodies::Bodies;
 use crate::heads::Heads;
 use crate::writer::MachWriter64;
@@ -8,7 +9,6 @@ use oc_plans::object_of_data;
 use oc_shelf::Layout;
 use oc_target::{Emits, Writes};
 use std::test::Fail;
-use super::MachParts;
 
 /// The plan of 100,000 bytes of data has these, one section header, and a place for each part: the header
 /// of 32 bytes, commands of 256, the data, and a string table of eight bytes.

@@ -1,4 +1,4 @@
-//! Where what stays comes to stand.
+//! The new positions of what stays.
 ghost use Rattle.std.specs.Prelude.{◌≡◌, ◌^◌, ◌<◌, length, IfOk};
 ghost use Rattle.oc_neutral.specs.Without as without;
 
@@ -10,7 +10,7 @@ use oc_linking::{Binding, Fallback, Value};
 use std::alloc::Global;
 use std::marker::Model;
 
-/// Of each item of a list, whether it stays, and where it stands then. Contracts see the flags.
+/// For each item of a list, whether it stays, and its position then. Contracts see the flags.
 #[derive(Debug, Drop)]
 pub(crate) struct Moves<'a> {
     stay: &'a [bool],

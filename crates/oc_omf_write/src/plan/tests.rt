@@ -1,4 +1,5 @@
 //! What a plan holds of a file, where data are cut, and windows of a small file.
+use super::OmfParts;
 use crate::tables::Tables;
 use crate::writer::OmfWriter;
 use oc_base::Format;
@@ -7,7 +8,6 @@ use oc_plans::object_of_data;
 use oc_shelf::Layout;
 use oc_target::{Emits, Writes};
 use std::test::Fail;
-use super::OmfParts;
 
 /// How many bytes the one section has.
 const SIZE: u32 = 100_000;
@@ -45,8 +45,8 @@ fn a_plan_does_not_keep_the_file(rt: HostRuntime) -> Result<(), Fail> {
     Ok(())
 }
 
-/// Sizes of data, how many entries their file has, and how many bytes: five entries of 55 bytes stand beside the
-/// pieces, of which each has up to 1,024 bytes of data and nine others.
+/// Sizes of data, how many entries their file has, and how many bytes: there are five entries of 55
+/// bytes besides the pieces, of which each has up to 1,024 bytes of data and nine others.
 static SIZES: [(u32, usize, u64); 6] = [
     (0, 5, 55),
     (1, 6, 65),

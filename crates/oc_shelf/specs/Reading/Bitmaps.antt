@@ -4,7 +4,7 @@ use Rattle.std.specs.Int.{bit_at}
 use Rattle.std.specs.Option.{option_map_or}
 use Rattle.oc_shelf.specs.Reading.Firsts.{any_upto}
 
--- how many bytes the words tell of
+-- how many bytes the words cover
 abbrev pub room : List ℕ → ℕ
 room words = 64 * length words
 

@@ -1,4 +1,4 @@
--- What stands at each number below a count (our profile).
+-- What is at each number below a count (our profile).
 use Rattle.std.specs.Prelude.{◌≡◌, ℕ, ◌<◌, List, length, slice_index_or, Option, None, Some, if◌then◌else◌, bytes_eq}
 use Rattle.std.specs.List.{position_or_len}
 use Rattle.oc_base.specs.Strings.{is_given}

@@ -16,7 +16,7 @@ pub record AreSpans (spans : List (ℕ × ℕ)) : Type 0 where
   pub some : (q e : ℕ) → end_at spans q ≡ Some e → q < e
   pub apart : (q e r f : ℕ) → end_at spans q ≡ Some e → end_at spans r ≡ Some f → q < r → e ≤ r
 
--- none ends behind a place
+-- none ends past a place
 abbrev pub EndBy : ℕ → List (ℕ × ℕ) → Type 0
 EndBy top spans = (q e : ℕ) → end_at spans q ≡ Some e → e ≤ top
 

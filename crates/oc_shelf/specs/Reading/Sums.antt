@@ -1,7 +1,7 @@
 -- Running sums with a limit (our profile).
 use Rattle.std.specs.Prelude.{ℕ, zero, suc, ◌+◌, Bool, nat_lt}
 
--- what the first n structures are worth together
+-- the sum of the values of the first n structures
 abbrev pub sum_upto : (ℕ → ℕ) → ℕ → ℕ
 sum_upto worth zero = 0
 sum_upto worth (suc n) = sum_upto worth n + worth n

@@ -1,9 +1,9 @@
--- Files made of parts that stand one behind another: where each part begins, and the bytes of the whole (our profile).
+-- Files made of parts that lie one after another: where each part begins, and the bytes of the whole (our profile).
 use Rattle.std.specs.Prelude.{◌≡◌, ℕ, ◌+◌, ◌-◌, ◌%◌, ◌≤◌, Bool, List, [], ◌∷◌, ◌++◌, length, replicate, find, flat_map, slice_index_or}
 use Rattle.std.specs.List.{AllByRecursion}
 use Rattle.std.specs.Option.{option_map_or}
 
--- the bytes xs stand in a file at a place
+-- the bytes xs lie in a file at a place
 pub record Stands (file : List ℕ) (at : ℕ) (xs : List ℕ) : Type 0 where
   pub front : List ℕ
   pub back : List ℕ

@@ -7,11 +7,11 @@ use oc_base::NoMemory;
 use std::alloc::Global;
 use std::marker::Model;
 
-/// How many bytes a word tells of.
+/// How many bytes a word covers.
 const WORD: u64 = 64;
 
 /// The bytes of a section that fields take, in any order. Contracts see the words, each of which
-/// tells of 64 bytes.
+/// covers 64 bytes.
 #[derive(Drop)]
 pub struct Bitmap {
     words: Vec<u64>,
@@ -86,8 +86,8 @@ impl Bitmap {
         })
     }
 
-    /// Whether one of the bytes between two places is taken. Constant time behind all that are, else
-    /// linear in the bytes that are asked for.
+    /// Whether one of the bytes between two places is taken. Constant time past all that are taken,
+    /// else linear in the bytes that are asked for.
     pub fn is_met(&self, begin: u64, end: u64) -> bool
         ensures met { result ≡ true → IsMetIn self.now begin end }
         ensures free { result ≡ false → IsMetIn self.now begin end → ⊥ }

@@ -49,7 +49,7 @@ impl Slots {
         self.slots[number as usize] = Some(position);
     }
 
-    /// Puts one more slot behind the last. `NoMemory` where memory ran out, and the slots stay.
+    /// Puts one more slot after the last. `NoMemory` where memory ran out, and the slots stay.
     /// Amortized constant time.
     pub fn push(&mut self, slot: Option<u32>) -> Result<(), NoMemory>
         ensures ok { OnOk result (self.new ≡ self.old ++ slot ∷ []) }

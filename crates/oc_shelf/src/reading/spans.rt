@@ -14,7 +14,7 @@ use std::marker::Model;
 #[derive(Drop)]
 pub struct Spans {
     ends: BTreeMap<u64, u64>,
-    // none ends behind it
+    // none ends after it
     top: u64,
 }
 
@@ -42,7 +42,7 @@ fn before(ends: &BTreeMap<u64, u64>, at: u64) -> Option<(u64, u64)>
     }
 }
 
-// the first span that begins at a place or behind it
+// the first span that begins at or after a place
 fn behind(ends: &BTreeMap<u64, u64>, at: u64) -> Option<(u64, u64)>
     ensures none { IfNone result ((q : ℕ) → at ≤ q → get nat_cmp ends.now q ≡ None) }
     ensures held { IfSome result (λ e. get nat_cmp ends.now e.0 ≡ Some e.1) }
@@ -55,7 +55,7 @@ fn behind(ends: &BTreeMap<u64, u64>, at: u64) -> Option<(u64, u64)>
     }
 }
 
-// whether a span begins at a place or before it, and ends behind it
+// whether a span begins at or before a place, and ends after it
 fn meets_before(ends: &BTreeMap<u64, u64>, at: u64) -> bool
     requires { AreSpans ends.now.entries }
     ensures met { result ≡ true → (q : ℕ) × (e : ℕ) × (get nat_cmp ends.now q ≡ Some e) × (q ≤ at) × (at < e) }
@@ -100,7 +100,7 @@ impl Spans {
     }
 
     /// Whether one of the spans has a byte between two places. The time is the logarithm of their
-    /// number, and constant behind all of them.
+    /// number, and constant past all of them.
     pub fn is_met(&self, begin: u64, end: u64) -> bool
         requires { begin < end }
         ensures met { result ≡ true → IsMet self.now begin end }

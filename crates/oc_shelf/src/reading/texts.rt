@@ -4,8 +4,9 @@ ghost use Rattle.oc_shelf.specs.Reading.Texts as texts;
 
 use memchr::memchr;
 
-/// The text at `at`, an offset in the bytes, if it has at most `most` bytes; `None` exactly where it
-/// has more, or where no NUL stands at or after `at`. Linear in `most`, whatever the bytes are.
+/// The text at `at`, an offset in the bytes, if it has at most `most` bytes; `None` exactly where
+/// it has more, or where there is no NUL at or after `at`. Linear in `most`, whatever the bytes
+/// are.
 pub fn text_at(bytes: &[u8], at: usize, most: usize) -> Option<&[u8]>
     ensures { MatchOption result (texts.short most (texts.text_at bytes.now at) ≡ None) (λ text. texts.short most (texts.text_at bytes.now at) ≡ Some text.now) }
 {
@@ -15,7 +16,7 @@ pub fn text_at(bytes: &[u8], at: usize, most: usize) -> Option<&[u8]>
     front_text(&bytes[at..], most)
 }
 
-// the text in front of the bytes, if it has at most `most` bytes
+// the text at the start of the bytes, if it has at most `most` bytes
 fn front_text(bytes: &[u8], most: usize) -> Option<&[u8]>
     ensures { MatchOption result (texts.short most (texts.text_within bytes.now) ≡ None) (λ text. texts.short most (texts.text_within bytes.now) ≡ Some text.now) }
 {

@@ -1,4 +1,4 @@
-//! Where parts begin that are laid one behind another.
+//! Where parts begin that are laid one after another.
 ghost use Rattle.std.specs.Prelude.{◌≡◌, ◌+◌, ◌^◌, ◌<◌, ◌≤◌, ◌++◌, [], ◌∷◌, OnOk, OnErr};
 ghost use Rattle.oc_shelf.specs.Writing.Parts.{aligned};
 
@@ -35,7 +35,7 @@ impl Layout {
         }
     }
 
-    /// Lays a part of `size` bytes behind the last one, at the next place that `align` divides.
+    /// Lays a part of `size` bytes after the last one, at the next place that `align` divides.
     /// `NoMemory` where memory ran out, and the layout stays. Amortized constant time.
     pub fn lay(&mut self, align: u64, size: u64) -> Result<(), NoMemory>
         requires some { 1 ≤ align }

@@ -35,7 +35,7 @@ impl Packed {
         }
     }
 
-    /// Puts bytes behind those so far. Linear in them.
+    /// Puts bytes after those so far. Linear in them.
     pub fn put(&mut self, bytes: &[u8])
         requires { length self.old + length bytes.now ≤ ROW }
         ensures bytes { self.new ≡ self.old ++ bytes.now }
@@ -46,7 +46,7 @@ impl Packed {
         self.len = end;
     }
 
-    /// Puts a byte behind those so far. Constant time.
+    /// Puts a byte after those so far. Constant time.
     #[tactic(auto, unfolding(oc_base::specs::Numbers::bytes_of_number))]
     pub fn put_u8(&mut self, x: u8)
         requires { length self.old + 1 ≤ ROW }
@@ -56,7 +56,7 @@ impl Packed {
         self.put(&x.to_le_bytes());
     }
 
-    /// Puts the two bytes of a number behind those so far. Constant time.
+    /// Puts the two bytes of a number after those so far. Constant time.
     #[tactic(auto, unfolding(oc_base::specs::Numbers::bytes_of_number))]
     pub fn put_u16(&mut self, x: u16)
         requires { length self.old + 2 ≤ ROW }
@@ -66,7 +66,7 @@ impl Packed {
         self.put(&x.to_le_bytes());
     }
 
-    /// Puts the four bytes of a number behind those so far. Constant time.
+    /// Puts the four bytes of a number after those so far. Constant time.
     #[tactic(auto, unfolding(oc_base::specs::Numbers::bytes_of_number))]
     pub fn put_u32(&mut self, x: u32)
         requires { length self.old + 4 ≤ ROW }

@@ -25,14 +25,14 @@ pub trait Parts {
         requires { k < length (parts self.now) }
         ensures { result ≡ end_of (piece_at (parts self.now) k) };
 
-    /// Puts the bytes of part `k` from `from` on, an offset in the part, into the front of `out`, as
-    /// many as both have, and gives their number. The rest of `out` stays.
+    /// Puts the bytes of part `k` from `from` on, an offset in the part, into the start of `out`,
+    /// as many as both have, and gives their number. The rest of `out` stays.
     fn part_window(&self, k: usize, from: u64, out: &mut [u8]) -> usize
         requires { k < length (parts self.now) }
         ensures { IsFilled (piece_at (parts self.now) k).part from out.old out.new result };
 }
 
-// the first part that ends behind a place, or how many there are
+// the first part that ends after a place, or how many there are
 fn first_past<P: Parts>(parts: &P, from: u64) -> usize
     requires { AreInOrder 0 (P.parts parts.now) }
     ensures within { result ≤ length (P.parts parts.now) }
@@ -63,7 +63,7 @@ fn end_before<P: Parts>(parts: &P, k: usize) -> u64
     parts.end(k - 1)
 }
 
-// fills what is left of a buffer from the zeros that stand between two places of the file
+// fills what is left of a buffer from the zeros that lie between two places of the file
 fn fill_gap(begin: u64, end: u64, from: u64, done: usize, out: &mut [u8]) -> usize
     requires room { done ≤ length out.old }
     requires filled { done ≤ begin - from }

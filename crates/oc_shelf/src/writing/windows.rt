@@ -1,9 +1,9 @@
-//! Windows: any bytes of a file, put into the front of a buffer.
+//! Windows: any bytes of a file, put into the start of a buffer.
 ghost use Rattle.std.specs.Prelude.{replicate};
 ghost use Rattle.oc_outside.specs.Windows.{IsFilled};
 
-/// A window of bytes that are held, from an offset of them on: those that both have are
-/// put into the front of `out`, and counted. Linear in `out`.
+/// A window of bytes that are held, from an offset of them on: those that both have are put into
+/// the start of `out`, and counted. Linear in `out`.
 pub fn copy_window(bytes: &[u8], from: u64, out: &mut [u8]) -> usize
     ensures { IsFilled bytes.now from out.old out.new result }
 {

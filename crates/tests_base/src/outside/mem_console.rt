@@ -100,7 +100,7 @@ fn tell(console: &mut MemConsole, text: &[u8]) -> Result<(), Failed>
     tell_all(console, text)
 }
 
-/// The second piece of 4,096 bytes passes a room of 8,191, and nothing of it is told.
+/// The second piece of 4,096 bytes passes a room of 8,191, and nothing of it is written.
 #[test]
 fn second_piece_passes_the_room(rt: HostRuntime) -> Result<(), Fail> {
     let text = vec![in rt.alloc(); b'x'; 10_000]?;

@@ -105,7 +105,7 @@ const ABSENT: [Step; 10] = [
     Step::Holds(b""),
 ];
 
-/// Room ends where it says.
+/// A file takes bytes up to its room, and no more.
 const ROOM: [Step; 10] = [
     Step::Room(0),
     Step::Create(Ok(())),
@@ -130,7 +130,7 @@ const RISING: [Step; 10] = [
     Step::Set(b"7 bytes"),
     Step::Holds(b"7 bytes"),
     Step::Append(b"8", Err(Failed)),
-    // A file that is there is made empty, and keeps its room.
+    // A file that exists is made empty, and keeps its room.
     Step::Create(Ok(())),
     Step::Append(b"1234567", Ok(7)),
 ];
@@ -169,7 +169,7 @@ fn files_in_memory(rt: HostRuntime) -> Result<(), Fail> {
     Ok(())
 }
 
-/// Writes a file by the call for all kinds of files. At files in memory its clause says what they
+/// Writes a file by the call for all kinds of files. For files in memory its clause says what they
 /// hold.
 fn write(files: &mut MemFiles, name: &str, bytes: &[u8]) -> Result<(), Failed>
     ensures { OnOk result (files.new.held ≡ with_file name.now bytes.now files.old.held) }
@@ -200,7 +200,7 @@ fn counted(alloc: Global, len: usize) -> Result<Vec<u8>, AllocError> {
 }
 
 /// The create is call 1 and the fifth append is call 6: the four pieces of 4,096 bytes before it
-/// are there.
+/// are in the file.
 #[test]
 fn fifth_append_fails(rt: HostRuntime) -> Result<(), Fail> {
     let bytes = counted(rt.alloc(), 980_128)?;

@@ -1,4 +1,5 @@
-//! The sizes of pieces and buffers, which no clause tells, and a caller that needs the clauses alone.
+//! The sizes of pieces and buffers, which no clause gives, and a caller that needs the clauses
+//! alone.
 
 ghost use Rattle.std.specs.Prelude.{◌≡◌, ℕ, ◌+◌, ◌-◌, ◌^◌, ◌<◌, ◌≤◌, [], None, Some, Ok, true, IfOk, IsSomeAnd, length, min};
 ghost use Rattle.std.specs.Option.{ForSome};
@@ -89,7 +90,7 @@ fn reading_stops_past_the_limit(rt: HostRuntime) -> Result<(), Fail> {
     Ok(())
 }
 
-/// Copies a file of up to `limit` bytes, and says whether it did. Its clause follows from those of
+/// Copies a file of up to `limit` bytes, and gives whether it did. Its clause follows from those of
 /// the two loops.
 fn copies<F: Files>(alloc: Global, files: &mut F, from: &str, to: &str, limit: u64) -> bool
     ensures { result ≡ true → ForSome (F.held files.old) (λ m.

@@ -1,6 +1,6 @@
 //! Worked cases at the borders, worked out by hand.
 
-use oc_shelf::{Bitmap, Placed, Rows, Spans, sort_by_place, text_at};
+use oc_shelf::{Bitmap, PlacedEntry, Rows, Spans, sort_by_place, text_at};
 use std::test::Fail;
 
 /// Tables of entries of 10 bytes from 20 on, in a file of 50 bytes, and numbers that lie.
@@ -99,7 +99,7 @@ fn bytes_in_any_order(rt: HostRuntime) -> Result<(), Fail> {
 fn entries_by_their_places(rt: HostRuntime) -> Result<(), Fail> {
     let mut entries = Vec::new(rt.alloc());
     for (index, place) in [(0, 9), (1, 3), (2, 9), (3, 0)] {
-        entries.push(Placed { place, index })?;
+        entries.push(PlacedEntry { place, index })?;
     }
     sort_by_place(&mut entries);
     for (entry, want) in entries.iter().zip([3, 1, 0, 2]) {

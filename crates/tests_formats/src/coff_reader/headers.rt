@@ -22,7 +22,7 @@ static FAULTS: [Case; 14] = [
     (59, &[(SYMBOL_TABLE, &[0])], (0, BadHeader, 0)),
     // more section headers than there is room for
     (ALL, &[(SECTIONS, &[4])], (0, Short, 20)),
-    // cut section headers, and no symbols behind them
+    // cut section headers, and no symbols after them
     (59, &[], (0, Short, 20)),
     // cut symbols
     (147, &[], (0, Short, 76)),

@@ -1,6 +1,6 @@
-//! The objects that the cases change, and where their fields stand.
+//! The objects that the cases change, and where their fields lie.
 
-/// How many bytes of an object are there: all.
+/// How many bytes of an object are present: all.
 pub(super) const ALL: usize = 172;
 
 // ... the file header of `CALL`
@@ -12,7 +12,7 @@ pub(super) const SYMBOL_TABLE: usize = 8;
 /// SizeOfOptionalHeader.
 pub(super) const OPTIONAL_SIZE: usize = 16;
 
-// ... its section header, in which a number is that of a byte behind its place
+// ... its section header, in which a number is that of a byte after its place
 
 /// Name.
 pub(super) const NAME: usize = 20;
@@ -59,15 +59,15 @@ pub(super) const CLASS: usize = 16;
 /// NumberOfAuxSymbols.
 pub(super) const AUXILIARIES: usize = 17;
 
-// ... behind them
+// ... after them
 
 /// The size of the string table.
 pub(super) const STRINGS: usize = 148;
 /// SymbolTableIndex of the second of the two entries at 152 (0x98), of which no header speaks.
 pub(super) const SECOND_SYMBOL: usize = 166;
 
-/// `main` in `.text`, with a call to `foo`; and behind the string table two relocation entries that no
-/// header speaks of: the same call, and one that meets it.
+/// `main` in `.text`, with a call to `foo`; and after the string table two relocation entries that
+/// no header names: the same call, and one that meets it.
 pub(super) const CALL: [u8; 172] = [
     0x4C, 1, 1, 0, 0, 0, 0, 0, 0x4C, 0, 0, 0, 4, 0, 0, 0, 0, 0, 0, 0, 0x2E, 0x74, 0x65, 0x78, 0x74,
     0, 0, 0, 0, 0, 0, 0, 0, 0, 0, 0, 6, 0, 0, 0, 0x3C, 0, 0, 0, 0x42, 0, 0, 0, 0, 0, 0, 0, 1, 0, 0,

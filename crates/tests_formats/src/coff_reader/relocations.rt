@@ -8,17 +8,17 @@ use oc_base::Code::{BadOffset, BadTarget, Overlap, RelocKind, TargetKind};
 static FAULTS: [Case; 11] = [
     // a type that is none
     (ALL, &[(R_TYPE, &[0x15])], (1, RelocKind, 66)),
-    // and a field behind the section
+    // and a field past the end of the section
     (
         ALL,
         &[(R_TYPE, &[0x15]), (R_ADDRESS, &[3])],
         (1, RelocKind, 66),
     ),
-    // a field behind the section
+    // a field past the end of the section
     (ALL, &[(R_ADDRESS, &[3])], (1, BadOffset, 66)),
     // a field of zeros
     (ALL, &[(FLAGS, &[0x80])], (1, BadOffset, 66)),
-    // a field behind the section, of a symbol that is not there
+    // a field past the end of the section, of a symbol that does not exist
     (
         ALL,
         &[(R_ADDRESS, &[3]), (R_SYMBOL, &[4])],

@@ -9,13 +9,13 @@ use oc_base::Code::{BadAlign, BadName, BadTable, Group, LimitSection, SectionKin
 static FAULTS: [Case; 28] = [
     // a name that is no offset
     (ALL, &[(NAME, &[0x2F])], (1, BadName, 20)),
-    // and copies, of which nothing is said
+    // and copies, of which nothing is specified
     (
         ALL,
         &[(NAME, &[0x2F]), (FLAGS + 1, &[0x10])],
         (1, BadName, 20),
     ),
-    // copies, of which nothing is said
+    // copies, of which nothing is specified
     (ALL, &[(FLAGS + 1, &[0x10])], (1, Group, 20)),
     // and an address
     (
@@ -76,13 +76,13 @@ static FAULTS: [Case; 28] = [
     (ALL, &[(FLAGS + 2, &[0xF0]), (RAW, &[0])], (1, BadAlign, 20)),
     // contents without a place
     (ALL, &[(RAW, &[0])], (1, BadTable, 20)),
-    // and entries behind the end
+    // and entries past the end
     (ALL, &[(RAW, &[0]), (COUNT, &[0xC8])], (1, BadTable, 20)),
-    // contents behind the end
+    // contents past the end
     (ALL, &[(SIZE, &[0xC8])], (1, Short, 60)),
-    // and entries behind the end
+    // and entries past the end
     (ALL, &[(SIZE, &[0xC8]), (COUNT, &[0xC8])], (1, Short, 60)),
-    // and a first entry behind the end, which is to have the count
+    // and a first entry past the end, which is to have the count
     (
         ALL,
         &[
@@ -93,7 +93,7 @@ static FAULTS: [Case; 28] = [
         ],
         (1, Short, 60),
     ),
-    // entries behind the end
+    // entries past the end
     (ALL, &[(COUNT, &[0xC8])], (1, Short, 66)),
     // and more than 2^31 - 1 bytes, all zeros
     (
@@ -101,7 +101,7 @@ static FAULTS: [Case; 28] = [
         &[(COUNT, &[0xC8]), (FLAGS, &[0x80]), (SIZE + 3, &[0x80, 0])],
         (1, Short, 66),
     ),
-    // a first entry behind the end, which is to have the count
+    // a first entry past the end, which is to have the count
     (
         ALL,
         &[
@@ -143,7 +143,7 @@ static FAULTS: [Case; 28] = [
         ],
         (1, BadTable, 20),
     ),
-    // a count of more than are there
+    // a count of more than there are
     (
         ALL,
         &[

@@ -34,7 +34,7 @@ static FAULTS: [Case; 26] = [
     ),
     // a class that is none
     (ALL, &[(MAIN + CLASS, &[4])], (2, SymbolKind, 112)),
-    // and a value behind the section
+    // and a value past the end of the section
     (
         ALL,
         &[(MAIN + CLASS, &[4]), (MAIN + VALUE, &[7])],
@@ -50,7 +50,7 @@ static FAULTS: [Case; 26] = [
         &[(MAIN + CLASS, &[0x69, 1]), (FOO, &[0, 0, 0])],
         (2, SymbolKind, 112),
     ),
-    // and a value behind it
+    // and a value past the end of it
     (
         ALL,
         &[
@@ -62,7 +62,7 @@ static FAULTS: [Case; 26] = [
     ),
     // and with no auxiliary entry
     (ALL, &[(MAIN + CLASS, &[0x69])], (2, SymbolKind, 112)),
-    // a value behind the section
+    // a value past the end of the section
     (ALL, &[(MAIN + VALUE, &[7])], (2, SymbolPastEnd, 112)),
     // and a section that is not carried
     (
@@ -72,7 +72,7 @@ static FAULTS: [Case; 26] = [
     ),
     // a weak external without an auxiliary entry
     (ALL, &[(FOO + CLASS, &[0x69])], (3, BadSymbol, 130)),
-    // one that tags no entry, with a name that stands twice
+    // one that tags no entry, with a name that occurs twice
     (
         ALL,
         &[
@@ -98,7 +98,7 @@ static FAULTS: [Case; 26] = [
     ),
     // an EXTERNAL symbol in a section that is not carried
     (ALL, &[(FLAGS + 1, &[8])], (2, SymbolKind, 112)),
-    // one with a name that stands twice
+    // one with a name that occurs twice
     (
         ALL,
         &[
@@ -111,7 +111,7 @@ static FAULTS: [Case; 26] = [
     ),
     // an EXTERNAL symbol without a name
     (ALL, &[(MAIN, &[0, 0, 0, 0])], (2, SymbolKind, 112)),
-    // a name that stands twice
+    // a name that occurs twice
     (
         ALL,
         &[(FOO, &[0x6D, 0x61, 0x69, 0x6E])],

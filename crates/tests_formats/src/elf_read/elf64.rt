@@ -10,7 +10,7 @@ use oc_base::Phase::{self, Header, Relocation, Section};
 /// All bytes of the object.
 const ALL: usize = WEAK.len();
 
-/// Where the section header of its symbols stands.
+/// Where the section header of its symbols lies.
 const SYMTAB: usize = 312;
 /// That of its relocations.
 const RELA: usize = 504;
@@ -77,9 +77,9 @@ static FAULTS: [(Phase, Case); 14] = [
         Relocation,
         (ALL, &[(R_TYPE, &[14, 1])], (1, RelocKind, 568)),
     ),
-    // a field behind its section
+    // a field past the end of its section
     (Relocation, (ALL, &[(R_OFFSET, &[1])], (1, BadOffset, 568))),
-    // a field far behind it
+    // a field far past the end of it
     (
         Relocation,
         (ALL, &[(R_OFFSET, &[0xFF; 8])], (1, BadOffset, 568)),

@@ -26,7 +26,7 @@ static FAULTS: [Case; 23] = [
     (ALL, &[(18, &[0x3E]), (48, &[0])], (0, NotRelocatable, 0)),
     // no sections, but a place for them
     (ALL, &[(48, &[0])], (0, ExtendedNumbering, 0)),
-    // the number of the section of names stands elsewhere
+    // the number of the section of names is elsewhere
     (ALL, &[(50, &[0xFF, 0xFF])], (0, ExtendedNumbering, 0)),
     // also where there are no sections
     (
@@ -42,7 +42,7 @@ static FAULTS: [Case; 23] = [
     (551, &[(46, &[0x29])], (0, BadHeader, 0)),
     // the section headers are cut
     (551, &[], (0, Short, 232)),
-    // they begin behind the end
+    // they begin past the end
     (ALL, &[(33, &[3])], (0, Short, 1000)),
     // and the names of sections are no string table
     (551, &[(50, &[5])], (0, Short, 232)),
@@ -52,7 +52,7 @@ static FAULTS: [Case; 23] = [
     (ALL, &[(50, &[0])], (0, BadTable, 0)),
     // they are a section that is not there
     (ALL, &[(50, &[8])], (0, BadTable, 0)),
-    // and contents behind the end
+    // and contents past the end
     (
         ALL,
         &[(50, &[5]), (TEXT + SH_SIZE + 1, &[0x10])],

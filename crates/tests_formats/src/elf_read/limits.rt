@@ -1,4 +1,4 @@
-//! The limits on the contents of all sections: many headers stand over the same bytes.
+//! The limits on the contents of all sections: many headers cover the same bytes.
 use super::fault_of;
 use crate::cases::expected;
 use oc_base::Code::{LimitBytes, LimitSum};
@@ -10,13 +10,13 @@ use std::test::Fail;
 /// The bytes that the sections share.
 const SHARED: u32 = 65_536;
 
-/// The file header up to the number of sections, whose headers stand behind the shared bytes.
+/// The file header up to the number of sections, whose headers come after the shared bytes.
 const HEAD: [u8; 48] = [
     0x7F, 0x45, 0x4C, 0x46, 1, 1, 1, 0, 0, 0, 0, 0, 0, 0, 0, 0, 1, 0, 3, 0, 1, 0, 0, 0, 0, 0, 0, 0,
     0, 0, 0, 0, 0x34, 0, 1, 0, 0, 0, 0, 0, 52, 0, 0, 0, 0, 0, 40, 0,
 ];
 
-/// Puts the header of a section behind others.
+/// Puts the header of a section after others.
 fn add_header(
     file: &mut Vec<u8>,
     sh_type: u32,

@@ -1,12 +1,12 @@
 //! Objects of both classes, which were laid out by hand after the standard.
+use super::objects::{GROUPED, WEAK};
 use crate::cases::KEEP;
 use oc_elf_read::{ElfReader32, ElfReader64};
 use oc_neutral::{Binding, Fallback, Target};
 use oc_shows::Reads;
 use std::test::Fail;
-use super::objects::{GROUPED, WEAK};
 
-/// The call in `.text` stands against the second symbol, with the addend of its field, which is zero
+/// The call in `.text` is against the second symbol, with the addend of its field, which is zero
 /// then; `.text.t` is in the one group.
 #[test]
 fn elf32_group_is_read(rt: HostRuntime) -> Result<(), Fail> {

@@ -9,13 +9,13 @@ use oc_base::Code::{BadOffset, BadTarget, Overlap, RelocKind, TargetKind};
 static FAULTS: [Case; 18] = [
     // an unknown type
     (ALL, &[(R_TYPE, &[5])], (2, RelocKind, 84)),
-    // and a field behind its section
+    // and a field past the end of its section
     (ALL, &[(R_TYPE, &[5]), (R_OFFSET, &[3])], (2, RelocKind, 84)),
-    // a field behind its section
+    // a field past the end of its section
     (ALL, &[(R_OFFSET, &[3])], (2, BadOffset, 84)),
     // a field of zeros
     (ALL, &[(TEXT + SH_TYPE, &[8])], (2, BadOffset, 84)),
-    // a field behind its section, against a symbol that is not there
+    // a field past the end of its section, against a symbol that does not exist
     (ALL, &[(R_OFFSET, &[3]), (R_SYM, &[5])], (2, BadOffset, 84)),
     // a symbol that is not there
     (ALL, &[(R_SYM, &[5])], (2, BadTarget, 84)),

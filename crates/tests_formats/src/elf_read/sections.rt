@@ -10,23 +10,23 @@ use oc_base::Code::{
 };
 
 static FAULTS: [Case; 25] = [
-    // contents behind the end
+    // contents past the end
     (ALL, &[(TEXT + SH_SIZE + 1, &[0x10])], (2, Short, 64)),
-    // none, but they begin behind the end
+    // none, but they begin past the end
     (
         ALL,
         &[(TEXT + SH_OFFSET, &[0x39, 2]), (TEXT + SH_SIZE, &[0])],
         (2, Short, 569),
     ),
-    // names behind the end
+    // names past the end
     (ALL, &[(STRTAB + SH_SIZE + 1, &[0x10])], (6, Short, 172)),
-    // and a name behind its table
+    // and a name past the end of its table
     (
         ALL,
         &[(TEXT + SH_SIZE + 1, &[0x10]), (TEXT + SH_NAME, &[0xC8])],
         (2, Short, 64),
     ),
-    // a name behind its table
+    // a name past the end of its table
     (ALL, &[(TEXT + SH_NAME, &[0xC8])], (2, BadName, TEXT as u64)),
     // a name without an end in its table
     (
@@ -152,7 +152,7 @@ static FAULTS: [Case; 25] = [
         ],
         (3, LimitSum, 2_147_483_649),
     ),
-    // and a symbol's name behind its table
+    // and a symbol's name past the end of its table
     (
         ALL,
         &[
@@ -169,7 +169,7 @@ static FAULTS: [Case; 25] = [
 static GROUP_FAULTS: [Case; 15] = [
     // a group of one and a half words
     (ALL, &[(GROUP + SH_SIZE, &[6])], (1, BadTable, GROUP as u64)),
-    // and a name behind its table
+    // and a name past the end of its table
     (
         ALL,
         &[(GROUP + SH_NAME, &[0xC8]), (GROUP + SH_SIZE, &[6])],
@@ -220,7 +220,7 @@ static GROUP_FAULTS: [Case; 15] = [
         &[(52, &[2]), (GROUP + SH_FLAGS, &[0, 4])],
         (1, Group, GROUP as u64),
     ),
-    // and the section behind it thread-local
+    // and the section after it thread-local
     (
         ALL,
         &[(52, &[2]), (TEXT + SH_FLAGS, &[6, 4])],

@@ -9,7 +9,7 @@ use oc_base::Code::{
 };
 
 static FAULTS: [Case; 33] = [
-    // a name behind its table
+    // a name past the end of its table
     (ALL, &[(MAIN + ST_NAME, &[0xC8])], (4, BadName, MAIN as u64)),
     // and a GLOBAL among the locals
     (
@@ -19,7 +19,7 @@ static FAULTS: [Case; 33] = [
     ),
     // a GLOBAL among the locals
     (ALL, &[(SYMTAB + SH_INFO, &[4])], (3, BadSymbol, T as u64)),
-    // a LOCAL behind the locals
+    // a LOCAL after the locals
     (
         ALL,
         &[(SYMTAB + SH_INFO, &[2])],
@@ -105,13 +105,13 @@ static FAULTS: [Case; 33] = [
         &[(MAIN + ST_SHNDX, &[6])],
         (4, SymbolKind, MAIN as u64),
     ),
-    // and behind its end
+    // and past its end
     (
         ALL,
         &[(MAIN + ST_SHNDX, &[6]), (MAIN + ST_VALUE, &[9])],
         (4, SymbolKind, MAIN as u64),
     ),
-    // a value behind its section
+    // a value past the end of its section
     (
         ALL,
         &[(MAIN + ST_VALUE, &[7])],

@@ -14,9 +14,9 @@ static FAULTS: [Case; 30] = [
     (ALL, &[(7, &[0])], (0, NotRelocatable, 0)),
     // an executable
     (ALL, &[(12, &[2])], (0, NotRelocatable, 0)),
-    // and commands behind the end
+    // and commands past the end
     (ALL, &[(12, &[2]), (20, &[0x41, 1])], (0, NotRelocatable, 0)),
-    // commands behind the end
+    // commands past the end
     (ALL, &[(20, &[0x41, 1])], (0, Short, 32)),
     // and one of four bytes
     (ALL, &[(20, &[0x41, 1]), (36, &[4])], (0, Short, 32)),
@@ -24,7 +24,7 @@ static FAULTS: [Case; 30] = [
     (ALL, &[(36, &[4])], (0, BadHeader, 0)),
     // a command of 82 bytes
     (ALL, &[(212, &[0x52])], (0, BadHeader, 0)),
-    // the last command behind the commands
+    // the last command past the end of the commands
     (ALL, &[(212, &[0x54])], (0, BadHeader, 0)),
     // a DYSYMTAB of 76 bytes
     (ALL, &[(212, &[0x4C])], (0, BadHeader, 0)),
@@ -48,13 +48,13 @@ static FAULTS: [Case; 30] = [
     (ALL, &[(184, &[0x1B]), (208, &[0x19])], (0, BadHeader, 0)),
     // a second segment
     (ALL, &[(208, &[0x19])], (0, NotRelocatable, 0)),
-    // and symbols behind the end
+    // and symbols past the end
     (ALL, &[(208, &[0x19]), (196, &[4])], (0, NotRelocatable, 0)),
     // four symbols
     (ALL, &[(196, &[4])], (0, Short, 304)),
     // symbols that begin a byte later
     (ALL, &[(192, &[0x41])], (0, Short, 321)),
-    // no symbols, but they begin behind the end
+    // no symbols, but they begin past the end
     (ALL, &[(192, &[0x61]), (196, &[0])], (0, Short, 353)),
     // four symbols, and one byte of strings more
     (ALL, &[(196, &[4]), (204, &[0x11])], (0, Short, 304)),
@@ -75,7 +75,7 @@ static FAULTS_32: [Case; 8] = [
     (27, &[], (0, Short, 0)),
     // x86-64
     (ALL, &[(7, &[1])], (0, NotRelocatable, 0)),
-    // commands behind the end
+    // commands past the end
     (ALL, &[(20, &[0x19, 1])], (0, Short, 28)),
     // a segment of the other word
     (ALL, &[(28, &[0x19])], (0, BadHeader, 0)),

@@ -1,4 +1,4 @@
-//! Objects by hand from the layout, or by a program that stands apart from this one.
+//! Objects made by hand from the layout, or by a program that is independent of this one.
 
 /// All bytes of a file.
 pub(super) const ALL: usize = usize::MAX;
@@ -12,7 +12,7 @@ pub(super) const FOO: usize = 320;
 
 pub(super) const CALL: usize = 296;
 
-/// Where numbers stand in a section header of 64 bits.
+/// Where numbers lie in a section header of 64 bits.
 pub(super) const SEGNAME: usize = 16;
 
 pub(super) const ADDR: usize = 32;
@@ -29,7 +29,7 @@ pub(super) const NRELOC: usize = 60;
 
 pub(super) const FLAGS: usize = 64;
 
-/// Where they stand in a symbol.
+/// Where they lie in a symbol.
 pub(super) const N_TYPE: usize = 4;
 
 pub(super) const N_SECT: usize = 5;
@@ -38,7 +38,7 @@ pub(super) const N_DESC: usize = 6;
 
 pub(super) const N_VALUE: usize = 8;
 
-/// Where they stand in an entry: the symbol or section, and the last byte of each word.
+/// Where they lie in an entry: the symbol or section, and the last byte of each word.
 pub(super) const R_NUMBER: usize = 4;
 
 pub(super) const R_HIGH: usize = 3;

@@ -16,7 +16,7 @@ static FAULTS: [Case; 21] = [
     (ALL, &[(CALL + R_TYPE, &[0x45])], (1, RelocKind, 296)),
     // a SUBTRACTOR of a section
     (ALL, &[(CALL + R_TYPE, &[0x54])], (1, RelocKind, 296)),
-    // type 9, and a field behind the section
+    // type 9, and a field past the end of the section
     (
         ALL,
         &[(CALL + R_TYPE, &[0x9D]), (CALL, &[3])],
@@ -24,13 +24,13 @@ static FAULTS: [Case; 21] = [
     ),
     // the first of a pair that has no second
     (ALL, &[(CALL + R_TYPE, &[0x5C])], (1, BadPair, 296)),
-    // and a field behind the section
+    // and a field past the end of the section
     (
         ALL,
         &[(CALL + R_TYPE, &[0x5C]), (CALL, &[3])],
         (1, BadPair, 296),
     ),
-    // a field behind the section
+    // a field past the end of the section
     (ALL, &[(CALL, &[3])], (1, BadOffset, 296)),
     // a field that would wrap
     (
@@ -40,7 +40,7 @@ static FAULTS: [Case; 21] = [
     ),
     // a field of zeros
     (ALL, &[(TEXT + FLAGS, &[1])], (1, BadOffset, 296)),
-    // a field behind the section, to a symbol that is not there
+    // a field past the end of the section, to a symbol that does not exist
     (
         ALL,
         &[(CALL, &[3]), (CALL + R_NUMBER, &[2])],
@@ -120,11 +120,11 @@ static PAIRS: [Case; 23] = [
     (ALL, &[(423, &[0xE])], (2, BadPair, 408)),
     // a second at another place
     (ALL, &[(416, &[9])], (2, BadPair, 408)),
-    // no second behind the last
+    // no second after the last
     (ALL, &[(244, &[3])], (2, BadPair, 424)),
-    // a first behind the section, and a second in it
+    // a first past the end of the section, and a second in it
     (ALL, &[(408, &[0x15])], (2, BadPair, 408)),
-    // both behind the section
+    // both past the end of the section
     (ALL, &[(408, &[0x15]), (416, &[0x15])], (2, BadOffset, 408)),
     // and nothing is taken
     (
@@ -202,21 +202,21 @@ static SCATTERED: [Case; 21] = [
     (ALL, &[(367, &[0x91])], (2, RelocKind, 364)),
     // two SECTDIFFs
     (ALL, &[(375, &[0xA2])], (2, BadPair, 364)),
-    // a PAIR that is not scattered behind the SECTDIFF
+    // a PAIR that is not scattered after the SECTDIFF
     (ALL, &[(375, &[0x21])], (2, BadPair, 364)),
-    // no PAIR behind the last
+    // no PAIR after the last
     (ALL, &[(204, &[1])], (2, BadPair, 364)),
     // a PAIR alone
     (ALL, &[(367, &[0xA1])], (2, BadPair, 364)),
-    // a PAIR behind an entry that stands alone
+    // a PAIR after an entry that takes none
     (ALL, &[(367, &[0xA0])], (2, BadPair, 372)),
-    // two SECTDIFFs, and a field behind the section
+    // two SECTDIFFs, and a field past the end of the section
     (ALL, &[(375, &[0xA2]), (364, &[5])], (2, BadPair, 364)),
-    // a field behind the section
+    // a field past the end of the section
     (ALL, &[(364, &[5])], (2, BadOffset, 364)),
-    // and an address behind all sections
+    // and an address past the end of all sections
     (ALL, &[(364, &[5]), (368, &[0x29])], (2, BadOffset, 364)),
-    // an address behind all sections
+    // an address past the end of all sections
     (ALL, &[(368, &[0x29])], (2, BadTarget, 364)),
     // such an address is taken
     (ALL, &[(376, &[0x29])], (2, BadTarget, 364)),

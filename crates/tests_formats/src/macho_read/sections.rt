@@ -57,7 +57,7 @@ static FAULTS: [Case; 20] = [
         )],
         (1, BadTable, TEXT as u64),
     ),
-    // and bytes behind the end
+    // and bytes past the end
     (
         ALL,
         &[
@@ -69,17 +69,17 @@ static FAULTS: [Case; 20] = [
         ],
         (1, BadTable, TEXT as u64),
     ),
-    // bytes behind the end
+    // bytes past the end
     (ALL, &[(TEXT + SIZE, &[0x41])], (1, Short, 288)),
-    // bytes that begin behind the end
+    // bytes that begin past the end
     (ALL, &[(TEXT + OFFSET, &[0x61, 1])], (1, Short, 353)),
-    // no bytes, but they begin behind the end
+    // no bytes, but they begin past the end
     (
         ALL,
         &[(TEXT + OFFSET, &[0x61, 1]), (TEXT + SIZE, &[0])],
         (1, Short, 353),
     ),
-    // bytes and entries behind the end
+    // bytes and entries past the end
     (
         ALL,
         &[(TEXT + SIZE, &[0x41]), (TEXT + NRELOC, &[8])],
@@ -87,9 +87,9 @@ static FAULTS: [Case; 20] = [
     ),
     // eight entries
     (ALL, &[(TEXT + NRELOC, &[8])], (1, Short, 296)),
-    // entries that begin behind the end
+    // entries that begin past the end
     (ALL, &[(TEXT + RELOFF, &[0x59, 1])], (1, Short, 345)),
-    // no entries, but they begin behind the end
+    // no entries, but they begin past the end
     (
         ALL,
         &[(TEXT + RELOFF, &[0x61, 1]), (TEXT + NRELOC, &[0])],
@@ -121,7 +121,7 @@ static FAULTS: [Case; 20] = [
         ],
         (1, LimitBytes, 2_147_483_647),
     ),
-    // and a name behind the strings
+    // and a name past the end of the strings
     (
         ALL,
         &[

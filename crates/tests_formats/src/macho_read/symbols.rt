@@ -4,17 +4,17 @@ use crate::cases::Case;
 use oc_base::Code::{BadName, BadSymbol, DuplicateName, SymbolKind, SymbolPastEnd};
 
 static FAULTS: [Case; 23] = [
-    // a name behind the strings
+    // a name past the end of the strings
     (ALL, &[(MAIN, &[0x10])], (0, BadName, 304)),
     // a name without an end
     (ALL, &[(204, &[9])], (1, BadName, 320)),
-    // a name behind the strings of an indirect symbol
+    // the name of an indirect symbol past the end of the strings
     (
         ALL,
         &[(MAIN, &[0x10]), (MAIN + N_TYPE, &[0xB])],
         (0, BadName, 304),
     ),
-    // a name behind the strings in a section that is not there
+    // a name past the end of the strings, in a section that does not exist
     (
         ALL,
         &[(MAIN, &[0x10]), (MAIN + N_SECT, &[2])],
@@ -75,7 +75,7 @@ static FAULTS: [Case; 23] = [
     (ALL, &[(MAIN, &[0])], (0, SymbolKind, 304)),
     // at the last NUL
     (ALL, &[(MAIN, &[0xF])], (0, SymbolKind, 304)),
-    // a value past the end, and a name that stood before
+    // a value past the end, and a name that came before
     (
         ALL,
         &[
@@ -85,7 +85,7 @@ static FAULTS: [Case; 23] = [
         ],
         (1, SymbolPastEnd, 320),
     ),
-    // a name that stood before
+    // a name that came before
     (ALL, &[(FOO, &[1])], (1, DuplicateName, 320)),
     // and an entry of type 9
     (
@@ -96,9 +96,9 @@ static FAULTS: [Case; 23] = [
 ];
 
 static FAULTS_32: [Case; 2] = [
-    // a name behind the strings
+    // a name past the end of the strings
     (ALL, &[(284, &[0xC])], (1, BadName, 284)),
-    // a name that stood before
+    // a name that came before
     (ALL, &[(284, &[1])], (1, DuplicateName, 284)),
 ];
 

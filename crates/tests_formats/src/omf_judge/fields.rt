@@ -2,7 +2,7 @@
 use super::Judged;
 use oc_base::Code;
 
-/// Each condition alone, and two where the earlier one is told.
+/// Each condition alone, and two where the earlier one is reported.
 static FIELDS: [Judged; 21] = [
     // fields that meet
     (
@@ -91,7 +91,7 @@ static FIELDS: [Judged; 21] = [
         true,
         Some((11, Code::RelocKind, 107)),
     ),
-    // a thread behind data that are not kept
+    // a thread after data that are not kept
     (
         &[
             0xA0, 0x0C, 0, 2, 0, 0, 0, 1, 2, 3, 4, 5, 6, 7, 0, 0x9C, 8, 0, 0xC4, 0, 0x16, 1, 1,
@@ -100,7 +100,7 @@ static FIELDS: [Judged; 21] = [
         false,
         Some((11, Code::BadTarget, 112)),
     ),
-    // a fixup that is cut behind data that are not kept
+    // a fixup that is cut after data that are not kept
     (
         &[
             0xA0, 0x0C, 0, 2, 0, 0, 0, 1, 2, 3, 4, 5, 6, 7, 0, 0x9C, 7, 0, 0xC4, 0, 0x16, 1, 1,
@@ -109,7 +109,7 @@ static FIELDS: [Judged; 21] = [
         false,
         Some((11, Code::BadTable, 112)),
     ),
-    // threads that an earlier record tells
+    // threads that an earlier record sets
     (
         &[
             0x9C, 5, 0, 0x46, 1, 0x0B, 1, 0, 0xA0, 0x14, 0, 1, 0, 0, 0, 1, 2, 3, 4, 5, 6, 7, 8, 9,
@@ -118,7 +118,7 @@ static FIELDS: [Judged; 21] = [
         false,
         None,
     ),
-    // a thread that is told again
+    // a thread that is set again
     (
         &[
             0x9C, 5, 0, 0x46, 1, 0x0B, 1, 0, 0xA0, 0x14, 0, 1, 0, 0, 0, 1, 2, 3, 4, 5, 6, 7, 8, 9,
@@ -182,7 +182,7 @@ static FIELDS: [Judged; 21] = [
         false,
         Some((11, Code::BadTarget, 115)),
     ),
-    // bytes that are repeated 0 times, and others behind them
+    // bytes that are repeated 0 times, and others after them
     (
         &[
             0xA2, 0x0F, 0, 1, 0, 0, 0, 0, 0, 0, 6, 1, 2, 3, 4, 5, 6, 0, 0x9C, 6, 0, 0xE4, 5, 0x16,

@@ -6,7 +6,7 @@ use std::alloc::Global;
 /// A module, and the first fault of its sections and symbols.
 type Judged = (&'static [u8], Option<(Phase, u32, Code, u64)>);
 
-/// Each condition alone, and two where the earlier one is told.
+/// Each condition alone, and two where the earlier one is reported.
 static JUDGED: [Judged; 38] = [
     // whole, of each kind
     (
@@ -33,7 +33,7 @@ static JUDGED: [Judged; 38] = [
         ],
         Some((Phase::Section, 2, Code::BadTable, 18)),
     ),
-    // 16-bit offsets, and an alignment that is not known: the first is told
+    // 16-bit offsets, and an alignment that is not known: the first is reported
     (
         &[
             0x80, 3, 0, 1, 0x61, 0, 0x96, 9, 0, 0, 1, 0x64, 4, 0x43, 0x4F, 0x44, 0x45, 0, 0x98, 7,
@@ -122,7 +122,7 @@ static JUDGED: [Judged; 38] = [
         ],
         Some((Phase::Section, 3, Code::DataPastEnd, 28)),
     ),
-    // empty data that begin behind the end
+    // empty data that begin past the end
     (
         &[
             0x80, 3, 0, 1, 0x61, 0, 0x96, 9, 0, 0, 1, 0x64, 4, 0x43, 0x4F, 0x44, 0x45, 0, 0x98, 7,
@@ -215,7 +215,7 @@ static JUDGED: [Judged; 38] = [
         ],
         Some((Phase::Symbol, 3, Code::SymbolKind, 28)),
     ),
-    // a definition behind the end of its segment
+    // a definition past the end of its segment
     (
         &[
             0x80, 3, 0, 1, 0x61, 0, 0x96, 9, 0, 0, 1, 0x64, 4, 0x43, 0x4F, 0x44, 0x45, 0, 0x98, 7,

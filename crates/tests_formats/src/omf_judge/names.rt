@@ -2,7 +2,7 @@
 use super::Judged;
 use oc_base::Code;
 
-/// Each condition alone, and two where the earlier one is told.
+/// Each condition alone, and two where the earlier one is reported.
 static NAMES: [Judged; 26] = [
     // whole: of frames and targets of each kind
     (
@@ -31,7 +31,7 @@ static NAMES: [Judged; 26] = [
         false,
         Some((10, Code::BadTarget, 92)),
     ),
-    // a thread of a frame that is not there, behind one that is
+    // a thread of a frame that does not exist, after one of a frame that does
     (
         &[0x9C, 5, 0, 0x44, 2, 0x44, 3, 0],
         false,
@@ -82,7 +82,7 @@ static NAMES: [Judged; 26] = [
         false,
         Some((11, Code::BadOffset, 115)),
     ),
-    // behind no data
+    // after no data
     (
         &[0x9C, 6, 0, 0xE4, 0, 0x16, 1, 1, 0],
         false,
@@ -142,7 +142,7 @@ static NAMES: [Judged; 26] = [
         false,
         Some((11, Code::BadTarget, 117)),
     ),
-    // an external that is told only later
+    // an external that comes only later
     (
         &[
             0xA0, 0x14, 0, 1, 0, 0, 0, 1, 2, 3, 4, 5, 6, 7, 8, 9, 0x0A, 0x0B, 0x0C, 0x0D, 0x0E,

@@ -1,4 +1,4 @@
-//! Small lists of names, with their first repeats told by hand.
+//! Small lists of names, with their first repeats worked out by hand.
 
 use oc_strings::{Repeat, first_repeat};
 use std::alloc::Global;

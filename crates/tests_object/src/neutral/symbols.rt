@@ -1,4 +1,4 @@
-//! Names of symbols that are added, told by hand.
+//! Names of symbols that are added, worked out by hand.
 
 use oc_base::{Bytes, Format, NoMemory};
 use oc_neutral::{Binding, BuildFault, Builder, Mark, Symbol, Value, Visibility};
@@ -56,7 +56,7 @@ fn names_differ(rt: HostRuntime) -> Result<(), Fail> {
     Ok(())
 }
 
-/// A new name is taken up before the next one is compared.
+/// A new name is recorded before the next one is compared.
 #[test]
 fn new_names_are_taken_up(rt: HostRuntime) -> Result<(), Fail> {
     let mut builder = Builder::new(rt.alloc(), Format::Elf32);

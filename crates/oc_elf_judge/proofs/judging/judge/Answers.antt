@@ -4,7 +4,7 @@ use Rattle.oc_base.specs.declared.fault.Fault.{Fault}
 use Rattle.oc_base.specs.Stops.{IsStop}
 use Rattle.oc_linking.specs.FirstFault.{first_fault}
 use Rattle.oc_elf.specs.Elf.{rest_stages}
-use Rattle.oc_elf.specs.Frames.{Framed}
+use Rattle.oc_elf.specs.Frames.{FileFrame}
 use Rattle.oc_elf_judge.proofs.JudgingLemmas.{header_clean, header_stops}
 use Rattle.oc_elf_judge.proofs.judging.judge.Goals as goal
 
@@ -14,9 +14,9 @@ returns-in-Err-clause-fault c = header_stops c.args.class c.args.bytes.now c.arg
 pub returns-in-Err-check_rest-clause-fault : goal.returns-in-Err-check_rest-clause-fault
 returns-in-Err-check_rest-clause-fault c =
     subst (λ (o : Option Fault). IsStop o c.in-Err-check_rest.stop)
-    (sym (header_clean c.args.class c.args.bytes.now c.args.keep.now c.in-Ok.ensures.clean ∙ ap (λ (f : Framed). first_fault (rest_stages f c.args.keep.now)) (sym c.in-Ok.ensures.frame)))
+    (sym (header_clean c.args.class c.args.bytes.now c.args.keep.now c.in-Ok.ensures.clean ∙ ap (λ (f : FileFrame). first_fault (rest_stages f c.args.keep.now)) (sym c.in-Ok.ensures.frame)))
     c.in-Err-check_rest.ensures.stop
 
 pub returns-clause-well_formed : goal.returns-clause-well_formed
 returns-clause-well_formed c =
-    header_clean c.args.class c.args.bytes.now c.args.keep.now c.in-Ok.ensures.clean ∙ ap (λ (f : Framed). first_fault (rest_stages f c.args.keep.now)) (sym c.in-Ok.ensures.frame) ∙ c.in-Ok-check_rest.ensures.clean
+    header_clean c.args.class c.args.bytes.now c.args.keep.now c.in-Ok.ensures.clean ∙ ap (λ (f : FileFrame). first_fault (rest_stages f c.args.keep.now)) (sym c.in-Ok.ensures.frame) ∙ c.in-Ok-check_rest.ensures.clean

@@ -8,7 +8,7 @@ use Rattle.oc_shelf.specs.Reading.Spans.{meets}
 use Rattle.oc_shelf.proofs.ReadingLaws.BitmapLemmas.{met_in_upto}
 use Rattle.oc_elf.specs.declared.rel.Rel.{Rel}
 use Rattle.oc_elf.specs.Fields.{is_idle, width_of}
-use Rattle.oc_elf.specs.Frames.{Framed}
+use Rattle.oc_elf.specs.Frames.{FileFrame}
 use Rattle.oc_elf.specs.RelocRules.{bytes_for, meets_upto, own_conditions, reloc_fault, span_of}
 use Rattle.oc_elf.specs.Tables.{reloc_of, reloc_place}
 use Rattle.oc_elf_judge.proofs.RelocLemmas.{IsGood, field_in_room, field_inside, good_entry, idle_clean, met_fault, own_stops, taken_more, taken_same, wide_field}
@@ -45,7 +45,7 @@ take-requires c =
     omega (arith, inside, width)
 
 -- whether a field is met is whether it meets one of the entries before
-met : (f : Framed) (i k end : ℕ) (r : Rel) (b : Bool) (words : List ℕ) → r ≡ reloc_of f i k → end ≡ r.r_offset + width_of f r
+met : (f : FileFrame) (i k end : ℕ) (r : Rel) (b : Bool) (words : List ℕ) → r ≡ reloc_of f i k → end ≡ r.r_offset + width_of f r
     → b ≡ any_upto (λ j. option_map_or (meets (r.r_offset, end)) (span_of f i j) false) k → b ≡ meets_upto f i k (reloc_of f i k)
 met f i k end r b words is ends e =
     e ∙ ap (λ (x : ℕ). any_upto (λ j. option_map_or (meets (r.r_offset, x)) (span_of f i j) false) k) ends ∙ ap (meets_upto f i k) is

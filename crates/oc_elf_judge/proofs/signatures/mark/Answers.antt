@@ -5,7 +5,7 @@ use Rattle.std.specs.Option.{option_copied, option_map_or}
 use Rattle.std.proofs.lemmas.List.FromFn.{length-map-range_with_len}
 use Rattle.oc_strings.specs.Repeats.{NameList, name_at, names_of, repeat_at}
 use Rattle.oc_elf.specs.declared.shdr.Shdr.{Shdr}
-use Rattle.oc_elf.specs.Frames.{Framed}
+use Rattle.oc_elf.specs.Frames.{FileFrame}
 use Rattle.oc_elf.specs.Groups.{comdat_key, comdat_keys}
 use Rattle.oc_elf_judge.specs.Marks.{AreMarks}
 use Rattle.oc_elf.specs.SymbolRules.{is_bad_key}
@@ -19,7 +19,7 @@ is_bad_key-requires-clause-there c =
     omega (arith, long, length-map c.args.keys.now option_copied, c.requires.there)
 
 -- what is asked of the keys is asked of the header
-bad : (f : Framed) (names : NameList) (g : ℕ) (b : Bool) → names ≡ comdat_keys f → g < length f.headers
+bad : (f : FileFrame) (names : NameList) (g : ℕ) (b : Bool) → names ≡ comdat_keys f → g < length f.headers
     → b ≡ (option_map_or (λ key. bytes_eq key []) (name_at names g) false || is_some (repeat_at names g)) → b ≡ is_bad_key f g
 bad f names g b are low is =
     is ∙ ap (λ (ns : NameList). option_map_or (λ key. bytes_eq key []) (name_at ns g) false || is_some (repeat_at ns g)) are

@@ -7,7 +7,7 @@ use Rattle.oc_neutral.specs.declared.section.Section.{Section}
 use Rattle.oc_neutral.specs.Objects.{Object}
 use Rattle.oc_plans.specs.Numbered.{AreAll}
 use Rattle.oc_plans.proofs.FieldBytes.{parts_numbered, parts_within}
-use Rattle.oc_macho_write.specs.declared.forms.Scene.{Scene}
+use Rattle.oc_macho_write.specs.declared.forms.FieldContext.{FieldContext}
 use Rattle.oc_macho_write.specs.Relocations.{CanTell, number_at}
 use Rattle.oc_macho_write.proofs.PlannedLemmas.{raws_are}
 use Rattle.oc_macho_write.proofs.SceneLemmas.{told}
@@ -16,7 +16,7 @@ use Rattle.oc_macho_write.proofs.planning.sections_of.Goals as goal
 pub with_numbers-requires-clause-there : goal.with_numbers-requires-clause-there
 with_numbers-requires-clause-there c = λ k low.
     let n : Object = c.args.neutral in
-    let x : Scene = record { word = c.args.word; addresses = c.args.addresses; symbols = c.deref.result } in
+    let x : FieldContext = record { word = c.args.word; addresses = c.args.addresses; symbols = c.deref.result } in
     let same : c.into_parts-groups.result.3.lists ≡ n.relocs = c.into_parts-groups.ensures.relocs in
     let many = c.is_object.ensures.built.fields.counted in
     let long = ap length same in
@@ -34,6 +34,6 @@ returns c =
     let w = c.args.word in
     let parts = c.into_parts-groups in
     ap (map (λ (s : Section). s.bytes)) (
-    c.with_numbers.ensures (number_at w n) (record { object = n; scene = record { word = refl; addresses = c.requires.addresses; symbols = c.deref.ensures.value ∙ parts.ensures.symbols }; same = refl })
+    c.with_numbers.ensures (number_at w n) (record { object = n; context = record { word = refl; addresses = c.requires.addresses; symbols = c.deref.ensures.value ∙ parts.ensures.symbols }; same = refl })
     ∙ parts_numbered n (number_at w n) parts.result.1.items parts.result.3.lists parts.ensures.sections parts.ensures.relocs)
     ∙ raws_are w n (enumerate_from 0 n.sections)

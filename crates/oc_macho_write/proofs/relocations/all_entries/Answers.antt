@@ -15,7 +15,7 @@ use Rattle.oc_macho_write.proofs.relocations.all_entries.Goals as goal
 pub loop-k-preserved : goal.loop-k-preserved
 loop-k-preserved c =
     let n : Object = c.args.neutral.now in
-    let w = c.args.scene.word in
+    let w = c.args.context.word in
     let k = c.loop-k.k in
     let low : k < length n.sections = omega (arith, c.loop-k-test.true, c.section_count-k-end.ensures) in
     let s = there_at n.sections k low in

@@ -9,4 +9,4 @@ use Rattle.oc_macho_write.proofs.relocations.all_entries.Given as goal
 -- the entries of the sections so far, and those that are left
 abbrev pub invariant-loop-k : goal.invariant-loop-k
 invariant-loop-k l =
-    items_of l.entries.items ++ map (λ (x : ℕ × Section). relocs_of l.fn.scene.word l.fn.neutral x.0) (enumerate_from l.k (drop l.k l.fn.neutral.sections)) ≡ all_entries l.fn.scene.word l.fn.neutral
+    items_of l.entries.items ++ map (λ (x : ℕ × Section). relocs_of l.fn.context.word l.fn.neutral x.0) (enumerate_from l.k (drop l.k l.fn.neutral.sections)) ≡ all_entries l.fn.context.word l.fn.neutral

@@ -8,30 +8,30 @@ use Rattle.oc_macho_write.proofs.relocations.entries_of.Goals as goal
 pub loop-field-init : goal.loop-field-init
 loop-field-init c =
     let n = c.args.neutral.now in
-    let x = c.args.scene in
+    let x = c.args.context in
     let none : c.new-entries.result.items ≡ [] = search rules in
     let same : c.into_iter-field-iterator.result ≡ list_of n.relocs c.args.section = search rules in
-    making_begun x n c.args.section (leads x.word n x c.requires.fitted.object c.requires.scene c.args.section c.requires.there) c.new-entries.result.items c.into_iter-field-iterator.result none same
+    making_begun x n c.args.section (leads x.word n x c.requires.fitted.object c.requires.context c.args.section c.requires.there) c.new-entries.result.items c.into_iter-field-iterator.result none same
 
 pub add_entries-requires-clause-ready : goal.add_entries-requires-clause-ready
-add_entries-requires-clause-ready c = scene_ready c.args.scene.word c.args.neutral.now c.args.scene c.requires.fitted.object c.requires.scene
+add_entries-requires-clause-ready c = scene_ready c.args.context.word c.args.neutral.now c.args.context c.requires.fitted.object c.requires.context
 
 pub add_entries-requires-clause-there : goal.add_entries-requires-clause-there
 add_entries-requires-clause-there c =
     let step : c.loop-field.field-iterator ≡ c.in-Some.field ∷ c.next.new.self = search rules in
-    making_has c.args.scene c.args.neutral.now c.args.section c.loop-field.entries.items c.loop-field.field-iterator c.in-Some.field c.next.new.self step c.loop-field.invariant
+    making_has c.args.context c.args.neutral.now c.args.section c.loop-field.entries.items c.loop-field.field-iterator c.in-Some.field c.next.new.self step c.loop-field.invariant
 
 pub add_entries-requires-clause-numbers : goal.add_entries-requires-clause-numbers
-add_entries-requires-clause-numbers c = sized_numbers c.args.scene.word c.args.neutral.now c.args.scene c.requires.fitted.object c.requires.scene c.args.numbers.now c.requires.numbers.sized
+add_entries-requires-clause-numbers c = sized_numbers c.args.context.word c.args.neutral.now c.args.context c.requires.fitted.object c.requires.context c.args.numbers.now c.requires.numbers.sized
 
 pub loop-field-preserved : goal.loop-field-preserved
 loop-field-preserved c =
     let n = c.args.neutral.now in
     let step : c.loop-field.field-iterator ≡ c.in-Some.field ∷ c.next.new.self = search rules in
-    making_more c.args.scene n c.args.section c.loop-field.entries.items c.loop-field.field-iterator c.in-Some.field c.next.new.self step c.loop-field.invariant
-    c.add_entries.new.entries.items (c.in_ok-add_entries.ensures n c.requires.scene c.requires.numbers)
+    making_more c.args.context n c.args.section c.loop-field.entries.items c.loop-field.field-iterator c.in-Some.field c.next.new.self step c.loop-field.invariant
+    c.add_entries.new.entries.items (c.in_ok-add_entries.ensures n c.requires.context c.requires.numbers)
 
 pub returns : goal.returns
 returns c =
     let none : c.loop-field.field-iterator ≡ [] = search rules in
-    making_done c.args.scene c.args.neutral.now c.args.section c.loop-field.entries.items c.loop-field.field-iterator none c.loop-field.invariant
+    making_done c.args.context c.args.neutral.now c.args.section c.loop-field.entries.items c.loop-field.field-iterator none c.loop-field.invariant

@@ -4,7 +4,7 @@ use Rattle.std.specs.Option.{option_map_or}
 use Rattle.std.specs.Prelude.{not}
 use Rattle.std.proofs.lemmas.Bool.Decides.{nat_tests}
 use Rattle.oc_omf_judge.specs.Held.{value_at}
-use Rattle.oc_omf_judge.specs.Seen.{external_with}
+use Rattle.oc_omf_judge.specs.EarlierSymbols.{external_with}
 use Rattle.oc_base.specs.declared.code.Code.TheVariants.{DuplicateName, SymbolKind}
 use Rattle.oc_linking.specs.Numbers.{or_else}
 use Rattle.oc_omf.specs.SymbolFaults.{is_empty, is_other_length, symbol_fault}

@@ -1,7 +1,7 @@
 -- An external without a fault is taken up.
 use Rattle.std.proofs.Common.{◌≡◌, false, nat_eq, length, None, refl, sym, ◌∙◌, arith}
 use Rattle.std.proofs.lemmas.Bool.Decides.{nat_tests}
-use Rattle.oc_omf_judge.specs.Seen.{external_with}
+use Rattle.oc_omf_judge.specs.EarlierSymbols.{external_with}
 use Rattle.oc_omf_judge.proofs.SeenSteps.{clean_external, external_seen, undefined_is}
 use Rattle.oc_omf_judge.proofs.externals.take_external.Goals as goal
 

@@ -3,7 +3,7 @@ use Rattle.std.proofs.Common.{ℕ, ◌<◌, ◌≤◌, Bool, List, [], ◌++◌,
 use Rattle.oc_omf.specs.Structures.{Public, public_read}
 use Rattle.oc_omf.specs.Entries.{all_read, in_file}
 use Rattle.oc_omf_judge.specs.Held.{Held}
-use Rattle.oc_omf_judge.specs.Seen.{public_with}
+use Rattle.oc_omf_judge.specs.EarlierSymbols.{public_with}
 use Rattle.oc_omf_judge.specs.Locals.{AreLocals}
 use Rattle.oc_omf.proofs.EachLemmas.{each_behind, each_from}
 use Rattle.oc_omf_judge.proofs.GoesLemmas.{public_goes}

@@ -2,7 +2,7 @@
 use Rattle.std.proofs.Common.{◌≡◌, false, nat_eq, nat_lt, length, refl, sym, ◌∙◌, arith}
 use Rattle.std.proofs.lemmas.Bool.Decides.{nat_tests}
 use Rattle.oc_omf.specs.Sections.{size_at}
-use Rattle.oc_omf_judge.specs.Seen.{public_with}
+use Rattle.oc_omf_judge.specs.EarlierSymbols.{public_with}
 use Rattle.oc_omf_judge.proofs.SeenSteps.{clean_public}
 use Rattle.oc_omf_judge.proofs.publics.take_public.Goals as goal
 

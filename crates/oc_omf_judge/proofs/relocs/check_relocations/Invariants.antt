@@ -1,7 +1,7 @@
 -- No entry so far has a fault, and what is kept is what they have.
 use Rattle.std.proofs.Common.{◌≡◌, None}
 use Rattle.oc_linking.specs.Numbers.{first_upto}
-use Rattle.oc_omf.specs.Fixups.{placed_upto}
+use Rattle.oc_omf.specs.Fixups.{subrecords_upto}
 use Rattle.oc_omf_judge.specs.Defined.{before_in}
 use Rattle.oc_omf_judge.specs.Reached.{IsReached}
 use Rattle.oc_omf_judge.specs.Whole.{entries}
@@ -11,5 +11,5 @@ use Rattle.oc_omf_judge.proofs.relocs.check_relocations.Given as goal
 abbrev pub invariant-loop-i : goal.invariant-loop-i
 invariant-loop-i l = record {
   clean : first_upto (relocations_at l.whole) l.i ≡ None;
-  reached : IsReached l.whole (before_in l.whole.front.omf l.i) (placed_upto (entries l.whole) l.i) l.reached;
+  reached : IsReached l.whole (before_in l.whole.front.omf l.i) (subrecords_upto (entries l.whole) l.i) l.reached;
 }

@@ -8,7 +8,7 @@ use Rattle.oc_omf.specs.Entries.{Entry, entries_in}
 use Rattle.oc_omf.specs.Tables.{tables_of}
 use Rattle.oc_omf.specs.Topics.{said_on}
 use Rattle.oc_omf_judge.specs.Defined.{before_in}
-use Rattle.oc_omf_judge.specs.Seen.{IsSeen}
+use Rattle.oc_omf_judge.specs.EarlierSymbols.{AreEarlierSymbols}
 use Rattle.oc_omf_judge.proofs.LocalLemmas.{named_locals}
 use Rattle.oc_omf_judge.proofs.StageLaws.{all_behind, defined_behind, entry_count, entry_here}
 use Rattle.oc_omf_judge.proofs.SymbolStages.{symbols_at, symbols_first, symbols_here}
@@ -33,7 +33,7 @@ loop-i-preserved c =
     let taken = c.in-Ok.ensures.taken (tables_of (entries_in file)) (before_in file c.loop-i.i) (named_locals (tables_of (entries_in file)).publics c.in_ok-known.known c.in_ok-known.ensures) c.loop-i.invariant.seen in
     record {
       clean = clean_more (symbols_at file) c.loop-i.i c.loop-i.invariant.clean (symbols_here file c.loop-i.i e there ∙ taken.0);
-      seen = subst (λ t. IsSeen t c.see_entry.new.seen) (sym (defined_behind file c.loop-i.i e there)) taken.1;
+      seen = subst (λ t. AreEarlierSymbols t c.see_entry.new.seen) (sym (defined_behind file c.loop-i.i e there)) taken.1;
     }
 
 pub returns-clause-clean : goal.returns-clause-clean
@@ -48,4 +48,4 @@ returns-clause-seen c =
     let file = c.args.omf.now in
     let many = entry_count file in
     let last : length (entries_in file) ≤ c.loop-i.i = omega (arith, many, c.count-i-end.ensures) in
-    subst (λ t. IsSeen t c.loop-i.seen) (all_behind file c.loop-i.i last) c.loop-i.invariant.seen
+    subst (λ t. AreEarlierSymbols t c.loop-i.seen) (all_behind file c.loop-i.i last) c.loop-i.invariant.seen

@@ -8,7 +8,7 @@ use Rattle.oc_omf.specs.Entries.{in_file}
 use Rattle.oc_omf.specs.Structures.{communal_read, external_read}
 use Rattle.oc_omf.specs.Topics.{said_on}
 use Rattle.oc_omf_judge.specs.Held.{Held}
-use Rattle.oc_omf_judge.specs.Seen.{AreExternalsStopped, IsEntrySeen, IsEntryStopped}
+use Rattle.oc_omf_judge.specs.EarlierSymbols.{AreExternalsStopped, IsEntrySeen, IsEntryStopped}
 use Rattle.oc_omf_judge.proofs.SeenEntry.{communals_seen, communals_stop, externals_seen, externals_stop, nothing_seen}
 use Rattle.oc_omf_judge.proofs.symbol_loop.see_entry.Goals as goal
 

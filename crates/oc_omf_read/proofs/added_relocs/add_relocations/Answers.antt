@@ -11,7 +11,7 @@ use Rattle.oc_omf_read.proofs.added_relocs.add_relocations.Goals as goal
 
 pub returns : goal.returns
 returns c =
-    let file = c.args.sight.now.omf.now in
+    let file = c.args.context.now.omf.now in
     let end : c.loop-j.j ≡ length c.sort_by_place.new.fields.items = omega (arith, c.loop-j-test.false, c.len-j-end.ensures, c.loop-j.auto.j-end) in
-    added_same (started file) c.loop-j.builder (given_with (entries_in file) c.args.sight.now.keep (take c.loop-j.j c.sort_by_place.new.fields.items)) (given_at (entries_in file) c.args.sight.now.keep) c.loop-j.invariant
-    (ready_done c.args.sight.now c.args.contents.now c.requires.ready c.sort_by_place.new.fields.items (subst (λ xs. IsPermutation xs c.sort_by_place.new.fields.items) c.requires.fields c.sort_by_place.ensures) c.loop-j.j end)
+    added_same (started file) c.loop-j.builder (given_with (entries_in file) c.args.context.now.keep (take c.loop-j.j c.sort_by_place.new.fields.items)) (given_at (entries_in file) c.args.context.now.keep) c.loop-j.invariant
+    (ready_done c.args.context.now c.args.contents.now c.requires.ready c.sort_by_place.new.fields.items (subst (λ xs. IsPermutation xs c.sort_by_place.new.fields.items) c.requires.fields c.sort_by_place.ensures) c.loop-j.j end)

@@ -7,4 +7,4 @@ use Rattle.oc_omf_read.specs.Fields.{given_with}
 use Rattle.oc_omf_read.proofs.added_relocs.add_relocations.Given as goal
 
 abbrev pub invariant-loop-j : goal.invariant-loop-j
-invariant-loop-j l = HasAdded (started l.sight.omf.now) l.builder (given_with (entries_in l.sight.omf.now) l.sight.keep (take l.j l.fields.items))
+invariant-loop-j l = HasAdded (started l.context.omf.now) l.builder (given_with (entries_in l.context.omf.now) l.context.keep (take l.j l.fields.items))

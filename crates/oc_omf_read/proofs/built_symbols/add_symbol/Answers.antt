@@ -7,7 +7,7 @@ use Rattle.oc_shows.proofs.BuiltSteps.{added_is}
 use Rattle.oc_omf.specs.Entries.{entries_in}
 use Rattle.oc_omf_read.specs.declared.mentioned.Mentioned.{Mentioned}
 use Rattle.oc_omf_read.specs.Built.{symboled}
-use Rattle.oc_omf_read.specs.Heard.{told_in}
+use Rattle.oc_omf_read.specs.Declarations.{declarations_in}
 use Rattle.oc_omf_read.proofs.CountLemmas.{few_told}
 use Rattle.oc_omf_read.proofs.HearLemmas.{few_held}
 use Rattle.oc_omf_read.proofs.SymbolLemmas.{symbol_ready, symbols_room}
@@ -15,7 +15,7 @@ use Rattle.oc_omf_read.proofs.built_symbols.add_symbol.Goals as goal
 
 pub overflow_cast-k : goal.overflow_cast-k
 overflow_cast-k c =
-    let held = few_held (told_in (entries_in c.args.omf.now)) c.args.mentions.now c.requires.heard in
+    let held = few_held (declarations_in (entries_in c.args.omf.now)) c.args.mentions.now c.requires.declarations in
     let told = few_told c.args.omf.now in
     let small = c.is_module.ensures.small in
     let low = c.requires.there in
@@ -23,7 +23,7 @@ overflow_cast-k c =
 
 pub add_new_symbol-requires-clause-room : goal.add_new_symbol-requires-clause-room
 add_new_symbol-requires-clause-room c =
-    let held = few_held (told_in (entries_in c.args.omf.now)) c.args.mentions.now c.requires.heard in
+    let held = few_held (declarations_in (entries_in c.args.omf.now)) c.args.mentions.now c.requires.declarations in
     let told = few_told c.args.omf.now in
     let small = c.is_module.ensures.small in
     let low = c.requires.there in
@@ -37,7 +37,7 @@ add_new_symbol-requires-clause-new c =
     let here : slice_get c.args.mentions.now.symbols.items c.args.k ≡ Some s = slice_get-get_or c.args.mentions.now.symbols.items c.args.k s c.requires.there ∙ ap (λ (s : Mentioned). Some s) (sym c.index.ensures) in
     subst IsOk
     (sym (ap (λ (d : Draft). symbol_added d c.in_ok-symbol.symbol) c.requires.before ∙ ap (symbol_added (symboled (entries_in c.args.omf.now) c.args.k)) c.in_ok-symbol.ensures
-    ∙ symbol_ready (entries_in c.args.omf.now) c.requires.clean c.args.mentions.now c.requires.heard c.args.k s here))
+    ∙ symbol_ready (entries_in c.args.omf.now) c.requires.clean c.args.mentions.now c.requires.declarations c.args.k s here))
     refl
 
 pub returns : goal.returns
@@ -46,5 +46,5 @@ returns c =
     let here : slice_get c.args.mentions.now.symbols.items c.args.k ≡ Some s = slice_get-get_or c.args.mentions.now.symbols.items c.args.k s c.requires.there ∙ ap (λ (s : Mentioned). Some s) (sym c.index.ensures) in
     added_is _ (symboled (entries_in c.args.omf.now) (c.args.k + 1)) _
     (ap (λ (d : Draft). symbol_added d c.in_ok-symbol.symbol) c.requires.before ∙ ap (symbol_added (symboled (entries_in c.args.omf.now) c.args.k)) c.in_ok-symbol.ensures
-    ∙ symbol_ready (entries_in c.args.omf.now) c.requires.clean c.args.mentions.now c.requires.heard c.args.k s here)
+    ∙ symbol_ready (entries_in c.args.omf.now) c.requires.clean c.args.mentions.now c.requires.declarations c.args.k s here)
     c.in_ok-add_new_symbol.ensures.added

@@ -8,7 +8,7 @@ use Rattle.oc_omf_read.proofs.built_symbols.add_symbols.Goals as goal
 
 pub returns : goal.returns
 returns c =
-    let many = all_symbols (entries_in c.args.omf.now) c.requires.clean c.args.mentions.now c.requires.heard in
+    let many = all_symbols (entries_in c.args.omf.now) c.requires.clean c.args.mentions.now c.requires.declarations in
     let long = c.args.mentions.now.symbols.ok.0 in
     let all : c.loop-k.k ≡ length (symbols_in (entries_in c.args.omf.now)) = omega (arith, many, long) in
     c.loop-k.invariant ∙ ap (symboled (entries_in c.args.omf.now)) all

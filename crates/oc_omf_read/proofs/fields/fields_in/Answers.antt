@@ -6,9 +6,9 @@ use Rattle.oc_omf_read.proofs.FieldLemmas.{fields_all, fields_none}
 use Rattle.oc_omf_read.proofs.fields.fields_in.Goals as goal
 
 pub loop-i-init : goal.loop-i-init
-loop-i-init c = fields_none c.args.sight.now c.new-fields.result.items c.new.result c.new-fields.ensures.items c.new.ensures
+loop-i-init c = fields_none c.args.context.now c.new-fields.result.items c.new.result c.new-fields.ensures.items c.new.ensures
 
 pub returns : goal.returns
 returns c =
-    let all : c.loop-i.i ≡ length (places_in c.args.sight.now.omf.now) = omega (arith, c.count-i-end.ensures) in
-    fields_all c.args.sight.now c.loop-i.i c.loop-i.fields.items c.loop-i.behind (all ∙ sym (entries_counted c.args.sight.now.omf.now)) c.loop-i.invariant
+    let all : c.loop-i.i ≡ length (places_in c.args.context.now.omf.now) = omega (arith, c.count-i-end.ensures) in
+    fields_all c.args.context.now c.loop-i.i c.loop-i.fields.items c.loop-i.behind (all ∙ sym (entries_counted c.args.context.now.omf.now)) c.loop-i.invariant

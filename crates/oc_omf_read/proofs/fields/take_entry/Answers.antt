@@ -6,11 +6,11 @@ use Rattle.oc_omf_read.proofs.FieldLemmas.{not_fixups, with_data}
 use Rattle.oc_omf_read.proofs.fields.take_entry.Goals as goal
 
 pub take_subrecords-requires-clause-here : goal.take_subrecords-requires-clause-here
-take_subrecords-requires-clause-here c = entry_here c.args.sight.now.omf.now c.args.i c.entry-entry.result.place c.entry-entry.result c.entry-entry.ensures.place c.entry-entry.ensures.entry
+take_subrecords-requires-clause-here c = entry_here c.args.context.now.omf.now c.args.i c.entry-entry.result.place c.entry-entry.result c.entry-entry.ensures.place c.entry-entry.ensures.entry
 
 pub returns-in-Names : goal.returns-in-Names
 returns-in-Names c =
-    let here = entry_here c.args.sight.now.omf.now c.args.i c.entry-entry.result.place c.entry-entry.result c.entry-entry.ensures.place c.entry-entry.ensures.entry in
+    let here = entry_here c.args.context.now.omf.now c.args.i c.entry-entry.result.place c.entry-entry.result c.entry-entry.ensures.place c.entry-entry.ensures.entry in
     on_ok_weaker c.take_data.result
-    (λ has. with_data c.args.sight.now c.args.i c.entry-entry.result c.requires.clean here c.class_of.result (sym c.class_of.ensures) (not_fixups c.class_of.result c.in-Names.is) c.args.fields.now.items c.args.behind.now c.take_data.new.behind c.requires.before has)
+    (λ has. with_data c.args.context.now c.args.i c.entry-entry.result c.requires.clean here c.class_of.result (sym c.class_of.ensures) (not_fixups c.class_of.result c.in-Names.is) c.args.fields.now.items c.args.behind.now c.take_data.new.behind c.requires.before has)
     c.take_data.ensures

@@ -4,7 +4,7 @@ use Rattle.oc_omf_read.proofs.fields.take_subrecords.Given as goal
 
 -- the threads and fixups so far, and those that are left, are all
 abbrev pub invariant-loop-at : goal.invariant-loop-at
-invariant-loop-at l = IsWalking l.sight l.i l.entry l.wide l.at l.fields.items l.fn.behind l.behind
+invariant-loop-at l = IsWalking l.context l.i l.entry l.wide l.at l.fields.items l.fn.behind l.behind
 
 abbrev pub decreases-loop-at : goal.decreases-loop-at
 decreases-loop-at l = length l.entry.contents - l.at

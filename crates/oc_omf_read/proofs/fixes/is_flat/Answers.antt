@@ -10,21 +10,21 @@ use Rattle.oc_omf_read.proofs.fixes.is_flat.Goals as goal
 
 pub returns-then-index-eq0 : goal.returns-then-index-eq0
 returns-then-index-eq0 c =
-    let es = entries_in c.args.sight.now.omf.now in
+    let es = entries_in c.args.context.now.omf.now in
     sym (flat_none es c.args.frame (zero_indexed (tables_of es).groups c.args.frame.index (omega arith)))
 
 pub returns-then-index-len : goal.returns-then-index-len
 returns-then-index-len c =
-    let es = entries_in c.args.sight.now.omf.now in
-    let known = c.args.sight.now.known.now in
+    let es = entries_in c.args.context.now.omf.now in
+    let known = c.args.context.now.known.now in
     let many = as_many_groups (tables_of es) known c.requires.knows in
     let past : length known.groups.items < c.args.frame.index = omega arith in
     sym (flat_none es c.args.frame (not_indexed (tables_of es).groups c.args.frame.index (omega (arith, many, past))))
 
 pub returns : goal.returns
 returns c =
-    let es = entries_in c.args.sight.now.omf.now in
-    let known = c.args.sight.now.known.now in
+    let es = entries_in c.args.context.now.omf.now in
+    let known = c.args.context.now.known.now in
     let names = known.groups.items in
     let some : c.args.frame.index ≢ 0 = λ e. omega (arith, e) in
     let low : c.from-index.result - 1 < length names = omega arith in

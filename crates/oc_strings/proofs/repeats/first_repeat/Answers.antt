@@ -3,7 +3,7 @@ use Rattle.std.proofs.Common.{◌≡◌, ◌-◌, ◌<◌, ◌≤◌, arith, sym
 use Rattle.std.specs.List.Sorted.{IsPermutation}
 use Rattle.std.specs.Option.{option_copied}
 use Rattle.std.proofs.lemmas.List.{get_or_default, length-map}
-use Rattle.oc_strings.specs.declared.repeats.Entry.{Entry}
+use Rattle.oc_strings.specs.declared.repeats.SortKey.{SortKey}
 use Rattle.oc_strings.specs.Repeats.{names_of, entries_of}
 use Rattle.oc_strings.proofs.RepeatSorting.{found_first, least_kept, least_more, IsLeast}
 use Rattle.oc_strings.proofs.repeats.first_repeat.Goals.{then-are_tied, else-are_tied}
@@ -18,8 +18,8 @@ loop-i-preserved c =
     let y = c.index-in-loop-i.result.now in
     let some : 1 ≤ i = c.loop-i.auto.i in
     let low : i < length es = omega (arith, c.loop-i-test.true, c.len-i-end.ensures, c.sort.new.entries.ok.0) in
-    let at_x : (d : Entry) → x ≡ get_or es (i - 1) d = λ d. c.index.ensures ∙ get_or_default es (i - 1) x d (omega (arith, low)) in
-    let at_y : (d : Entry) → y ≡ get_or es i d = λ d. c.index-in-loop-i.ensures ∙ get_or_default es i y d low in
+    let at_x : (d : SortKey) → x ≡ get_or es (i - 1) d = λ d. c.index.ensures ∙ get_or_default es (i - 1) x d (omega (arith, low)) in
+    let at_y : (d : SortKey) → y ≡ get_or es i d = λ d. c.index-in-loop-i.ensures ∙ get_or_default es i y d low in
     elim c.if-are_tied.branch [
       | then-are_tied w ↦ subst (IsLeast names es (i + 1)) (sym (w.found-is ∙ ap Some w.sooner.ensures))
           (least_more names es i c.loop-i.found x y c.loop-i.invariant some low at_x at_y (sym c.are_tied.ensures ∙ w.if-are_tied.true))

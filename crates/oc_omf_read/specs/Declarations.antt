@@ -1,0 +1,53 @@
+-- Declarations of symbols, one after the other, with what each says (TIS OMF 1.1, "EXTDEF", "LEXTDEF", "PUBDEF", "LPUBDEF" and "COMDEF"; our profile).
+use Rattle.std.specs.Prelude.{ℕ, Bool, List, [], ◌++◌, map, flat_map, Ok, Err}
+use Rattle.std.specs.Option.{option_map_or}
+use Rattle.oc_omf.specs.declared.structures.PublicBase.{PublicBase}
+use Rattle.oc_omf.specs.declared.structures.Communal.{Communal}
+use Rattle.oc_omf.specs.Cursor.{Reading, Read, each_read}
+use Rattle.oc_omf.specs.Structures.{External, Public, base_read, public_read}
+use Rattle.oc_omf.specs.Entries.{Entry, all_read}
+use Rattle.oc_omf_read.specs.declared.declarations.DeclarationKind.{DeclarationKind}
+use Rattle.oc_omf_read.specs.declared.declarations.DeclarationKind.TheVariants as what
+use Rattle.oc_omf_read.specs.declared.declarations.DeclarationRef.{DeclarationRef}
+
+-- a declaration, with its name as bytes
+pub record Declaration : Type 0 where
+  pub local : Bool
+  pub name : List ℕ
+  pub says : DeclarationKind
+
+-- what the program holds of it
+abbrev pub declaration_of : DeclarationRef → Declaration
+declaration_of h = record { local = h.local; name = h.name.now; says = h.says }
+
+abbrev pub all_declarations : List DeclarationRef → List Declaration
+all_declarations declarations = map declaration_of declarations
+
+-- a definition
+abbrev pub of_public : Public → Declaration
+of_public p = record { local = p.local; name = p.name; says = what.Defined p.segment p.offset }
+
+-- what an external says as a communal, if it is one
+abbrev pub of_communal : Communal → DeclarationKind
+of_communal c = what.Communal c.length
+
+-- an external
+abbrev pub of_external : External → Declaration
+of_external y = record { local = y.local; name = y.name; says = option_map_or of_communal y.communal what.External }
+
+-- the symbols after a base, where that is read
+abbrev pub publics_behind : Bool → Bool → List ℕ → Reading PublicBase → List (Read Public)
+publics_behind wide local b (Ok r) = each_read (public_read wide local r.0.segment) b r.1
+publics_behind wide local b (Err c) = []
+
+-- the definitions in the contents of an entry
+abbrev pub public_declarations : Bool → Bool → List ℕ → List Declaration
+public_declarations wide local b = map of_public (all_read (publics_behind wide local b (base_read b 0)))
+
+-- the declarations of an entry
+abbrev pub declarations_by : Entry → List Declaration
+declarations_by e = map of_public (all_read e.publics) ++ map of_external (all_read e.externals)
+
+-- the declarations of a module
+unfoldable pub declarations_in : List Entry → List Declaration
+declarations_in entries = flat_map declarations_by entries

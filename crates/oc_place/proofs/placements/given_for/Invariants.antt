@@ -1,0 +1,8 @@
+use Rattle.std.proofs.Common.{◌≡◌, take}
+use Rattle.oc_place.specs.Placings.{placing_of}
+use Rattle.oc_place.specs.Footprints.{footprint_of}
+use Rattle.oc_place.proofs.placements.given_for.Given as goal
+
+-- what is given so far
+abbrev pub invariant-loop-k : goal.invariant-loop-k
+invariant-loop-k l = l.given.items ≡ take l.k (placing_of (footprint_of l.object) l.notebook).given
