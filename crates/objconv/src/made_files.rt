@@ -2,21 +2,48 @@
 ghost use Rattle.std.specs.Prelude.{◌<◌};
 
 use crate::command::run;
-use crate::windows::bytes_of;
 use oc_base::NoMemory;
 use oc_outside::{MemConsole, MemFiles};
 use oc_words::Words;
 use std::alloc::Global;
 use std::test::Fail;
 
-/// Two functions as COFF for i386, in hexadecimal.
-const TWO: &[&str] = &[
-    "4c010100000000008400000006000000000000002e746578740000000000000000000000200000003c000000",
-    "5c000000000000000400000020005060e800000000e800000000909090909090e800000000e8000000009090",
-    "9090909001000000030000001400060000000400000014001100000002000000140016000000050000001400",
-    "2e7465787400000000000000010000000301200000000400000000000000000000000000665f300000000000",
-    "00000000010020000200665f31000000000010000000010020000200785f3000000000000000000000000000",
-    "0200785f3100000000000000000000000000020004000000",
+/// How many bytes the file has.
+const ALL: usize = 244;
+
+/// Two functions as COFF for i386; each calls the other and a symbol that is undefined.
+const TWO: [u8; ALL] = [
+    // 0x00 file header
+    0x4C, 1, 1, 0, 0, 0, 0, 0, 0x84, 0, 0, 0, 6, 0, 0, 0, 0, 0, 0, 0,
+    // 0x14 section header 1, ".text"
+    0x2E, 0x74, 0x65, 0x78, 0x74, 0, 0, 0, 0, 0, 0, 0, 0, 0, 0, 0, 0x20, 0, 0, 0, 0x3C, 0, 0, 0,
+    0x5C, 0, 0, 0, 0, 0, 0, 0, 4, 0, 0, 0, 0x20, 0, 0x50, 0x60,
+    // 0x3C .text: "f_0"
+    0xE8, 0, 0, 0, 0, 0xE8, 0, 0, 0, 0, 0x90, 0x90, 0x90, 0x90, 0x90, 0x90,
+    // 0x4C .text: "f_1"
+    0xE8, 0, 0, 0, 0, 0xE8, 0, 0, 0, 0, 0x90, 0x90, 0x90, 0x90, 0x90, 0x90,
+    // 0x5C relocations of .text: entry 0, "f_0" calls "f_1"
+    1, 0, 0, 0, 3, 0, 0, 0, 0x14, 0,
+    // 0x66 relocations of .text: entry 1, "f_0" calls "x_0"
+    6, 0, 0, 0, 4, 0, 0, 0, 0x14, 0,
+    // 0x70 relocations of .text: entry 2, "f_1" calls "f_0"
+    0x11, 0, 0, 0, 2, 0, 0, 0, 0x14, 0,
+    // 0x7A relocations of .text: entry 3, "f_1" calls "x_1"
+    0x16, 0, 0, 0, 5, 0, 0, 0, 0x14, 0,
+    // 0x84 symbol table: entry 0, the section ".text"
+    0x2E, 0x74, 0x65, 0x78, 0x74, 0, 0, 0, 0, 0, 0, 0, 1, 0, 0, 0, 3, 1,
+    // 0x96 symbol table: entry 1, the section's auxiliary entry
+    0x20, 0, 0, 0, 4, 0, 0, 0, 0, 0, 0, 0, 0, 0, 0, 0, 0, 0,
+    // 0xA8 symbol table: entry 2, "f_0"
+    0x66, 0x5F, 0x30, 0, 0, 0, 0, 0, 0, 0, 0, 0, 1, 0, 0x20, 0, 2, 0,
+    // 0xBA symbol table: entry 3, "f_1"
+    0x66, 0x5F, 0x31, 0, 0, 0, 0, 0, 0x10, 0, 0, 0, 1, 0, 0x20, 0, 2, 0,
+    // 0xCC symbol table: entry 4, "x_0"
+    0x78, 0x5F, 0x30, 0, 0, 0, 0, 0, 0, 0, 0, 0, 0, 0, 0, 0, 2, 0,
+    // 0xDE symbol table: entry 5, "x_1"
+    0x78, 0x5F, 0x31, 0, 0, 0, 0, 0, 0, 0, 0, 0, 0, 0, 0, 0, 2, 0,
+    // 0xF0 string table
+    4, 0, 0, 0,
 ];
 
 /// The line that is shown of them.
@@ -55,7 +82,7 @@ const CASES: [Case; 5] = [
     Case {
         failing: 0,
         status: 0,
-        held: Some(244),
+        held: Some(ALL),
         shown: SUMMARY,
         told: "",
         ..UNWRITTEN
@@ -68,7 +95,7 @@ const CASES: [Case; 5] = [
     },
     Case {
         failing: 0,
-        room: 243,
+        room: ALL as u64 - 1,
         held: Some(0),
         ..UNWRITTEN
     },
@@ -76,7 +103,7 @@ const CASES: [Case; 5] = [
         failing: 0,
         unshown: 1,
         status: 6,
-        held: Some(244),
+        held: Some(ALL),
         told: "",
         ..UNWRITTEN
     },
@@ -112,9 +139,8 @@ fn is_met(alloc: Global, case: &Case, file: &[u8]) -> Result<bool, NoMemory> {
 
 #[test]
 fn makes_two_functions(rt: HostRuntime) -> Result<(), Fail> {
-    let file = bytes_of(rt.alloc(), TWO)?;
     for (number, case) in CASES.iter().enumerate() {
-        assert!(rt; is_met(rt.alloc(), case, file.as_slice())?, "case {number}");
+        assert!(rt; is_met(rt.alloc(), case, &TWO)?, "case {number}");
     }
     Ok(())
 }

@@ -1,5 +1,5 @@
 -- The rows of the tables of a file.
-use Rattle.std.proofs.Common.{◌≡◌, ℕ, ◌+◌, ◌^◌, ◌<◌, ◌≤◌, Bool, true, false, cond, List, [], ◌∷◌, length, map, get_or, zero, suc, Some, refl, arith}
+use Rattle.std.proofs.Common.{◌≡◌, ℕ, ◌+◌, ◌^◌, ◌<◌, ◌≤◌, Bool, true, false, cond, List, [], ◌∷◌, length, map, Some, arith}
 use Rattle.std.specs.Prelude.{slice_get}
 use Rattle.std.proofs.lemmas.List.{length-map}
 use Rattle.std.proofs.lemmas.Option.{get_or_from_slice_get}
@@ -15,12 +15,6 @@ use Rattle.oc_coff_write.proofs.PlanLemmas.{relocations_sized}
 -- row k is made of element k
 pub row_is : {X : Type 0} (f : X → List ℕ) (xs : List X) (k : ℕ) (x : X) → slice_get xs k ≡ Some x → row_of (map f xs) k ≡ f x
 row_is f xs k x here = get_or_from_slice_get (map f xs) k (f x) [] (member_map f xs k x here)
-
--- what is made of an element that is there
-pub at_map : {X Y : Type 0} (f : X → Y) (xs : List X) (k : ℕ) (d : X) (e : Y) → k < length xs → get_or (map f xs) k e ≡ f (get_or xs k d)
-at_map f [] k d e low = absurd (omega (arith, low))
-at_map f (x ∷ xs) zero d e low = refl
-at_map f (x ∷ xs) (suc k) d e low = at_map f xs k d e (omega (arith, low))
 
 pub length-relocation_rows : (rs : List Relocation) → length (relocation_rows rs) ≡ length (with_count rs)
 length-relocation_rows rs = length-map (with_count rs) relocation_bytes

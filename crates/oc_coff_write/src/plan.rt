@@ -1,5 +1,5 @@
 //! Planned files.
-ghost use Rattle.std.specs.Prelude.{◌≡◌, ◌<◌, ◌^◌, [], length, map, slice_index_or};
+ghost use Rattle.std.specs.Prelude.{◌<◌, ◌^◌, [], length, map, slice_index_or};
 ghost use Rattle.oc_outside.specs.Windows.{IsFilled};
 ghost use Rattle.oc_shelf.specs.Writing.Parts.{table_of};
 ghost use Rattle.oc_coff_write.specs.Plans.{relocation_rows};
@@ -8,8 +8,7 @@ use crate::entries::Entry;
 use crate::tables::{entries_window, headers_window, relocations_window, strings_window};
 use oc_coff::{FileHeader, Relocation, SectionHeader, Shape, pack_file_header};
 use oc_neutral::Section;
-use oc_plans::Parts;
-use oc_shelf::copy_window;
+use oc_shelf::{Parts, copy_window};
 use oc_strings::Table;
 
 #[cfg(test)]

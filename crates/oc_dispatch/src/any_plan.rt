@@ -1,13 +1,7 @@
-//! The planned file of any format, and the writers that plan it.
+//! The planned file of any format.
 ghost use Rattle.std.specs.Prelude.{◌≡◌, ℕ, List};
 
-use oc_big_coff::{BigCoffWriter32, BigCoffWriter64};
-use oc_big_elf::{BigElfWriter32, BigElfWriter64};
-use oc_coff_write::{CoffWriter32, CoffWriter64};
-use oc_elf_write::{ElfWriter32, ElfWriter64};
-use oc_macho_write::{MachWriter32, MachWriter64};
-use oc_omf_write::OmfWriter;
-use oc_target::{Emits, Writes};
+use oc_target::Emits;
 
 /// The planned file of any format.
 #[derive(Debug, Drop)]
@@ -51,75 +45,33 @@ impl Emits for AnyPlan {
     }
 }
 
-/// A writer whose plans are plans of any format.
-pub(crate) trait PlansAny: Writes {
+/// A plan that is one of any format.
+pub(crate) trait PlansAny: Emits {
     /// The plan as one of any format: it has the same file. Constant time.
-    fn any(plan: Self::Plan) -> AnyPlan
-        ensures { ⟦<AnyPlan as Emits>⟧.file result ≡ Self.Plan.file plan };
+    fn any(self) -> AnyPlan
+        ensures { ⟦<AnyPlan as Emits>⟧.file result ≡ file self };
 }
 
-impl PlansAny for ElfWriter32 {
-    fn any(plan: oc_elf_write::Plan) -> AnyPlan {
-        AnyPlan::Elf(plan)
+impl PlansAny for oc_elf_write::Plan {
+    fn any(self) -> AnyPlan {
+        AnyPlan::Elf(self)
     }
 }
 
-impl PlansAny for ElfWriter64 {
-    fn any(plan: oc_elf_write::Plan) -> AnyPlan {
-        AnyPlan::Elf(plan)
+impl PlansAny for oc_coff_write::Plan {
+    fn any(self) -> AnyPlan {
+        AnyPlan::Coff(self)
     }
 }
 
-impl PlansAny for CoffWriter32 {
-    fn any(plan: oc_coff_write::Plan) -> AnyPlan {
-        AnyPlan::Coff(plan)
+impl PlansAny for oc_macho_write::Plan {
+    fn any(self) -> AnyPlan {
+        AnyPlan::Mach(self)
     }
 }
 
-impl PlansAny for CoffWriter64 {
-    fn any(plan: oc_coff_write::Plan) -> AnyPlan {
-        AnyPlan::Coff(plan)
-    }
-}
-
-impl PlansAny for MachWriter32 {
-    fn any(plan: oc_macho_write::Plan) -> AnyPlan {
-        AnyPlan::Mach(plan)
-    }
-}
-
-impl PlansAny for MachWriter64 {
-    fn any(plan: oc_macho_write::Plan) -> AnyPlan {
-        AnyPlan::Mach(plan)
-    }
-}
-
-impl PlansAny for OmfWriter {
-    fn any(plan: oc_omf_write::Plan) -> AnyPlan {
-        AnyPlan::Omf(plan)
-    }
-}
-
-impl PlansAny for BigElfWriter32 {
-    fn any(plan: oc_elf_write::Plan) -> AnyPlan {
-        AnyPlan::Elf(plan)
-    }
-}
-
-impl PlansAny for BigElfWriter64 {
-    fn any(plan: oc_elf_write::Plan) -> AnyPlan {
-        AnyPlan::Elf(plan)
-    }
-}
-
-impl PlansAny for BigCoffWriter32 {
-    fn any(plan: oc_coff_write::Plan) -> AnyPlan {
-        AnyPlan::Coff(plan)
-    }
-}
-
-impl PlansAny for BigCoffWriter64 {
-    fn any(plan: oc_coff_write::Plan) -> AnyPlan {
-        AnyPlan::Coff(plan)
+impl PlansAny for oc_omf_write::Plan {
+    fn any(self) -> AnyPlan {
+        AnyPlan::Omf(self)
     }
 }

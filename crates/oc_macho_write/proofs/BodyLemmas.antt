@@ -45,12 +45,9 @@ use Rattle.oc_macho_write.specs.Parts.{AreParts, part_in}
 use Rattle.oc_macho_write.specs.Relocations.{all_raws}
 use Rattle.oc_macho.specs.Structures.{segment_front, segment_back, dysymtab_front}
 use Rattle.oc_macho_write.specs.Words.{items_at}
+use Rattle.oc_plans.proofs.PlacedLemmas.{joined_rows}
 
 -- a table of what is made of each thing
-pub joined_rows : {X : Type 0} (f : X → List ℕ) (xs : List X) → flat_map f xs ≡ table_of (map f xs)
-joined_rows f [] = refl
-joined_rows f (x ∷ xs) = ap (λ ys. f x ++ ys) (joined_rows f xs)
-
 joined_map : {X Y : Type 0} (f : Y → List ℕ) (g : X → Y) (xs : List X) → flat_map f (map g xs) ≡ flat_map (λ x. f (g x)) xs
 joined_map f g [] = refl
 joined_map f g (x ∷ xs) = ap (λ ys. f (g x) ++ ys) (joined_map f g xs)

@@ -1,5 +1,5 @@
 -- The parts of a planned file: which they are.
-use Rattle.std.proofs.Common.{◌≡◌, ℕ, ◌<◌, List, [], length, get_or, arith}
+use Rattle.std.proofs.Common.{◌≡◌, ℕ, ◌<◌, [], length, get_or, arith}
 use Rattle.std.proofs.lemmas.List.{length-map}
 use Rattle.oc_macho_write.specs.declared.parts.Part.{Part}
 use Rattle.oc_macho_write.specs.declared.plan.MachParts.{MachParts}

@@ -1,5 +1,5 @@
 -- The parts of the canonical file, as a plan has them.
-use Rattle.std.proofs.Common.{◌≡◌, ℕ, ◌<◌, List, [], ◌∷◌, length, map, refl, sym, ◌∙◌, ap, subst, arith}
+use Rattle.std.proofs.Common.{◌≡◌, ℕ, List, [], ◌∷◌, length, map, refl, sym, ◌∙◌, ap, subst, arith}
 use Rattle.std.specs.List.{enumerate_from}
 use Rattle.std.proofs.lemmas.List.{length-map}
 use Rattle.std.proofs.lemmas.List.FromFn.{length-enumerate_from}
@@ -7,10 +7,10 @@ use Rattle.oc_base.specs.declared.format.Word.{Word}
 use Rattle.oc_neutral.specs.declared.section.Section.{Section}
 use Rattle.oc_neutral.specs.Objects.{Object}
 use Rattle.oc_shelf.specs.declared.writing.layout.Layout.{Layout}
-use Rattle.oc_shelf.specs.Writing.Parts.{file_of}
+use Rattle.oc_shelf.specs.Writing.Parts.{file_of, pieces_by, IsPlaced}
 use Rattle.oc_plans.specs.Numbered.{section_with_numbers}
-use Rattle.oc_plans.specs.Placed.{pieces_by, IsPlaced}
-use Rattle.oc_plans.proofs.PlacedLemmas.{file_laid, mapped_in, part_low, placed_laid}
+use Rattle.oc_shelf.proofs.WritingLaws.LayoutLemmas.{part_low}
+use Rattle.oc_plans.proofs.PlacedLemmas.{file_laid, mapped_in, placed_laid}
 use Rattle.oc_plans.proofs.Turns.{from_each}
 use Rattle.oc_macho_file.specs.Bodies.{raw_of}
 use Rattle.oc_macho_file.specs.Canonical.{mach_file, part_bytes}

@@ -4,7 +4,7 @@ use crate::heads::Heads;
 use crate::parts::Part;
 use oc_base::Word;
 use oc_neutral::Section;
-use oc_plans::Parts;
+use oc_shelf::Parts;
 
 #[cfg(test)]
 mod tests;

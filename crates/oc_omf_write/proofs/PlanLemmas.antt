@@ -2,8 +2,7 @@
 use Rattle.std.proofs.Common.{◌≡◌, List, length, refl, sym, ◌∙◌, ap, arith}
 use Rattle.oc_neutral.specs.Objects.{Object}
 use Rattle.oc_shelf.specs.declared.writing.layout.Layout.{Layout}
-use Rattle.oc_shelf.specs.Writing.Parts.{behind, file_of, table_of}
-use Rattle.oc_plans.specs.Placed.{pieces_by, IsPlaced}
+use Rattle.oc_shelf.specs.Writing.Parts.{behind, file_of, table_of, pieces_by, IsPlaced}
 use Rattle.oc_plans.proofs.PlacedLemmas.{file_laid, joined_rows, joined_table, placed_laid}
 use Rattle.oc_omf_file.specs.Canonical.{output_bytes, omf_file}
 use Rattle.oc_omf_file.specs.Outputs.{outputs_of}

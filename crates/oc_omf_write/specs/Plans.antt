@@ -5,7 +5,7 @@ use Rattle.oc_neutral.specs.Objects.{Object}
 use Rattle.oc_omf_file.specs.Canonical.{output_bytes}
 use Rattle.oc_omf_file.specs.Names.{filled_from}
 use Rattle.oc_omf_file.specs.Outputs.{outputs_of}
-use Rattle.oc_plans.specs.Placed as placed
+use Rattle.oc_shelf.specs.Writing.Parts as placed
 use Rattle.oc_shelf.specs.declared.writing.layout.Layout.{Layout}
 use Rattle.oc_shelf.specs.Writing.Parts.{behind}
 use Rattle.oc_omf_write.specs.declared.entries.Entry.{Entry}

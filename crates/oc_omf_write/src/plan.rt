@@ -4,7 +4,7 @@ ghost use Rattle.std.specs.Prelude.{◌≡◌, ◌<◌, Some, length, slice_get}
 use crate::entries::Entry;
 use crate::tables::Tables;
 use crate::windows::entry_window;
-use oc_plans::Parts;
+use oc_shelf::Parts;
 
 #[cfg(test)]
 mod tests;

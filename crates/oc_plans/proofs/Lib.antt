@@ -2,4 +2,3 @@ pub mod FieldBytes
 pub mod PlacedLemmas
 pub mod SectionAlone
 pub mod Turns
-pub mod WindowLemmas

@@ -1,12 +1,11 @@
--- Parts at places of their own: which they are, and where they stand.
-use Rattle.std.proofs.Common.{◌≡◌, ℕ, zero, suc, ◌+◌, ◌-◌, ◌<◌, ◌≤◌, List, [], ◌∷◌, ◌++◌, length, map, get_or, replicate, Option, Some, refl, sym, ◌∙◌, ap, subst, arith, length-append}
+-- Things that are laid, and the files of their parts.
+use Rattle.std.proofs.Common.{◌≡◌, ℕ, zero, suc, ◌+◌, ◌-◌, ◌<◌, ◌≤◌, List, [], ◌∷◌, ◌++◌, length, map, get_or, replicate, Option, Some, refl, sym, ◌∙◌, ap, subst, arith}
 use Rattle.std.specs.Prelude.{flat_map}
 use Rattle.std.specs.List.{AllByRecursion}
 use Rattle.std.proofs.lemmas.List.{length-map}
 use Rattle.oc_shelf.specs.declared.writing.layout.Layout.{Layout}
-use Rattle.oc_shelf.specs.Writing.Parts.{Laid, laid, laid_end, behind, joined, aligned, table_of, file_of, piece_at, end_of, AreInOrder}
+use Rattle.oc_shelf.specs.Writing.Parts.{Laid, laid, laid_end, behind, joined, aligned, table_of, file_of, pieces_at, pieces_by, AreInOrder, AreLaid, IsPlaced}
 use Rattle.oc_shelf.proofs.WritingLaws.PartLemmas.{length-joined, places_more, end_more}
-use Rattle.oc_plans.specs.Placed.{pieces_at, pieces_by, AreLaid, IsPlaced}
 use Rattle.oc_plans.proofs.Turns.{length-laid}
 
 -- ... parts that are laid
@@ -24,42 +23,11 @@ module _ {X : Type 0} (begin : ℕ → X → ℕ) (size : X → ℕ) (f : X → 
     order_laid up at [] = tt
     order_laid up at (x ∷ xs) = (up at x, subst (λ p. AreInOrder (begin at x + p) (map piece (laid begin size (begin at x + size x) xs))) (sym (sized x)) (order_laid up (begin at x + size x) xs))
 
-    pub ends_laid : (at : ℕ) (xs : List X) → map end_of (map piece (laid begin size at xs)) ≡ map (λ (l : Laid X). l.at + size l.part) (laid begin size at xs)
-    ends_laid at [] = refl
-    ends_laid at (x ∷ xs) = ap (λ p. (begin at x + p) ∷ map end_of (map piece (laid begin size (begin at x + size x) xs))) (sized x) ∙ ap (λ es. (begin at x + size x) ∷ es) (ends_laid (begin at x + size x) xs)
-
 pub joined_pieces : {X : Type 0} (f : X → List ℕ) (at : ℕ) (ls : List (Laid X)) → joined (λ (x : List ℕ). x) at (map (λ (l : Laid X). record { at = l.at; part = f l.part }) ls) ≡ joined f at ls
 joined_pieces f at [] = refl
 joined_pieces f at (l ∷ ls) = ap (λ zs. replicate (l.at - at) 0 ++ (f l.part ++ zs)) (joined_pieces f (l.at + length (f l.part)) ls)
 
-pub places_laid : {X : Type 0} (f : X → List ℕ) (ls : List (Laid X)) → map (λ (l : Laid (List ℕ)). l.at) (map (λ (l : Laid X). record { at = l.at; part = f l.part }) ls) ≡ map (λ (l : Laid X). l.at) ls
-places_laid f [] = refl
-places_laid f (l ∷ ls) = ap (λ zs. l.at ∷ zs) (places_laid f ls)
-
--- ... parts at places
-
-pub length-pieces : (places : List ℕ) (parts : List (List ℕ)) → length places ≡ length parts → length (pieces_at places parts) ≡ length places
-length-pieces [] parts same = refl
-length-pieces (at ∷ places) [] same = absurd (omega (arith, same))
-length-pieces (at ∷ places) (x ∷ parts) same = ap suc (length-pieces places parts (omega (arith, same)))
-
-pub part_is : (places : List ℕ) (parts : List (List ℕ)) (k : ℕ) → length places ≡ length parts → (piece_at (pieces_at places parts) k).part ≡ get_or parts k []
-part_is [] [] k same = refl
-part_is [] (x ∷ parts) k same = absurd (omega (arith, same))
-part_is (at ∷ places) [] k same = absurd (omega (arith, same))
-part_is (at ∷ places) (x ∷ parts) zero same = refl
-part_is (at ∷ places) (x ∷ parts) (suc k) same = part_is places parts k (omega (arith, same))
-
-pub place_is : (places : List ℕ) (parts : List (List ℕ)) (k : ℕ) → length places ≡ length parts → (piece_at (pieces_at places parts) k).at ≡ get_or places k 0
-place_is [] parts k same = refl
-place_is (at ∷ places) [] k same = absurd (omega (arith, same))
-place_is (at ∷ places) (x ∷ parts) zero same = refl
-place_is (at ∷ places) (x ∷ parts) (suc k) same = place_is places parts k (omega (arith, same))
-
-pub get_any : {X : Type 0} (xs : List X) (k : ℕ) (d e : X) → k < length xs → get_or xs k d ≡ get_or xs k e
-get_any [] k d e low = absurd (omega (arith, low))
-get_any (x ∷ xs) zero d e low = refl
-get_any (x ∷ xs) (suc k) d e low = get_any xs k d e (omega (arith, low))
+-- ... things at their positions
 
 pub mapped_at : {X Y : Type 0} (f : X → Y) (xs : List X) (k : ℕ) (d : X) (e : Y) → k < length xs → get_or (map f xs) k e ≡ f (get_or xs k d)
 mapped_at f [] k d e low = absurd (omega (arith, low))
@@ -92,24 +60,6 @@ all_get P (x ∷ xs) zero d all low = all.0
 all_get P (x ∷ xs) (suc k) d all low = all_get P xs k d all.1 (omega (arith, low))
 
 -- ... files that are laid
-
-part_within : (at : ℕ) (places : List ℕ) (parts : List (List ℕ)) → length places ≡ length parts → (k : ℕ) → length (get_or parts k []) ≤ length (joined (λ (x : List ℕ). x) at (pieces_at places parts))
-part_within at [] [] same k = omega arith
-part_within at [] (x ∷ parts) same k = absurd (omega (arith, same))
-part_within at (p ∷ places) [] same k = absurd (omega (arith, same))
-part_within at (p ∷ places) (x ∷ parts) same zero =
-    let rest : List ℕ = joined (λ (y : List ℕ). y) (p + length x) (pieces_at places parts) in
-    omega (arith, length-append (replicate {A = ℕ} (p - at) 0) (x ++ rest), length-append x rest)
-part_within at (p ∷ places) (x ∷ parts) same (suc k) =
-    let rest : List ℕ = joined (λ (y : List ℕ). y) (p + length x) (pieces_at places parts) in
-    omega (arith, part_within (p + length x) places parts (omega (arith, same)) k, length-append (replicate {A = ℕ} (p - at) 0) (x ++ rest), length-append x rest)
-
--- no part is longer than the file
-pub part_low : (layout : Layout) (parts : List (List ℕ)) → IsPlaced layout parts → (k : ℕ) → length (get_or parts k []) ≤ layout.end
-part_low layout parts is k =
-    let low = part_within 0 layout.places.items parts is.counted k in
-    let ends = is.ends in
-    omega (arith, low, ends)
 
 -- each place is a multiple of 1
 pub aligned_one : (at : ℕ) → aligned 1 at ≡ at

@@ -6,9 +6,7 @@
 mod alone;
 mod numbered;
 mod plan;
-mod windows;
 
 pub use alone::object_of_data;
 pub use numbered::{FieldNumbers, with_numbers};
 pub use plan::Plan;
-pub use windows::{Parts, window_of};

@@ -1,9 +1,8 @@
 //! Planned files.
 ghost use Rattle.std.specs.Prelude.{◌≡◌};
-ghost use Rattle.oc_plans.specs.Placed.{IsPlaced, pieces_by};
+ghost use Rattle.oc_shelf.specs.Writing.Parts.{IsPlaced, pieces_by};
 
-use crate::windows::{Parts, window_of};
-use oc_shelf::Layout;
+use oc_shelf::{Layout, Parts, window_of};
 use oc_target::Emits;
 use std::marker::Model;
 
@@ -16,8 +15,7 @@ pub struct Plan<P: Parts> {
 }
 
 impl<P: Parts> Model for Plan<P> {
-    ghost use Rattle.oc_shelf.specs.Writing.Parts.{Pieces};
-    ghost use Rattle.oc_plans.specs.Placed.{IsPlaced, pieces_by};
+    ghost use Rattle.oc_shelf.specs.Writing.Parts.{IsPlaced, Pieces, pieces_by};
 
     ghost Value = { Pieces };
 

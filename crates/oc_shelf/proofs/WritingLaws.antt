@@ -1,4 +1,5 @@
 pub mod GatheredLemmas
+pub mod LayoutLemmas
 pub mod MemberLemmas
 pub mod PackedLemmas
 pub mod PartLemmas

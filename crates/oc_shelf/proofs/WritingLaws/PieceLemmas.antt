@@ -47,29 +47,6 @@ front_more at (l ∷ parts) (suc k) order low =
     ∙ ap (λ zs. gap ++ zs) (sym (append_assoc l.part front last))
     ∙ sym (append_assoc gap (l.part ++ front) last)
 
--- they end where the last of them ends
-pub front_long : (at : ℕ) (parts : Pieces) (k : ℕ) → AreInOrder at parts → k < length parts → front_end at parts (suc k) ≡ end_of (piece_at parts k)
-front_long at parts k order low =
-    let front : List ℕ = bytes_from at (take k parts) in
-    let l : Laid (List ℕ) = piece_at parts k in
-    let gap : List ℕ = replicate (l.at - front_end at parts k) 0 in
-    let before = front_low at parts k order low in
-    let whole : length (bytes_from at (take (suc k) parts)) ≡ length front + length (gap ++ l.part)
-    = ap length (front_more at parts k order low) ∙ length-append front (gap ++ l.part) in
-    omega (arith, before, whole, length-append gap l.part, length-replicate {A = ℕ} (l.at - front_end at parts k) 0)
-
--- in a file
-pub file_front : (parts : Pieces) (k : ℕ) → AreInOrder 0 parts → k < length parts → length (file_of (take (k + 1) parts)) ≡ end_of (piece_at parts k)
-file_front parts k order low =
-    let e : k + 1 ≡ suc k = omega arith in
-    let whole = front_long 0 parts k order low in
-    ap (λ i. length (file_of (take i parts))) e ∙ omega (arith, whole)
-
-pub file_last : (parts : Pieces) (k : ℕ) → AreInOrder 0 parts → 0 < k → k ≤ length parts → length (file_of (take k parts)) ≡ end_of (piece_at parts (k - 1))
-file_last parts k order some within =
-    let e : k ≡ (k - 1) + 1 = omega (arith, some) in
-    ap (λ i. length (file_of (take i parts))) e ∙ file_front parts (k - 1) order (omega (arith, some, within))
-
 -- the first k parts with the zeros before the next end where that begins
 pub gap_long : (parts : Pieces) (k end : ℕ) → AreInOrder 0 parts → k < length parts → end ≡ length (file_of (take k parts))
     → length (file_of (take k parts) ++ replicate {A = ℕ} ((piece_at parts k).at - end) 0) ≡ (piece_at parts k).at

@@ -1,7 +1,8 @@
 -- Files made of parts that lie one after another: where each part begins, and the bytes of the whole (our profile).
-use Rattle.std.specs.Prelude.{◌≡◌, ℕ, ◌+◌, ◌-◌, ◌%◌, ◌≤◌, Bool, List, [], ◌∷◌, ◌++◌, length, replicate, find, flat_map, slice_index_or}
+use Rattle.std.specs.Prelude.{◌≡◌, ℕ, ◌+◌, ◌-◌, ◌%◌, ◌≤◌, Bool, List, [], ◌∷◌, ◌++◌, length, replicate, find, flat_map, map, slice_index_or}
 use Rattle.std.specs.List.{AllByRecursion}
 use Rattle.std.specs.Option.{option_map_or}
+use Rattle.oc_shelf.specs.declared.writing.layout.Layout.{Layout}
 
 -- the bytes xs lie in a file at a place
 pub record Stands (file : List ℕ) (at : ℕ) (xs : List ℕ) : Type 0 where
@@ -74,3 +75,26 @@ row_of rows k = slice_index_or rows k []
 -- each entry of a table has w bytes
 abbrev pub HaveSize : ℕ → List (List ℕ) → Type 0
 HaveSize w rows = AllByRecursion (λ row. length row ≡ w) rows
+
+-- ... files with a layout
+
+-- parts that begin at these places
+abbrev pub pieces_at : List ℕ → List (List ℕ) → Pieces
+pieces_at [] parts = []
+pieces_at (at ∷ places) [] = []
+pieces_at (at ∷ places) (x ∷ parts) = record { at = at; part = x } ∷ pieces_at places parts
+
+-- the parts of a file that is laid so
+abbrev pub pieces_by : Layout → List (List ℕ) → Pieces
+pieces_by layout parts = pieces_at layout.places.items parts
+
+-- each part has a place, they stand in order, and the file of them ends where the layout says
+pub record IsPlaced (layout : Layout) (parts : List (List ℕ)) : Type 0 where
+  pub counted : length layout.places.items ≡ length parts
+  pub order : AreInOrder 0 (pieces_by layout parts)
+  pub ends : layout.end ≡ length (file_of (pieces_by layout parts))
+
+-- the layout is that of these things: each begins at `begin` of where the one before ends, and has `size` bytes
+pub record AreLaid {X : Type 0} (begin : ℕ → X → ℕ) (size : X → ℕ) (layout : Layout) (things : List X) : Type 0 where
+  pub begins : layout.places.items ≡ map (λ (l : Laid X). l.at) (laid begin size 0 things)
+  pub ends : layout.end ≡ laid_end begin size 0 things

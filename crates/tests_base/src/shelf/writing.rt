@@ -1,9 +1,9 @@
 //! Windows of a file of two parts and of a table.
 
-use oc_shelf::{Parts, WritesRows, copy_window, rows_window, window_of};
+use oc_shelf::{Layout, Parts, WritesRows, copy_window, rows_window, window_of};
 use std::test::Fail;
 
-/// Three bytes at 1, and again at 6.
+/// Three bytes, twice.
 #[derive(Drop)]
 struct Twice {
     bytes: [u8; 3],
@@ -12,40 +12,33 @@ struct Twice {
 impl Parts for Twice {
     ghost use Rattle.std.specs.Prelude.{[], ◌∷◌};
 
-    ghost parts = { λ t. record { at = 1; part = t.bytes } ∷ record { at = 6; part = t.bytes } ∷ [] };
+    ghost parts = { λ t. t.bytes ∷ t.bytes ∷ [] };
 
-    fn count(&self) -> usize {
-        2
-    }
-
-    fn place(&self, k: usize) -> u64 {
-        if k == 0 { 1 } else { 6 }
-    }
-
-    fn end(&self, k: usize) -> u64 {
-        if k == 0 { 4 } else { 9 }
-    }
+    ghost sound = { λ t. Unit {0} };
 
     fn part_window(&self, _k: usize, from: u64, out: &mut [u8]) -> usize {
         copy_window(&self.bytes, from, out)
     }
 }
 
-/// Windows within a part, over the zeros between, and past the end.
+/// Windows within a part, over the zeros between, and past the end: the bytes are at 0, and again at 5.
 #[test]
 fn windows_of_parts(rt: HostRuntime) -> Result<(), Fail> {
     let file = Twice { bytes: *b"abc" };
+    let mut layout = Layout::new(rt.alloc());
+    layout.lay(1, 3)?;
+    layout.lay(5, 3)?;
     let cases: [(u64, [u8; 4], usize); 6] = [
-        (0, *b"\0abc", 4),
-        (2, *b"bc\0\0", 4),
-        (4, *b"\0\0ab", 4),
-        (7, *b"bc..", 2),
-        (9, *b"....", 0),
+        (0, *b"abc\0", 4),
+        (1, *b"bc\0\0", 4),
+        (3, *b"\0\0ab", 4),
+        (6, *b"bc..", 2),
+        (8, *b"....", 0),
         (u64::MAX, *b"....", 0),
     ];
     for (from, want, count) in cases {
         let mut out = *b"....";
-        let got = window_of(&file, from, &mut out);
+        let got = window_of(&file, &layout, from, &mut out);
         assert_eq!(rt; (out, got), (want, count), "from {from}");
     }
     Ok(())

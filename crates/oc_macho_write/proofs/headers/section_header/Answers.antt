@@ -11,7 +11,7 @@ use Rattle.oc_macho.specs.Structures.{padded}
 use Rattle.oc_macho_file.proofs.CodedLaws.{for_mach, meets_section}
 use Rattle.oc_macho_write.proofs.BodyLemmas.{many_relocs, vector_is}
 use Rattle.oc_macho_write.proofs.HeaderLemmas.{count_low, header_by, raw_low, relocs_low, section_header_is}
-use Rattle.oc_plans.proofs.PlacedLemmas.{get_any}
+use Rattle.oc_shelf.proofs.WritingLaws.LayoutLemmas.{get_any}
 use Rattle.oc_macho_write.proofs.headers.section_header.Goals as goal
 
 pub index-requires : goal.index-requires

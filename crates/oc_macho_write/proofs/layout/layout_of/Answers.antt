@@ -5,7 +5,7 @@ use Rattle.std.proofs.lemmas.List.{take_all}
 use Rattle.std.proofs.lemmas.Option.{slice_get-get_or}
 use Rattle.oc_neutral.specs.declared.section.Section.{Section}
 use Rattle.oc_macho_file.specs.Layout as layout
-use Rattle.oc_macho_file.specs.Layout.{part_size, parts_of}
+use Rattle.oc_macho_file.specs.Layout.{parts_of}
 use Rattle.oc_macho_file.proofs.CodedLaws.{for_mach}
 use Rattle.oc_macho_file.proofs.PartLaws.{rises}
 use Rattle.oc_macho_write.specs.declared.parts.Part.TheVariants as part

@@ -1,5 +1,5 @@
 -- Each turn lays an entry as long as it is.
-use Rattle.std.proofs.Common.{◌≡◌, ◌+◌, List, length, take, get_or, sym, ◌∙◌, ap, subst, arith}
+use Rattle.std.proofs.Common.{◌+◌, length, take, get_or, sym, ◌∙◌, ap, subst, arith}
 use Rattle.std.proofs.lemmas.List.{take_all}
 use Rattle.std.proofs.lemmas.Option.{slice_get-get_or}
 use Rattle.oc_neutral.proofs.Positions.{each_at}
@@ -45,8 +45,8 @@ loop-entry-preserved c =
     let few = c.entry_size-size.ensures.few in
     let at = c.loop-entry.layout.end in
     let size = c.entry_size-size.ensures.long (type_of e) ∙ ap (λ b. length (entry_bytes (type_of e) b)) c.contents.ensures in (
-      subst (AreLaid t c.lay.new.layout) (sym (take_next xs i e here))
-          (laid_more behind (λ x. length (bytes_by t x)) (take i xs) e c.loop-entry.layout c.lay.new.layout (aligned 1 at) c.loop-entry.invariant.0 (aligned_one at) c.in_ok-lay.ensures.places
+      subst (AreLaid t c.lay.new.self) (sym (take_next xs i e here))
+          (laid_more behind (λ x. length (bytes_by t x)) (take i xs) e c.loop-entry.layout c.lay.new.self (aligned 1 at) c.loop-entry.invariant.0 (aligned_one at) c.in_ok-lay.ensures.places
           (end ∙ ap (λ m. aligned 1 at + m) size)),
       let one = aligned_one at in omega (arith, low, end, few, one),
     )

@@ -1,5 +1,5 @@
 -- Each part by its number.
-use Rattle.std.proofs.Common.{◌≡◌, ◌≢◌, ◌≤◌, ◌<◌, ◌^◌, ◌-◌, ℕ, List, [], length, map, get_or, rules, sym, ◌∙◌, ap, subst, arith}
+use Rattle.std.proofs.Common.{◌≡◌, ◌≤◌, ◌<◌, ◌^◌, ◌-◌, ℕ, List, [], length, map, get_or, rules, sym, ◌∙◌, ap, subst, arith}
 use Rattle.oc_outside.specs.Windows.{IsFilled}
 use Rattle.oc_neutral.specs.declared.section.Section.{Section}
 use Rattle.oc_shelf.specs.Writing.Parts.{table_of}

@@ -1,5 +1,5 @@
 -- Each part by its number.
-use Rattle.std.proofs.Common.{◌≡◌, ◌<◌, ◌^◌, ℕ, List, length, get_or, sym, ◌∙◌, subst}
+use Rattle.std.proofs.Common.{◌≡◌, ◌<◌, ◌^◌, ℕ, List, length, get_or, sym, subst}
 use Rattle.oc_outside.specs.Windows.{IsFilled}
 use Rattle.oc_neutral.specs.declared.section.Section.{Section}
 use Rattle.oc_macho_write.specs.declared.parts.Part.{Part}

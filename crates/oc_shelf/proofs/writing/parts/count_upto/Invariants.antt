@@ -1,6 +1,6 @@
 -- The last of those below `low` begins at the place, or before.
 use Rattle.std.proofs.Common.{◌-◌, ◌<◌, ◌≤◌, length, get_or}
-use Rattle.oc_plans.proofs.windows.count_upto.Given as goal
+use Rattle.oc_shelf.proofs.writing.parts.count_upto.Given as goal
 
 abbrev pub invariant-halves : goal.invariant-halves
 invariant-halves l = record {

@@ -1,13 +1,56 @@
--- Zeros between parts, and the place from which a window is filled.
-use Rattle.std.proofs.Common.{◌≡◌, ℕ, zero, suc, ◌+◌, ◌-◌, ◌<◌, ◌≤◌, List, [], ◌∷◌, ◌++◌, length, take, drop, replicate, get_or, refl, sym, ◌∙◌, ap, subst, arith}
+-- Files with a layout: which parts they have, and windows of them.
+use Rattle.std.proofs.Common.{◌≡◌, ℕ, zero, suc, ◌+◌, ◌-◌, ◌<◌, ◌≤◌, List, [], ◌∷◌, ◌++◌, length, take, drop, replicate, get_or, refl, sym, ◌∙◌, ap, subst, arith, length-append}
 use Rattle.std.proofs.lemmas.List.{length-replicate}
 use Rattle.oc_outside.specs.Windows.{IsFilled}
 use Rattle.oc_shelf.specs.declared.writing.layout.Layout.{Layout}
-use Rattle.oc_shelf.specs.Writing.Parts.{Pieces, piece_at, file_of}
+use Rattle.oc_shelf.specs.Writing.Parts.{IsPlaced, Pieces, file_of, joined, piece_at, pieces_at, pieces_by}
 use Rattle.oc_shelf.proofs.WritingLaws.PieceLemmas.{bytes_from, cut_behind, file_more, front_end, front_low, gap_long}
 use Rattle.oc_shelf.proofs.WritingLaws.WindowLemmas.{filled_full}
-use Rattle.oc_plans.specs.Placed.{pieces_by, IsPlaced}
-use Rattle.oc_plans.proofs.PlacedLemmas.{length-pieces, part_is, place_is}
+
+-- ... parts at places
+
+pub length-pieces : (places : List ℕ) (parts : List (List ℕ)) → length places ≡ length parts → length (pieces_at places parts) ≡ length places
+length-pieces [] parts same = refl
+length-pieces (at ∷ places) [] same = absurd (omega (arith, same))
+length-pieces (at ∷ places) (x ∷ parts) same = ap suc (length-pieces places parts (omega (arith, same)))
+
+pub part_is : (places : List ℕ) (parts : List (List ℕ)) (k : ℕ) → length places ≡ length parts → (piece_at (pieces_at places parts) k).part ≡ get_or parts k []
+part_is [] [] k same = refl
+part_is [] (x ∷ parts) k same = absurd (omega (arith, same))
+part_is (at ∷ places) [] k same = absurd (omega (arith, same))
+part_is (at ∷ places) (x ∷ parts) zero same = refl
+part_is (at ∷ places) (x ∷ parts) (suc k) same = part_is places parts k (omega (arith, same))
+
+pub place_is : (places : List ℕ) (parts : List (List ℕ)) (k : ℕ) → length places ≡ length parts → (piece_at (pieces_at places parts) k).at ≡ get_or places k 0
+place_is [] parts k same = refl
+place_is (at ∷ places) [] k same = absurd (omega (arith, same))
+place_is (at ∷ places) (x ∷ parts) zero same = refl
+place_is (at ∷ places) (x ∷ parts) (suc k) same = place_is places parts k (omega (arith, same))
+
+pub get_any : {X : Type 0} (xs : List X) (k : ℕ) (d e : X) → k < length xs → get_or xs k d ≡ get_or xs k e
+get_any [] k d e low = absurd (omega (arith, low))
+get_any (x ∷ xs) zero d e low = refl
+get_any (x ∷ xs) (suc k) d e low = get_any xs k d e (omega (arith, low))
+
+part_within : (at : ℕ) (places : List ℕ) (parts : List (List ℕ)) → length places ≡ length parts → (k : ℕ) → length (get_or parts k []) ≤ length (joined (λ (x : List ℕ). x) at (pieces_at places parts))
+part_within at [] [] same k = omega arith
+part_within at [] (x ∷ parts) same k = absurd (omega (arith, same))
+part_within at (p ∷ places) [] same k = absurd (omega (arith, same))
+part_within at (p ∷ places) (x ∷ parts) same zero =
+    let rest : List ℕ = joined (λ (y : List ℕ). y) (p + length x) (pieces_at places parts) in
+    omega (arith, length-append (replicate {A = ℕ} (p - at) 0) (x ++ rest), length-append x rest)
+part_within at (p ∷ places) (x ∷ parts) same (suc k) =
+    let rest : List ℕ = joined (λ (y : List ℕ). y) (p + length x) (pieces_at places parts) in
+    omega (arith, part_within (p + length x) places parts (omega (arith, same)) k, length-append (replicate {A = ℕ} (p - at) 0) (x ++ rest), length-append x rest)
+
+-- no part is longer than the file
+pub part_low : (layout : Layout) (parts : List (List ℕ)) → IsPlaced layout parts → (k : ℕ) → length (get_or parts k []) ≤ layout.end
+part_low layout parts is k =
+    let low = part_within 0 layout.places.items parts is.counted k in
+    let ends = is.ends in
+    omega (arith, low, ends)
+
+-- ... windows
 
 -- zeros behind the first of them
 drop_zeros : (at n : ℕ) → drop at (replicate {A = ℕ} n 0) ≡ replicate (n - at) 0
