@@ -296,11 +296,11 @@ module _ (w : Word) (file : CoffFile) (i : ℕ) (table : Table) (is : IsTable fi
       (met_before w file i table is r.VirtualAddress (width_of w r) k (omega (arith, low)))
 
   -- the same of any entry at a place
-  abbrev with : Relocation → ℕ → Option aims.Aim → Option Fault
+  abbrev with : Relocation → ℕ → Option aims.AimKind → Option Fault
   with q p a = or_else (first_broken (own_conditions w i table p q a)) (cond (meets_upto w file table k q) (Some (reloc_fault Overlap i p)) None)
 
   -- the same, as it is computed
-  pub busy_told : (r : Relocation) (place : ℕ) (stands : Option aims.Aim) (first : Option Fault) (met : Bool) → r ≡ reloc_of file table k → says_nothing r ≡ false → place ≡ reloc_place table k
+  pub busy_told : (r : Relocation) (place : ℕ) (stands : Option aims.AimKind) (first : Option Fault) (met : Bool) → r ≡ reloc_of file table k → says_nothing r ≡ false → place ≡ reloc_place table k
       → stands ≡ option_map face_of (aim_in w (tables_in file) r.SymbolTableIndex) → first ≡ first_broken (own_conditions w i table place r stands) → met ≡ meets_upto w file table k r
       → entry_fault w (tables_in file) i k ≡ or_else first (cond met (Some (reloc_fault Overlap i place)) None)
   busy_told r place stands first met r_is busy place_is stands_is first_is met_is =

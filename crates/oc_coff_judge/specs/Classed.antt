@@ -1,4 +1,5 @@
 -- Symbols by the conditions that each meets by itself (PE/COFF; our profile).
+use Rattle.oc_coff.specs.Files.{CoffFile, tables_in}
 use Rattle.oc_coff.specs.Forms.{symbol_size}
 use Rattle.std.specs.Prelude.{ℕ, ◌+◌, ◌*◌, Bool, not, ◌&&◌, nat_eq, nat_lt, false, if◌then◌else◌, List, [], ◌∷◌, ◌++◌, length, map, is_none, Option, Some, None}
 use Rattle.std.specs.Option.{option_map_or}
@@ -11,16 +12,22 @@ use Rattle.oc_strings.specs.declared.repeats.Repeat.{Repeat}
 use Rattle.oc_strings.specs.Repeats.{NameList}
 use Rattle.oc_coff.specs.declared.constants.TheConstants.{IMAGE_SYM_CLASS_EXTERNAL, IMAGE_SYM_CLASS_WEAK_EXTERNAL, IMAGE_SYM_DEBUG}
 use Rattle.oc_coff.specs.declared.symbol.SymbolEntry.{SymbolEntry}
-use Rattle.oc_coff.specs.Tables.{Tables}
+use Rattle.oc_coff.specs.Tables.{SectionTable, Tables}
+use Rattle.oc_coff.specs.Comdat.{section_numbered}
 use Rattle.oc_coff.specs.Names.{is_nothing, symbol_name}
 use Rattle.oc_coff.specs.Entries.{Entry, entries_in, is_class, name_of}
 use Rattle.oc_coff.specs.Sections.{sections_in}
 use Rattle.oc_coff.specs.SymbolFaults.{can_be_tagged, is_external, is_known, is_no_section, is_past_end, is_static, is_uncarried, is_undefined}
 use Rattle.oc_coff.specs.Symbols.{tagged_by}
+use Rattle.oc_coff_judge.specs.Numbered.{entry_by}
 
 -- a fault of symbol number j
 abbrev pub symbol_fault_at : Tables → ℕ → Code → Fault
 symbol_fault_at t j code = record { phase = Symbol; index = j; code = code; place = t.entries_at + symbol_size t.shape * j }
+
+-- section number k exists, and has fewer bytes
+abbrev pub ends_before : Tables → ℕ → ℕ → Bool
+ends_before t k offset = option_map_or (λ (x : SectionTable). nat_lt x.header.SizeOfRawData offset) (section_numbered t k) false
 
 -- the conditions on the place, the name and the section of symbol number j
 abbrev pub places_of : Tables → ℕ → SymbolEntry → List Condition
@@ -71,6 +78,10 @@ parts_of t e again =
 -- the name of a symbol that takes part in the test for names that occur twice
 abbrev pub public_name : List ℕ → Entry → Option (List ℕ)
 public_name strings e = if is_external e.symbol && not (nat_eq e.symbol.SectionNumber IMAGE_SYM_DEBUG) then Some (name_of strings e) else None
+
+-- that of entry j
+abbrev pub public_name_by : CoffFile → ℕ → Option (List ℕ)
+public_name_by file j = public_name (tables_in file).strings (entry_by file j)
 
 -- those of all symbols, by position
 abbrev pub public_names : Tables → NameList

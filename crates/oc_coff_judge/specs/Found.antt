@@ -1,6 +1,6 @@
 -- What is found in a file before its symbols are judged (PE/COFF; our profile).
 use Rattle.oc_coff.specs.Files.{CoffFile, tables_in}
-use Rattle.std.specs.Prelude.{◌≡◌, ℕ, ◌+◌, ◌<◌, if◌then◌else◌, length, Option, Some, None}
+use Rattle.std.specs.Prelude.{◌≡◌, ℕ, ◌+◌, ◌<◌, if◌then◌else◌, List, length, Option, Some, None}
 use Rattle.std.specs.Option.{is_some}
 use Rattle.oc_shelf.specs.Reading.Slots.{AreSlots}
 use Rattle.oc_coff.specs.Tables.{Tables}
@@ -15,6 +15,10 @@ use Rattle.oc_coff_judge.specs.Tagged.{AreTagged}
 abbrev pub start_of : Tables → ℕ → Option ℕ
 start_of t j = if is_some (entry_numbered (entries_in t) j) then Some j else None
 
+-- the position of each carried section, by the number of the section
+abbrev pub ArePositions : CoffFile → List (Option ℕ) → Type 0
+ArePositions file slots = AreSlots (position_of (sections_in (tables_in file))) (length (tables_in file).sections + 1) slots
+
 -- entry j tags the symbol of entry d
 pub record IsTagOf (file : CoffFile) (j d : ℕ) : Type 0 where
   pub low : d < length (tables_in file).entries
@@ -25,6 +29,6 @@ pub record IsTagOf (file : CoffFile) (j d : ℕ) : Type 0 where
 pub record IsFound (file : CoffFile) (x : Found) : Type 0 where
   pub numbers_are : AreNumbers file x.numbers.items
   pub owners_are : AreOwners (tables_in file) x.owners.firsts x.owners.seconds
-  pub sections_are : AreSlots (position_of (sections_in (tables_in file))) (length (tables_in file).sections + 1) x.sections
+  pub sections_are : ArePositions file x.sections
   pub starts_are : AreSlots (start_of (tables_in file)) (length (tables_in file).entries) x.starts
   pub tagged_are : AreTagged (tables_in file) x.tagged

@@ -3,7 +3,7 @@ use Rattle.oc_coff.specs.Files.{CoffFile, tables_in}
 use Rattle.std.specs.Prelude.{◌≡◌, ℕ, ◌+◌, ◌≤◌, Bool, not, ◌&&◌, nat_eq, nat_le, nat_lt, if◌then◌else◌, is_none, List, [], ◌∷◌, length, map, slice_get, slice_index_or, slice_set, Option, Some, None}
 use Rattle.std.specs.Option.{is_some, option_map, option_map_or}
 use Rattle.oc_base.specs.declared.code.Code.{Code}
-use Rattle.oc_base.specs.declared.code.Code.TheVariants.{BadAlign, LimitSection, LimitSum, LimitBytes, SectionKind}
+use Rattle.oc_base.specs.declared.code.Code.TheVariants.{BadAlign, BadName, LimitSection, LimitSum, LimitBytes, SectionKind}
 use Rattle.oc_base.specs.declared.fault.Phase.TheVariants.{Section}
 use Rattle.oc_base.specs.declared.fault.Fault.{Fault}
 use Rattle.oc_linking.specs.FirstFault.{Condition, fault_of}
@@ -74,6 +74,9 @@ pub record AreSums (t : Tables) (i sizes bytes : ℕ) : Type 0 where
 -- its name
 abbrev pub name_of_header : Tables → SectionHeader → Option (List ℕ)
 name_of_header t h = section_name t.strings h.Name
+
+abbrev pub names_of : Tables → Numbered → SectionHeader → List Condition
+names_of t x h = (is_none (name_of_header t h), section_fault x (header_place t x) BadName) ∷ []
 
 abbrev pub copies_of : Tables → Numbered → SectionHeader → List Condition
 copies_of t x h = if is_comdat h then copy_conditions t x (definition_in t x.0) else []

@@ -3,7 +3,6 @@ ghost use Rattle.std.specs.Prelude.{◌≡◌, ◌+◌, ◌<◌, nat_eq, if◌th
 ghost use Rattle.std.specs.Option.{option_map};
 ghost use Rattle.oc_linking.specs.FirstFault.{stage_fault};
 ghost use Rattle.oc_neutral.specs.Powers as powers;
-ghost use Rattle.oc_shelf.specs.Reading.Slots.{AreSlots};
 ghost use Rattle.oc_coff.specs.Entries as entries;
 ghost use Rattle.oc_coff.specs.Sections as sections;
 ghost use Rattle.oc_coff.specs.SymbolFaults.{symbol_stage};
@@ -11,6 +10,7 @@ ghost use Rattle.oc_coff.specs.Symbols as symbols;
 ghost use Rattle.oc_coff.specs.Tables as tables;
 ghost use Rattle.oc_coff.specs.Files as files;
 ghost use Rattle.oc_coff.specs.declared.constants.TheConstants.{IMAGE_SYM_CLASS_WEAK_EXTERNAL, IMAGE_SYM_TYPE_FUNCTION};
+ghost use Rattle.oc_coff_judge.specs.Found.{ArePositions};
 ghost use Rattle.oc_coff_judge.specs.Numbered as numbered;
 ghost use Rattle.oc_coff_judge.specs.Tagged.{AreTagged, IsSymbolEntry};
 
@@ -48,7 +48,7 @@ fn natural_align(size: u32) -> u32
 /// the carried ones, by its number. Constant time.
 #[tactic(auto, unfolding(oc_coff::specs::Symbols::value_of))]
 pub fn value_of(coff: &Coff, positions: &Slots, s: &SymbolEntry) -> Option<Value>
-    requires { AreSlots (sections.position_of (sections.sections_in (files.tables_in coff.now))) (length (files.tables_in coff.now).sections + 1) positions.now }
+    requires { ArePositions coff.now positions.now }
     ensures { result ≡ symbols.value_of (sections.sections_in (files.tables_in coff.now)) s.now }
 {
     if s.SectionNumber == IMAGE_SYM_ABSOLUTE {
@@ -65,7 +65,7 @@ pub fn value_of(coff: &Coff, positions: &Slots, s: &SymbolEntry) -> Option<Value
 
 // the binding of an EXTERNAL symbol
 fn external_binding(coff: &Coff, positions: &Slots, s: &SymbolEntry) -> Option<Binding>
-    requires { AreSlots (sections.position_of (sections.sections_in (files.tables_in coff.now))) (length (files.tables_in coff.now).sections + 1) positions.now }
+    requires { ArePositions coff.now positions.now }
     ensures { result ≡ symbols.external_binding (sections.sections_in (files.tables_in coff.now)) s.now }
 {
     if s.SectionNumber != IMAGE_SYM_UNDEFINED {
@@ -136,7 +136,7 @@ fn is_section_symbol(s: &SymbolEntry) -> bool
 #[tactic(auto, unfolding(crate::specs::Numbered::entry_by))]
 fn fallback_by(coff: &Coff, positions: &Slots, d: u32) -> Option<Fallback>
     requires there { d < length (files.tables_in coff.now).entries }
-    requires positions { AreSlots (sections.position_of (sections.sections_in (files.tables_in coff.now))) (length (files.tables_in coff.now).sections + 1) positions.now }
+    requires positions { ArePositions coff.now positions.now }
     ensures { result ≡ symbols.fallback_by (sections.sections_in (files.tables_in coff.now)) (numbered.entry_by coff.now d) }
 {
     let s = coff.symbol(d);
@@ -155,8 +155,9 @@ fn weak_binding(coff: &Coff, positions: &Slots, j: u32) -> Option<Binding>
     requires there { j < length (files.tables_in coff.now).entries }
     requires symbol { IsSymbolEntry coff.now j }
     requires weak { entries.is_class IMAGE_SYM_CLASS_WEAK_EXTERNAL (numbered.entry_by coff.now j).symbol ≡ true }
-    requires positions { AreSlots (sections.position_of (sections.sections_in (files.tables_in coff.now))) (length (files.tables_in coff.now).sections + 1) positions.now }
-    ensures { result ≡ symbols.weak_binding (sections.sections_in (files.tables_in coff.now)) (entries.entries_in (files.tables_in coff.now)) (numbered.entry_by coff.now j) }
+    requires positions { ArePositions coff.now positions.now }
+    ensures { result ≡ symbols.weak_binding (sections.sections_in (files.tables_in coff.now)) (entries.entries_in (files.tables_in coff.now))
+        (numbered.entry_by coff.now j) }
 {
     coff.is_headed();
     match tag_of(coff, j) {
@@ -190,7 +191,7 @@ fn local_binding(
 ) -> Option<Binding>
     requires there { j < length (files.tables_in coff.now).entries }
     requires symbol { s.now ≡ (numbered.entry_by coff.now j).symbol }
-    requires positions { AreSlots (sections.position_of (sections.sections_in (files.tables_in coff.now))) (length (files.tables_in coff.now).sections + 1) positions.now }
+    requires positions { ArePositions coff.now positions.now }
     requires tagged { AreTagged (files.tables_in coff.now) tagged.now }
     ensures { result ≡ symbols.local_binding (sections.sections_in (files.tables_in coff.now)) (entries.entries_in (files.tables_in coff.now))
         (entries.name_of (files.tables_in coff.now).strings (numbered.entry_by coff.now j)) (numbered.entry_by coff.now j) }
@@ -217,7 +218,7 @@ pub fn binding_of(
     requires there { j < length (files.tables_in coff.now).entries }
     requires numbered { IsSymbolEntry coff.now j }
     requires symbol { s.now ≡ (numbered.entry_by coff.now j).symbol }
-    requires positions { AreSlots (sections.position_of (sections.sections_in (files.tables_in coff.now))) (length (files.tables_in coff.now).sections + 1) positions.now }
+    requires positions { ArePositions coff.now positions.now }
     requires tagged { AreTagged (files.tables_in coff.now) tagged.now }
     ensures { result ≡ symbols.binding_of (sections.sections_in (files.tables_in coff.now)) (entries.entries_in (files.tables_in coff.now))
         (entries.name_of (files.tables_in coff.now).strings (numbered.entry_by coff.now j)) (numbered.entry_by coff.now j) }

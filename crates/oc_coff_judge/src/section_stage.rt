@@ -1,6 +1,5 @@
 //! The stage of sections.
-ghost use Rattle.std.specs.Prelude.{◌≡◌, ◌+◌, ◌<◌, ◌≤◌, ◌∷◌, [], length, is_none, None, Some, IfErr, IfOk, OnOk, ◌^◌};
-ghost use Rattle.oc_base.specs.declared.code.Code.TheVariants as code;
+ghost use Rattle.std.specs.Prelude.{◌≡◌, ◌+◌, ◌<◌, ◌≤◌, length, None, Some, IfErr, IfOk, OnOk, ◌^◌};
 ghost use Rattle.oc_linking.specs.FirstFault.{first_broken, stage_fault};
 ghost use Rattle.oc_coff.specs.SectionFaults as rules;
 ghost use Rattle.oc_coff.specs.Tables as tables;
@@ -82,7 +81,7 @@ fn copy_fault(
 #[tactic(auto, unfolding(oc_coff::specs::Tables::tables_of))]
 fn name_fault(coff: &Coff, i: u32, h: &SectionHeader) -> Option<Fault>
     requires low { i < 2 ^ 21 }
-    ensures { result ≡ first_broken ((is_none (judged.name_of_header (files.tables_in coff.now) h.now), rules.section_fault (i + 1, tables.section_table coff.now.bytes h.now) (rules.header_place (files.tables_in coff.now) (i + 1, tables.section_table coff.now.bytes h.now)) code.BadName) ∷ []) }
+    ensures { result ≡ first_broken (judged.names_of (files.tables_in coff.now) (i + 1, tables.section_table coff.now.bytes h.now) h.now) }
 {
     if section_name(coff.strings(), &h.Name).is_none() {
         return section_fault(i, header_place(coff.shape(), i), Code::BadName);

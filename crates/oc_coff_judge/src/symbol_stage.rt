@@ -3,14 +3,13 @@ ghost use Rattle.std.specs.Prelude.{◌≡◌, ◌+◌, ◌<◌, length, None, S
 ghost use Rattle.oc_base.specs.Stops.{IsStop};
 ghost use Rattle.oc_linking.specs.FirstFault.{first_broken, stage_fault};
 ghost use Rattle.oc_strings.specs.Repeats as repeats;
-ghost use Rattle.oc_shelf.specs.Reading.Slots.{AreSlots};
 ghost use Rattle.oc_coff.specs.Entries as entries;
 ghost use Rattle.oc_coff.specs.Sections as sections;
 ghost use Rattle.oc_coff.specs.SymbolFaults as rules;
 ghost use Rattle.oc_coff.specs.Symbols as symbols;
 ghost use Rattle.oc_coff.specs.Files as files;
 ghost use Rattle.oc_coff_judge.specs.Classed as classed;
-ghost use Rattle.oc_coff_judge.specs.Found.{IsFound};
+ghost use Rattle.oc_coff_judge.specs.Found.{ArePositions, IsFound};
 ghost use Rattle.oc_coff_judge.specs.Numbered.{AreNumbers, entry_by};
 
 use crate::copies::has_section;
@@ -30,7 +29,7 @@ use std::alloc::Global;
 
 // whether a weak external may tag a symbol
 fn can_be_tagged(coff: &Coff, positions: &Slots, s: &SymbolEntry) -> bool
-    requires { AreSlots (sections.position_of (sections.sections_in (files.tables_in coff.now))) (length (files.tables_in coff.now).sections + 1) positions.now }
+    requires { ArePositions coff.now positions.now }
     ensures { result ≡ rules.can_be_tagged (sections.sections_in (files.tables_in coff.now)) s.now }
 {
     let placed = has_home(coff, positions, s);
@@ -65,9 +64,10 @@ fn tag_fault(coff: &Coff, found: &Found, j: u32) -> Option<Fault>
 // the fault of the conditions on the section and the name of symbol `j`, whose name occurred before
 // or did not
 fn name_fault(coff: &Coff, positions: &Slots, j: u32, s: &SymbolEntry, again: bool) -> Option<Fault>
-    requires positions { AreSlots (sections.position_of (sections.sections_in (files.tables_in coff.now))) (length (files.tables_in coff.now).sections + 1) positions.now }
+    requires positions { ArePositions coff.now positions.now }
     requires there { j < length (files.tables_in coff.now).entries }
-    ensures { result ≡ first_broken (classed.names_of (files.tables_in coff.now) j s.now (entries.name_of (files.tables_in coff.now).strings (entry_by coff.now j)) again) }
+    ensures { result ≡ first_broken (classed.names_of (files.tables_in coff.now) j s.now
+        (entries.name_of (files.tables_in coff.now).strings (entry_by coff.now j)) again) }
 {
     let external = s.StorageClass == IMAGE_SYM_CLASS_EXTERNAL;
     if external && has_section(s) && !has_home(coff, positions, s) {
@@ -99,7 +99,7 @@ fn judge_symbol(coff: &Coff, found: &Found, j: u32, again: bool) -> Option<Fault
 #[tactic(auto, unfolding(crate::specs::Numbered::entry_by))]
 fn public_name<'a>(coff: &Coff<'a>, j: u32) -> Option<&'a [u8]>
     requires { j < length (files.tables_in coff.now).entries }
-    ensures { MatchOption result (classed.public_name (files.tables_in coff.now).strings (entry_by coff.now j) ≡ None) (λ name. classed.public_name (files.tables_in coff.now).strings (entry_by coff.now j) ≡ Some name.now) }
+    ensures { MatchOption result (classed.public_name_by coff.now j ≡ None) (λ name. classed.public_name_by coff.now j ≡ Some name.now) }
 {
     let s = coff.symbol(j);
     if is_external(&s) && s.SectionNumber != IMAGE_SYM_DEBUG {

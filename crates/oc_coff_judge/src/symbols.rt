@@ -1,16 +1,14 @@
 //! Symbols: the conditions that each meets by itself.
-ghost use Rattle.std.specs.Prelude.{◌≡◌, ◌+◌, ◌<◌, length, false, is_some, nat_lt, [], Some};
-ghost use Rattle.std.specs.Option.{option_map_or, unwrap_or};
+ghost use Rattle.std.specs.Prelude.{◌≡◌, ◌+◌, ◌<◌, length, is_some, [], Some};
+ghost use Rattle.std.specs.Option.{unwrap_or};
 ghost use Rattle.oc_linking.specs.FirstFault.{first_broken};
-ghost use Rattle.oc_shelf.specs.Reading.Slots.{AreSlots};
-ghost use Rattle.oc_coff.specs.Comdat as comdat;
 ghost use Rattle.oc_coff.specs.Entries as entries;
 ghost use Rattle.oc_coff.specs.Sections as sections;
 ghost use Rattle.oc_coff.specs.Names as names;
 ghost use Rattle.oc_coff.specs.SymbolFaults as rules;
-ghost use Rattle.oc_coff.specs.Tables as tables;
 ghost use Rattle.oc_coff.specs.Files as files;
 ghost use Rattle.oc_coff_judge.specs.Classed as classed;
+ghost use Rattle.oc_coff_judge.specs.Found.{ArePositions};
 ghost use Rattle.oc_coff_judge.specs.Numbered.{entry_by};
 
 use crate::copies::has_section;
@@ -82,7 +80,7 @@ pub(crate) fn is_external(s: &SymbolEntry) -> bool
 
 // whether section number `k` exists, and has fewer bytes
 fn ends_before(coff: &Coff, k: u32, offset: u32) -> bool
-    ensures { result ≡ option_map_or (λ (x : tables.SectionTable). nat_lt x.header.SizeOfRawData offset) (comdat.section_numbered (files.tables_in coff.now) k) false }
+    ensures { result ≡ classed.ends_before (files.tables_in coff.now) k offset }
 {
     let count = coff.section_count();
     if k == 0 {
@@ -127,7 +125,7 @@ pub fn name_by<'a>(coff: &'a Coff, s: &'a SymbolEntry) -> &'a [u8]
 /// Whether the section of a symbol is carried, and a symbol can name it, by the positions of
 /// sections. Constant time.
 pub(crate) fn has_home(coff: &Coff, positions: &Slots, s: &SymbolEntry) -> bool
-    requires { AreSlots (sections.position_of (sections.sections_in (files.tables_in coff.now))) (length (files.tables_in coff.now).sections + 1) positions.now }
+    requires { ArePositions coff.now positions.now }
     ensures { result ≡ is_some (sections.position_of (sections.sections_in (files.tables_in coff.now)) s.now.SectionNumber) }
 {
     let _ = coff;

@@ -1,24 +1,26 @@
 -- What is known while the relocations of a file without faults are added (our profile).
 use Rattle.oc_coff.specs.Files.{CoffFile, tables_in}
-use Rattle.std.specs.Prelude.{◌≡◌, ℕ, ◌+◌, true, List, length, slice_get, Option, Some, None}
+use Rattle.std.specs.Prelude.{◌≡◌, ℕ, true, List, length, slice_get, Option, Some, None}
 use Rattle.oc_base.specs.declared.format.Word.{Word}
 use Rattle.oc_linking.specs.declared.terms.Keep.{Keep}
 use Rattle.oc_linking.specs.declared.terms.Kind.{Kind}
 use Rattle.oc_linking.specs.FirstFault.{stage_fault}
 use Rattle.oc_neutral.specs.Building.{Draft}
 use Rattle.oc_shows.specs.Built.{HasAdded, IsStarted}
+use Rattle.oc_shelf.specs.declared.reading.order.PlacedEntry.{PlacedEntry}
 use Rattle.oc_shelf.specs.Reading.Collected.{collected}
 use Rattle.oc_shelf.specs.Reading.Slots.{AreSlots}
 use Rattle.oc_coff.specs.Entries.{entries_in}
 use Rattle.oc_coff.specs.RelocationFaults.{relocation_stage}
 use Rattle.oc_coff.specs.Rules.{dialect_by}
 use Rattle.oc_coff.specs.SectionFaults.{section_stage}
-use Rattle.oc_coff.specs.Sections.{carried_in, position_of, sections_in}
+use Rattle.oc_coff.specs.Sections.{carried_in}
 use Rattle.oc_coff.specs.SymbolFaults.{symbol_stage}
 use Rattle.oc_coff_judge.specs.declared.relocs.Table.{Table}
+use Rattle.oc_coff_judge.specs.Found.{ArePositions}
 use Rattle.oc_coff_judge.specs.Led.{carried_at}
 use Rattle.oc_coff_read.specs.Built.{symboled}
-use Rattle.oc_coff_read.specs.Given.{given_before}
+use Rattle.oc_coff_read.specs.Given.{given_before, given_with}
 use Rattle.oc_coff_judge.specs.Relocs.{IsTable}
 use Rattle.oc_coff_judge.specs.Tagged.{symbol_position}
 
@@ -31,7 +33,7 @@ pub record IsReady (w : Word) (file : CoffFile) (keep : Keep) (sections symbols 
   pub sections_clean : stage_fault (section_stage file.bytes (tables_in file)) ≡ None
   pub symbols_clean : stage_fault (symbol_stage (tables_in file)) ≡ None
   pub relocs_clean : stage_fault (relocation_stage w (tables_in file) keep) ≡ None
-  pub sections_are : AreSlots (position_of (sections_in (tables_in file))) (length (tables_in file).sections + 1) sections
+  pub sections_are : ArePositions file sections
   pub symbols_are : AreSlots (symbol_position (tables_in file)) (length (tables_in file).entries) symbols
   pub start : IsStarted (dialect_by w file.shape) file.bytes keep (started w file)
 
@@ -43,6 +45,10 @@ pub record IsPlace (file : CoffFile) (i p : ℕ) (kind : Kind) (table : Table) (
   pub there : slice_get (carried_in (tables_in file)) p ≡ Some table_is.of
   pub bytes_are : table_is.of.stored ≡ true → contents ≡ table_is.of.section.contents
   pub long : table_is.of.stored ≡ true → length contents ≡ table_is.of.section.size
+
+-- the relocations of the carried sections before position p are added, and those of some entries of the section there
+abbrev pub AreAdded : Word → CoffFile → Keep → ℕ → List PlacedEntry → Draft → Type 0
+AreAdded w file keep p entries d = HasAdded (started w file) d (given_with w (tables_in file) keep p entries)
 
 -- the relocations of the first i sections are added, of which p are carried
 pub record HasBefore (w : Word) (file : CoffFile) (keep : Keep) (i p : ℕ) (d : Draft) : Type 0 where

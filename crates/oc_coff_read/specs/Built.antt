@@ -1,17 +1,19 @@
 -- What is built of a file, step by step (PE/COFF; our profile).
 use Rattle.oc_coff.specs.Files.{CoffFile, tables_in}
-use Rattle.std.specs.Prelude.{◌≡◌, ℕ, ◌+◌, false, List, [], ◌∷◌, ◌++◌, length, map, slice_index_or, Option, Some, None}
+use Rattle.std.specs.Prelude.{◌≡◌, ℕ, ◌+◌, false, List, [], ◌∷◌, ◌++◌, length, map, replicate, if◌then◌else◌, slice_index_or, Option, Some, None}
 use Rattle.oc_base.specs.declared.format.Word.{Word}
 use Rattle.oc_base.specs.Strings.{is_given}
 use Rattle.oc_linking.specs.Parts as parts
-use Rattle.oc_neutral.specs.Building.{Draft}
+use Rattle.oc_linking.specs.declared.terms.Kind.{Kind}
+use Rattle.oc_neutral.specs.Building.{Draft, is_zero}
 use Rattle.oc_shows.specs.Computed.{computed_symbol, keys_after}
 use Rattle.oc_shows.specs.Started.{groups_by, plain_draft, stored_section}
 use Rattle.oc_shelf.specs.Reading.Collected.{collected}
-use Rattle.oc_coff.specs.Tables.{Tables}
+use Rattle.oc_coff.specs.declared.section_header.SectionHeader.{SectionHeader}
+use Rattle.oc_coff.specs.Tables.{Tables, section_table}
 use Rattle.oc_coff.specs.Entries.{name_of}
 use Rattle.oc_coff.specs.Comdat.{led_key}
-use Rattle.oc_coff.specs.Sections.{sections_in}
+use Rattle.oc_coff.specs.Sections.{is_stored, sections_in}
 use Rattle.oc_coff.specs.Symbols.{symbols_in}
 use Rattle.oc_coff.specs.Forms.{format_by}
 use Rattle.oc_coff_judge.specs.Led.{IsLed, leader_of, section_at, symbol_at}
@@ -43,6 +45,10 @@ pub record IsNextGroup (file : CoffFile) (i g j : ℕ) : Type 0 where
   pub led : IsLed file g j
   pub new : is_given (keys_upto (tables_in file) i) (name_of (tables_in file).strings (entry_by file j)) ≡ false
   pub next : keys_upto (tables_in file) (i + 1) ≡ keys_upto (tables_in file) i ++ name_of (tables_in file).strings (entry_by file j) ∷ []
+
+-- the bytes that a carried section of that kind has in the object
+abbrev pub bytes_by : List ℕ → SectionHeader → Kind → List ℕ
+bytes_by file h kind = if is_zero kind then [] else (if is_stored (Some kind) h then (section_table file h).raw else replicate h.SizeOfRawData 0)
 
 -- ... drafts
 

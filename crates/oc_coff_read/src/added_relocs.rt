@@ -66,8 +66,8 @@ fn add_entry(
     requires kept { keeps keep.now place.now.kind ≡ true }
     requires entries { IsPermutation (collected (given.placed_at coff.now place.now.table) place.now.table.count) entries.now }
     requires there { j < length entries.now }
-    requires before { HasAdded (adding.started word coff.now) builder.old (given.given_with word (files.tables_in coff.now) keep.now place.now.position (take j entries.now)) }
-    ensures { OnOk result (HasAdded (adding.started word coff.now) builder.new (given.given_with word (files.tables_in coff.now) keep.now place.now.position (take (j + 1) entries.now))) }
+    requires before { adding.AreAdded word coff.now keep.now place.now.position (take j entries.now) builder.old }
+    ensures { OnOk result (adding.AreAdded word coff.now keep.now place.now.position (take (j + 1) entries.now) builder.new) }
 {
     coff.is_headed();
     are_bytes(coff.file());

@@ -5,9 +5,9 @@ ghost use Rattle.oc_linking.specs.declared.terms.Hint.TheVariants.{Plain};
 ghost use Rattle.oc_linking.specs.Fits.{bytes_of};
 ghost use Rattle.oc_shelf.specs.Reading.Collected.{collected};
 ghost use Rattle.oc_shelf.specs.Reading.Slots.{AreSlots};
-ghost use Rattle.oc_coff.specs.Sections as sections;
 ghost use Rattle.oc_coff.specs.Files as files;
 ghost use Rattle.oc_coff_read.specs.Given as given;
+ghost use Rattle.oc_coff_judge.specs.Found.{ArePositions};
 ghost use Rattle.oc_coff_judge.specs.Relocs.{IsTable, width_of};
 ghost use Rattle.oc_coff_judge.specs.Tagged.{symbol_position};
 
@@ -52,7 +52,7 @@ fn reloc_with(
     r: &Relocation,
     meaning: Meaning,
 ) -> Option<Reloc>
-    requires sections { AreSlots (sections.position_of (sections.sections_in (files.tables_in coff.now))) (length (files.tables_in coff.now).sections + 1) positions.now.sections.now }
+    requires sections { ArePositions coff.now positions.now.sections.now }
     requires symbols { AreSlots (symbol_position (files.tables_in coff.now)) (length (files.tables_in coff.now).entries) positions.now.symbols.now }
     requires there { r.now.SymbolTableIndex < length (files.tables_in coff.now).entries }
     requires inside { r.now.VirtualAddress + bytes_of meaning.form.width ≤ length contents.now }
@@ -80,7 +80,7 @@ pub(crate) fn reloc_for(
     contents: &[u8],
     r: &Relocation,
 ) -> Option<Reloc>
-    requires sections { AreSlots (sections.position_of (sections.sections_in (files.tables_in coff.now))) (length (files.tables_in coff.now).sections + 1) positions.now.sections.now }
+    requires sections { ArePositions coff.now positions.now.sections.now }
     requires symbols { AreSlots (symbol_position (files.tables_in coff.now)) (length (files.tables_in coff.now).entries) positions.now.symbols.now }
     requires aimed { given.IsAimed word (files.tables_in coff.now) r.now.SymbolTableIndex }
     requires there { r.now.SymbolTableIndex < length (files.tables_in coff.now).entries }

@@ -1,9 +1,8 @@
 //! The sections of the object.
-ghost use Rattle.std.specs.Prelude.{◌≡◌, ◌+◌, ◌*◌, ◌<◌, ◌≤◌, ◌^◌, true, is_some, bytes_eq, None, Some, [], length, take, drop, replicate, if◌then◌else◌, IfOk, OnOk};
+ghost use Rattle.std.specs.Prelude.{◌≡◌, ◌+◌, ◌*◌, ◌<◌, ◌≤◌, ◌^◌, true, is_some, bytes_eq, None, Some, [], length, take, drop, replicate, IfOk, OnOk};
 ghost use Rattle.std.specs.Option.{option_map, unwrap_or};
 ghost use Rattle.std.specs.List.{position_or_len};
 ghost use Rattle.oc_linking.specs.FirstFault.{stage_fault};
-ghost use Rattle.oc_neutral.specs.Building.{is_zero};
 ghost use Rattle.oc_neutral.specs.Coff.Kinds as kinds;
 ghost use Rattle.oc_neutral.specs.KindRules.{without};
 ghost use Rattle.oc_shows.specs.Started.{stored_section};
@@ -96,7 +95,7 @@ fn copied(alloc: Global, file: &[u8], at: u32, size: u32) -> Result<Bytes, NoMem
 #[tactic(auto, unfolding(oc_coff::specs::Tables::section_table))]
 fn bytes_of(alloc: Global, coff: &Coff, h: &SectionHeader, kind: Kind) -> Result<Bytes, NoMemory>
     requires { sections.is_stored (Some kind) h.now ≡ true → h.now.PointerToRawData + h.now.SizeOfRawData ≤ length coff.now.bytes }
-    ensures { IfOk result (λ b. b ≡ (if is_zero kind then [] else (if sections.is_stored (Some kind) h.now then (tables.section_table coff.now.bytes h.now).raw else replicate h.now.SizeOfRawData 0))) }
+    ensures { IfOk result (λ b. b ≡ built.bytes_by coff.now.bytes h.now kind) }
 {
     if kind == Kind::Zero {
         return Bytes::from_slice(alloc, &[]);

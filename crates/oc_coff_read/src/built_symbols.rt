@@ -3,10 +3,10 @@ ghost use Rattle.std.specs.Prelude.{◌≡◌, ◌+◌, ◌<◌, length, slice_g
 ghost use Rattle.oc_linking.specs.FirstFault.{stage_fault};
 ghost use Rattle.oc_shelf.specs.Reading.Slots.{AreSlots};
 ghost use Rattle.oc_coff.specs.Entries as entries;
-ghost use Rattle.oc_coff.specs.Sections as sections;
 ghost use Rattle.oc_coff.specs.SymbolFaults.{symbol_stage};
 ghost use Rattle.oc_coff.specs.Files as files;
 ghost use Rattle.oc_coff_read.specs.Built as built;
+ghost use Rattle.oc_coff_judge.specs.Found.{ArePositions};
 ghost use Rattle.oc_coff_judge.specs.Numbered as numbered;
 ghost use Rattle.oc_coff_judge.specs.Tagged as tagged;
 
@@ -89,7 +89,7 @@ fn add_symbol(
     requires clean { stage_fault (symbol_stage (files.tables_in coff.now)) ≡ None }
     requires there { j < length (files.tables_in coff.now).entries }
     requires here { slice_get (entries.entries_in (files.tables_in coff.now)) i ≡ Some (numbered.entry_by coff.now j) }
-    requires sections { AreSlots (sections.position_of (sections.sections_in (files.tables_in coff.now))) (length (files.tables_in coff.now).sections + 1) positions.now.sections.now }
+    requires sections { ArePositions coff.now positions.now.sections.now }
     requires tagged { tagged.AreTagged (files.tables_in coff.now) positions.now.tagged.now }
     requires symbols { AreSlots (tagged.symbol_position (files.tables_in coff.now)) (length (files.tables_in coff.now).entries) positions.now.symbols.now }
     requires before { builder.old ≡ built.symboled word (files.tables_in coff.now) i }
@@ -120,7 +120,7 @@ pub(crate) fn add_symbols(
 ) -> Result<(), NoMemory>
     requires clean { stage_fault (symbol_stage (files.tables_in coff.now)) ≡ None }
     requires numbers { numbered.AreNumbers coff.now numbers.now }
-    requires sections { AreSlots (sections.position_of (sections.sections_in (files.tables_in coff.now))) (length (files.tables_in coff.now).sections + 1) positions.now.sections.now }
+    requires sections { ArePositions coff.now positions.now.sections.now }
     requires tagged { tagged.AreTagged (files.tables_in coff.now) positions.now.tagged.now }
     requires symbols { AreSlots (tagged.symbol_position (files.tables_in coff.now)) (length (files.tables_in coff.now).entries) positions.now.symbols.now }
     requires before { builder.old ≡ built.symboled word (files.tables_in coff.now) 0 }

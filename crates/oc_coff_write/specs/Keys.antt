@@ -5,6 +5,7 @@ use Rattle.oc_neutral.specs.declared.symbol.Symbol.{Symbol}
 use Rattle.oc_neutral.specs.Normal.{Place}
 use Rattle.oc_neutral.specs.Objects.{Object}
 use Rattle.oc_neutral.specs.KeySymbols.{global_place, is_key_name, is_key_at, lies_in}
+use Rattle.oc_plans.specs.Slots.{is_given}
 
 -- what is made of the first item from position k on of which something is made
 abbrev pub first_made : {X : Type 0} → (ℕ → X → Option ℕ) → ℕ → List X → Option ℕ
@@ -30,6 +31,15 @@ led_by n g s = if lies_in n g s && is_key_name n s.name g then option_map (λ (p
 -- the position of the section that leads group g
 abbrev pub leader_position : Object → ℕ → Option ℕ
 leader_position n g = first_made (λ position s. led_by n g s) 0 n.symbols
+
+-- this value at the position that is given, if one is
+abbrev pub value_for : Option ℕ → ℕ → ℕ → Option ℕ
+value_for at value k = if is_given at k then Some value else None
+
+-- what was noted stays, and where nothing was, what is made of the position is noted
+abbrev pub AreNoted : (ℕ → Option ℕ) → List (Option ℕ) → List (Option ℕ) → Type 0
+AreNoted make old new =
+    (k : ℕ) → k < length old → slice_index_or new k None ≡ option_or (slice_index_or old k None) (make k)
 
 -- for each section the position of the key symbol that lies in it
 pub record AreKeys (n : Object) (keys : List (Option ℕ)) : Type 0 where

@@ -1,5 +1,5 @@
 //! The entries of the symbol table (PE/COFF, "COFF Symbol Table" and "Auxiliary Symbol Records").
-ghost use Rattle.std.specs.Prelude.{◌≡◌, ◌+◌, ◌^◌, ◌<◌, ◌++◌, ℕ, List, IfOk, IfSome, OnOk, Some, None, true, length, map, slice_get, slice_index_or};
+ghost use Rattle.std.specs.Prelude.{◌≡◌, ◌+◌, ◌^◌, ◌<◌, ℕ, List, IfOk, IfSome, OnOk, Some, None, true, length, slice_get, slice_index_or};
 ghost use Rattle.oc_coff_write.specs.FormFor.{form_for};
 ghost use Rattle.oc_coff.specs.declared.form.CoffForm.{CoffForm};
 ghost use Rattle.oc_linking.specs.declared.terms.Binding.TheVariants.{Weak};
@@ -14,9 +14,8 @@ ghost use Rattle.oc_neutral.specs.declared.section.Section.{Section as Held};
 ghost use Rattle.oc_shelf.specs.Writing.Parts.{Laid};
 ghost use Rattle.oc_coff_file.specs.Canonical as canonical;
 ghost use Rattle.oc_coff.specs.Values as values;
-ghost use Rattle.oc_coff.specs.Forms.{shape_of};
 ghost use Rattle.oc_coff_file.specs.Lines as coff_lines;
-ghost use Rattle.oc_coff_write.specs.Entries.{entry_bytes, IsMadeOf};
+ghost use Rattle.oc_coff_write.specs.Entries.{AreAdded, entry_bytes, IsMadeOf, rows_in};
 ghost use Rattle.oc_coff_write.specs.Keys.{AreLeaders, key_position, leader_position};
 ghost use Rattle.oc_coff_write.specs.Lines.{line_in, AreLines, IsListed};
 ghost use Rattle.oc_coff_write.specs.Numbers.{IsNumbered, HasTag};
@@ -112,7 +111,8 @@ fn default_entry(
     symbol: &Symbol,
 ) -> Result<SymbolEntry, NoMemory>
     requires { HasRoom (values.default_numbers symbol.now.binding) }
-    ensures { IfOk result (λ entry. (w : CoffForm) (n : Object) (k : ℕ) → names.now ≡ table_for w n → entry ≡ canonical.line_entry w n (coff_lines.DefaultLine k symbol.now)) }
+    ensures { IfOk result (λ entry. (w : CoffForm) (n : Object) (k : ℕ) → names.now ≡ table_for w n
+        → entry ≡ canonical.line_entry w n (coff_lines.DefaultLine k symbol.now)) }
 {
     let name = default_name(alloc, symbol.name.as_slice())?;
     let numbers = of_default(symbol.binding);
@@ -201,7 +201,8 @@ fn add_section(
     requires there { position < length neutral.now.sections }
     requires few { length neutral.now.sections < 2 ^ 31 }
     requires made { IsMadeOf (form_for neutral.now.format) neutral.now made }
-    ensures { OnOk result ((s : Held) → slice_get neutral.now.sections position ≡ Some s → map (entry_bytes (shape_of (form_for neutral.now.format))) entries.new.items ≡ map (entry_bytes (shape_of (form_for neutral.now.format))) entries.old.items ++ canonical.line_rows (form_for neutral.now.format) neutral.now (coff_lines.SectionLine position s)) }
+    ensures { OnOk result ((s : Held) → slice_get neutral.now.sections position ≡ Some s
+        → AreAdded (form_for neutral.now.format) neutral.now (coff_lines.SectionLine position s) entries.old.items entries.new.items) }
 {
     let symbol = section_entry(made.names, near, position, neutral.section(position));
     entries.push(Entry::Symbol(symbol))?;
@@ -230,7 +231,8 @@ fn add_outer(
 ) -> Result<(), NoMemory>
     requires room { HasRoom (values.numbers_by symbol.now.binding) }
     requires tag { (f : Fallback) → symbol.now.binding ≡ Weak f → HasTag numbers.now position f }
-    ensures { OnOk result ((w : CoffForm) (n : Object) → names.now ≡ table_for w n → IsNumbered w n numbers.now → map (entry_bytes (shape_of w)) entries.new.items ≡ map (entry_bytes (shape_of w)) entries.old.items ++ canonical.line_rows w n (coff_lines.OuterLine position symbol.now)) }
+    ensures { OnOk result ((w : CoffForm) (n : Object) → names.now ≡ table_for w n → IsNumbered w n numbers.now
+        → AreAdded w n (coff_lines.OuterLine position symbol.now) entries.old.items entries.new.items) }
 {
     entries.push(Entry::Symbol(symbol_entry(names, near, symbol)))?;
     if let Binding::Weak(fallback) = symbol.binding {
@@ -249,7 +251,8 @@ fn add_local(
 ) -> Result<(), NoMemory>
     requires local { is_local symbol.now.binding ≡ true }
     requires room { HasRoom (values.numbers_by symbol.now.binding) }
-    ensures { OnOk result ((w : CoffForm) (n : Object) (k : ℕ) → names.now ≡ table_for w n → map (entry_bytes (shape_of w)) entries.new.items ≡ map (entry_bytes (shape_of w)) entries.old.items ++ canonical.line_rows w n (coff_lines.LocalLine k symbol.now)) }
+    ensures { OnOk result ((w : CoffForm) (n : Object) (k : ℕ) → names.now ≡ table_for w n
+        → AreAdded w n (coff_lines.LocalLine k symbol.now) entries.old.items entries.new.items) }
 {
     entries.push(Entry::Symbol(symbol_entry(names, near, symbol)))?;
     Ok(())
@@ -264,7 +267,8 @@ fn add_default(
     symbol: &Symbol,
 ) -> Result<(), NoMemory>
     requires { HasRoom (values.default_numbers symbol.now.binding) }
-    ensures { OnOk result ((w : CoffForm) (n : Object) (k : ℕ) → names.now ≡ table_for w n → map (entry_bytes (shape_of w)) entries.new.items ≡ map (entry_bytes (shape_of w)) entries.old.items ++ canonical.line_rows w n (coff_lines.DefaultLine k symbol.now)) }
+    ensures { OnOk result ((w : CoffForm) (n : Object) (k : ℕ) → names.now ≡ table_for w n
+        → AreAdded w n (coff_lines.DefaultLine k symbol.now) entries.old.items entries.new.items) }
 {
     entries.push(Entry::Symbol(default_entry(alloc, names, near, symbol)?))?;
     Ok(())
@@ -283,7 +287,8 @@ fn add_line(
     requires fitted { IsFitted neutral.now.format neutral.now }
     requires made { IsMadeOf (form_for neutral.now.format) neutral.now made }
     requires listed { IsListed (form_for neutral.now.format) neutral.now line }
-    ensures { OnOk result ((is : coff_lines.Line) → line_in neutral.now line ≡ Some is → map (entry_bytes (shape_of (form_for neutral.now.format))) entries.new.items ≡ map (entry_bytes (shape_of (form_for neutral.now.format))) entries.old.items ++ canonical.line_rows (form_for neutral.now.format) neutral.now is) }
+    ensures { OnOk result ((is : coff_lines.Line) → line_in neutral.now line ≡ Some is
+        → AreAdded (form_for neutral.now.format) neutral.now is entries.old.items entries.new.items) }
 {
     match line {
         Line::Section(k) => add_section(entries, neutral, made, near, k),
@@ -313,7 +318,7 @@ pub(crate) fn entries_of(
     requires fitted { IsFitted neutral.now.format neutral.now }
     requires made { IsMadeOf (form_for neutral.now.format) neutral.now made }
     requires lines { AreLines (form_for neutral.now.format) neutral.now lines.now }
-    ensures rows { IfOk result (λ entries. map (entry_bytes (shape_of (form_for neutral.now.format))) entries.items ≡ canonical.entry_rows (form_for neutral.now.format) neutral.now) }
+    ensures rows { IfOk result (λ entries. rows_in (form_for neutral.now.format) entries.items ≡ canonical.entry_rows (form_for neutral.now.format) neutral.now) }
     ensures count { IfOk result (λ entries. length entries.items ≡ coff_lines.entry_count (form_for neutral.now.format) neutral.now) }
 {
     neutral.is_object();

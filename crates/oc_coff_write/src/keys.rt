@@ -1,6 +1,6 @@
 //! The symbols that have the keys of groups (PE/COFF, "COMDAT Sections"; our profile).
-ghost use Rattle.std.specs.Prelude.{◌≡◌, ◌<◌, ℕ, false, nat_eq, if◌then◌else◌, slice_index_or, length, Some, None, IfOk};
-ghost use Rattle.std.specs.Option.{option_map_or, option_or};
+ghost use Rattle.std.specs.Prelude.{◌≡◌, false, length, IfOk};
+ghost use Rattle.std.specs.Option.{option_map_or};
 ghost use Rattle.oc_neutral.specs.KeySymbols as keys;
 ghost use Rattle.oc_coff_write.specs.Keys as places;
 
@@ -69,7 +69,7 @@ fn key_place(neutral: &Neutral, symbol: &Symbol) -> Option<u32>
 
 // gives a value to the entry at a position, where that exists and has none yet
 fn note(table: &mut Vec<Option<u32>>, at: Option<u32>, value: u32)
-    ensures noted { (k : ℕ) → k < length table.old.items → slice_index_or table.new.items k None ≡ option_or (slice_index_or table.old.items k None) (if option_map_or (nat_eq k) at false then Some value else None) }
+    ensures noted { places.AreNoted (places.value_for at value) table.old.items table.new.items }
     ensures counted { length table.new.items ≡ length table.old.items }
 {
     let Some(at) = at else {
@@ -94,7 +94,7 @@ pub(crate) fn keys_of(alloc: Global, neutral: &Neutral) -> Result<Vec<Option<u32
 
 // notes the section of a symbol for the group whose key symbol it is
 fn note_leader(leaders: &mut Vec<Option<u32>>, neutral: &Neutral, symbol: &Symbol)
-    ensures noted { (g : ℕ) → g < length leaders.old.items → slice_index_or leaders.new.items g None ≡ option_or (slice_index_or leaders.old.items g None) (places.led_by neutral.now g symbol.now) }
+    ensures noted { places.AreNoted (λ g. places.led_by neutral.now g symbol.now) leaders.old.items leaders.new.items }
     ensures counted { length leaders.new.items ≡ length leaders.old.items }
 {
     if let Some(section) = key_place(neutral, symbol) {

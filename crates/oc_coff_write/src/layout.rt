@@ -25,7 +25,8 @@ use std::alloc::Global;
 // lays a part of so many bytes after the last
 fn lay(layout: &mut Layout, size: usize) -> Result<(), NoMemory>
     requires { layout.old.end + size < 2 ^ 32 }
-    ensures { OnOk result ((w : Width) (n : Object) (xs : List Part) (x : Part) → AreLaid w n layout.old xs → part_size w n x ≡ size → AreLaid w n layout.new (xs ++ x ∷ [])) }
+    ensures { OnOk result ((w : Width) (n : Object) (xs : List Part) (x : Part) → AreLaid w n layout.old xs
+        → part_size w n x ≡ size → AreLaid w n layout.new (xs ++ x ∷ [])) }
 {
     layout.lay(1, size as u64)?;
     Ok(())

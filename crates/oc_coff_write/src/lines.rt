@@ -1,13 +1,13 @@
 //! The lines of the symbol table: what it contains, in its order (PE/COFF, "COFF Symbol Table"; our
 //! profile).
-ghost use Rattle.std.specs.Prelude.{◌≡◌, ◌++◌, [], ◌∷◌, if◌then◌else◌, flat_map, map, Some, IfOk, OnOk};
+ghost use Rattle.std.specs.Prelude.{◌≡◌, ◌++◌, [], ◌∷◌, if◌then◌else◌, flat_map, IfOk, OnOk};
 ghost use Rattle.std.specs.List.{enumerate_from};
 ghost use Rattle.std.specs.Option.{option_map_or};
 ghost use Rattle.oc_linking.specs.Parts as parts;
 ghost use Rattle.oc_shows.specs.SymbolLines as symbol_lines;
 ghost use Rattle.oc_coff_file.specs.Lines as coff_lines;
 ghost use Rattle.oc_coff_write.specs.Keys.{AreKeys};
-ghost use Rattle.oc_coff_write.specs.Lines.{lines_in, AreLines};
+ghost use Rattle.oc_coff_write.specs.Lines.{AreAdded, AreLines};
 ghost use Rattle.oc_coff_write.specs.declared.lines.Line.TheVariants as made;
 
 use crate::keys::is_key;
@@ -86,7 +86,8 @@ fn give_line(lines: &mut Vec<Line>, line: Line, wanted: bool) -> Result<(), NoMe
 
 // adds the lines of the Locals that are written
 fn add_locals(lines: &mut Vec<Line>, form: CoffForm, neutral: &Neutral) -> Result<(), NoMemory>
-    ensures { OnOk result (lines_in neutral.now lines.new.items ≡ lines_in neutral.now lines.old.items ++ map Some (coff_lines.lines_where coff_lines.LocalLine (coff_lines.is_written_local form) neutral.now)) }
+    ensures { OnOk result (AreAdded neutral.now
+        (coff_lines.lines_where coff_lines.LocalLine (coff_lines.is_written_local form) neutral.now) lines.old.items lines.new.items) }
 {
     for k in 0..neutral.symbol_count() {
         let symbol = neutral.symbol(k);
@@ -98,7 +99,8 @@ fn add_locals(lines: &mut Vec<Line>, form: CoffForm, neutral: &Neutral) -> Resul
 
 // adds the lines of the symbols that stand for fallbacks
 fn add_defaults(lines: &mut Vec<Line>, neutral: &Neutral) -> Result<(), NoMemory>
-    ensures { OnOk result (lines_in neutral.now lines.new.items ≡ lines_in neutral.now lines.old.items ++ map Some (coff_lines.lines_where coff_lines.DefaultLine symbol_lines.needs_default neutral.now)) }
+    ensures { OnOk result (AreAdded neutral.now
+        (coff_lines.lines_where coff_lines.DefaultLine symbol_lines.needs_default neutral.now) lines.old.items lines.new.items) }
 {
     for k in 0..neutral.symbol_count() {
         let symbol = neutral.symbol(k);
@@ -110,7 +112,8 @@ fn add_defaults(lines: &mut Vec<Line>, neutral: &Neutral) -> Result<(), NoMemory
 
 // adds the lines of the symbols that are not Local and no key symbols
 fn add_outers(lines: &mut Vec<Line>, neutral: &Neutral) -> Result<(), NoMemory>
-    ensures { OnOk result (lines_in neutral.now lines.new.items ≡ lines_in neutral.now lines.old.items ++ map Some (coff_lines.lines_where coff_lines.OuterLine (coff_lines.is_free neutral.now) neutral.now)) }
+    ensures { OnOk result (AreAdded neutral.now
+        (coff_lines.lines_where coff_lines.OuterLine (coff_lines.is_free neutral.now) neutral.now) lines.old.items lines.new.items) }
 {
     for k in 0..neutral.symbol_count() {
         let symbol = neutral.symbol(k);
@@ -138,7 +141,8 @@ fn add_sections(
     keys: &[Option<u32>],
 ) -> Result<(), NoMemory>
     requires { AreKeys neutral.now keys.now }
-    ensures { OnOk result (lines_in neutral.now lines.new.items ≡ lines_in neutral.now lines.old.items ++ map Some (flat_map (coff_lines.section_lines neutral.now) (enumerate_from 0 neutral.now.sections))) }
+    ensures { OnOk result (AreAdded neutral.now
+        (flat_map (coff_lines.section_lines neutral.now) (enumerate_from 0 neutral.now.sections)) lines.old.items lines.new.items) }
 {
     neutral.is_object();
     for k in 0..neutral.section_count() {

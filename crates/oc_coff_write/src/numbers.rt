@@ -1,5 +1,5 @@
 //! The numbers of the symbols in the symbol table (PE/COFF, "COFF Symbol Table").
-ghost use Rattle.std.specs.Prelude.{◌≡◌, ◌+◌, ◌<◌, ℕ, if◌then◌else◌, IfOk, IsSome, Some, true, nat_eq, slice_index_or, length};
+ghost use Rattle.std.specs.Prelude.{◌≡◌, ◌+◌, ◌<◌, if◌then◌else◌, IfOk, IsSome, Some, true, nat_eq, length};
 ghost use Rattle.oc_coff_write.specs.FormFor.{form_for};
 ghost use Rattle.oc_coff.specs.declared.form.CoffForm.{CoffForm};
 ghost use Rattle.oc_neutral.specs.Families.{container_of};
@@ -7,12 +7,13 @@ ghost use Rattle.oc_neutral.specs.Family.{IsCoff};
 ghost use Rattle.oc_target.specs.Fitted.{IsFitted};
 ghost use Rattle.oc_neutral.specs.Objects.{Object};
 ghost use Rattle.oc_shows.specs.SymbolLines.{is_weak_with};
+ghost use Rattle.oc_plans.specs.Slots.{IsSetWhere};
 ghost use Rattle.oc_coff_file.specs.Bodies.{target_number};
 ghost use Rattle.oc_coff_file.specs.Canonical.{tag_of};
 ghost use Rattle.oc_coff_file.specs.Lines as coff_lines;
 ghost use Rattle.oc_coff_file.specs.Lines.{numbered_lines};
 ghost use Rattle.oc_coff_write.specs.Lines.{line_in, AreLines};
-ghost use Rattle.oc_coff_write.specs.Numbers.{AreSized, CanGive, IsBlank, IsNumbered, HasNumber, HasTag};
+ghost use Rattle.oc_coff_write.specs.Numbers.{AreSized, CanGive, IsBlank, IsGiven, IsNumbered, HasNumber, HasTag};
 
 use crate::lines::Line;
 use oc_base::NoMemory;
@@ -58,7 +59,7 @@ fn line_size(neutral: &Neutral, line: Line) -> u32
 // sets one of the numbers
 fn set(numbers: &mut Vec<u32>, at: u32, number: u32)
     requires { at < length numbers.old.items }
-    ensures set { (k : ℕ) → k < length numbers.old.items → slice_index_or numbers.new.items k 0 ≡ (if nat_eq at k then number else slice_index_or numbers.old.items k 0) }
+    ensures set { IsSetWhere (nat_eq at) number 0 numbers.old.items numbers.new.items }
     ensures counted { length numbers.new.items ≡ length numbers.old.items }
 {
     numbers[at as usize] = number;
@@ -84,9 +85,9 @@ impl Numbers {
         requires { CanGive self.old line }
         ensures sized { (n : Object) → AreSized n self.old → AreSized n self.new }
         ensures count { self.new.count ≡ self.old.count }
-        ensures sections { (n : Object) (is : coff_lines.Line) → line_in n line ≡ Some is → (k : ℕ) → k < length self.old.sections.items → slice_index_or self.new.sections.items k 0 ≡ (if coff_lines.is_section_line k is then self.old.count else slice_index_or self.old.sections.items k 0) }
-        ensures defaults { (n : Object) (is : coff_lines.Line) → line_in n line ≡ Some is → (k : ℕ) → k < length self.old.defaults.items → slice_index_or self.new.defaults.items k 0 ≡ (if coff_lines.is_default_line k is then self.old.count else slice_index_or self.old.defaults.items k 0) }
-        ensures outers { (n : Object) (is : coff_lines.Line) → line_in n line ≡ Some is → (k : ℕ) → k < length self.old.outers.items → slice_index_or self.new.outers.items k 0 ≡ (if coff_lines.is_outer_line k is then self.old.count else slice_index_or self.old.outers.items k 0) }
+        ensures sections { IsGiven coff_lines.is_section_line line self.old.count self.old.sections.items self.new.sections.items }
+        ensures defaults { IsGiven coff_lines.is_default_line line self.old.count self.old.defaults.items self.new.defaults.items }
+        ensures outers { IsGiven coff_lines.is_outer_line line self.old.count self.old.outers.items self.new.outers.items }
     {
         match line {
             Line::Section(k) => set(&mut self.sections, k, self.count),

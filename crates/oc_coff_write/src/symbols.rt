@@ -1,14 +1,14 @@
 //! The symbol table and the string table of an object (PE/COFF, "COFF Symbol Table" and "COFF String
 //! Table"; our profile).
-ghost use Rattle.std.specs.Prelude.{◌≡◌, IfOk, length, map};
+ghost use Rattle.std.specs.Prelude.{◌≡◌, IfOk, length};
 ghost use Rattle.oc_coff_write.specs.FormFor.{form_for};
 ghost use Rattle.oc_neutral.specs.Families.{container_of};
 ghost use Rattle.oc_neutral.specs.Family.{IsCoff};
 ghost use Rattle.oc_target.specs.Fitted.{IsFitted};
 ghost use Rattle.oc_coff_file.specs.Canonical.{entry_rows};
-ghost use Rattle.oc_coff.specs.Forms.{format_of, shape_of};
+ghost use Rattle.oc_coff.specs.Forms.{format_of};
 ghost use Rattle.oc_coff_file.specs.Lines.{entry_count};
-ghost use Rattle.oc_coff_write.specs.Entries.{entry_bytes};
+ghost use Rattle.oc_coff_write.specs.Entries.{rows_in};
 ghost use Rattle.oc_coff_write.specs.Keys.{AreKeys};
 ghost use Rattle.oc_coff_write.specs.Lines.{AreLines};
 ghost use Rattle.oc_coff_write.specs.Numbers.{IsNumbered};
@@ -50,7 +50,7 @@ fn numbered_entries(
     requires names { names.now ≡ table_for (form_for neutral.now.format) neutral.now }
     requires lines { AreLines (form_for neutral.now.format) neutral.now lines.now }
     ensures numbers { IfOk result (λ made. IsNumbered (form_for neutral.now.format) neutral.now made.0) }
-    ensures rows { IfOk result (λ made. map (entry_bytes (shape_of (form_for neutral.now.format))) made.1.items ≡ entry_rows (form_for neutral.now.format) neutral.now) }
+    ensures rows { IfOk result (λ made. rows_in (form_for neutral.now.format) made.1.items ≡ entry_rows (form_for neutral.now.format) neutral.now) }
     ensures count { IfOk result (λ made. length made.1.items ≡ entry_count (form_for neutral.now.format) neutral.now) }
 {
     let leaders = leaders_of(alloc, neutral)?;
@@ -75,7 +75,7 @@ pub(crate) fn symbols_of(
     requires { IsFitted (format_of form) neutral.now }
     ensures names { IfOk result (λ made. made.names ≡ table_for form neutral.now) }
     ensures numbers { IfOk result (λ made. IsNumbered form neutral.now made.numbers) }
-    ensures rows { IfOk result (λ made. map (entry_bytes (shape_of form)) made.entries.items ≡ entry_rows form neutral.now) }
+    ensures rows { IfOk result (λ made. rows_in form made.entries.items ≡ entry_rows form neutral.now) }
     ensures count { IfOk result (λ made. length made.entries.items ≡ entry_count form neutral.now) }
 {
     let keys = keys_of(alloc, neutral)?;

@@ -49,7 +49,7 @@ impl Emits for AnyPlan {
 pub(crate) trait PlansAny: Emits {
     /// The plan as one of any format: it has the same file. Constant time.
     fn any(self) -> AnyPlan
-        ensures { ⟦<AnyPlan as Emits>⟧.file result ≡ file self };
+        ensures { ⟦<AnyPlan as Emits>⟧.file result ≡ Self.Emits.file self };
 }
 
 impl PlansAny for oc_elf_write::Plan {

@@ -6,7 +6,7 @@ ghost use Rattle.oc_linking.specs.Numbers.{or_else};
 ghost use Rattle.oc_linking.specs.FirstFault.{first_broken, stage_fault};
 ghost use Rattle.oc_shelf.specs.Reading.Slots.{AreSlots};
 ghost use Rattle.oc_shelf.specs.Reading.Sums.{sum_upto};
-ghost use Rattle.oc_elf.specs.Classes.{reloc_type};
+ghost use Rattle.oc_elf.specs.Classes.{reloc_type, word_of};
 ghost use Rattle.oc_elf.specs.Frames.{header_at};
 ghost use Rattle.oc_elf.specs.Groups.{owner_among};
 ghost use Rattle.oc_elf.specs.Sections as sections;
@@ -73,9 +73,9 @@ fn judge_section(
 // records a relocation table
 fn take_table(frame: &Frame, tables: &mut Slots, k: u32)
     requires long { length tables.old ≡ length frame.now.headers }
-    requires inside { sections.is_type (reloc_type frame.now.class) (header_at frame.now.headers k) ≡ true
+    requires inside { sections.is_type (reloc_type (word_of frame.now.class)) (header_at frame.now.headers k) ≡ true
         → (header_at frame.now.headers k).sh_info < length frame.now.headers }
-    ensures { tables.new ≡ (if sections.is_type (reloc_type frame.now.class) (header_at frame.now.headers k)
+    ensures { tables.new ≡ (if sections.is_type (reloc_type (word_of frame.now.class)) (header_at frame.now.headers k)
         then slice_set tables.old (header_at frame.now.headers k).sh_info (Some k) else tables.old) }
 {
     let s = frame.header(k);

@@ -1,10 +1,10 @@
 //! The contents of groups (gABI, "Section Groups").
-ghost use Rattle.std.specs.Prelude.{◌≡◌, ◌<◌, ◌^◌, ◌++◌, [], ◌∷◌, ℕ, false, nat_eq, if◌then◌else◌, length, Some, IsSome, IfSome, IfOk, OnOk};
-ghost use Rattle.std.specs.Option.{option_map_or};
+ghost use Rattle.std.specs.Prelude.{◌≡◌, ◌<◌, ◌^◌, [], ◌∷◌, ℕ, length, Some, IsSome, IfSome, IfOk, OnOk};
 ghost use Rattle.oc_elf_file.specs.Groups as groups;
 ghost use Rattle.oc_elf_file.specs.Heads as elf_heads;
+ghost use Rattle.oc_plans.specs.Slots.{is_given};
 ghost use Rattle.oc_elf_write.specs.Heads.{head_in, AreHeads};
-ghost use Rattle.oc_elf_write.specs.Words.{all_words, items_at, items_of};
+ghost use Rattle.oc_elf_write.specs.Words.{all_words, IsAddedWhere, items_at, items_of};
 
 use crate::heads::Head;
 use oc_base::NoMemory;
@@ -28,7 +28,7 @@ fn no_members(alloc: Global, groups: u32) -> Result<Vec<Vec<u32>>, NoMemory>
 // the group of a section header: that of its section, or of the section whose relocations it is of
 fn group_of(neutral: &Neutral, head: Head) -> Option<u32>
     requires { IsSome (head_in neutral.now head) }
-    ensures { (is : elf_heads.Head) (g : ℕ) → head_in neutral.now head ≡ Some is → option_map_or (nat_eq g) result false ≡ groups.is_member_head g is }
+    ensures { (is : elf_heads.Head) (g : ℕ) → head_in neutral.now head ≡ Some is → is_given result g ≡ groups.is_member_head g is }
 {
     match head {
         Head::Section(k) | Head::Relocs(k) => neutral.section(k).group,
@@ -41,7 +41,7 @@ fn group_of(neutral: &Neutral, head: Head) -> Option<u32>
 fn add_member(words: &mut Vec<Vec<u32>>, group: Option<u32>, number: u32) -> Result<(), NoMemory>
     requires { IfSome group (λ g. g < length words.old.items) }
     ensures counted { OnOk result (length words.new.items ≡ length words.old.items) }
-    ensures each { OnOk result ((g : ℕ) → g < length words.old.items → items_at words.new.items g ≡ items_at words.old.items g ++ (if option_map_or (nat_eq g) group false then number ∷ [] else [])) }
+    ensures each { OnOk result (IsAddedWhere (is_given group) number words.old.items words.new.items) }
 {
     if let Some(group) = group {
         words[group as usize].push(number)?;

@@ -61,7 +61,8 @@ pub(crate) fn file_header(class: ElfClass, heads: u32, place: u64) -> Ehdr
     requires some { 1 ≤ heads }
     requires count { canonical.shown_count class heads < 2 ^ 16 }
     requires names { canonical.shown_names class (heads - 1) < 2 ^ 16 }
-    ensures { (n : Object) → length (elf_heads.heads_of n) ≡ heads → place_where layout.is_head_table (layout.laid_parts class n) ≡ place → result ≡ canonical.file_header class n }
+    ensures { (n : Object) → length (elf_heads.heads_of n) ≡ heads
+        → place_where layout.is_head_table (layout.laid_parts class n) ≡ place → result ≡ canonical.file_header class n }
 {
     let word = class.word();
     Ehdr {
@@ -105,7 +106,17 @@ pub(crate) struct HeaderInputs<'a> {
 
 // the header of a string table with that name, of so many bytes at a place; others differ from it
 fn plain_header(sh_name: u32, sh_offset: u64, sh_size: u64) -> Shdr
-    ensures { result ≡ record { sh_name = sh_name; sh_type = SHT_STRTAB; sh_flags = 0; sh_offset = sh_offset; sh_size = sh_size; sh_link = 0; sh_info = 0; sh_addralign = 1; sh_entsize = 0 } }
+    ensures { result ≡ record {
+      sh_name = sh_name;
+      sh_type = SHT_STRTAB;
+      sh_flags = 0;
+      sh_offset = sh_offset;
+      sh_size = sh_size;
+      sh_link = 0;
+      sh_info = 0;
+      sh_addralign = 1;
+      sh_entsize = 0;
+    } }
 {
     Shdr {
         sh_name,
@@ -148,7 +159,12 @@ fn group_header(plain: Shdr, link: u32, signature: u32) -> Shdr
 // the header of a section
 fn section_header(plain: Shdr, section: &Section) -> Shdr
     requires { section.now.tag / 8 < 2 ^ 32 }
-    ensures { result ≡ record plain { sh_type = elf_tag_type section.now.tag; sh_flags = elf_tag_flags section.now.tag + groups.member_flag section.now; sh_size = section.now.size; sh_addralign = section.now.align } }
+    ensures { result ≡ record plain {
+      sh_type = elf_tag_type section.now.tag;
+      sh_flags = elf_tag_flags section.now.tag + groups.member_flag section.now;
+      sh_size = section.now.size;
+      sh_addralign = section.now.align;
+    } }
 {
     Shdr {
         sh_type: (section.tag / 8) as u32,
@@ -161,7 +177,14 @@ fn section_header(plain: Shdr, section: &Section) -> Shdr
 
 // the header of the relocation table of a section, whose own header has that number
 fn table_header(plain: Shdr, word: Word, link: u32, section: &Section, number: u32) -> Shdr
-    ensures { result ≡ record plain { sh_type = reloc_type word; sh_flags = SHF_INFO_LINK + groups.member_flag section.now; sh_link = link; sh_info = number; sh_addralign = structures.word_bytes word; sh_entsize = sizes.rel_size word } }
+    ensures { result ≡ record plain {
+      sh_type = reloc_type word;
+      sh_flags = SHF_INFO_LINK + groups.member_flag section.now;
+      sh_link = link;
+      sh_info = number;
+      sh_addralign = structures.word_bytes word;
+      sh_entsize = sizes.rel_size word;
+    } }
 {
     Shdr {
         sh_type: reloc_type(word),
@@ -176,7 +199,13 @@ fn table_header(plain: Shdr, word: Word, link: u32, section: &Section, number: u
 
 // the header of the symbol table, whose first entries are LOCAL
 fn symtab_header(plain: Shdr, word: Word, link: u32, inner: u32) -> Shdr
-    ensures { result ≡ record plain { sh_type = SHT_SYMTAB; sh_link = link; sh_info = inner; sh_addralign = structures.word_bytes word; sh_entsize = sym_sizes.sym_size word } }
+    ensures { result ≡ record plain {
+      sh_type = SHT_SYMTAB;
+      sh_link = link;
+      sh_info = inner;
+      sh_addralign = structures.word_bytes word;
+      sh_entsize = sym_sizes.sym_size word;
+    } }
 {
     Shdr {
         sh_type: SHT_SYMTAB,
@@ -257,7 +286,8 @@ fn header_by(
     requires fitted { IsFitted (format_of class) neutral.now }
     requires made { IsMadeOf class neutral.now made }
     requires there { IsSome (head_in neutral.now head) }
-    ensures { (is : elf_heads.Head) (at : ℕ) → head_in neutral.now head ≡ Some is → plain ≡ headers.plain_header class neutral.now at is → result ≡ headers.shdr_of class neutral.now at is }
+    ensures { (is : elf_heads.Head) (at : ℕ) → head_in neutral.now head ≡ Some is
+        → plain ≡ headers.plain_header class neutral.now at is → result ≡ headers.shdr_of class neutral.now at is }
 {
     let word = class.word();
     match head {

@@ -1,7 +1,9 @@
 -- Which section holds an address of the file, as it is looked up (our profile).
 use Rattle.std.specs.Prelude.{◌≡◌, ℕ, ◌+◌, ◌^◌, ◌<◌, ◌≤◌, Bool, true, ◌&&◌, ◌||◌, nat_eq, nat_le, nat_lt, if◌then◌else◌, is_some, List, length, map, Option, Some, None}
+use Rattle.std.specs.BTreeMap.{BTreeMap, get}
 use Rattle.std.specs.List.{All, Any, Contains}
 use Rattle.std.specs.List.Sorted.{IsNonDecreasingBy}
+use Rattle.std.specs.Ordering.{nat_cmp}
 use Rattle.oc_linking.specs.Numbers.{first_upto, or_else}
 use Rattle.oc_shelf.specs.Reading.Spans.{end_at}
 use Rattle.oc_macho_judge.specs.declared.holders.Edge.{Edge}
@@ -28,6 +30,20 @@ first_among test t n = first_upto (λ i. if test (table_at t i).header then Some
 -- by each address: the first of the first n sections that begins or ends there
 pub record AreEdges (t : Tables) (n : ℕ) (edges : List (ℕ × ℕ)) : Type 0 where
   pub are : (v : ℕ) → number_by edges v ≡ first_among (is_edge v) t n
+
+-- ... maps
+
+-- an address is in the map, and between two addresses
+abbrev pub is_held_between : BTreeMap ℕ ℕ → ℕ → ℕ → ℕ → Bool
+is_held_between free begin end v = is_some (get nat_cmp free v) && (nat_le begin v && nat_lt v end)
+
+-- the free addresses between two are given that number, and the others have what they had
+abbrev pub AreGiven : BTreeMap ℕ ℕ → ℕ → ℕ → ℕ → BTreeMap ℕ ℕ → BTreeMap ℕ ℕ → Type 0
+AreGiven free begin end number old new = (v : ℕ) → get nat_cmp new v ≡ if is_held_between free begin end v then Some number else get nat_cmp old v
+
+-- by each address of some: the first section that has a byte there
+abbrev pub AreByteHolders : Tables → BTreeMap ℕ ℕ → BTreeMap ℕ ℕ → Type 0
+AreByteHolders t edges bytes = (v : ℕ) → is_some (get nat_cmp edges v) ≡ true → get nat_cmp bytes v ≡ first_among (has_byte v) t (length t.sections)
 
 -- ... the list of them
 

@@ -1,5 +1,5 @@
 //! Which section holds an address of the file.
-ghost use Rattle.std.specs.Prelude.{◌≡◌, ℕ, ◌+◌, ◌≤◌, ◌<◌, ◌&&◌, true, not, nat_eq, nat_le, nat_lt, if◌then◌else◌, is_some, length, None, Some, IfNone, IfSome, IfOk, IsSome, OnOk};
+ghost use Rattle.std.specs.Prelude.{◌≡◌, ℕ, ◌+◌, ◌≤◌, ◌<◌, ◌&&◌, not, nat_eq, nat_le, nat_lt, if◌then◌else◌, is_some, length, None, Some, IfNone, IfSome, IfOk, IsSome, OnOk};
 ghost use Rattle.std.specs.BTreeMap.{get, IsOrdered};
 ghost use Rattle.std.specs.List.{All, filter_map};
 ghost use Rattle.std.specs.Ordering.{nat_cmp};
@@ -114,7 +114,7 @@ fn give(
     number: u32,
 ) -> Result<(), NoMemory>
     ensures free { OnOk result ((q : ℕ) → is_some (get nat_cmp free.new q) ≡ (is_some (get nat_cmp free.old q) && not (nat_le begin q && nat_lt q end))) }
-    ensures bytes { OnOk result ((q : ℕ) → get nat_cmp bytes.new q ≡ if is_some (get nat_cmp free.old q) && (nat_le begin q && nat_lt q end) then Some number else get nat_cmp bytes.old q) }
+    ensures bytes { OnOk result (holders.AreGiven free.old begin end number bytes.old bytes.new) }
 {
     while let Some(at) = first_between(free, begin, end) {
         bytes.insert(at, number)?;
@@ -130,7 +130,7 @@ fn bytes_of(
     edges: &BTreeMap<u128, u32>,
 ) -> Result<BTreeMap<u128, u32>, NoMemory>
     requires { holders.AreEdges frame.now (length frame.now.sections) edges.now.entries }
-    ensures { IfOk result (λ m. (q : ℕ) → is_some (get nat_cmp edges.now q) ≡ true → get nat_cmp m q ≡ holders.first_among (holders.has_byte q) frame.now (length frame.now.sections)) }
+    ensures { IfOk result (holders.AreByteHolders frame.now edges.now) }
 {
     let mut free = edges_of(alloc, frame)?;
     let mut bytes = BTreeMap::new(alloc);

@@ -22,9 +22,13 @@ marked marks (Some (Symbol j)) = if nat_lt j (length marks) then slice_set marks
 marked marks (Some (Section k)) = marks
 marked marks (Some (Address v)) = marks
 
--- the first n fields of a section take the address of symbol number j
+-- field k of a section takes the address of symbol number j
+abbrev pub is_taken_at : Tables → SectionTable → ℕ → ℕ → Bool
+is_taken_at t x k j = option_map_or (takes_symbol t.word j) (item_at t.word x.relocs k) false
+
+-- the first n fields of a section do
 abbrev pub is_taken_upto : Tables → SectionTable → ℕ → ℕ → Bool
-is_taken_upto t x n j = any_upto (λ k. option_map_or (takes_symbol t.word j) (item_at t.word x.relocs k) false) n
+is_taken_upto t x n j = any_upto (λ k. is_taken_at t x k j) n
 
 -- those of the kept ones of the first n sections do
 abbrev pub is_pinned_upto : Tables → Keep → ℕ → ℕ → Bool

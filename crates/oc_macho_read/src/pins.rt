@@ -1,6 +1,5 @@
 //! The symbols whose addresses fields of kept sections take.
 ghost use Rattle.std.specs.Prelude.{◌≡◌, ℕ, ◌+◌, ◌<◌, ◌||◌, Bool, false, length, replicate, None, IfOk};
-ghost use Rattle.std.specs.Option.{option_map_or};
 ghost use Rattle.oc_linking.specs.FirstFault.{stage_fault};
 ghost use Rattle.oc_macho.specs.Entries as entries;
 ghost use Rattle.oc_macho.specs.Framed.{IsTable, table_at};
@@ -33,7 +32,7 @@ fn mark_entry(frame: &Frame, i: u32, h: &SectionHeader, marks: &mut Vec<bool>, k
     requires there { k < h.now.nreloc }
     requires begins { begins ≡ entries.begins frame.now.word (table_at frame.now i).relocs k }
     ensures { (test : ℕ → Bool) → pins.AreMarks frame.now test marks.old.items
-        → pins.AreMarks frame.now (λ j. test j || option_map_or (entries.takes_symbol frame.now.word j) (entries.item_at frame.now.word (table_at frame.now i).relocs k) false) marks.new.items }
+        → pins.AreMarks frame.now (λ j. test j || pins.is_taken_at frame.now (table_at frame.now i) k j) marks.new.items }
 {
     if !begins {
         return;

@@ -1,5 +1,5 @@
 -- The lines of the symbol table by positions (Mach-O reference, "nlist"; our profile).
-use Rattle.std.specs.Prelude.{◌≡◌, ◌<◌, Bool, List, length, slice_get, Option, Some, map}
+use Rattle.std.specs.Prelude.{◌≡◌, ◌++◌, ◌<◌, Bool, List, length, slice_get, Option, Some, map}
 use Rattle.std.specs.Option.{option_map}
 use Rattle.oc_base.specs.declared.format.Word.{Word}
 use Rattle.oc_linking.specs.declared.terms.Binding.{Binding}
@@ -22,6 +22,10 @@ line_in n (line.Outer k) = option_map (lines.OuterLine k) (slice_get n.symbols k
 -- each of these
 abbrev pub lines_in : Object → List Line → List (Option lines.Line)
 lines_in n these = map (line_in n) these
+
+-- these lines of the object were added
+abbrev pub AreAdded : Object → List lines.Line → List Line → List Line → Type 0
+AreAdded n these old new = lines_in n new ≡ lines_in n old ++ map Some these
 
 -- these are the lines of the object, all there
 abbrev pub AreLines : Word → Object → List Line → Type 0

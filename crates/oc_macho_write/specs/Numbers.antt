@@ -1,12 +1,15 @@
 -- The numbers of the symbols in the symbol table (Mach-O reference, "nlist").
-use Rattle.std.specs.Prelude.{◌≡◌, ℕ, ◌^◌, ◌<◌, ◌+◌, length, slice_index_or}
+use Rattle.std.specs.Prelude.{◌≡◌, ℕ, ◌^◌, ◌<◌, ◌+◌, Bool, List, length, slice_index_or, Some}
 use Rattle.oc_base.specs.declared.format.Word.{Word}
 use Rattle.oc_neutral.specs.declared.reloc.Target.{Target}
 use Rattle.oc_neutral.specs.declared.reloc.Target.TheVariants as target
 use Rattle.oc_neutral.specs.Objects.{Object}
+use Rattle.oc_plans.specs.Slots.{IsSetWhere}
+use Rattle.oc_macho_file.specs.Lines as lines
 use Rattle.oc_macho_file.specs.Lines.{numbered_lines, own_number, symbol_number}
 use Rattle.oc_macho_write.specs.declared.lines.Line.{Line}
 use Rattle.oc_macho_write.specs.declared.lines.Line.TheVariants as line
+use Rattle.oc_macho_write.specs.Lines.{line_in}
 use Rattle.oc_macho_write.specs.declared.numbers.Numbers.{Numbers}
 
 -- as many numbers as the object has sections and symbols
@@ -24,6 +27,11 @@ abbrev pub CanGive : Numbers → Line → Type 0
 CanGive x (line.Own k) = k < length x.owns.items
 CanGive x (line.Local k) = Unit {0}
 CanGive x (line.Outer k) = k < length x.outers.items
+
+-- the numbers have this one where the test holds of the line, and elsewhere what they had
+abbrev pub IsGiven : (ℕ → lines.Line → Bool) → Line → ℕ → List ℕ → List ℕ → Type 0
+IsGiven test this number old new =
+    (n : Object) (is : lines.Line) → line_in n this ≡ Some is → IsSetWhere (λ k. test k is) number 0 old new
 
 -- these are the numbers that the object's lines have
 pub record IsNumbered (w : Word) (n : Object) (x : Numbers) : Type 0 where

@@ -1,5 +1,5 @@
 -- The parts of the file by positions (our profile).
-use Rattle.std.specs.Prelude.{◌≡◌, List, slice_get, Option, Some, map}
+use Rattle.std.specs.Prelude.{◌≡◌, ◌++◌, List, slice_get, Option, Some, map}
 use Rattle.std.specs.Option.{option_map}
 use Rattle.oc_neutral.specs.Objects.{Object}
 use Rattle.oc_macho_file.specs.Layout as layout
@@ -21,6 +21,10 @@ part_in n part.StringTable = Some layout.StringTable
 -- each of these
 abbrev pub parts_in : Object → List Part → List (Option layout.Part)
 parts_in n these = map (part_in n) these
+
+-- these parts of the object's file were added
+abbrev pub AreAdded : Object → List layout.Part → List Part → List Part → Type 0
+AreAdded n these old new = parts_in n new ≡ parts_in n old ++ map Some these
 
 -- these are the parts of the object's file, all there
 abbrev pub AreParts : Object → List Part → Type 0

@@ -1,11 +1,14 @@
 -- Where headers point to (our profile).
-use Rattle.std.specs.Prelude.{◌≡◌, ℕ, ◌<◌, length, slice_index_or}
+use Rattle.std.specs.Prelude.{◌≡◌, ℕ, ◌<◌, Bool, if◌then◌else◌, List, length, slice_index_or, Some}
 use Rattle.oc_base.specs.declared.format.Word.{Word}
 use Rattle.oc_neutral.specs.Objects.{Object}
+use Rattle.oc_plans.specs.Slots.{IsSetWhere}
+use Rattle.oc_macho_file.specs.Layout as layout
 use Rattle.oc_macho_file.specs.Layout.{part_where, is_raw, is_relocs, is_symbol_table, is_string_table}
 use Rattle.oc_macho_write.specs.declared.parts.Part.{Part}
 use Rattle.oc_macho_write.specs.declared.parts.Part.TheVariants as part
 use Rattle.oc_macho_write.specs.declared.places.Places.{Places}
+use Rattle.oc_macho_write.specs.Parts.{part_in}
 
 -- as many places as the object has sections
 pub record HasRoom (n : Object) (x : Places) : Type 0 where
@@ -30,6 +33,16 @@ CanGive x (part.Raw k) = k < length x.raws.items
 CanGive x (part.Relocs k) = k < length x.relocs.items
 CanGive x part.SymbolTable = Unit {0}
 CanGive x part.StringTable = Unit {0}
+
+-- the places have this one where the test holds of the part, and elsewhere what they had
+abbrev pub IsGiven : (ℕ → layout.Part → Bool) → Part → ℕ → List ℕ → List ℕ → Type 0
+IsGiven test this place old new =
+    (n : Object) (is : layout.Part) → part_in n this ≡ Some is → IsSetWhere (λ k. test k is) place 0 old new
+
+-- the place is this one if the test holds of the part, and else what it was
+abbrev pub IsGivenIf : (layout.Part → Bool) → Part → ℕ → ℕ → ℕ → Type 0
+IsGivenIf test this place old new =
+    (n : Object) (is : layout.Part) → part_in n this ≡ Some is → new ≡ (if test is then place else old)
 
 -- these are the places of the parts of the object's file
 pub record ArePlaces (w : Word) (n : Object) (x : Places) : Type 0 where

@@ -46,7 +46,8 @@ fn lay_sections(addresses: &mut [u64], neutral: &Neutral, blank: bool, at: u64) 
     requires counted { length addresses.old ≡ length neutral.now.sections }
     requires near { those_end blank neutral.now at < 2 ^ 48 }
     ensures counted { length addresses.new ≡ length neutral.now.sections }
-    ensures each { (k : ℕ) → k < length neutral.now.sections → slice_index_or addresses.new k 0 ≡ place_or (is_at k) (those_laid blank neutral.now at) (slice_index_or addresses.old k 0) }
+    ensures each { (k : ℕ) → k < length neutral.now.sections
+        → slice_index_or addresses.new k 0 ≡ place_or (is_at k) (those_laid blank neutral.now at) (slice_index_or addresses.old k 0) }
     ensures end { result ≡ those_end blank neutral.now at }
 {
     neutral.is_object();

@@ -176,7 +176,8 @@ impl FieldContext<'_> {
     fn taken_address(&self, standing: &SpelledReloc) -> u64
         requires ready { IsReady self.now }
         requires there { standing.now.section < length self.now.addresses.now }
-        ensures address { (w : Word) (n : Object) → IsFieldContext w n self.now → result ≡ (if same_taken (taken_of standing.now.reloc.form.less) TakesPlace then address_of n standing.now.section + standing.now.at else 0) }
+        ensures address { (w : Word) (n : Object) → IsFieldContext w n self.now
+            → result ≡ (if same_taken (taken_of standing.now.reloc.form.less) TakesPlace then address_of n standing.now.section + standing.now.at else 0) }
         ensures low { result < 2 ^ 33 }
     {
         if takes_place(standing.reloc) {

@@ -88,7 +88,8 @@ fn part_begin(word: Word, neutral: &Neutral, bodies: &Bodies, at: u64, part: Par
 // lays a part that begins there and has so many bytes
 fn lay(layout: &mut Layout, begin: u64, size: u64) -> Result<(), NoMemory>
     requires { begin + size < 2 ^ 64 }
-    ensures { OnOk result ((w : Width) (n : Object) (xs : List file.Part) (x : file.Part) → AreLaid w n layout.old xs → file.part_begin w n layout.old.end x ≡ begin → file.part_size w n x ≡ size → AreLaid w n layout.new (xs ++ x ∷ [])) }
+    ensures { OnOk result ((w : Width) (n : Object) (xs : List file.Part) (x : file.Part) → AreLaid w n layout.old xs
+        → file.part_begin w n layout.old.end x ≡ begin → file.part_size w n x ≡ size → AreLaid w n layout.new (xs ++ x ∷ [])) }
 {
     layout.places.push(begin)?;
     layout.end = begin + size;

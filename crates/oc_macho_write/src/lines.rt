@@ -1,12 +1,12 @@
 //! The lines of the symbol table: what it contains, in its order (Mach-O reference, "nlist" and
 //! "dysymtab_command"; our profile).
-ghost use Rattle.std.specs.Prelude.{◌≡◌, ◌<◌, ◌+◌, ◌++◌, ◌&&◌, ℕ, [], ◌∷◌, if◌then◌else◌, length, map, false, slice_index_or, Some, IfOk, OnOk};
+ghost use Rattle.std.specs.Prelude.{◌≡◌, ◌<◌, ◌+◌, ◌++◌, ◌&&◌, ℕ, [], ◌∷◌, if◌then◌else◌, length, map, false, slice_index_or, IfOk, OnOk};
 ghost use Rattle.oc_linking.specs.Parts as parts;
 ghost use Rattle.oc_neutral.specs.Mach.SectionSymbols as section_symbols;
 ghost use Rattle.oc_neutral.specs.WrittenSymbols.{is_written};
 ghost use Rattle.oc_macho.specs.MachHeader.{mach_format};
 ghost use Rattle.oc_macho_file.specs.Lines as mach_lines;
-ghost use Rattle.oc_macho_write.specs.Lines.{AreLines, is_outer, lines_in};
+ghost use Rattle.oc_macho_write.specs.Lines.{AreAdded, AreLines, is_outer};
 
 use crate::names::section_symbol_name;
 use oc_base::{NoMemory, Word};
@@ -80,7 +80,7 @@ fn give_line(lines: &mut Vec<Line>, line: Line, wanted: bool) -> Result<(), NoMe
 fn add_marked(lines: &mut Vec<Line>, neutral: &Neutral, needed: &[bool]) -> Result<(), NoMemory>
     requires counted { length needed.now ≡ length neutral.now.sections }
     requires each { (k : ℕ) → k < length neutral.now.sections → slice_index_or needed.now k false ≡ section_symbols.needs_section_symbol neutral.now k }
-    ensures { OnOk result (lines_in neutral.now lines.new.items ≡ lines_in neutral.now lines.old.items ++ map Some (map mach_lines.OwnLine (section_symbols.needed_sections neutral.now))) }
+    ensures { OnOk result (AreAdded neutral.now (map mach_lines.OwnLine (section_symbols.needed_sections neutral.now)) lines.old.items lines.new.items) }
 {
     for k in 0..neutral.section_count() {
         give_line(lines, Line::Own(k), needed[k as usize])?;
@@ -95,7 +95,7 @@ fn add_owns(
     word: Word,
     neutral: &Neutral,
 ) -> Result<(), NoMemory>
-    ensures { OnOk result (lines_in neutral.now lines.new.items ≡ lines_in neutral.now lines.old.items ++ map Some (mach_lines.own_lines word neutral.now)) }
+    ensures { OnOk result (AreAdded neutral.now (mach_lines.own_lines word neutral.now) lines.old.items lines.new.items) }
 {
     match word {
         Word::W32 => Ok(()),
@@ -111,7 +111,7 @@ fn add_locals(
     neutral: &Neutral,
 ) -> Result<(), NoMemory>
     requires { neutral.now.format ≡ mach_format word }
-    ensures { OnOk result (lines_in neutral.now lines.new.items ≡ lines_in neutral.now lines.old.items ++ map Some (mach_lines.local_lines neutral.now)) }
+    ensures { OnOk result (AreAdded neutral.now (mach_lines.local_lines neutral.now) lines.old.items lines.new.items) }
 {
     for k in 0..neutral.symbol_count() {
         let wanted = is_written_local(alloc, word, neutral.symbol(k))?;
@@ -137,7 +137,8 @@ fn is_outer(outer: Outer, binding: Binding) -> bool
 
 // adds the lines of the symbols of a kind
 fn add_outers(lines: &mut Vec<Line>, neutral: &Neutral, outer: Outer) -> Result<(), NoMemory>
-    ensures { OnOk result (lines_in neutral.now lines.new.items ≡ lines_in neutral.now lines.old.items ++ map Some (mach_lines.lines_where mach_lines.OuterLine (λ s. is_outer outer s.binding) neutral.now)) }
+    ensures { OnOk result (AreAdded neutral.now
+        (mach_lines.lines_where mach_lines.OuterLine (λ s. is_outer outer s.binding) neutral.now) lines.old.items lines.new.items) }
 {
     for k in 0..neutral.symbol_count() {
         let wanted = is_outer(outer, neutral.symbol(k).binding);

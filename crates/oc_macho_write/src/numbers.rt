@@ -1,5 +1,5 @@
 //! The numbers of the symbols in the symbol table (Mach-O reference, "nlist").
-ghost use Rattle.std.specs.Prelude.{◌≡◌, ◌+◌, ◌^◌, ◌<◌, ℕ, if◌then◌else◌, IfOk, Some, slice_index_or, length};
+ghost use Rattle.std.specs.Prelude.{◌≡◌, ◌+◌, ◌^◌, ◌<◌, IfOk, length};
 ghost use Rattle.oc_base.specs.declared.format.Word.{Word};
 ghost use Rattle.oc_target.specs.Fitted.{IsFitted};
 ghost use Rattle.oc_neutral.specs.declared.reloc.Target.TheVariants as to;
@@ -7,8 +7,8 @@ ghost use Rattle.oc_neutral.specs.Objects.{Object};
 ghost use Rattle.oc_macho.specs.MachHeader.{mach_format};
 ghost use Rattle.oc_macho_file.specs.Bodies.{reference_to};
 ghost use Rattle.oc_macho_file.specs.Lines as mach_lines;
-ghost use Rattle.oc_macho_write.specs.Lines.{AreLines, line_in};
-ghost use Rattle.oc_macho_write.specs.Numbers.{AreSized, CanGive, HasNumber, IsBlank, IsNumbered};
+ghost use Rattle.oc_macho_write.specs.Lines.{AreLines};
+ghost use Rattle.oc_macho_write.specs.Numbers.{AreSized, CanGive, HasNumber, IsBlank, IsGiven, IsNumbered};
 
 use crate::lines::Line;
 use oc_base::{NoMemory, Word};
@@ -42,8 +42,8 @@ impl Numbers {
     fn give(&mut self, line: Line, number: u32)
         requires { CanGive self.old line }
         ensures sized { (n : Object) → AreSized n self.old → AreSized n self.new }
-        ensures owns { (n : Object) (is : mach_lines.Line) → line_in n line ≡ Some is → (k : ℕ) → k < length self.old.owns.items → slice_index_or self.new.owns.items k 0 ≡ (if mach_lines.is_own_line k is then number else slice_index_or self.old.owns.items k 0) }
-        ensures outers { (n : Object) (is : mach_lines.Line) → line_in n line ≡ Some is → (k : ℕ) → k < length self.old.outers.items → slice_index_or self.new.outers.items k 0 ≡ (if mach_lines.is_symbol_line k is then number else slice_index_or self.old.outers.items k 0) }
+        ensures owns { IsGiven mach_lines.is_own_line line number self.old.owns.items self.new.owns.items }
+        ensures outers { IsGiven mach_lines.is_symbol_line line number self.old.outers.items self.new.outers.items }
     {
         match line {
             Line::Own(k) => self.owns[k as usize] = number,

@@ -1,9 +1,9 @@
 //! The parts of the file, in their order (our profile).
-ghost use Rattle.std.specs.Prelude.{◌≡◌, ◌++◌, [], ◌∷◌, if◌then◌else◌, map, Some, IfOk, OnOk};
+ghost use Rattle.std.specs.Prelude.{◌≡◌, ◌++◌, [], ◌∷◌, if◌then◌else◌, map, IfOk, OnOk};
 ghost use Rattle.std.specs.List.{enumerate_from};
 ghost use Rattle.oc_macho_file.specs.Addresses.{stored_sections};
 ghost use Rattle.oc_macho_file.specs.Layout as layout;
-ghost use Rattle.oc_macho_write.specs.Parts.{AreParts, parts_in};
+ghost use Rattle.oc_macho_write.specs.Parts.{AreAdded, AreParts};
 
 use crate::addresses::is_blank;
 use oc_base::NoMemory;
@@ -45,7 +45,7 @@ fn give_part(parts: &mut Vec<Part>, part: Part, wanted: bool) -> Result<(), NoMe
 
 // adds the parts with the bytes of sections
 fn add_raws(parts: &mut Vec<Part>, neutral: &Neutral) -> Result<(), NoMemory>
-    ensures { OnOk result (parts_in neutral.now parts.new.items ≡ parts_in neutral.now parts.old.items ++ map Some (map layout.raw_part (stored_sections neutral.now))) }
+    ensures { OnOk result (AreAdded neutral.now (map layout.raw_part (stored_sections neutral.now)) parts.old.items parts.new.items) }
 {
     for k in 0..neutral.section_count() {
         let stored = !is_blank(neutral.section(k));
@@ -56,7 +56,7 @@ fn add_raws(parts: &mut Vec<Part>, neutral: &Neutral) -> Result<(), NoMemory>
 
 // adds those with their relocation entries
 fn add_relocs(parts: &mut Vec<Part>, neutral: &Neutral) -> Result<(), NoMemory>
-    ensures { OnOk result (parts_in neutral.now parts.new.items ≡ parts_in neutral.now parts.old.items ++ map Some (map layout.relocs_part (enumerate_from 0 neutral.now.sections))) }
+    ensures { OnOk result (AreAdded neutral.now (map layout.relocs_part (enumerate_from 0 neutral.now.sections)) parts.old.items parts.new.items) }
 {
     for k in 0..neutral.section_count() {
         parts.push(Part::Relocs(k))?;

@@ -1,11 +1,11 @@
 //! Where headers point to: the places of parts by the positions of their sections.
-ghost use Rattle.std.specs.Prelude.{◌≡◌, ◌<◌, ℕ, if◌then◌else◌, nat_eq, IfOk, Some, slice_index_or, length};
+ghost use Rattle.std.specs.Prelude.{◌≡◌, IfOk, length};
 ghost use Rattle.oc_base.specs.declared.format.Word.{Word};
 ghost use Rattle.oc_neutral.specs.Objects.{Object};
 ghost use Rattle.oc_macho_file.specs.Layout as layout;
 ghost use Rattle.oc_macho_write.specs.LaidParts.{begins_by};
-ghost use Rattle.oc_macho_write.specs.Parts.{AreParts, part_in};
-ghost use Rattle.oc_macho_write.specs.Places.{ArePlaces, CanGive, HasRoom, IsBlank};
+ghost use Rattle.oc_macho_write.specs.Parts.{AreParts};
+ghost use Rattle.oc_macho_write.specs.Places.{ArePlaces, CanGive, HasRoom, IsBlank, IsGiven, IsGivenIf};
 
 use crate::parts::Part;
 use oc_base::NoMemory;
@@ -44,10 +44,10 @@ impl Places {
     fn give(&mut self, part: Part, place: u64)
         requires { CanGive self.old part }
         ensures room { (n : Object) → HasRoom n self.old → HasRoom n self.new }
-        ensures raws { (n : Object) (is : layout.Part) → part_in n part ≡ Some is → (k : ℕ) → k < length self.old.raws.items → slice_index_or self.new.raws.items k 0 ≡ (if layout.is_raw k is then place else slice_index_or self.old.raws.items k 0) }
-        ensures relocs { (n : Object) (is : layout.Part) → part_in n part ≡ Some is → (k : ℕ) → k < length self.old.relocs.items → slice_index_or self.new.relocs.items k 0 ≡ (if layout.is_relocs k is then place else slice_index_or self.old.relocs.items k 0) }
-        ensures symbols { (n : Object) (is : layout.Part) → part_in n part ≡ Some is → self.new.symbols ≡ (if layout.is_symbol_table is then place else self.old.symbols) }
-        ensures strings { (n : Object) (is : layout.Part) → part_in n part ≡ Some is → self.new.strings ≡ (if layout.is_string_table is then place else self.old.strings) }
+        ensures raws { IsGiven layout.is_raw part place self.old.raws.items self.new.raws.items }
+        ensures relocs { IsGiven layout.is_relocs part place self.old.relocs.items self.new.relocs.items }
+        ensures symbols { IsGivenIf layout.is_symbol_table part place self.old.symbols self.new.symbols }
+        ensures strings { IsGivenIf layout.is_string_table part place self.old.strings self.new.strings }
     {
         match part {
             Part::FileHead

@@ -29,7 +29,13 @@ fn plain_entry(
     r_type: u8,
     refers: Reference,
 ) -> RelocationInfo
-    ensures { result ≡ record { r_address = standing.now.at; r_pcrel = r_pcrel; r_length = relocs.length_of standing.now.reloc.form.width; r_type = r_type; refers = refers } }
+    ensures { result ≡ record {
+      r_address = standing.now.at;
+      r_pcrel = r_pcrel;
+      r_length = relocs.length_of standing.now.reloc.form.width;
+      r_type = r_type;
+      refers = refers;
+    } }
 {
     RelocationInfo {
         r_address: standing.at,
@@ -66,7 +72,10 @@ fn pair_of(
     requires ready { IsReady context }
     requires there { IsFor context standing.now.section standing.now.reloc }
     requires numbers { HasNumbers context numbers.now }
-    ensures { (n : Object) (is : bodies.WrittenReloc) → IsFieldContext context.entry.word n context.entry → IsNumbered context.entry.word n numbers.now → IsWritten context.entry.word standing.now is → is.row.number ≡ first → is.row.second ≡ Some second → result.0 ∷ result.1 ∷ [] ≡ bodies.pair_entries context.entry.word n (numbered_lines context.entry.word n) is second }
+    ensures { (n : Object) (is : bodies.WrittenReloc)
+        → IsFieldContext context.entry.word n context.entry → IsNumbered context.entry.word n numbers.now
+        → IsWritten context.entry.word standing.now is → is.row.number ≡ first → is.row.second ≡ Some second
+        → result.0 ∷ result.1 ∷ [] ≡ bodies.pair_entries context.entry.word n (numbered_lines context.entry.word n) is second }
 {
     let target = standing.reloc.target;
     let taken = taken_section(standing);
@@ -96,7 +105,10 @@ fn add_standing(
     requires there { IsFor context standing.now.section standing.now.reloc }
     requires written { (is : bodies.WrittenReloc) × IsWritten context.word standing.now is }
     requires numbers { HasNumbers context numbers.now }
-    ensures { OnOk result ((n : Object) (is : bodies.WrittenReloc) → IsFieldContext context.entry.word n context.entry → IsNumbered context.entry.word n numbers.now → IsWritten context.entry.word standing.now is → entries.new.items ≡ entries.old.items ++ bodies.standing_entries context.entry.word n (numbered_lines context.entry.word n) is) }
+    ensures { OnOk result ((n : Object) (is : bodies.WrittenReloc)
+        → IsFieldContext context.entry.word n context.entry → IsNumbered context.entry.word n numbers.now
+        → IsWritten context.entry.word standing.now is
+        → entries.new.items ≡ entries.old.items ++ bodies.standing_entries context.entry.word n (numbered_lines context.entry.word n) is) }
 {
     match standing.spelling {
         Spelling::One(number) => {
@@ -124,7 +136,9 @@ fn add_entries(
     requires ready { IsReady context }
     requires there { IsFor context section field.item }
     requires numbers { HasNumbers context numbers.now }
-    ensures { OnOk result ((n : Object) → IsFieldContext context.entry.word n context.entry → IsNumbered context.entry.word n numbers.now → entries.new.items ≡ entries.old.items ++ bodies.entries_at context.entry.word n (numbered_lines context.entry.word n) section field) }
+    ensures { OnOk result ((n : Object)
+        → IsFieldContext context.entry.word n context.entry → IsNumbered context.entry.word n numbers.now
+        → entries.new.items ≡ entries.old.items ++ bodies.entries_at context.entry.word n (numbered_lines context.entry.word n) section field) }
 {
     match spelled_at(context.word, section, field.at, field.item) {
         Some(standing) => add_standing(entries, context, numbers, &standing),

@@ -79,7 +79,8 @@ fn line_nlist(
     requires addresses { AreAddresses neutral.now addresses.now }
     requires there { IsSome (line_in neutral.now line) }
     requires section { IsNamed neutral.now line }
-    ensures { IfOk result (λ nlist. (w : Word) (is : mach_lines.Line) → names.now ≡ table_with (layout.line_names w neutral.now) → line_in neutral.now line ≡ Some is → nlist ≡ symbols.line_entry w neutral.now is) }
+    ensures { IfOk result (λ nlist. (w : Word) (is : mach_lines.Line) → names.now ≡ table_with (layout.line_names w neutral.now)
+        → line_in neutral.now line ≡ Some is → nlist ≡ symbols.line_entry w neutral.now is) }
 {
     neutral.is_object();
     match line {

@@ -1,5 +1,5 @@
 -- What a reader keeps of the entries before one, and of what is in one (our profile).
-use Rattle.std.specs.Prelude.{◌≡◌, ℕ, Bool, if◌then◌else◌, List, map, slice_get, Option}
+use Rattle.std.specs.Prelude.{◌≡◌, ℕ, Bool, ◌&&◌, nat_eq, if◌then◌else◌, List, map, slice_get, Option, Some}
 use Rattle.std.specs.Option.{option_flatten}
 use denote.Ref.{Bor}
 use Rattle.oc_omf_records.specs.Blocks.{Blocks, none, content}
@@ -7,8 +7,10 @@ use Rattle.oc_omf_records.specs.Shown.{shown}
 use Rattle.oc_omf.specs.declared.data.Data.{Data}
 use Rattle.oc_omf.specs.declared.data.Data.TheVariants as data_
 use Rattle.oc_omf.specs.declared.structures.Method.{Method}
+use Rattle.oc_omf.specs.declared.structures.Thread.{Thread}
 use Rattle.oc_omf.specs.declared.threads.Threads.{Threads}
 use Rattle.oc_omf.specs.Fixups.{PlacedSubrecord, thread_after}
+use Rattle.oc_omf.specs.Symbols.{agree}
 
 -- the names that slices hold
 abbrev pub names_of : List (Bor (List ℕ)) → List (List ℕ)
@@ -21,6 +23,12 @@ told threads frame number = option_flatten (slice_get (if frame then threads.fra
 -- the threads that are held are those in force after these
 abbrev pub AreInForce : List PlacedSubrecord → Threads → Type 0
 AreInForce earlier threads = (frame : Bool) (number : ℕ) → told threads frame number ≡ thread_after earlier frame number
+
+-- a thread is in force from here on, with the others that were
+abbrev pub IsThreadTaken : Threads → Thread → Threads → Type 0
+IsThreadTaken old thread new =
+    (frame : Bool) (number : ℕ)
+    → told new frame number ≡ if agree frame thread.frame && nat_eq thread.number number then Some thread.method else told old frame number
 
 -- data as blocks: those that are not iterated are one content, once
 abbrev pub row_of : Data → Blocks

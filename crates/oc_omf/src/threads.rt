@@ -1,7 +1,6 @@
 //! The threads that are in force.
-ghost use Rattle.std.specs.Prelude.{◌≡◌, ◌<◌, ◌&&◌, nat_eq, if◌then◌else◌, ℕ, Bool, [], Some};
-ghost use Rattle.oc_omf.specs.Symbols.{agree};
-ghost use Rattle.oc_omf.specs.Known.{AreInForce, told};
+ghost use Rattle.std.specs.Prelude.{◌≡◌, ◌<◌, []};
+ghost use Rattle.oc_omf.specs.Known.{AreInForce, IsThreadTaken, told};
 
 use crate::structures::{Method, Thread};
 
@@ -40,7 +39,7 @@ impl Threads {
     /// Takes up a thread, which is in force from here on. Constant time.
     pub fn take_up(&mut self, thread: Thread)
         requires { thread.number < 4 }
-        ensures { (frame : Bool) (number : ℕ) → told self.new frame number ≡ if agree frame thread.frame && nat_eq thread.number number then Some thread.method else told self.old frame number }
+        ensures { IsThreadTaken self.old thread self.new }
     {
         let number = usize::from(thread.number);
         if thread.frame {

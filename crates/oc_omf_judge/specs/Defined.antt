@@ -1,7 +1,9 @@
 -- What a reader keeps of the entries before one, as long as it judges names, segments, groups and data (our profile).
-use Rattle.std.specs.Prelude.{◌≡◌, ℕ, ◌+◌, ◌*◌, ◌<◌, ◌≤◌, Bool, false, nat_lt, if◌then◌else◌, List, [], ◌∷◌, ◌++◌, length, map, take, get_or, slice_get, Option, Some, None, Result, Ok, Err}
+use Rattle.std.specs.Prelude.{◌≡◌, ℕ, ◌+◌, ◌*◌, ◌^◌, min, ◌<◌, ◌≤◌, Bool, false, nat_lt, if◌then◌else◌, List, [], ◌∷◌, ◌++◌, length, map, take, get_or, slice_get, Option, Some, None, Result, Ok, Err}
 use Rattle.std.specs.List.{sum_by}
 use Rattle.std.specs.Option.{option_and_then, option_map_or}
+use Rattle.oc_base.specs.declared.code.Code.TheVariants.{BadTable}
+use Rattle.oc_base.specs.declared.fault.Fault.{Fault}
 use Rattle.oc_base.specs.declared.stop.Stop.{Stop}
 use Rattle.oc_base.specs.Stops.{IsStop}
 use Rattle.oc_linking.specs.declared.terms.Kind.{Kind}
@@ -9,7 +11,7 @@ use Rattle.oc_linking.specs.declared.terms.Kind.TheVariants.{Data}
 use Rattle.oc_linking.specs.FirstFault.{first_broken}
 use Rattle.oc_shelf.specs.Reading.Spans.{AreSpansOf}
 use Rattle.oc_omf_records.specs.declared.faults.BlockFault.{BlockFault}
-use Rattle.oc_omf_records.specs.Blocks.{Blocks}
+use Rattle.oc_omf_records.specs.Blocks.{Blocks, size_of}
 use Rattle.oc_omf.specs.declared.structures.DataHead.{DataHead}
 use Rattle.oc_omf_judge.specs.declared.defined.Defined.{Defined}
 use Rattle.oc_omf.specs.declared.structures.Segment.{Segment}
@@ -18,7 +20,7 @@ use Rattle.oc_omf.specs.Structures.{Group, Piece}
 use Rattle.oc_omf.specs.Entries.{Entry, entries_in, all_read}
 use Rattle.oc_omf.specs.Tables.{Tables, tables_of}
 use Rattle.oc_omf.specs.Sections.{is_covered, piece_size, segment_kind, segment_size}
-use Rattle.oc_omf.specs.SectionFaults.{bytes_size, conditions_on, piece_conditions}
+use Rattle.oc_omf.specs.SectionFaults.{bytes_size, conditions_by, conditions_on, group_conditions, own_fault, piece_conditions, segment_conditions_by}
 use Rattle.oc_omf.specs.Known.{names_of}
 
 -- what the entries of a file before one define
@@ -79,6 +81,14 @@ abbrev pub part_of : {X : Type 0} → Reading X → Option X
 part_of (Ok r) = Some r.0
 part_of (Err c) = None
 
+-- the first fault of a segment that is read, after so many names and segments of so many bytes
+abbrev pub segment_fault_by : ℕ → ℕ → ℕ × ℕ → Reading Segment → Option Fault
+segment_fault_by names sizes x read = first_broken (conditions_by (own_fault x BadTable) (segment_conditions_by names sizes x) read)
+
+-- that of a group, after so many names and segments
+abbrev pub group_fault_by : ℕ → ℕ → ℕ × ℕ → Reading Group → Option Fault
+group_fault_by names segments x read = first_broken (conditions_by (own_fault x BadTable) (group_conditions names segments x) read)
+
 -- ... segments, counted from 0
 
 -- the kind of segment k
@@ -102,3 +112,11 @@ IsPieceTaken old x d new = (t : Tables) → IsDefined t old → (first_broken (p
 -- data have a fault, which is reported
 abbrev pub IsPieceStopped : Defined → ℕ × ℕ → Piece → Stop → Type 0
 IsPieceStopped old x d s = (t : Tables) → IsDefined t old → IsStop (first_broken (piece_conditions t x d)) s
+
+-- data with that head have no fault, and are recorded; they are of so many bytes, or of 2^32 where they have more
+abbrev pub IsDataTaken : Defined → ℕ × ℕ → DataHead → ℕ → Defined → Type 0
+IsDataTaken old x head size new = (row : Blocks) → size ≡ min (size_of row) (2 ^ 32) → IsPieceTaken old x (piece_with head (Ok row)) new
+
+-- such data have a fault, which is reported
+abbrev pub IsDataStopped : Defined → ℕ × ℕ → DataHead → ℕ → Stop → Type 0
+IsDataStopped old x head size s = (row : Blocks) → size ≡ min (size_of row) (2 ^ 32) → IsPieceStopped old x (piece_with head (Ok row)) s

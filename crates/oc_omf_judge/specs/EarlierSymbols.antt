@@ -11,9 +11,9 @@ use Rattle.oc_linking.specs.FirstFault.{Condition, first_broken, stage_fault}
 use Rattle.oc_omf_judge.specs.declared.earlier.External.{External as Mentioned}
 use Rattle.oc_omf_judge.specs.declared.earlier.EarlierSymbols.{EarlierSymbols}
 use Rattle.oc_omf.specs.declared.structures.Communal.{Communal}
-use Rattle.oc_omf.specs.Cursor.{Read}
-use Rattle.oc_omf.specs.Structures.{Group, Public, External}
-use Rattle.oc_omf.specs.Entries.{Entry, all_read}
+use Rattle.oc_omf.specs.Cursor.{Read, each_read}
+use Rattle.oc_omf.specs.Structures.{Group, Public, External, communal_read, external_read}
+use Rattle.oc_omf.specs.Entries.{Entry, all_read, in_file}
 use Rattle.oc_omf.specs.Tables.{Tables}
 use Rattle.oc_omf.specs.Sections.{size_at}
 use Rattle.oc_omf.specs.Symbols.{Mention, external_mention, public_mention, same_symbol}
@@ -102,6 +102,13 @@ IsExternalTaken known old at y new =
 abbrev pub IsExternalStopped : Held → EarlierSymbols → ℕ × ℕ → External → Stop → Type 0
 IsExternalStopped known old at y s = (all t : Tables) → AreNamed true all.publics known → AreEarlierSymbols t old → IsStop (first_broken (external_behind all t.externals at y)) s
 
+-- the same of a communal, whatever names this module alone sees
+abbrev pub IsCommunalTaken : EarlierSymbols → ℕ × ℕ → List ℕ → Communal → EarlierSymbols → Type 0
+IsCommunalTaken old at name c new = (known : Held) → IsExternalTaken known old at (external_with false name (Some c)) new
+
+abbrev pub IsCommunalStopped : EarlierSymbols → ℕ × ℕ → List ℕ → Communal → Stop → Type 0
+IsCommunalStopped old at name c s = (known : Held) → IsExternalStopped known old at (external_with false name (Some c)) s
+
 -- definitions after what is kept have no fault, and are recorded
 abbrev pub ArePublicsTaken : EarlierSymbols → ℕ → List (Read Public) → EarlierSymbols → Type 0
 ArePublicsTaken old index reads new =
@@ -119,6 +126,13 @@ AreExternalsTaken known old index reads new =
 
 abbrev pub AreExternalsStopped : Held → EarlierSymbols → ℕ → List (Read External) → Stop → Type 0
 AreExternalsStopped known old index reads s = (all t : Tables) → AreNamed true all.publics known → AreEarlierSymbols t old → IsStop (walked (external_behind all) index t.externals reads) s
+
+-- the externals in the contents of the entry at a place of the file, and the communals
+abbrev pub externals_at : ℕ → Bool → List ℕ → List (Read External)
+externals_at place local contents = in_file place (each_read (external_read local) contents 0)
+
+abbrev pub communals_at : ℕ → List ℕ → List (Read External)
+communals_at place contents = in_file place (each_read communal_read contents 0)
 
 -- an entry has no fault, and is recorded
 abbrev pub IsEntrySeen : Held → EarlierSymbols → ℕ → Entry → EarlierSymbols → Type 0

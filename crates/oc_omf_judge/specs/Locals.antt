@@ -1,5 +1,5 @@
 -- The segments of the symbols that a module alone sees (our profile).
-use Rattle.std.specs.Prelude.{◌≡◌, ℕ, true, List, ◌++◌}
+use Rattle.std.specs.Prelude.{◌≡◌, ℕ, Bool, true, List, [], ◌∷◌, ◌++◌}
 use Rattle.std.specs.List.{find}
 use Rattle.std.specs.Option.{option_map}
 use Rattle.oc_omf.specs.Structures.{Public}
@@ -13,6 +13,12 @@ local_mention name = record { local = true; name = name }
 -- each name is held with the segment of the first definition that this module alone sees under it
 abbrev pub AreLocals : List Public → Held → Type 0
 AreLocals publics held = (name : List ℕ) → value_at held name ≡ option_map (λ (p : Public). p.segment) (find (λ p. same_symbol (local_mention name) (public_mention p)) publics)
+
+-- the segment of a definition of that name is recorded as well
+abbrev pub IsLocated : Held → Bool → ℕ → List ℕ → Held → Type 0
+IsLocated old local segment name new =
+    (publics : List Public) (p : Public)
+    → AreLocals publics old → p.local ≡ local → p.name ≡ name → p.segment ≡ segment → AreLocals (publics ++ p ∷ []) new
 
 -- the segments of more definitions are recorded as well
 abbrev pub AreLocated : Held → List Public → Held → Type 0

@@ -79,7 +79,8 @@ fn end_of_external(contents: &View<'_>, communals: bool, at: u64) -> Option<u64>
 /// So many externals, and those in the contents of an entry, or the communals, up to the first that
 /// is cut. Linear in the contents.
 pub(crate) fn with_externals(contents: &View<'_>, communals: bool, count: u32) -> u32
-    ensures { (local : Bool) (n : ℕ) → count ≡ min n 65536 → result ≡ min (n + length (all_read (each_read (specs.external_by communals local) contents.now 0))) 65536 }
+    ensures { (local : Bool) (n : ℕ) → count ≡ min n 65536
+        → result ≡ min (n + length (all_read (each_read (specs.external_by communals local) contents.now 0))) 65536 }
 {
     let mut count = count;
     let mut at = 0;

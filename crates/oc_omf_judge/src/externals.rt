@@ -1,12 +1,9 @@
 //! Externals and communals.
-ghost use Rattle.std.specs.Prelude.{◌≡◌, ◌+◌, ◌≤◌, ◌&&◌, length, false, is_some, not, nat_eq, Some, None, OnOk, IfErr};
+ghost use Rattle.std.specs.Prelude.{◌≡◌, ◌+◌, ◌≤◌, ◌&&◌, length, false, is_some, not, nat_eq, None, OnOk, IfErr};
 ghost use Rattle.std.specs.Option.{option_map_or};
 ghost use Rattle.oc_base.specs.declared.limits.TheConstants.{MOST_INPUT};
-ghost use Rattle.oc_omf.specs.Cursor.{each_read};
-ghost use Rattle.oc_omf.specs.Entries.{in_file};
 ghost use Rattle.oc_omf_judge.specs.Held.{Held, value_at};
 ghost use Rattle.oc_omf_judge.specs.EarlierSymbols as specs;
-ghost use Rattle.oc_omf.specs.Structures as structures;
 
 use crate::earlier::{EarlierSymbols, External};
 use crate::held::{take_up, value_of};
@@ -59,8 +56,8 @@ pub(crate) fn take_externals<'a>(
     contents: &View<'a>,
 ) -> Result<(), Stop>
     requires { spot.place + length contents.now ≤ MOST_INPUT }
-    ensures taken { OnOk result (specs.AreExternalsTaken known.now seen.old spot.index (in_file spot.place (each_read (structures.external_read local) contents.now 0)) seen.new) }
-    ensures stop { IfErr result (specs.AreExternalsStopped known.now seen.old spot.index (in_file spot.place (each_read (structures.external_read local) contents.now 0))) }
+    ensures taken { OnOk result (specs.AreExternalsTaken known.now seen.old spot.index (specs.externals_at spot.place local contents.now) seen.new) }
+    ensures stop { IfErr result (specs.AreExternalsStopped known.now seen.old spot.index (specs.externals_at spot.place local contents.now)) }
 {
     let mut at = 0;
     while at < contents.len() {
@@ -83,8 +80,8 @@ fn take_communal<'a>(
     name: &'a [u8],
     communal: Communal,
 ) -> Result<(), Stop>
-    ensures taken { OnOk result ((known : Held) → specs.IsExternalTaken known seen.old (here.index, here.place) (specs.external_with false name.now (Some communal)) seen.new) }
-    ensures stop { IfErr result (λ s. (known : Held) → specs.IsExternalStopped known seen.old (here.index, here.place) (specs.external_with false name.now (Some communal)) s) }
+    ensures taken { OnOk result (specs.IsCommunalTaken seen.old (here.index, here.place) name.now communal seen.new) }
+    ensures stop { IfErr result (specs.IsCommunalStopped seen.old (here.index, here.place) name.now communal) }
 {
     match communal_fault(here, communal) {
         Some(fault) => return Err(Stop::Refused(fault)),
@@ -121,8 +118,8 @@ pub(crate) fn take_communals<'a>(
     contents: &View<'a>,
 ) -> Result<(), Stop>
     requires { spot.place + length contents.now ≤ MOST_INPUT }
-    ensures taken { OnOk result ((known : Held) → specs.AreExternalsTaken known seen.old spot.index (in_file spot.place (each_read structures.communal_read contents.now 0)) seen.new) }
-    ensures stop { IfErr result (λ s. (known : Held) → specs.AreExternalsStopped known seen.old spot.index (in_file spot.place (each_read structures.communal_read contents.now 0)) s) }
+    ensures taken { OnOk result ((known : Held) → specs.AreExternalsTaken known seen.old spot.index (specs.communals_at spot.place contents.now) seen.new) }
+    ensures stop { IfErr result (λ s. (known : Held) → specs.AreExternalsStopped known seen.old spot.index (specs.communals_at spot.place contents.now) s) }
 {
     let mut at = 0;
     while at < contents.len() {

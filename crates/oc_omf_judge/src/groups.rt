@@ -1,13 +1,10 @@
 //! The groups that entries define.
 ghost use Rattle.std.specs.Prelude.{◌≡◌, ◌||◌, not, nat_eq, nat_lt, OnOk, IfErr};
-ghost use Rattle.oc_base.specs.declared.code.Code.TheVariants.{BadTable};
-ghost use Rattle.oc_linking.specs.FirstFault.{first_broken};
 ghost use Rattle.oc_omf.specs.declared.constants.TheConstants.{SEGMENT_INDEX};
 ghost use Rattle.oc_omf.specs.Cursor.{each_read};
-ghost use Rattle.oc_omf_judge.specs.Defined.{IsStoppedAt, IsTakenUp};
+ghost use Rattle.oc_omf_judge.specs.Defined.{IsStoppedAt, IsTakenUp, group_fault_by};
 ghost use Rattle.oc_omf_judge.specs.Members.{members_in};
 ghost use Rattle.oc_omf.specs.Structures.{group_read, member_read};
-ghost use Rattle.oc_omf.specs.SectionFaults as rules;
 ghost use Rattle.oc_omf.specs.Topics.{said_on};
 ghost use Rattle.oc_omf.specs.declared.topics.Topic.TheVariants as topic;
 
@@ -78,7 +75,7 @@ pub(crate) fn group_fault(
     spot: EntryPlace,
     contents: &View<'_>,
 ) -> Option<Fault>
-    ensures { result ≡ first_broken (rules.conditions_by (rules.own_fault (spot.index, spot.place) BadTable) (rules.group_conditions names segments (spot.index, spot.place)) (group_read contents.now 0)) }
+    ensures { result ≡ group_fault_by names segments (spot.index, spot.place) (group_read contents.now 0) }
 {
     let Ok((name, at)) = read_index(contents, 0) else {
         return Some(own_fault(spot, Code::BadTable));

@@ -1,11 +1,11 @@
 //! The segments of the symbols that a module alone sees.
-ghost use Rattle.std.specs.Prelude.{◌≡◌, ℕ, ◌++◌, ◌∷◌, [], List, IfOk, OnOk};
+ghost use Rattle.std.specs.Prelude.{ℕ, IfOk, OnOk};
 ghost use Rattle.oc_omf.specs.Cursor.{each_read};
 ghost use Rattle.oc_omf.specs.Entries.{all_read, entries_in};
-ghost use Rattle.oc_omf.specs.Structures.{Public, public_read};
+ghost use Rattle.oc_omf.specs.Structures.{public_read};
 ghost use Rattle.oc_omf.specs.Tables.{tables_of};
 ghost use Rattle.oc_omf.specs.Topics.{said_on};
-ghost use Rattle.oc_omf_judge.specs.Locals.{AreLocals, AreLocated};
+ghost use Rattle.oc_omf_judge.specs.Locals.{AreLocals, AreLocated, IsLocated};
 
 use crate::held::{take_up, value_of};
 use oc_base::{NoMemory, View};
@@ -20,7 +20,7 @@ fn locate<'a>(
     segment: u16,
     name: &'a [u8],
 ) -> Result<(), NoMemory>
-    ensures { OnOk result ((publics : List Public) (p : Public) → AreLocals publics locals.old → p.local ≡ local → p.name ≡ name.now → p.segment ≡ segment → AreLocals (publics ++ p ∷ []) locals.new) }
+    ensures { OnOk result (IsLocated locals.old local segment name.now locals.new) }
 {
     if !local {
         return Ok(());

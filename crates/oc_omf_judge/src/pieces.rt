@@ -1,7 +1,6 @@
 //! The data that entries have for segments.
-ghost use Rattle.std.specs.Prelude.{◌≡◌, ◌≤◌, ◌-◌, ◌^◌, min, true, Ok, Err, IfOk, OnOk, IfErr, length, drop, slice_set};
+ghost use Rattle.std.specs.Prelude.{◌≡◌, ◌≤◌, ◌-◌, ◌^◌, true, Err, IfOk, OnOk, IfErr, length, drop, slice_set};
 ghost use Rattle.oc_base.specs.declared.stop.Stop.TheVariants as stop;
-ghost use Rattle.oc_omf_records.specs.Blocks.{Blocks, size_of};
 ghost use Rattle.oc_omf_records.specs.declared.faults.BlockFault.TheVariants as block;
 ghost use Rattle.oc_omf_judge.specs.Defined as specs;
 ghost use Rattle.oc_omf.specs.Topics.{said_on};
@@ -39,8 +38,8 @@ fn take_piece(
 ) -> Result<(), Stop>
     requires long { length defined.old.covered.items ≡ length defined.old.segments.items }
     requires small { size ≤ 2 ^ 32 }
-    ensures taken { OnOk result ((row : Blocks) → size ≡ min (size_of row) (2 ^ 32) → specs.IsPieceTaken defined.old (spot.index, spot.place) (specs.piece_with head (Ok row)) defined.new) }
-    ensures stop { IfErr result (λ s. (row : Blocks) → size ≡ min (size_of row) (2 ^ 32) → specs.IsPieceStopped defined.old (spot.index, spot.place) (specs.piece_with head (Ok row)) s) }
+    ensures taken { OnOk result (specs.IsDataTaken defined.old (spot.index, spot.place) head size defined.new) }
+    ensures stop { IfErr result (specs.IsDataStopped defined.old (spot.index, spot.place) head size) }
 {
     let Some(segment) = segment_at(defined.segments.as_slice(), head.segment) else {
         return Err(Stop::Refused(own_fault(spot, Code::BadIndex)));

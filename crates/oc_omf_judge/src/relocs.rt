@@ -99,7 +99,8 @@ fn see_group(reached: &mut Reached<'_>, contents: &View<'_>)
 
 // records the externals in the contents of an entry, or the communals, up to the first that is cut
 fn see_externals(reached: &mut Reached<'_>, communals: bool, contents: &View<'_>)
-    ensures { (w : Whole) (index place : ℕ) (local : Bool) → specs.AreExternalsTaken w reached.old index place (each_read (external_by communals local) contents.now 0) reached.new }
+    ensures { (w : Whole) (index place : ℕ) (local : Bool)
+        → specs.AreExternalsTaken w reached.old index place (each_read (external_by communals local) contents.now 0) reached.new }
 {
     let count = reached.counts.externals;
     reached.counts.externals = with_externals(contents, communals, count);
@@ -113,7 +114,8 @@ fn see_data<'a>(
     iterated: bool,
     contents: &View<'a>,
 ) -> Result<(), Stop>
-    ensures taken { OnOk result ((w : Whole) (index place : ℕ) → specs.IsEntryTaken w reached.old index (said_on (topic.Data iterated) place wide contents.now) reached.new) }
+    ensures taken { OnOk result ((w : Whole) (index place : ℕ)
+        → specs.IsEntryTaken w reached.old index (said_on (topic.Data iterated) place wide contents.now) reached.new) }
     ensures stop { IfErr result (λ s. s ≡ stop.NoMemory) }
 {
     match LastData::read(alloc, contents, wide, iterated) {

@@ -1,9 +1,6 @@
 //! The segments that entries define.
 ghost use Rattle.std.specs.Prelude.{◌≡◌, ◌≤◌, Some, None, IfOk, OnOk, IfErr};
-ghost use Rattle.oc_base.specs.declared.code.Code.TheVariants.{BadTable};
-ghost use Rattle.oc_linking.specs.FirstFault.{first_broken};
-ghost use Rattle.oc_omf_judge.specs.Defined.{IsStoppedAt, IsTakenUp, part_of};
-ghost use Rattle.oc_omf.specs.SectionFaults as rules;
+ghost use Rattle.oc_omf_judge.specs.Defined.{IsStoppedAt, IsTakenUp, part_of, segment_fault_by};
 ghost use Rattle.oc_omf.specs.Structures.{segment_read};
 ghost use Rattle.oc_omf.specs.Topics.{said_on};
 ghost use Rattle.oc_omf.specs.declared.topics.Topic.TheVariants as topic;
@@ -24,8 +21,8 @@ fn judge_segment(
 ) -> Result<Segment, Fault>
     requires { sizes ≤ 2147483648 }
     ensures read { IfOk result (λ s. part_of (segment_read wide contents.now 0) ≡ Some s) }
-    ensures clean { OnOk result (first_broken (rules.conditions_by (rules.own_fault (spot.index, spot.place) BadTable) (rules.segment_conditions_by names sizes (spot.index, spot.place)) (segment_read wide contents.now 0)) ≡ None) }
-    ensures fault { IfErr result (λ fault. first_broken (rules.conditions_by (rules.own_fault (spot.index, spot.place) BadTable) (rules.segment_conditions_by names sizes (spot.index, spot.place)) (segment_read wide contents.now 0)) ≡ Some fault) }
+    ensures clean { OnOk result (segment_fault_by names sizes (spot.index, spot.place) (segment_read wide contents.now 0) ≡ None) }
+    ensures fault { IfErr result (λ fault. segment_fault_by names sizes (spot.index, spot.place) (segment_read wide contents.now 0) ≡ Some fault) }
 {
     let Ok((segment, _at)) = read_segment(contents, wide) else {
         return Err(own_fault(spot, Code::BadTable));

@@ -1,5 +1,5 @@
 -- What a fixup does, by what its frame and its target name (TIS OMF 1.1, "FIXUPP"; our profile).
-use Rattle.std.specs.Prelude.{ℕ, ◌-◌, Bool, false, ◌&&◌, ◌||◌, nat_eq, if◌then◌else◌, Option, Some, None}
+use Rattle.std.specs.Prelude.{ℕ, ◌-◌, Bool, true, false, ◌&&◌, ◌||◌, nat_eq, if◌then◌else◌, Option, Some, None}
 use Rattle.std.specs.Option.{option_and_then, option_map, option_map_or}
 use Rattle.oc_linking.specs.declared.terms.Keep.{Keep}
 use Rattle.oc_linking.specs.Parts as parts
@@ -69,6 +69,13 @@ abbrev pub method_told : Threads → Bool → Datum → Option Method
 method_told threads frame (datum.Explicit method) = Some method
 method_told threads frame (datum.Thread number) = told threads frame number
 
+-- the methods of the frame and the target of a fixup
+abbrev pub frame_told : Threads → Fixup → Option Method
+frame_told threads f = method_told threads true f.frame
+
+abbrev pub target_told : Threads → Fixup → Option Method
+target_told threads f = method_told threads false f.target
+
 -- ... frames
 
 -- what a frame names, for a fixup of data of a segment
@@ -104,3 +111,7 @@ is_kept t keep segment = option_map_or (λ (s : Segment). keeps keep (segment_ki
 -- the same of one that is kept, where the fixup is of the location type that we have
 unfoldable pub fix_for : Meaning → Keep → ℕ → Fixup → Option Method → Option Method → Option Fix
 fix_for m keep segment f frame target = if nat_eq f.location OFFSET_32 && is_kept m.tables keep segment then fix_by m segment f frame target else None
+
+-- the same, by the threads that are held
+abbrev pub fix_told : Meaning → Keep → Threads → ℕ → Fixup → Option Fix
+fix_told m keep threads segment f = fix_for m keep segment f (frame_told threads f) (target_told threads f)

@@ -1,5 +1,5 @@
 -- The bytes of segments, as data are laid over them (TIS OMF 1.1, "LEDATA" and "LIDATA"; our profile).
-use Rattle.std.specs.Prelude.{◌≡◌, ℕ, false, ◌+◌, ◌^◌, ◌||◌, nat_eq, nat_le, nat_lt, if◌then◌else◌, List, [], ◌∷◌, ◌++◌, length, take, drop, slice_get, Some, Vec}
+use Rattle.std.specs.Prelude.{◌≡◌, ℕ, false, ◌+◌, ◌^◌, ◌<◌, ◌||◌, nat_eq, nat_le, nat_lt, if◌then◌else◌, List, [], ◌∷◌, ◌++◌, length, take, drop, replicate, slice_get, Some, Vec}
 use Rattle.std.specs.Global.{Global}
 use Rattle.std.specs.Option.{option_map_or}
 use Rattle.oc_neutral.specs.Building.{is_zero}
@@ -32,6 +32,10 @@ laid_all (d ∷ ds) k bytes = laid_all ds k (if nat_eq d.segment (k + 1) then la
 abbrev pub items_at : List (Vec ℕ Global) → ℕ → List ℕ
 items_at vectors k = option_map_or (λ (v : Vec ℕ Global). v.items) (slice_get vectors k) []
 
+-- each vector has what this makes of the bytes that it had, by its position
+abbrev pub AreLaid : (ℕ → List ℕ → List ℕ) → List (Vec ℕ Global) → List (Vec ℕ Global) → Type 0
+AreLaid laid old new = (k : ℕ) → k < length old → items_at new k ≡ laid k (items_at old k)
+
 -- the bytes that segment k, counted from 0, has in the object: none where its kind is Zero, and else zeros with data over them
 abbrev pub stored : Tables → Tables → ℕ → Segment → List ℕ
 stored t upto k s = if is_zero (segment_kind t (k + 1) s) then [] else contents_of upto (k + 1) (segment_size s)
@@ -49,3 +53,7 @@ pub record AreStored (t upto : Tables) (vectors : List (Vec ℕ Global)) : Type 
 -- how many bytes segment k, counted from 0, has in the object, by what is known of it
 abbrev pub size_in : Defined → ℕ → ℕ
 size_in known k = option_map_or (λ (s : Segment). if option_map_or is_zero (kind_in known k) false then 0 else segment_size s) (slice_get known.segments.items k) 0
+
+-- the vector of each segment has that many zeros
+abbrev pub AreZeros : Defined → List (Vec ℕ Global) → Type 0
+AreZeros known vectors = (k : ℕ) → k < length known.segments.items → items_at vectors k ≡ replicate (size_in known k) 0

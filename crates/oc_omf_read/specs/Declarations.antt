@@ -1,5 +1,5 @@
 -- Declarations of symbols, one after the other, with what each says (TIS OMF 1.1, "EXTDEF", "LEXTDEF", "PUBDEF", "LPUBDEF" and "COMDEF"; our profile).
-use Rattle.std.specs.Prelude.{ℕ, Bool, List, [], ◌++◌, map, flat_map, Ok, Err}
+use Rattle.std.specs.Prelude.{◌≡◌, ℕ, Bool, List, [], ◌++◌, map, flat_map, Ok, Err}
 use Rattle.std.specs.Option.{option_map_or}
 use Rattle.oc_omf.specs.declared.structures.PublicBase.{PublicBase}
 use Rattle.oc_omf.specs.declared.structures.Communal.{Communal}
@@ -35,6 +35,17 @@ of_communal c = what.Communal c.length
 abbrev pub of_external : External → Declaration
 of_external y = record { local = y.local; name = y.name; says = option_map_or of_communal y.communal what.External }
 
+-- some declarations are recorded after those that were
+abbrev pub AreDeclared : List DeclarationRef → List Declaration → List DeclarationRef → Type 0
+AreDeclared old more new = all_declarations new ≡ all_declarations old ++ more
+
+-- the definitions that are read, and the externals
+abbrev pub of_publics : List (Read Public) → List Declaration
+of_publics reads = map of_public (all_read reads)
+
+abbrev pub of_externals : List (Read External) → List Declaration
+of_externals reads = map of_external (all_read reads)
+
 -- the symbols after a base, where that is read
 abbrev pub publics_behind : Bool → Bool → List ℕ → Reading PublicBase → List (Read Public)
 publics_behind wide local b (Ok r) = each_read (public_read wide local r.0.segment) b r.1
@@ -42,11 +53,11 @@ publics_behind wide local b (Err c) = []
 
 -- the definitions in the contents of an entry
 abbrev pub public_declarations : Bool → Bool → List ℕ → List Declaration
-public_declarations wide local b = map of_public (all_read (publics_behind wide local b (base_read b 0)))
+public_declarations wide local b = of_publics (publics_behind wide local b (base_read b 0))
 
 -- the declarations of an entry
 abbrev pub declarations_by : Entry → List Declaration
-declarations_by e = map of_public (all_read e.publics) ++ map of_external (all_read e.externals)
+declarations_by e = of_publics e.publics ++ of_externals e.externals
 
 -- the declarations of a module
 unfoldable pub declarations_in : List Entry → List Declaration

@@ -1,5 +1,5 @@
 -- The fields of fixups, one for each copy (TIS OMF 1.1, "FIXUPP" and "LIDATA"; our profile).
-use Rattle.std.specs.Prelude.{◌≡◌, ℕ, ◌+◌, ◌-◌, ◌≤◌, Bool, true, false, ◌&&◌, nat_eq, if◌then◌else◌, List, [], map, flat_map, take, Option, Some, None}
+use Rattle.std.specs.Prelude.{◌≡◌, ℕ, ◌+◌, ◌-◌, ◌≤◌, Bool, ◌&&◌, nat_eq, if◌then◌else◌, List, [], map, flat_map, take, Option, Some, None}
 use Rattle.std.specs.List.{list_any}
 use Rattle.std.specs.Option.{option_and_then, option_map, option_map_or, unwrap_or}
 use Rattle.oc_linking.specs.declared.terms.Keep.{Keep}
@@ -21,7 +21,7 @@ use Rattle.oc_omf_read.specs.declared.fix.Fix.{Fix}
 use Rattle.oc_omf_read.specs.declared.fixes.FixupContext.{FixupContext}
 use Rattle.oc_omf_read.specs.declared.pieces.Piece.{Piece}
 use Rattle.oc_omf_read.specs.declared.searched.Searched.{Searched}
-use Rattle.oc_omf_read.specs.Aims.{fix_for, meaning_seen, method_told}
+use Rattle.oc_omf_read.specs.Aims.{fix_for, fix_told, frame_told, meaning_seen, target_told}
 use Rattle.oc_omf_read.specs.Given.{given_at}
 use Rattle.oc_omf_read.specs.Pieces.{ArePieces, IsPiece, row_in}
 
@@ -32,6 +32,10 @@ fields_at section offset fix copies = map (λ (copy : ℕ). record { section = s
 -- where copies lie in some data, none where no content holds the bytes
 abbrev pub copies_in : Blocks → ℕ → List ℕ
 copies_in row at = unwrap_or (copies_of row at) []
+
+-- the fields of a fixup at an offset of some data
+abbrev pub fields_in : Piece → Fix → ℕ → List FixupField
+fields_in p fix at = fields_at (p.segment - 1) p.offset fix (copies_in (row_in p.data) at)
 
 -- the fields of a fixup of data of a segment at an offset, with that frame and that target
 abbrev pub fields_by : Meaning → Keep → ℕ → ℕ → Blocks → Fixup → Option Method → Option Method → List FixupField
@@ -53,12 +57,12 @@ held b = option_map (λ (s : Searched). s.piece) b.piece
 
 -- what a fixup after what is held does
 abbrev pub fix_behind : Meaning → Keep → Behind → Fixup → Option Fix
-fix_behind m keep b f = option_and_then (λ (p : Piece). fix_for m keep p.segment f (method_told b.threads true f.frame) (method_told b.threads false f.target)) (held b)
+fix_behind m keep b f = option_and_then (λ (p : Piece). fix_told m keep b.threads p.segment f) (held b)
 
 -- the fields of a fixup after what is held
 abbrev pub fields_behind : Meaning → Keep → Behind → Fixup → List FixupField
 fields_behind m keep b f =
-    option_map_or (λ (p : Piece). fields_by m keep p.segment p.offset (row_in p.data) f (method_told b.threads true f.frame) (method_told b.threads false f.target)) (held b) []
+    option_map_or (λ (p : Piece). fields_by m keep p.segment p.offset (row_in p.data) f (frame_told b.threads f) (target_told b.threads f)) (held b) []
 
 -- data lie in a section that is small enough
 abbrev pub IsLow : Piece → Type 0

@@ -69,6 +69,10 @@ seen_more says s = record { local = s.local; name = s.name; place = or_else s.pl
 abbrev pub seen_of : Mentioned → ModuleSymbol
 seen_of m = record { local = m.local; name = m.name.now; place = m.place; length = m.length }
 
+-- the same of all symbols
+abbrev pub all_seen : Mentions → List ModuleSymbol
+all_seen m = map seen_of m.symbols.items
+
 abbrev pub symbol_of : ModuleSymbol → Mention
 symbol_of s = record { local = s.local; name = s.name }
 
@@ -88,6 +92,10 @@ value_at numbers name = get_by (λ k. slice_cmp nat_cmp name k.now) numbers
 abbrev pub number_held : Mentions → Mention → Option ℕ
 number_held m x = value_at (if x.local then m.locals else m.others) x.name
 
+-- the number of a symbol is recorded, and others have the number that they had
+abbrev pub IsNumberTaken : Mentions → Mention → ℕ → Mentions → Type 0
+IsNumberTaken old x number new = (y : Mention) → number_held new y ≡ if same_symbol x y then Some number else number_held old y
+
 -- the numbers that are held are those of the symbols
 abbrev pub AreNumbered : Mentions → Type 0
 AreNumbered m = (x : Mention) → number_held m x ≡ number_among (held m) x
@@ -103,6 +111,6 @@ external_number symbols t = external_said (number_of symbols (mention_of t)) t.s
 
 -- what is held of some mentions
 pub record HasDeclarations (ts : List Declaration) (m : Mentions) : Type 0 where
-  pub symbols : map seen_of m.symbols.items ≡ map (seen_in ts) (symbols_told ts)
+  pub symbols : all_seen m ≡ map (seen_in ts) (symbols_told ts)
   pub numbered : AreNumbered m
   pub externals : m.externals.items ≡ filter_map (external_number (symbols_told ts)) ts

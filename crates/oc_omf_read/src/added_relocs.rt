@@ -5,7 +5,7 @@ ghost use Rattle.oc_base.specs.Numbers.{number_at};
 ghost use Rattle.oc_shows.specs.Built.{HasAdded};
 ghost use Rattle.oc_omf.specs.Entries.{entries_in};
 ghost use Rattle.oc_omf.specs.Fields.{fixups_in};
-ghost use Rattle.oc_omf_read.specs.Adding.{IsReady};
+ghost use Rattle.oc_omf_read.specs.Adding.{AreAdded, IsReady};
 ghost use Rattle.oc_omf_read.specs.Aims.{meaning_seen};
 ghost use Rattle.oc_omf_read.specs.Built.{started};
 ghost use Rattle.oc_omf_read.specs.Contents.{items_at};
@@ -41,8 +41,8 @@ fn add_field(
     requires ready { IsReady context.now contents.now }
     requires fields { IsPermutation (listed.fields_of (meaning_seen context.now) context.now.keep (fixups_in (entries_in context.now.omf.now))) fields.now }
     requires there { j < length fields.now }
-    requires before { HasAdded (started context.now.omf.now) builder.old (listed.given_with (entries_in context.now.omf.now) context.now.keep (take j fields.now)) }
-    ensures { OnOk result (HasAdded (started context.now.omf.now) builder.new (listed.given_with (entries_in context.now.omf.now) context.now.keep (take (j + 1) fields.now))) }
+    requires before { AreAdded context.now (take j fields.now) builder.old }
+    ensures { OnOk result (AreAdded context.now (take (j + 1) fields.now) builder.new) }
 {
     let _ = context;
     let field = fields[j];

@@ -1,5 +1,5 @@
 //! The contents of segments.
-ghost use Rattle.std.specs.Prelude.{◌≡◌, ◌+◌, ◌<◌, ◌≤◌, ◌++◌, ℕ, length, take, drop, replicate, None, OnOk, IfOk};
+ghost use Rattle.std.specs.Prelude.{◌≡◌, ◌+◌, ◌<◌, ◌≤◌, ◌++◌, length, take, drop, replicate, None, OnOk, IfOk};
 ghost use Rattle.oc_linking.specs.FirstFault.{stage_fault};
 ghost use Rattle.oc_omf.specs.Entries.{all_read, entries_in};
 ghost use Rattle.oc_omf.specs.Known.{row_of};
@@ -43,7 +43,7 @@ fn lay_data(alloc: Global, bytes: &mut Vec<u8>, offset: u32, blocks: &Data) -> R
 // puts data into the bytes of their segment
 fn lay_piece(alloc: Global, bytes: &mut Vec<Vec<u8>>, piece: &Piece) -> Result<(), NoMemory>
     ensures long { OnOk result (length bytes.new.items ≡ length bytes.old.items) }
-    ensures each { OnOk result ((k : ℕ) → k < length bytes.old.items → contents.items_at bytes.new.items k ≡ contents.laid_piece piece.now k (contents.items_at bytes.old.items k)) }
+    ensures each { OnOk result (contents.AreLaid (contents.laid_piece piece.now) bytes.old.items bytes.new.items) }
 {
     let segment = usize::from(piece.segment);
     if segment == 0 || segment > bytes.len() {
@@ -61,7 +61,7 @@ fn lay_piece(alloc: Global, bytes: &mut Vec<Vec<u8>>, piece: &Piece) -> Result<(
 // puts the data of an entry into the bytes of their segment
 fn lay_entry(alloc: Global, bytes: &mut Vec<Vec<u8>>, entry: &Entry) -> Result<(), NoMemory>
     ensures long { OnOk result (length bytes.new.items ≡ length bytes.old.items) }
-    ensures each { OnOk result ((k : ℕ) → k < length bytes.old.items → contents.items_at bytes.new.items k ≡ contents.laid_all (all_read (said entry.now).pieces) k (contents.items_at bytes.old.items k)) }
+    ensures each { OnOk result (contents.AreLaid (contents.laid_all (all_read (said entry.now).pieces)) bytes.old.items bytes.new.items) }
 {
     match piece_of(alloc, entry)? {
         Some(piece) => {
@@ -95,7 +95,7 @@ fn zeros(alloc: Global, count: u64) -> Result<Vec<u8>, NoMemory>
 fn zeros_for(alloc: Global, known: &Defined) -> Result<Vec<Vec<u8>>, NoMemory>
     requires { length known.now.covered.items ≡ length known.now.segments.items }
     ensures long { IfOk result (λ vectors. length vectors.items ≡ length known.now.segments.items) }
-    ensures each { IfOk result (λ vectors. (k : ℕ) → k < length known.now.segments.items → contents.items_at vectors.items k ≡ replicate (contents.size_in known.now k) 0) }
+    ensures each { IfOk result (λ vectors. contents.AreZeros known.now vectors.items) }
 {
     let mut vectors = Vec::new(alloc);
     for k in 0..known.segments.len() {

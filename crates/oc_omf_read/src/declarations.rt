@@ -1,8 +1,8 @@
 //! The declarations of symbols, one after the other.
-ghost use Rattle.std.specs.Prelude.{◌≡◌, ◌≤◌, ◌++◌, map, length, false, IfOk, OnOk};
+ghost use Rattle.std.specs.Prelude.{◌≡◌, ◌≤◌, length, false, IfOk, OnOk};
 ghost use Rattle.oc_omf.specs.Cursor.{each_read};
-ghost use Rattle.oc_omf.specs.Entries.{all_read, entries_in};
-ghost use Rattle.oc_omf.specs.Structures as structures;
+ghost use Rattle.oc_omf.specs.Entries.{entries_in};
+ghost use Rattle.oc_omf.specs.Structures.{communal_read, external_read, public_read};
 ghost use Rattle.oc_omf_read.specs.Defined.{said};
 ghost use Rattle.oc_omf_read.specs.Declarations as specs;
 
@@ -51,7 +51,8 @@ fn declare_publics_at<'a>(
     segment: u16,
     start: u64,
 ) -> Result<(), NoMemory>
-    ensures { OnOk result (specs.all_declarations declarations.new.items ≡ specs.all_declarations declarations.old.items ++ map specs.of_public (all_read (each_read (structures.public_read wide local segment) contents.now start))) }
+    ensures { OnOk result (specs.AreDeclared declarations.old.items
+        (specs.of_publics (each_read (public_read wide local segment) contents.now start)) declarations.new.items) }
 {
     let mut at = start;
     while at < contents.len() {
@@ -81,7 +82,7 @@ fn declare_publics<'a>(
     wide: bool,
     local: bool,
 ) -> Result<(), NoMemory>
-    ensures { OnOk result (specs.all_declarations declarations.new.items ≡ specs.all_declarations declarations.old.items ++ specs.public_declarations wide local contents.now) }
+    ensures { OnOk result (specs.AreDeclared declarations.old.items (specs.public_declarations wide local contents.now) declarations.new.items) }
 {
     match read_base(contents) {
         Ok((base, at)) => declare_publics_at(declarations, contents, wide, local, base.segment, at),
@@ -95,7 +96,8 @@ fn declare_externals<'a>(
     contents: &View<'a>,
     local: bool,
 ) -> Result<(), NoMemory>
-    ensures { OnOk result (specs.all_declarations declarations.new.items ≡ specs.all_declarations declarations.old.items ++ map specs.of_external (all_read (each_read (structures.external_read local) contents.now 0))) }
+    ensures { OnOk result (specs.AreDeclared declarations.old.items
+        (specs.of_externals (each_read (external_read local) contents.now 0)) declarations.new.items) }
 {
     let mut at = 0;
     while at < contents.len() {
@@ -116,7 +118,8 @@ fn declare_communals<'a>(
     declarations: &mut Vec<DeclarationRef<'a>>,
     contents: &View<'a>,
 ) -> Result<(), NoMemory>
-    ensures { OnOk result (specs.all_declarations declarations.new.items ≡ specs.all_declarations declarations.old.items ++ map specs.of_external (all_read (each_read structures.communal_read contents.now 0))) }
+    ensures { OnOk result (specs.AreDeclared declarations.old.items
+        (specs.of_externals (each_read communal_read contents.now 0)) declarations.new.items) }
 {
     let mut at = 0;
     while at < contents.len() {
@@ -143,7 +146,7 @@ fn declare_entry<'a>(
     declarations: &mut Vec<DeclarationRef<'a>>,
     entry: &Entry<'a>,
 ) -> Result<(), NoMemory>
-    ensures { OnOk result (specs.all_declarations declarations.new.items ≡ specs.all_declarations declarations.old.items ++ specs.declarations_by (said entry.now)) }
+    ensures { OnOk result (specs.AreDeclared declarations.old.items (specs.declarations_by (said entry.now)) declarations.new.items) }
 {
     let wide = is_wide(entry.kind);
     match class_of(entry.kind) {

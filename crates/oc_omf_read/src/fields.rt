@@ -9,7 +9,6 @@ ghost use Rattle.oc_omf_read.specs.Aims as aims;
 ghost use Rattle.oc_omf_read.specs.Classes as classes;
 ghost use Rattle.oc_omf_read.specs.Defined.{said};
 ghost use Rattle.oc_omf_read.specs.Fields as listed;
-ghost use Rattle.oc_omf_read.specs.Pieces.{row_in};
 
 use crate::class::{EntryClass, class_of};
 use crate::fix::Fix;
@@ -69,7 +68,7 @@ fn add_fields(
 ) -> Result<(), NoMemory>
     requires { listed.IsLow searched.old.piece }
     ensures piece { OnOk result (searched.new.piece ≡ searched.old.piece) }
-    ensures fields { OnOk result (fields.new.items ≡ fields.old.items ++ listed.fields_at (searched.old.piece.segment - 1) searched.old.piece.offset fix (listed.copies_in (row_in searched.old.piece.data) at)) }
+    ensures fields { OnOk result (fields.new.items ≡ fields.old.items ++ listed.fields_in searched.old.piece fix at) }
 {
     let section = u32::from(searched.piece.segment).saturating_sub(1);
     let offset = searched.piece.offset;

@@ -2,7 +2,7 @@
 ghost use Rattle.std.specs.Prelude.{◌≡◌, ◌+◌, ◌-◌, ◌<◌, ◌^◌, ◌++◌, [], ◌∷◌, map, take, set, length, true, false, bytes_eq, None, Some, if◌then◌else◌, ℕ, List, IfOk, OnOk};
 ghost use Rattle.std.specs.List.{list_any};
 ghost use Rattle.std.specs.Map.{update};
-ghost use Rattle.oc_omf.specs.Symbols.{Mention, same_symbol};
+ghost use Rattle.oc_omf.specs.Symbols.{same_symbol};
 ghost use Rattle.oc_omf_read.specs.Declarations.{all_declarations};
 ghost use Rattle.oc_omf_read.specs.Mentioned as seen;
 
@@ -77,7 +77,7 @@ fn hold_number<'a>(
     name: &'a [u8],
     number: u32,
 ) -> Result<(), NoMemory>
-    ensures taken { OnOk result ((y : Mention) → seen.number_held mentions.new y ≡ if same_symbol (record { local = local; name = name.now }) y then Some number else seen.number_held mentions.old y) }
+    ensures taken { OnOk result (seen.IsNumberTaken mentions.old (record { local = local; name = name.now }) number mentions.new) }
     ensures symbols { OnOk result (mentions.new.symbols ≡ mentions.old.symbols) }
     ensures externals { OnOk result (mentions.new.externals ≡ mentions.old.externals) }
 {
@@ -97,7 +97,7 @@ fn add_symbol<'a>(mentions: &mut Mentions<'a>, local: bool, name: &'a [u8]) -> R
     requires new { list_any (same_symbol (record { local = local; name = name.now })) (seen.held mentions.old) ≡ false }
     ensures numbered { OnOk result (seen.AreNumbered mentions.new) }
     ensures number { IfOk result (λ k. seen.number_among (seen.held mentions.new) (record { local = local; name = name.now }) ≡ Some k) }
-    ensures symbols { OnOk result (map seen.seen_of mentions.new.symbols.items ≡ map seen.seen_of mentions.old.symbols.items ++ seen.blank (record { local = local; name = name.now }) ∷ []) }
+    ensures symbols { OnOk result (seen.all_seen mentions.new ≡ seen.all_seen mentions.old ++ seen.blank (record { local = local; name = name.now }) ∷ []) }
     ensures externals { OnOk result (mentions.new.externals.items ≡ mentions.old.externals.items) }
 {
     let number = mentions.symbols.len() as u32;
@@ -117,9 +117,9 @@ fn number_for<'a>(mentions: &mut Mentions<'a>, local: bool, name: &'a [u8]) -> R
     requires numbered { seen.AreNumbered mentions.old }
     ensures numbered { OnOk result (seen.AreNumbered mentions.new) }
     ensures number { IfOk result (λ k. seen.number_among (seen.held mentions.new) (record { local = local; name = name.now }) ≡ Some k) }
-    ensures symbols { OnOk result (map seen.seen_of mentions.new.symbols.items
-        ≡ (if list_any (same_symbol (record { local = local; name = name.now })) (seen.held mentions.old) then map seen.seen_of mentions.old.symbols.items
-        else map seen.seen_of mentions.old.symbols.items ++ seen.blank (record { local = local; name = name.now }) ∷ [])) }
+    ensures symbols { OnOk result (seen.all_seen mentions.new
+        ≡ (if list_any (same_symbol (record { local = local; name = name.now })) (seen.held mentions.old) then seen.all_seen mentions.old
+        else seen.all_seen mentions.old ++ seen.blank (record { local = local; name = name.now }) ∷ [])) }
     ensures externals { OnOk result (mentions.new.externals.items ≡ mentions.old.externals.items) }
 {
     match number_held(mentions, local, name) {

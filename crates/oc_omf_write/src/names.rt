@@ -95,7 +95,9 @@ impl<'a> Names<'a> {
 
     // adds a name with its text, where that is new
     fn add(&mut self, name: Name, text: &'a [u8]) -> Result<(), NoMemory>
-        ensures { OnOk result ((sections : List Held) (done : List (List ℕ)) → texts.IsNameOf (length sections) name → texts.text_by sections name ≡ text.now → texts.AreNames sections done self.old → texts.AreNames sections (with_name done text.now) self.new) }
+        ensures { OnOk result ((sections : List Held) (done : List (List ℕ)) → texts.IsNameOf (length sections) name
+            → texts.text_by sections name ≡ text.now → texts.AreNames sections done self.old
+            → texts.AreNames sections (with_name done text.now) self.new) }
     {
         if place_of(&self.places, text).is_some() {
             return Ok(());
@@ -116,7 +118,8 @@ impl<'a> Names<'a> {
 
     // adds the name and the class of the section at a position
     fn add_section(&mut self, k: u32, section: &'a Section) -> Result<(), NoMemory>
-        ensures { OnOk result ((sections : List Held) → slice_get sections k ≡ Some section.now → texts.AreUpto sections k self.old → texts.AreUpto sections (k + 1) self.new) }
+        ensures { OnOk result ((sections : List Held) → slice_get sections k ≡ Some section.now
+            → texts.AreUpto sections k self.old → texts.AreUpto sections (k + 1) self.new) }
     {
         self.add(Name::Section(k), section.name.as_slice())?;
         self.add(Name::Class(k), class_of(section.kind))?;

@@ -1,6 +1,7 @@
 //! The numbers of symbols, by which fixups name externals (TIS OMF 1.1, "EXTDEF").
-ghost use Rattle.std.specs.Prelude.{◌≡◌, ◌^◌, ◌<◌, ℕ, if◌then◌else◌, IfOk, length, slice_index_or};
+ghost use Rattle.std.specs.Prelude.{◌≡◌, ◌^◌, ◌<◌, ℕ, IfOk, length, slice_index_or};
 ghost use Rattle.std.specs.List.{AllByRecursion, position_or_len};
+ghost use Rattle.oc_plans.specs.Slots.{IsSetWhere};
 ghost use Rattle.oc_omf_write.specs.Numbers.{is_of_symbol, HasPlace};
 
 use crate::entries::Entry;
@@ -10,7 +11,7 @@ use std::alloc::Global;
 // sets the number of the symbol of an entry
 fn set(numbers: &mut Vec<u32>, entry: Entry, number: u32)
     requires { HasPlace (length numbers.old.items) entry }
-    ensures set { (k : ℕ) → k < length numbers.old.items → slice_index_or numbers.new.items k 0 ≡ (if is_of_symbol k entry then number else slice_index_or numbers.old.items k 0) }
+    ensures set { IsSetWhere (λ k. is_of_symbol k entry) number 0 numbers.old.items numbers.new.items }
     ensures counted { length numbers.new.items ≡ length numbers.old.items }
 {
     match entry {

@@ -11,7 +11,7 @@ pub returns-clause-made : goal.returns-clause-made
 returns-clause-made c =
     let w = c.args.form in
     let same : c.neutral-neutral.result.now ≡ c.args.fitted = c.neutral-neutral.ensures in
-    subst (λ (x : Object). AreMade w x _) same (record {
+    rw (← same) (record {
       shape = c.shape_of.ensures;
       header = c.file_header_of-header.ensures;
       headers = c.in_ok-layout.ensures.headers;

@@ -172,7 +172,7 @@ returns-clause-made c =
     let index : 1 + c.len.result ≡ 1 + length (heads_of m) = ap (λ k. 1 + k) (long-3 ∙ heads) in
     let place : place_where is_head_table (laid_parts class m) ≡ c.index.result.now = sym (c.index.ensures ∙ ap (λ ps. get_or ps (1 + c.len.result) c.index.result.now) c.in_ok-layout.ensures.begins ∙ table_place class m (1 + c.len.result) c.index.result.now index) in
     let ehdr = c.file_header-ehdr.ensures m many place in
-    subst (λ (x : Object). AreMade class x _) same (record {
+    rw (← same) (record {
       is = refl;
       ehdr = ehdr;
       heads = c.in_ok-heads.ensures;

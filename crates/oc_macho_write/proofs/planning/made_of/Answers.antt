@@ -26,7 +26,7 @@ pub returns-clause-made : goal.returns-clause-made
 returns-clause-made c =
     let w = c.args.word in
     let same : c.neutral-neutral.result.now ≡ c.args.fitted = c.neutral-neutral.ensures in
-    subst (λ (x : Object). AreMade w x _) same (record {
+    rw (← same) (record {
       word = refl;
       heads = c.in_ok-heads.ensures;
       parts = c.in_ok-parts.ensures;
