@@ -90,11 +90,6 @@ module _ (name : List ℕ) (files : Option Held) where
       by None gone h = gone
       by (Some m) gone h = subst (λ o. IsSomeAnd o P) gone (h m refl)
 
-  held_not_absent : (m : Held) (b : List ℕ) → files ≡ Some m → file_of name m ≡ Some b → IsAbsent name files → ⊥
-  held_not_absent m b told holds absent =
-      let none : file_of name m ≡ None = some_of (λ h. file_of name h ≡ None) files m told absent in
-      cc (none, holds)
-
   -- why a list gave nothing as an input
   pub explained_input : (before now : ℕ) (f : InputFault) → reports.Explains length_refusal name files before now f → Explains name files before now (fault_of f)
   explained_input before now (input.Refused f) why = record { held = λ m told. some_and (file_of name m) (λ b is. refused_long b f is) (why.held m told) }

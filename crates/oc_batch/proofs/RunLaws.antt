@@ -86,10 +86,6 @@ counts_cut number job before after cut = counts_on before cut.left after (counts
   errs = omega (arith, cut.errs);
 })
 
--- no job has run
-pub none_run : (jobs : List Job) (before : State) → HasRunAll (take 0 jobs) before 0 before
-none_run jobs before = record { statuses = []; runs = refl; named = refl }
-
 module _ (jobs : List Job) (i : ℕ) (job : Job) (before reached after : State) (answer : ℕ) (within : i < length jobs) (at : job ≡ get_or jobs i job) (so_far : HasRunAll (take i jobs) before answer reached) where
   next : take (i + 1) jobs ≡ take i jobs ++ job ∷ []
   next = take_more jobs i job within ∙ ap (λ x. take i jobs ++ x ∷ []) (sym at)

@@ -233,9 +233,6 @@ module _ (w : CoffForm) (n : Object) (is : IsForCoff w n) where
   key_outer : (k : ℕ) (s : Symbol) → is_key_at n k s ≡ true → is_local s.binding ≡ false
   key_outer k s e = ap is_local (key_is n k s e).binding
 
-  key_strong : (k : ℕ) (s : Symbol) → is_key_at n k s ≡ true → needs_default s ≡ false
-  key_strong k s e = ap (is_weak_with has_default) (key_is n k s e).binding
-
   key_own : (k : ℕ) (s : Symbol) → is_key_at n k s ≡ true → is_key n s ≡ true
   key_own k s e = ap (λ b. option_map_or (λ (place : Place). is_key_at n place.0 s) (global_place b) false) (key_is n k s e).binding ∙ e
 

@@ -51,9 +51,6 @@ wide_field w r has = subst (λ (o : Option Row). 1 ≤ option_map_or (λ (row : 
 pub span_is : (w : Word) (file : CoffFile) (table : Table) (k : ℕ) → HasRow w (reloc_of file table k) → span_of w file table k ≡ Some (bytes_for w (reloc_of file table k))
 span_is w file table k has = ap (option_map (λ (row : Row). bytes_for w (reloc_of file table k))) has.is
 
-pub taken_none : (w : Word) (file : CoffFile) (table : Table) (words : List ℕ) → ((q : ℕ) → has words q ≡ false) → stored_size table ≤ room words → AreTaken w file table 0 words
-taken_none w file table words none enough = record { fields = bytes_none (span_of w file table) words none; room = enough }
-
 pub taken_same : (w : Word) (file : CoffFile) (table : Table) (k : ℕ) (words : List ℕ) → AreTaken w file table k words → span_of w file table k ≡ None → AreTaken w file table (k + 1) words
 taken_same w file table k words are none = record { fields = bytes_same (span_of w file table) k words are.fields none; room = are.room }
 

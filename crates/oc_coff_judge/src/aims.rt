@@ -65,7 +65,7 @@ fn aim_of(coff: &Coff, found: &Found, j: u32) -> Option<AimKind>
     match binding_of(coff, &found.sections, &found.tagged, j, &s) {
         Some(binding) => Some(aim_bound(binding)),
         None => {
-            if is_own(coff, &found.tagged, j, &s) {
+            if is_own(&found.tagged, j, &s) {
                 Some(aim_placed(value_of(coff, &found.sections, &s)))
             } else {
                 None

@@ -171,13 +171,10 @@ fn weak_binding(coff: &Coff, positions: &Slots, j: u32) -> Option<Binding>
 
 /// Whether entry `j`, which is that symbol, stands for its place and is not carried. Constant time.
 #[tactic(auto, unfolding(crate::specs::Numbered::entry_by))]
-pub(crate) fn is_own(coff: &Coff, tagged: &Slots, j: u32, s: &SymbolEntry) -> bool
-    requires there { j < length (files.tables_in coff.now).entries }
-    requires symbol { s.now ≡ (numbered.entry_by coff.now j).symbol }
-    requires tagged { AreTagged (files.tables_in coff.now) tagged.now }
-    ensures { result ≡ symbols.is_own (entries.entries_in (files.tables_in coff.now)) (numbered.entry_by coff.now j) }
+pub(crate) fn is_own(tagged: &Slots, j: u32, s: &SymbolEntry) -> bool
+    ensures { (file : files.CoffFile) → j < length (files.tables_in file).entries → s.now ≡ (numbered.entry_by file j).symbol
+        → AreTagged (files.tables_in file) tagged.now → result ≡ symbols.is_own (entries.entries_in (files.tables_in file)) (numbered.entry_by file j) }
 {
-    let _ = coff;
     is_section_symbol(s) || s.StorageClass == IMAGE_SYM_CLASS_STATIC && tagged.get(j).is_some()
 }
 
@@ -196,7 +193,7 @@ fn local_binding(
     ensures { result ≡ symbols.local_binding (sections.sections_in (files.tables_in coff.now)) (entries.entries_in (files.tables_in coff.now))
         (entries.name_of (files.tables_in coff.now).strings (numbered.entry_by coff.now j)) (numbered.entry_by coff.now j) }
 {
-    if is_own(coff, tagged, j, s) || name_by(coff, s).is_empty() {
+    if is_own(tagged, j, s) || name_by(coff, s).is_empty() {
         return None;
     }
     match value_of(coff, positions, s) {

@@ -1,5 +1,5 @@
 //! Judging a file: the first of its faults.
-ghost use Rattle.std.specs.Prelude.{◌≡◌, ◌+◌, ◌<◌, length, slice_get, None, Some, IfErr, IfOk, OnOk};
+ghost use Rattle.std.specs.Prelude.{◌≡◌, ℕ, ◌+◌, ◌<◌, length, slice_get, None, Some, IfErr, IfOk, OnOk};
 ghost use Rattle.oc_base.specs.Stops.{IsStop};
 ghost use Rattle.oc_linking.specs.FirstFault.{first_fault, stage_fault};
 ghost use Rattle.oc_coff.specs.RelocationFaults.{relocation_stage};
@@ -34,13 +34,13 @@ fn relocs_place(h: &SectionHeader) -> u64
     at
 }
 
-/// How many there are, without the one that has their count. Constant time.
-pub(crate) fn reloc_count(coff: &Coff, i: u32, h: &SectionHeader) -> u32
+/// How many a section of the file with that header has, without the one that has their count. Constant
+/// time.
+pub(crate) fn reloc_count(coff: &Coff, h: &SectionHeader) -> u32
     requires clean { stage_fault (section_stage coff.now.bytes (files.tables_in coff.now)) ≡ None }
-    requires here { slice_get (files.tables_in coff.now).sections i ≡ Some (tables.section_table coff.now.bytes h.now) }
+    requires here { (i : ℕ) × (slice_get (files.tables_in coff.now).sections i ≡ Some (tables.section_table coff.now.bytes h.now)) }
     ensures { result ≡ tables.reloc_count coff.now.bytes h.now }
 {
-    let _ = i;
     if !is_overflowed(h) {
         return h.NumberOfRelocations.into();
     }
@@ -60,7 +60,7 @@ pub fn table_of(coff: &Coff, i: u32, h: &SectionHeader, kind: Kind) -> Table
         size: h.SizeOfRawData,
         stored: is_stored(Some(kind), h),
         place: relocs_place(h),
-        count: reloc_count(coff, i, h),
+        count: reloc_count(coff, h),
     }
 }
 

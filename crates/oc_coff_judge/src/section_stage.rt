@@ -114,7 +114,6 @@ fn form_fault(coff: &Coff, i: u32, h: &SectionHeader) -> Option<Fault>
     if align_bits(h.Characteristics) == 15 {
         return section_fault(i, header_place(coff.shape(), i), Code::BadAlign);
     }
-    let _ = coff;
     None
 }
 

@@ -28,11 +28,11 @@ use oc_strings::{Repeat, first_repeat};
 use std::alloc::Global;
 
 // whether a weak external may tag a symbol
-fn can_be_tagged(coff: &Coff, positions: &Slots, s: &SymbolEntry) -> bool
-    requires { ArePositions coff.now positions.now }
-    ensures { result ≡ rules.can_be_tagged (sections.sections_in (files.tables_in coff.now)) s.now }
+fn can_be_tagged(positions: &Slots, s: &SymbolEntry) -> bool
+    ensures { (file : files.CoffFile) → ArePositions file positions.now
+        → result ≡ rules.can_be_tagged (sections.sections_in (files.tables_in file)) s.now }
 {
-    let placed = has_home(coff, positions, s);
+    let placed = has_home(positions, s);
     s.StorageClass == IMAGE_SYM_CLASS_STATIC
         && (s.SectionNumber == IMAGE_SYM_ABSOLUTE && s.Value == 0 || placed)
         || s.StorageClass == IMAGE_SYM_CLASS_EXTERNAL && s.SectionNumber != IMAGE_SYM_DEBUG
@@ -51,7 +51,7 @@ fn tag_fault(coff: &Coff, found: &Found, j: u32) -> Option<Fault>
     match tagged_by(coff, &found.starts, j) {
         Some(d) => {
             let tagged = coff.symbol(d);
-            if can_be_tagged(coff, &found.sections, &tagged) {
+            if can_be_tagged(&found.sections, &tagged) {
                 None
             } else {
                 symbol_fault(coff, j, Code::SymbolKind)
@@ -70,7 +70,7 @@ fn name_fault(coff: &Coff, positions: &Slots, j: u32, s: &SymbolEntry, again: bo
         (entries.name_of (files.tables_in coff.now).strings (entry_by coff.now j)) again) }
 {
     let external = s.StorageClass == IMAGE_SYM_CLASS_EXTERNAL;
-    if external && has_section(s) && !has_home(coff, positions, s) {
+    if external && has_section(s) && !has_home(positions, s) {
         return symbol_fault(coff, j, Code::SymbolKind);
     }
     if is_external(s) && name_of(coff, j).is_empty() {

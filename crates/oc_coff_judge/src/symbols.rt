@@ -124,11 +124,10 @@ pub fn name_by<'a>(coff: &'a Coff, s: &'a SymbolEntry) -> &'a [u8]
 
 /// Whether the section of a symbol is carried, and a symbol can name it, by the positions of
 /// sections. Constant time.
-pub(crate) fn has_home(coff: &Coff, positions: &Slots, s: &SymbolEntry) -> bool
-    requires { ArePositions coff.now positions.now }
-    ensures { result ≡ is_some (sections.position_of (sections.sections_in (files.tables_in coff.now)) s.now.SectionNumber) }
+pub(crate) fn has_home(positions: &Slots, s: &SymbolEntry) -> bool
+    ensures { (file : files.CoffFile) → ArePositions file positions.now
+        → result ≡ is_some (sections.position_of (sections.sections_in (files.tables_in file)) s.now.SectionNumber) }
 {
-    let _ = coff;
     positions.get(s.SectionNumber).is_some()
 }
 

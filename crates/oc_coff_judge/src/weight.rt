@@ -88,7 +88,7 @@ pub(crate) fn weigh_relocs(coff: &Coff) -> Result<(), NoMemory>
     let mut weight = 0;
     for i in 0..count {
         let h = coff.section(i);
-        weight = with_entries(weight, reloc_count(coff, i, &h).into())?;
+        weight = with_entries(weight, reloc_count(coff, &h).into())?;
     }
     Ok(())
 }

@@ -50,7 +50,11 @@ pub record IsPlace (file : CoffFile) (i p : ℕ) (kind : Kind) (table : Table) (
 abbrev pub AreAdded : Word → CoffFile → Keep → ℕ → List PlacedEntry → Draft → Type 0
 AreAdded w file keep p entries d = HasAdded (started w file) d (given_with w (tables_in file) keep p entries)
 
+-- the relocations of the carried sections before position p are added
+abbrev pub AreAddedBefore : Word → CoffFile → Keep → ℕ → Draft → Type 0
+AreAddedBefore w file keep p d = HasAdded (started w file) d (given_before w (tables_in file) keep p)
+
 -- the relocations of the first i sections are added, of which p are carried
 pub record HasBefore (w : Word) (file : CoffFile) (keep : Keep) (i p : ℕ) (d : Draft) : Type 0 where
   pub position : p ≡ length (collected (carried_at (tables_in file)) i)
-  pub added : HasAdded (started w file) d (given_before w (tables_in file) keep p)
+  pub added : AreAddedBefore w file keep p d

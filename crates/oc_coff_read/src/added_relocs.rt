@@ -22,6 +22,19 @@ use oc_neutral::{Builder, Keep, Kind, are_bytes};
 use oc_shelf::PlacedEntry;
 use std::alloc::Global;
 
+// a file whose relocations are added
+#[derive(Clone, Copy)]
+struct RelocContext<'a> {
+    // the word of its format
+    word: Word,
+    // the file
+    coff: &'a Coff<'a>,
+    // which of its sections are kept
+    keep: &'a Keep,
+    // where its sections and symbols are among the carried ones
+    positions: &'a Positions<'a>,
+}
+
 // a section whose relocations are added
 #[derive(Clone, Copy)]
 struct RelocSection<'a> {
@@ -52,63 +65,49 @@ fn contents_of<'a>(coff: &Coff<'a>, table: &Table, h: &SectionHeader) -> &'a [u8
 
 // adds the relocation of entry `j` of those of a section
 fn add_entry(
-    word: Word,
-    coff: &Coff,
-    keep: &Keep,
-    positions: &Positions,
+    context: RelocContext<'_>,
     builder: &mut Builder,
     place: &RelocSection,
     entries: &[PlacedEntry],
     j: usize,
 ) -> Result<(), NoMemory>
-    requires ready { adding.IsReady word coff.now keep.now positions.now.sections.now positions.now.symbols.now }
-    requires place { adding.IsPlace coff.now place.now.number place.now.position place.now.kind place.now.table place.now.contents.now }
-    requires kept { keeps keep.now place.now.kind ≡ true }
-    requires entries { IsPermutation (collected (given.placed_at coff.now place.now.table) place.now.table.count) entries.now }
+    requires ready { adding.IsReady context.word context.coff.now context.keep.now context.positions.now.sections.now context.positions.now.symbols.now }
+    requires place { adding.IsPlace context.coff.now place.now.number place.now.position place.now.kind place.now.table place.now.contents.now }
+    requires kept { keeps context.keep.now place.now.kind ≡ true }
+    requires entries { IsPermutation (collected (given.placed_at context.coff.now place.now.table) place.now.table.count) entries.now }
     requires there { j < length entries.now }
-    requires before { adding.AreAdded word coff.now keep.now place.now.position (take j entries.now) builder.old }
-    ensures { OnOk result (adding.AreAdded word coff.now keep.now place.now.position (take (j + 1) entries.now) builder.new) }
+    requires before { adding.AreAdded context.word context.coff.now context.keep.now place.now.position (take j entries.now) builder.old }
+    ensures { OnOk result (adding.AreAdded context.entry.word context.entry.coff.now context.entry.keep.now place.now.position (take (j + 1) entries.now) builder.new) }
 {
+    let coff = context.coff;
     coff.is_headed();
     are_bytes(coff.file());
-    let _ = keep;
     let r = reloc_of(coff, place.number, &place.table, entries[j].index);
-    let reloc = reloc_for(word, coff, positions, place.contents, &r).unwrap();
+    let reloc = reloc_for(context.word, coff, context.positions, place.contents, &r).unwrap();
     builder.add_clean_reloc(place.position, r.VirtualAddress, reloc)
 }
 
 // adds the relocations of a section, where it is kept
 fn add_table(
     alloc: Global,
-    word: Word,
-    coff: &Coff,
-    keep: &Keep,
-    positions: &Positions,
+    context: RelocContext<'_>,
     builder: &mut Builder,
     place: &RelocSection,
 ) -> Result<(), NoMemory>
-    requires ready { adding.IsReady word coff.now keep.now positions.now.sections.now positions.now.symbols.now }
-    requires place { adding.IsPlace coff.now place.now.number place.now.position place.now.kind place.now.table place.now.contents.now }
-    requires before { HasAdded (adding.started word coff.now) builder.old (given.given_before word (files.tables_in coff.now) keep.now place.now.position) }
-    ensures { OnOk result (HasAdded (adding.started word coff.now) builder.new (given.given_before word (files.tables_in coff.now) keep.now (place.now.position + 1))) }
+    requires ready { adding.IsReady context.word context.coff.now context.keep.now context.positions.now.sections.now context.positions.now.symbols.now }
+    requires place { adding.IsPlace context.coff.now place.now.number place.now.position place.now.kind place.now.table place.now.contents.now }
+    requires before { adding.AreAddedBefore context.word context.coff.now context.keep.now place.now.position builder.old }
+    ensures { OnOk result (adding.AreAddedBefore context.entry.word context.entry.coff.now context.entry.keep.now (place.now.position + 1) builder.new) }
 {
+    let coff = context.coff;
     coff.is_headed();
     are_bytes(coff.file());
-    if !keep.keeps(place.kind) {
+    if !context.keep.keeps(place.kind) {
         return Ok(());
     }
     let entries = in_order(alloc, coff, place.number, &place.table)?;
     for j in 0..entries.len() {
-        add_entry(
-            word,
-            coff,
-            keep,
-            positions,
-            builder,
-            place,
-            entries.as_slice(),
-            j,
-        )?;
+        add_entry(context, builder, place, entries.as_slice(), j)?;
     }
     Ok(())
 }
@@ -143,26 +142,24 @@ fn place_of<'a>(
 // before it; gives how many are carried with it
 fn add_relocs_of(
     alloc: Global,
-    word: Word,
-    coff: &Coff,
-    keep: &Keep,
-    positions: &Positions,
+    context: RelocContext<'_>,
     builder: &mut Builder,
     i: u32,
     position: u32,
 ) -> Result<u32, NoMemory>
-    requires ready { adding.IsReady word coff.now keep.now positions.now.sections.now positions.now.symbols.now }
-    requires low { i < length (files.tables_in coff.now).sections }
-    requires before { adding.HasBefore word coff.now keep.now i position builder.old }
-    ensures { IfOk result (λ p. adding.HasBefore word coff.now keep.now (i + 1) p builder.new) }
+    requires ready { adding.IsReady context.word context.coff.now context.keep.now context.positions.now.sections.now context.positions.now.symbols.now }
+    requires low { i < length (files.tables_in context.coff.now).sections }
+    requires before { adding.HasBefore context.word context.coff.now context.keep.now i position builder.old }
+    ensures { IfOk result (λ p. adding.HasBefore context.entry.word context.entry.coff.now context.entry.keep.now (i + 1) p builder.new) }
 {
+    let coff = context.coff;
     coff.has_few();
     let h = coff.section(i);
     match kind_in(coff, &h) {
         None => Ok(position),
         Some(kind) => {
             let place = place_of(coff, i, &h, kind, position);
-            add_table(alloc, word, coff, keep, positions, builder, &place)?;
+            add_table(alloc, context, builder, &place)?;
             Ok(position + 1)
         }
     }
@@ -183,9 +180,15 @@ pub(crate) fn add_relocations(
     requires before { builder.old ≡ adding.started word coff.now }
     ensures { OnOk result (HasAdded (adding.started word coff.now) builder.new (given.given_at word (files.tables_in coff.now) keep.now)) }
 {
+    let context = RelocContext {
+        word,
+        coff,
+        keep,
+        positions,
+    };
     let mut position = 0;
     for i in 0..coff.section_count() {
-        position = add_relocs_of(alloc, word, coff, keep, positions, builder, i, position)?;
+        position = add_relocs_of(alloc, context, builder, i, position)?;
     }
     Ok(())
 }

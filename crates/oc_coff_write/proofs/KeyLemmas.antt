@@ -11,9 +11,10 @@ use Rattle.oc_neutral.specs.Normal.{Place}
 use Rattle.oc_neutral.specs.Objects.{Object}
 use Rattle.oc_neutral.specs.Invariants.{AreDistinct}
 use Rattle.oc_neutral.specs.KeySymbols.{global_place, group_at, is_key_name, is_key_at, lies_in}
-use Rattle.oc_target.proofs.KeyPlaces.{is_key_in, key_at_place, key_nowhere, key_names, keys_at}
+use Rattle.oc_target.proofs.KeyPlaces.{is_key_in, key_at_place, key_names, keys_at}
+use Rattle.oc_target.specs.Keyed.{key_place}
 use Rattle.oc_coff_file.specs.Canonical.{leads, leader_number, kept_with, selection_of}
-use Rattle.oc_coff_write.specs.Keys.{first_made, key_place, keyed_at, key_position, led_by, leader_position}
+use Rattle.oc_coff_write.specs.Keys.{first_made, keyed_at, key_position, led_by, leader_position}
 
 -- ... the first of which something is made
 
@@ -41,14 +42,6 @@ first_more make i (y ∷ xs) (suc k) p x here at =
 
 -- ... the place of a key symbol
 
-and_true : (b : Bool) → (b && true) ≡ b
-and_true true = refl
-and_true false = refl
-
-and_false : (b : Bool) → (b && false) ≡ false
-and_false true = refl
-and_false false = refl
-
 same_number : (k : ℕ) → nat_eq k k ≡ true
 same_number k = eq-eqb k k refl
 
@@ -59,19 +52,6 @@ own_key n s place here = key_at_place n place.0 s place here ∙ ap (λ b. b && 
 -- the section of a place, where the symbol is a key symbol there
 abbrev key_among : Object → Symbol → Option Place → Option ℕ
 key_among n s o = option_and_then (λ (place : Place). cond (is_key_at n place.0 s) (Some place.0) None) o
-
-tested : (k j : ℕ) (b : Bool) → option_map_or (nat_eq k) (cond b (Some j) None) false ≡ (nat_eq k j && b)
-tested k j true = sym (and_true (nat_eq k j))
-tested k j false = sym (and_false (nat_eq k j))
-
-pub place_test : (n : Object) (s : Symbol) (k : ℕ) → option_map_or (nat_eq k) (key_place n s) false ≡ is_key_at n k s
-place_test n s k = by (global_place s.binding) refl
-  where
-    by : (o : Option Place) → global_place s.binding ≡ o → option_map_or (nat_eq k) (key_place n s) false ≡ is_key_at n k s
-    by None e = ap (λ o. option_map_or (nat_eq k) (key_among n s o) false) e ∙ sym (key_nowhere n k s e)
-    by (Some place) e =
-        ap (λ o. option_map_or (nat_eq k) (key_among n s o) false) e ∙ tested k place.0 (is_key_at n place.0 s)
-        ∙ ap (λ b. nat_eq k place.0 && b) (own_key n s place e) ∙ sym (key_at_place n k s place e)
 
 -- the section with that place, where group g is its group
 abbrev led_among : Object → ℕ → Symbol → Option Place → Option ℕ

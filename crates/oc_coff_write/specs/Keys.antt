@@ -1,6 +1,6 @@
 -- Where the key symbols of groups are, by positions (PE/COFF, "COMDAT Sections"; our profile).
 use Rattle.std.specs.Prelude.{◌≡◌, ℕ, ◌+◌, ◌<◌, ◌&&◌, if◌then◌else◌, List, [], ◌∷◌, length, slice_index_or, Option, Some, None}
-use Rattle.std.specs.Option.{option_and_then, option_map, option_or}
+use Rattle.std.specs.Option.{option_map, option_or}
 use Rattle.oc_neutral.specs.declared.symbol.Symbol.{Symbol}
 use Rattle.oc_neutral.specs.Normal.{Place}
 use Rattle.oc_neutral.specs.Objects.{Object}
@@ -11,10 +11,6 @@ use Rattle.oc_plans.specs.Slots.{is_given}
 abbrev pub first_made : {X : Type 0} → (ℕ → X → Option ℕ) → ℕ → List X → Option ℕ
 first_made make k [] = None
 first_made make k (x ∷ xs) = option_or (make k x) (first_made make (k + 1) xs)
-
--- the section in which a symbol is the key symbol of the section's group
-abbrev pub key_place : Object → Symbol → Option ℕ
-key_place n s = option_and_then (λ (place : Place). if is_key_at n place.0 s then Some place.0 else None) (global_place s.binding)
 
 -- the position of a symbol, where it is the key symbol that lies in section k
 abbrev pub keyed_at : Object → ℕ → ℕ → Symbol → Option ℕ

@@ -1,16 +1,14 @@
 -- The string table of a COFF output (PE/COFF, "COFF String Table"; our profile).
-use Rattle.std.specs.Prelude.{ℕ, List, [], ◌∷◌, ◌++◌, filter, flat_map, map}
+use Rattle.std.specs.Prelude.{◌≡◌, ℕ, true, List}
 use Rattle.std.specs.Option.{unwrap_or}
 use Rattle.oc_coff.specs.declared.form.CoffForm.{CoffForm}
-use Rattle.oc_base.specs.Strings.{table_place}
-use Rattle.oc_neutral.specs.Coff.Strings.{is_long, is_tabled, default_name}
-use Rattle.oc_neutral.specs.declared.section.Section.{Section}
+use Rattle.oc_base.specs.Strings.{is_given, table_place}
+use Rattle.oc_neutral.specs.Coff.Strings.{is_long, is_tabled}
 use Rattle.oc_neutral.specs.Objects.{Object}
 use Rattle.oc_target.specs.CoffMeets.{strings_of}
 use Rattle.oc_strings.specs.Tables.{StringTable}
 use Rattle.oc_neutral.specs.declared.coff.TheConstants.{STRINGS_HEAD}
 use Rattle.oc_coff.specs.Forms.{format_of}
-use Rattle.oc_coff_file.specs.Lines.{Line, SectionLine, LocalLine, DefaultLine, OuterLine, lines_of}
 
 -- the table of an object's names, whose first text comes after its size
 abbrev pub table_for : CoffForm → Object → StringTable
@@ -20,13 +18,13 @@ table_for w n = record { head = STRINGS_HEAD; names = strings_of (format_of w) n
 abbrev pub place_in : StringTable → List ℕ → ℕ
 place_in t name = unwrap_or (table_place t.head t.names name) 0
 
--- the names that are given for a line after those of all section headers: one, or none
-abbrev pub line_strings : Line → List (List ℕ)
-line_strings (SectionLine k s) = []
-line_strings (LocalLine k s) = filter is_long (s.name ∷ [])
-line_strings (DefaultLine k s) = default_name s.name ∷ []
-line_strings (OuterLine k s) = filter is_long (s.name ∷ [])
+-- a table holds a name
+abbrev pub Holds : StringTable → List ℕ → Type 0
+Holds t name = is_given t.names name ≡ true
 
--- the names that are given for the section headers, and then for the lines of the symbol table
-abbrev pub table_names : CoffForm → Object → List (List ℕ)
-table_names w n = filter is_tabled (map (λ (s : Section). s.name) n.sections) ++ flat_map line_strings (lines_of w n)
+-- it holds the name of a symbol that has no room in its entry, and that of a section that has none in its header
+abbrev pub HoldsSymbolName : StringTable → List ℕ → Type 0
+HoldsSymbolName t name = is_long name ≡ true → Holds t name
+
+abbrev pub HoldsSectionName : StringTable → List ℕ → Type 0
+HoldsSectionName t name = is_tabled name ≡ true → Holds t name

@@ -6,6 +6,7 @@ ghost use Rattle.oc_linking.specs.declared.terms.Binding.TheVariants.{Weak};
 ghost use Rattle.oc_chains.specs.Lists.{list_of};
 ghost use Rattle.oc_linking.specs.Parts.{is_local};
 ghost use Rattle.oc_linking.specs.declared.terms.Fallback.{Fallback};
+ghost use Rattle.oc_neutral.specs.Coff.Strings as strings;
 ghost use Rattle.oc_neutral.specs.Families.{container_of};
 ghost use Rattle.oc_neutral.specs.Family.{IsCoff};
 ghost use Rattle.oc_target.specs.Fitted.{IsFitted};
@@ -19,12 +20,12 @@ ghost use Rattle.oc_coff_write.specs.Entries.{AreAdded, entry_bytes, IsMadeOf, r
 ghost use Rattle.oc_coff_write.specs.Keys.{AreLeaders, key_position, leader_position};
 ghost use Rattle.oc_coff_write.specs.Lines.{line_in, AreLines, IsListed};
 ghost use Rattle.oc_coff_write.specs.Numbers.{IsNumbered, HasTag};
-ghost use Rattle.oc_coff_write.specs.Strings.{table_for};
+ghost use Rattle.oc_coff_write.specs.Strings.{Holds, HoldsSymbolName, table_for};
 ghost use Rattle.oc_coff.specs.Values.{HasRoom};
 
 use crate::lines::Line;
 use crate::name_cursor::NameCursor;
-use crate::names::{default_name, symbol_field};
+use crate::names::symbol_field;
 use crate::numbers::Numbers;
 use oc_base::NoMemory;
 use oc_coff::{
@@ -35,6 +36,7 @@ use oc_coff::{
 use oc_neutral::{Binding, Neutral, Section, Symbol};
 use oc_shelf::Packed;
 use oc_strings::Table;
+use oc_target::default_name;
 use std::alloc::Global;
 
 /// An entry of the symbol table.
@@ -74,7 +76,8 @@ pub(crate) fn pack_entry(shape: Shape, entry: &Entry) -> Packed
 
 // the entry of the symbol of the section at a position
 fn section_entry(names: &Table, near: usize, position: u32, section: &Section) -> SymbolEntry
-    requires { position + 1 < 2 ^ 31 }
+    requires held { HoldsSymbolName names.now section.now.name }
+    requires room { position + 1 < 2 ^ 31 }
     ensures { (w : CoffForm) (n : Object) → names.now ≡ table_for w n → result ≡ canonical.line_entry w n (coff_lines.SectionLine position section.now) }
 {
     SymbolEntry {
@@ -89,7 +92,8 @@ fn section_entry(names: &Table, near: usize, position: u32, section: &Section) -
 
 // the entry of a symbol
 fn symbol_entry(names: &Table, near: usize, symbol: &Symbol) -> SymbolEntry
-    requires { HasRoom (values.numbers_by symbol.now.binding) }
+    requires held { HoldsSymbolName names.now symbol.now.name }
+    requires room { HasRoom (values.numbers_by symbol.now.binding) }
     ensures { (w : CoffForm) (n : Object) (k : ℕ) → names.now ≡ table_for w n → result ≡ canonical.line_entry w n (coff_lines.OuterLine k symbol.now) }
 {
     let numbers = of_binding(symbol.binding);
@@ -110,7 +114,8 @@ fn default_entry(
     near: usize,
     symbol: &Symbol,
 ) -> Result<SymbolEntry, NoMemory>
-    requires { HasRoom (values.default_numbers symbol.now.binding) }
+    requires held { Holds names.now (strings.default_name symbol.now.name) }
+    requires room { HasRoom (values.default_numbers symbol.now.binding) }
     ensures { IfOk result (λ entry. (w : CoffForm) (n : Object) (k : ℕ) → names.now ≡ table_for w n
         → entry ≡ canonical.line_entry w n (coff_lines.DefaultLine k symbol.now)) }
 {
@@ -201,6 +206,7 @@ fn add_section(
     requires there { position < length neutral.now.sections }
     requires few { length neutral.now.sections < 2 ^ 31 }
     requires made { IsMadeOf (form_for neutral.now.format) neutral.now made }
+    requires held { (s : Held) → slice_get neutral.now.sections position ≡ Some s → HoldsSymbolName made.names.now s.name }
     ensures { OnOk result ((s : Held) → slice_get neutral.now.sections position ≡ Some s
         → AreAdded (form_for neutral.now.format) neutral.now (coff_lines.SectionLine position s) entries.old.items entries.new.items) }
 {
@@ -229,6 +235,7 @@ fn add_outer(
     position: u32,
     symbol: &Symbol,
 ) -> Result<(), NoMemory>
+    requires held { HoldsSymbolName names.now symbol.now.name }
     requires room { HasRoom (values.numbers_by symbol.now.binding) }
     requires tag { (f : Fallback) → symbol.now.binding ≡ Weak f → HasTag numbers.now position f }
     ensures { OnOk result ((w : CoffForm) (n : Object) → names.now ≡ table_for w n → IsNumbered w n numbers.now
@@ -250,6 +257,7 @@ fn add_local(
     symbol: &Symbol,
 ) -> Result<(), NoMemory>
     requires local { is_local symbol.now.binding ≡ true }
+    requires held { HoldsSymbolName names.now symbol.now.name }
     requires room { HasRoom (values.numbers_by symbol.now.binding) }
     ensures { OnOk result ((w : CoffForm) (n : Object) (k : ℕ) → names.now ≡ table_for w n
         → AreAdded w n (coff_lines.LocalLine k symbol.now) entries.old.items entries.new.items) }
@@ -266,7 +274,8 @@ fn add_default(
     near: usize,
     symbol: &Symbol,
 ) -> Result<(), NoMemory>
-    requires { HasRoom (values.default_numbers symbol.now.binding) }
+    requires held { Holds names.now (strings.default_name symbol.now.name) }
+    requires room { HasRoom (values.default_numbers symbol.now.binding) }
     ensures { OnOk result ((w : CoffForm) (n : Object) (k : ℕ) → names.now ≡ table_for w n
         → AreAdded w n (coff_lines.DefaultLine k symbol.now) entries.old.items entries.new.items) }
 {

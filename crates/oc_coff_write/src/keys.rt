@@ -1,71 +1,11 @@
 //! The symbols that have the keys of groups (PE/COFF, "COMDAT Sections"; our profile).
-ghost use Rattle.std.specs.Prelude.{◌≡◌, false, length, IfOk};
-ghost use Rattle.std.specs.Option.{option_map_or};
-ghost use Rattle.oc_neutral.specs.KeySymbols as keys;
+ghost use Rattle.std.specs.Prelude.{◌≡◌, length, IfOk};
 ghost use Rattle.oc_coff_write.specs.Keys as places;
 
 use oc_base::NoMemory;
-use oc_neutral::{Binding, Neutral, Symbol, Value};
+use oc_neutral::{Neutral, Symbol};
+use oc_target::{group_at, key_place};
 use std::alloc::Global;
-
-// the section and the offset in it where a Global lies, if its value is a place
-fn global_place(binding: Binding) -> Option<(u32, u32)>
-    ensures { result ≡ keys.global_place binding }
-{
-    match binding {
-        Binding::Global(Value::Place { section, offset }) => Some((section, offset)),
-        _ => None,
-    }
-}
-
-// the group of the section at a position, where there is one
-fn group_at(neutral: &Neutral, section: u32) -> Option<u32>
-    ensures { result ≡ keys.group_at neutral.now section }
-{
-    if section >= neutral.section_count() {
-        return None;
-    }
-    neutral.section(section).group
-}
-
-// whether the name is the key of the group at a position
-fn is_key_name(neutral: &Neutral, name: &[u8], group: u32) -> bool
-    ensures { result ≡ keys.is_key_name neutral.now name.now group }
-{
-    group < neutral.group_count() && name == neutral.group(group).key.as_slice()
-}
-
-// whether the name is the key of the group of the section at a position
-fn is_key_in(neutral: &Neutral, section: u32, name: &[u8]) -> bool
-    ensures { result ≡ option_map_or (keys.is_key_name neutral.now name.now) (keys.group_at neutral.now section) false }
-{
-    match group_at(neutral, section) {
-        Some(group) => is_key_name(neutral, name, group),
-        None => false,
-    }
-}
-
-/// Whether a symbol is the key symbol of the group of its section. Linear in its name.
-pub(crate) fn is_key(neutral: &Neutral, symbol: &Symbol) -> bool
-    ensures { result ≡ keys.is_key neutral.now symbol.now }
-{
-    match global_place(symbol.binding) {
-        Some((section, _)) => is_key_in(neutral, section, symbol.name.as_slice()),
-        None => false,
-    }
-}
-
-// the section in which a symbol is the key symbol of the section's group
-fn key_place(neutral: &Neutral, symbol: &Symbol) -> Option<u32>
-    ensures { result ≡ places.key_place neutral.now symbol.now }
-{
-    let (section, _) = global_place(symbol.binding)?;
-    if is_key_in(neutral, section, symbol.name.as_slice()) {
-        Some(section)
-    } else {
-        None
-    }
-}
 
 // gives a value to the entry at a position, where that exists and has none yet
 fn note(table: &mut Vec<Option<u32>>, at: Option<u32>, value: u32)

@@ -3,17 +3,16 @@
 ghost use Rattle.std.specs.Prelude.{◌≡◌, ◌++◌, [], ◌∷◌, if◌then◌else◌, flat_map, IfOk, OnOk};
 ghost use Rattle.std.specs.List.{enumerate_from};
 ghost use Rattle.std.specs.Option.{option_map_or};
-ghost use Rattle.oc_linking.specs.Parts as parts;
 ghost use Rattle.oc_shows.specs.SymbolLines as symbol_lines;
 ghost use Rattle.oc_coff_file.specs.Lines as coff_lines;
 ghost use Rattle.oc_coff_write.specs.Keys.{AreKeys};
 ghost use Rattle.oc_coff_write.specs.Lines.{AreAdded, AreLines};
 ghost use Rattle.oc_coff_write.specs.declared.lines.Line.TheVariants as made;
 
-use crate::keys::is_key;
 use oc_base::NoMemory;
-use oc_coff::CoffForm;
-use oc_neutral::{Binding, Fallback, Neutral, Symbol, Value};
+use oc_coff::{CoffForm, format_of};
+use oc_neutral::Neutral;
+use oc_target::{is_unkeyed, is_written_local, needs_default};
 use std::alloc::Global;
 
 /// A line of the symbol table, by the position of its section or symbol in the object.
@@ -29,51 +28,6 @@ pub(crate) enum Line {
     Outer(u32),
 }
 
-/// Whether a binding is Local. Constant time.
-fn is_local(binding: Binding) -> bool
-    ensures { result ≡ parts.is_local binding }
-{
-    match binding {
-        Binding::Local(_) => true,
-        Binding::Global(_) | Binding::Undefined | Binding::Common { .. } | Binding::Weak(_) => {
-            false
-        }
-    }
-}
-
-// whether a symbol is a Local that is written: in 64 bits all but those of long numbers
-fn is_written_local(form: CoffForm, symbol: &Symbol) -> bool
-    ensures { result ≡ coff_lines.is_written_local form symbol.now }
-{
-    match (form, symbol.binding) {
-        (CoffForm::Usual64 | CoffForm::Big64, Binding::Local(Value::Absolute(number))) => {
-            number < 1 << 32
-        }
-        (_, binding) => is_local(binding),
-    }
-}
-
-// whether a Weak has a symbol of its own for its fallback
-fn needs_default(symbol: &Symbol) -> bool
-    ensures { result ≡ symbol_lines.needs_default symbol.now }
-{
-    match symbol.binding {
-        Binding::Weak(Fallback::Place { .. } | Fallback::Zero) => true,
-        Binding::Weak(Fallback::Name(_))
-        | Binding::Local(_)
-        | Binding::Global(_)
-        | Binding::Undefined
-        | Binding::Common { .. } => false,
-    }
-}
-
-// whether a symbol is not Local, and no key symbol
-fn is_free(neutral: &Neutral, symbol: &Symbol) -> bool
-    ensures { result ≡ coff_lines.is_free neutral.now symbol.now }
-{
-    !is_local(symbol.binding) && !is_key(neutral, symbol)
-}
-
 // adds a line that is wanted
 fn give_line(lines: &mut Vec<Line>, line: Line, wanted: bool) -> Result<(), NoMemory>
     ensures { OnOk result (lines.new.items ≡ lines.old.items ++ (if wanted then line ∷ [] else [])) }
@@ -85,13 +39,19 @@ fn give_line(lines: &mut Vec<Line>, line: Line, wanted: bool) -> Result<(), NoMe
 }
 
 // adds the lines of the Locals that are written
-fn add_locals(lines: &mut Vec<Line>, form: CoffForm, neutral: &Neutral) -> Result<(), NoMemory>
+fn add_locals(
+    alloc: Global,
+    lines: &mut Vec<Line>,
+    form: CoffForm,
+    neutral: &Neutral,
+) -> Result<(), NoMemory>
     ensures { OnOk result (AreAdded neutral.now
         (coff_lines.lines_where coff_lines.LocalLine (coff_lines.is_written_local form) neutral.now) lines.old.items lines.new.items) }
 {
+    let format = format_of(form);
     for k in 0..neutral.symbol_count() {
         let symbol = neutral.symbol(k);
-        let wanted = is_written_local(form, symbol);
+        let wanted = is_written_local(alloc, format, symbol)?;
         give_line(lines, Line::Local(k), wanted)?;
     }
     Ok(())
@@ -104,7 +64,7 @@ fn add_defaults(lines: &mut Vec<Line>, neutral: &Neutral) -> Result<(), NoMemory
 {
     for k in 0..neutral.symbol_count() {
         let symbol = neutral.symbol(k);
-        let wanted = needs_default(symbol);
+        let wanted = needs_default(symbol.binding);
         give_line(lines, Line::Default(k), wanted)?;
     }
     Ok(())
@@ -117,7 +77,7 @@ fn add_outers(lines: &mut Vec<Line>, neutral: &Neutral) -> Result<(), NoMemory>
 {
     for k in 0..neutral.symbol_count() {
         let symbol = neutral.symbol(k);
-        let wanted = is_free(neutral, symbol);
+        let wanted = is_unkeyed(neutral, symbol);
         give_line(lines, Line::Outer(k), wanted)?;
     }
     Ok(())
@@ -164,7 +124,7 @@ pub(crate) fn lines_of(
 {
     let mut lines = Vec::new(alloc);
     add_sections(&mut lines, neutral, keys)?;
-    add_locals(&mut lines, form, neutral)?;
+    add_locals(alloc, &mut lines, form, neutral)?;
     add_defaults(&mut lines, neutral)?;
     add_outers(&mut lines, neutral)?;
     Ok(lines)

@@ -4,9 +4,8 @@ ghost use Rattle.std.specs.Prelude.{◌≡◌, ◌+◌, ◌^◌, ◌<◌, ◌≤
 ghost use Rattle.oc_coff_write.specs.Lines.{line_in};
 
 use crate::lines::Line;
-use crate::names::is_tabled;
-use crate::strings::is_given;
 use oc_neutral::{Neutral, Section};
+use oc_target::{is_long_name, is_tabled};
 
 /// How many of the given names belong to lines that were passed.
 #[derive(Clone, Copy)]
@@ -26,6 +25,17 @@ fn tabled_count(sections: &[Section]) -> usize
         count += usize::from(is_tabled(section.name.as_slice()));
     }
     count
+}
+
+// whether the name of a line is given after those of the section headers
+fn is_given(neutral: &Neutral, line: Line) -> bool
+    requires { IsSome (line_in neutral.now line) }
+{
+    match line {
+        Line::Section(_) => false,
+        Line::Local(k) | Line::Outer(k) => is_long_name(neutral.symbol(k).name.as_slice()),
+        Line::Default(_) => true,
+    }
 }
 
 impl NameCursor {

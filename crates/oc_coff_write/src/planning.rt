@@ -28,6 +28,7 @@ use std::alloc::Global;
 
 // the sections of an object, with the numbers in their fields
 fn sections_of(form: CoffForm, neutral: Neutral) -> Vec<Section>
+    requires { IsFitted (format_of form) neutral }
     ensures { map (λ s. s.bytes) result.items ≡ raws_in form neutral }
 {
     neutral.is_object();

@@ -80,7 +80,7 @@ pub(crate) fn symbols_of(
 {
     let keys = keys_of(alloc, neutral)?;
     let lines = lines_of(alloc, form, neutral, &keys)?;
-    let names = table_of(alloc, neutral, &lines)?;
+    let names = table_of(alloc, neutral)?;
     let (numbers, entries) = numbered_entries(alloc, neutral, &keys, &names, &lines)?;
     Ok(Symbols {
         names,

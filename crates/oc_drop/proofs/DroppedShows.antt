@@ -77,13 +77,6 @@ carried_kept (true ∷ flags) zero = refl
 carried_kept (true ∷ flags) (suc s) = carried_kept flags s
 carried_kept (false ∷ flags) s = carried_kept flags s
 
--- and comes to stand where it stands
-pub new_back : (stay : List Bool) (s : ℕ) → carried_of stay s < length stay → new_position stay (carried_of stay s) ≡ s
-new_back [] s low = absurd (omega (arith, low))
-new_back (true ∷ stay) zero low = refl
-new_back (true ∷ stay) (suc s) low = ap suc (new_back stay s (omega (arith, low)))
-new_back (false ∷ stay) s low = new_back stay s (omega (arith, low))
-
 -- contents that are filled, of which some stay
 filled_same : (o r : Patches) (i j : ℕ) (xs : List (List ℕ)) → ((s : ℕ) → o (i + s) ≡ r (j + s)) → overlays o i xs ≡ overlays r j xs
 filled_same o r i j [] same = refl

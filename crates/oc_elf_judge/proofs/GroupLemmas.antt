@@ -31,9 +31,6 @@ module _ (f : FileFrame) (k : ℕ) (s : Shdr) where
   right None = refl
   right (Some x) = refl
 
-  pub taking_none : (owners : List (Option ℕ)) → AreSlots (owner_among f k) (length f.headers) owners → IsTaking 0 owners
-  taking_none owners are = record { clean = refl; slots = slots_same (owner_among f k) (taken_by 0) (length f.headers) owners are (λ j. right (owner_among f k j)) }
-
   -- what is asked of the slots is asked of the members so far
   pub refused_is : (i : ℕ) (owners : List (Option ℕ)) → AreSlots (taken_by i) (length f.headers) owners
       → (nat_eq (member_at f s i) 0 || nat_le (length f.headers) (member_at f s i) || is_some (slice_index_or owners (member_at f s i) None)) ≡ is_bad_member f k s i
@@ -104,16 +101,6 @@ module _ (f : FileFrame) (k : ℕ) (s : Shdr) where
               ap (λ (o : Option ℕ). or_else o (cond (has_member f s i j || true) (Some k) None)) (ap (owner_among f k) (sym is) ∙ free.alone)
               ∙ ap (λ b. cond (b || true) (Some k) None) (ap (has_member f s i) (sym is) ∙ free.new)
           by false e = ap (or_else (owner_among f k j)) (same (has_member f s i j))
-
-  -- the members of the whole group are taken up
-  pub taking_all : (owners : List (Option ℕ)) → s ≡ header_at f.headers k → is_type SHT_GROUP s ≡ true → IsTaking (member_count s) owners → AreSlots (owner_among f (k + 1)) (length f.headers) owners
-  taking_all owners here group inv = slots_same (taken_by (member_count s)) (owner_among f (k + 1)) (length f.headers) owners inv.slots all
-    where
-      all : (j : ℕ) → owner_among f (k + 1) j ≡ taken_by (member_count s) j
-      all j =
-          first_more (λ m. cond (is_member f j m) (Some m) None) k
-          ∙ ap (λ (x : Shdr). or_else (owner_among f k j) (cond (is_type SHT_GROUP x && has_member f x (member_count x) j) (Some k) None)) (sym here)
-          ∙ ap (λ b. or_else (owner_among f k j) (cond (b && has_member f s (member_count s) j) (Some k) None)) group
 
 -- what is no group has no members
 pub taking_passed : (f : FileFrame) (k : ℕ) (owners : List (Option ℕ)) → is_type SHT_GROUP (header_at f.headers k) ≡ false → AreSlots (owner_among f k) (length f.headers) owners

@@ -21,25 +21,6 @@ module _ {X : Type 0} (item : ℕ → Option X) where
     pub slots_are : AreSlots (position_in item) k slots
     pub next : position ≡ length (collected item k)
 
-  pub placed_none : (slots : List (Option ℕ)) → slots ≡ [] → ArePlaced 0 0 slots
-  placed_none slots is = record { slots_are = subst (AreSlots (position_in item) 0) (sym is) (record { long = refl; each = λ j low. absurd (omega arith) }); next = refl }
-
-  longer : (xs : List X) (o : Option X) → length (with_option xs o) ≡ length xs + cond (is_some o) 1 0
-  longer xs None = omega arith
-  longer xs (Some x) = length-append xs (x ∷ [])
-
-  -- one entry more
-  pub placed_more : (k position step : ℕ) (slots : List (Option ℕ)) (b : Bool) → ArePlaced k position slots → b ≡ is_some (item k) → step ≡ cond b 1 0
-      → ArePlaced (k + 1) (position + step) (slots ++ cond b (Some position) None ∷ [])
-  placed_more k position step slots b are is one = record {
-    slots_are = slots_pushed (position_in item) k (cond b (Some position) None) slots are.slots_are (ap (λ c. cond c (Some position) None) is ∙ ap (λ (n : ℕ). cond (is_some (item k)) (Some n) None) are.next);
-    next =
-        let count : length (collected item (k + 1)) ≡ length (collected item k) + cond (is_some (item k)) 1 0 = ap length (collected-more item k) ∙ longer (collected item k) (item k) in
-        let before = are.next in
-        let amount : step ≡ cond (is_some (item k)) 1 0 = one ∙ ap (λ c. cond c 1 0) is in
-        omega (arith, count, before, amount);
-  }
-
 pub section_carried : (f : FileFrame) (k : ℕ) → is_carried (header_at f.headers k) ≡ is_some (section_of f k)
 unfolding section_of
 section_carried f k = by (is_carried (header_at f.headers k))

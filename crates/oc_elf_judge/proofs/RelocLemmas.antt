@@ -1,29 +1,37 @@
 -- The entries of a relocation table, judged one after the other.
 use Rattle.std.proofs.Common.{◌≡◌, ℕ, ◌+◌, ◌*◌, ◌<◌, ◌≤◌, Bool, true, false, cond, eqb, List, [], ◌∷◌, Option, None, Some, refl, sym, ◌∙◌, ap, subst, arith}
-use Rattle.std.specs.Prelude.{not, ◌||◌, nat_lt, nat_le, is_some, is_none, length}
-use Rattle.std.specs.Option.{option_map_or}
+use Rattle.std.specs.Prelude.{not, ◌&&◌, ◌||◌, nat_lt, nat_le, is_some, is_none, length}
+use Rattle.std.specs.Option.{option_map, option_map_or}
+use Rattle.std.proofs.lemmas.Option.{none-some, same_Some}
 use Rattle.std.proofs.lemmas.Bool.{true≢false}
 use Rattle.std.proofs.lemmas.Bool.Decides.{nat_tests}
 use Rattle.oc_base.specs.declared.fault.Fault.{Fault}
 use Rattle.oc_linking.specs.Numbers.{first_upto, or_else}
 use Rattle.oc_linking.specs.FirstFault.{first_broken}
 use Rattle.oc_linking.specs.Fits.{bytes_of}
+use Rattle.oc_linking.specs.declared.terms.Base.{Base}
+use Rattle.oc_linking.specs.declared.terms.Base.TheVariants.{Address}
 use Rattle.oc_linking.specs.declared.terms.Width.{Width}
 use Rattle.oc_linking.specs.declared.terms.Width.TheVariants.{One, Two, Four, Eight}
-use Rattle.oc_base.specs.declared.code.Code.TheVariants.{Overlap}
+use Rattle.oc_base.specs.declared.code.Code.TheVariants.{BadOffset, BadTarget, Overlap, RelocKind, TargetKind}
 use Rattle.oc_neutral.specs.declared.elf.TheConstants.{SHT_NOBITS}
 use Rattle.oc_elf.specs.Sections.{is_type}
-use Rattle.oc_neutral.specs.Rows.{Row}
+use Rattle.oc_neutral.specs.Rows.{Row, same_base}
 use Rattle.oc_elf_judge.specs.Known.{AreTaken}
 use Rattle.oc_shelf.specs.Reading.Bitmaps.{has, is_between, room}
 use Rattle.oc_shelf.proofs.ReadingLaws.BitmapLemmas.{bytes_more, bytes_none, bytes_same}
 use Rattle.oc_shelf.proofs.ReadingLaws.StageLemmas.{all_hold, first_broken-append, not_false, both_hold}
+use Rattle.oc_elf.specs.declared.class.ElfClass.{ElfClass}
+use Rattle.oc_elf.specs.declared.meaning.Meaning.{Meaning}
 use Rattle.oc_elf.specs.declared.rel.Rel.{Rel}
+use Rattle.oc_elf.specs.declared.shdr.Shdr.{Shdr}
+use Rattle.oc_elf.specs.declared.sym.Sym.{Sym}
 use Rattle.oc_elf.specs.Frames.{FileFrame, header_at}
 use Rattle.oc_elf.specs.Fields.{is_idle, row_for, width_of}
-use Rattle.oc_elf.specs.RelocRules.{entry_fault, is_nameable, is_target_for, lies_within, meets_upto, own_conditions, rel_conditions, reloc_conditions, reloc_fault, span_of, stored_size}
-use Rattle.oc_elf.specs.CarriedSymbols.{symbol_of}
-use Rattle.oc_elf.specs.Entries.{is_section_symbol}
+use Rattle.oc_elf.specs.Meanings.{meaning_of, meant_by}
+use Rattle.oc_elf.specs.RelocRules.{entry_fault, is_nameable, is_target_for, lies_within, meets_upto, own_conditions, rel_conditions, reloc_conditions, reloc_fault, span_of, stored_size, takes_address}
+use Rattle.oc_elf.specs.CarriedSymbols.{home_of, symbol_of}
+use Rattle.oc_elf.specs.Entries.{is_local_entry, is_section_symbol}
 use Rattle.oc_elf.specs.Tables.{entry_of, reloc_of, reloc_place, symbol_count}
 
 -- the entries so far have no fault, and the bytes taken are those of their fields
@@ -75,6 +83,52 @@ good_entry f i place r clean =
         fits : (a size : ℕ) → nat_le (r.r_offset + width_of f r) size ≡ true → width_of f r ≡ bytes_of row.width → r.r_offset + bytes_of row.width ≤ size
         fits a size h w = grind (arith, nat_tests)
 
+-- what the meaning of an entry's type says of its row
+pub record IsMeant (f : FileFrame) (r : Rel) (m : Meaning) : Type 0 where
+  pub listed : is_none (row_for f r) ≡ false
+  pub width : width_of f r ≡ bytes_of m.form.width
+  pub address : takes_address f r ≡ same_base m.form.base Address
+
+pub meant : (f : FileFrame) (r : Rel) (m : Meaning) (class : ElfClass) (o : Option Meaning) → class ≡ f.class → o ≡ meaning_of class r.r_type → o ≡ Some m → IsMeant f r m
+meant f r m class o same is some = by (row_for f r) refl (ap (λ (w : ElfClass). meaning_of w r.r_type) (sym same) ∙ sym is ∙ some)
+  where
+    by : (o : Option Row) → row_for f r ≡ o → option_map meant_by o ≡ Some m → IsMeant f r m
+    by None is g = absurd (none-some m g)
+    by (Some row) is g =
+        let e : meant_by row ≡ m = same_Some (meant_by row) m g in
+        record {
+          listed = ap is_none is;
+          width = ap (λ (o : Option Row). option_map_or (λ (x : Row). bytes_of x.width) o 0) is ∙ ap (λ (x : Meaning). bytes_of x.form.width) e;
+          address = ap (λ (o : Option Row). option_map_or (λ (x : Row). same_base x.base Address) o false) is ∙ ap (λ (x : Meaning). same_base x.form.base Address) e;
+        }
+
+pub not_meant : (f : FileFrame) (r : Rel) (class : ElfClass) (o : Option Meaning) → class ≡ f.class → o ≡ meaning_of class r.r_type → o ≡ None → is_none (row_for f r) ≡ true
+not_meant f r class o same is none = by (row_for f r) (ap (λ (w : ElfClass). meaning_of w r.r_type) (sym same) ∙ sym is ∙ none)
+  where
+    by : (o : Option Row) → option_map meant_by o ≡ None → is_none o ≡ true
+    by None g = refl
+    by (Some row) g = absurd (none-some (meant_by row) (sym g))
+
+-- the tests of an entry, by what was looked up
+pub lies_by : (f : FileFrame) (i : ℕ) (r : Rel) (s : Shdr) (width : ℕ) (b : Bool) → s ≡ header_at f.headers i → width ≡ width_of f r
+    → b ≡ (not (is_type SHT_NOBITS s) && nat_le (r.r_offset + width) s.sh_size) → lies_within f (header_at f.headers i) r ≡ b
+lies_by f i r s width b same wide is =
+    sym (is ∙ ap (λ (w : ℕ). not (is_type SHT_NOBITS s) && nat_le (r.r_offset + w) s.sh_size) wide ∙ ap (λ (x : Shdr). lies_within f x r) same)
+
+pub aimed_by : (f : FileFrame) (r : Rel) (s : Sym) (base : Base) (b : Bool) → s ≡ entry_of f r.r_sym → takes_address f r ≡ same_base base Address
+    → b ≡ (not (eqb r.r_sym 0) && (not (is_local_entry s) || is_some (home_of f s) && same_base base Address)) → is_target_for f r ≡ b
+unfolding is_target_for
+aimed_by f r s base b same address is =
+    sym (is ∙ ap (λ (t : Bool). not (eqb r.r_sym 0) && (not (is_local_entry s) || is_some (home_of f s) && t)) (sym address)
+    ∙ ap (λ (x : Sym). not (eqb r.r_sym 0) && (not (is_local_entry x) || is_some (home_of f x) && takes_address f r)) same)
+
+-- the first of its own conditions that an entry breaks, by the four tests
+pub own_by : (f : FileFrame) (i place : ℕ) (r : Rel) (a b c d : Bool) → is_none (row_for f r) ≡ a → lies_within f (header_at f.headers i) r ≡ b → is_nameable f r.r_sym ≡ c → is_target_for f r ≡ d
+    → first_broken (own_conditions f i place r)
+    ≡ cond a (Some (reloc_fault RelocKind i place)) (cond (not b) (Some (reloc_fault BadOffset i place)) (cond (not c) (Some (reloc_fault BadTarget i place)) (cond (not d) (Some (reloc_fault TargetKind i place)) None)))
+unfolding own_conditions
+own_by f i place r a b c d listed lies named aimed = rw (listed, lies, named, aimed) refl
+
 -- a field has a byte
 pub wide_field : (f : FileFrame) (i : ℕ) (r : Rel) → IsGood f i r → 1 ≤ width_of f r
 wide_field f i r good = subst (λ (o : Option Row). 1 ≤ option_map_or (λ (x : Row). bytes_of x.width) o 0) (sym good.listed) (by good.row.width)
@@ -107,9 +161,6 @@ own_stops f i k fault busy own =
     busy_fault f i k busy ∙ ap (λ (o : Option Fault). or_else o (first_broken ((meets_upto f i k (reloc_of f i k), reloc_fault Overlap i (reloc_place f i k)) ∷ []))) own
 
 -- ... the bytes of fields
-
-pub taken_none : (f : FileFrame) (i : ℕ) (words : List ℕ) → ((q : ℕ) → has words q ≡ false) → stored_size (header_at f.headers i) ≤ room words → AreTaken f i 0 words
-taken_none f i words none enough = record { fields = bytes_none (span_of f i) words none; room = enough }
 
 pub taken_same : (f : FileFrame) (i k : ℕ) (words : List ℕ) → AreTaken f i k words → span_of f i k ≡ None → AreTaken f i (k + 1) words
 taken_same f i k words are none = record { fields = bytes_same (span_of f i) k words are.fields none; room = are.room }

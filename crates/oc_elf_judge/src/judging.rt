@@ -14,7 +14,7 @@ ghost use Rattle.oc_elf.specs.SymbolRules.{symbol_stage};
 
 use crate::positions::{section_positions, symbol_positions};
 use crate::relocs::{Aims, check_table};
-use crate::section_stage::{Tables, check_sections};
+use crate::section_stage::{Tables, check_sections, table_header};
 use crate::sections::kind_of;
 use crate::symbol_stage::check_symbols;
 use crate::weight::{header_weight, weigh_symbols};
@@ -52,7 +52,7 @@ fn check_relocs_of(
     if !is_kept(frame, keep, i) {
         return Ok(());
     }
-    let table = frame.header(tables.get(i).unwrap_or(0));
+    let table = table_header(frame, tables.get(i));
     match check_table(alloc, frame, aims, i, &table) {
         Err(stop) => Err(stop),
         Ok(()) => Ok(()),
@@ -109,7 +109,7 @@ pub fn check_rest(alloc: Global, frame: &Frame, keep: &Keep) -> Result<Found, St
         Err(stop) => return Err(stop),
         Ok(tables) => tables,
     };
-    let table = frame.header(tables.symtab.unwrap_or(0));
+    let table = table_header(frame, tables.symtab);
     weigh_symbols(frame, &table, names)?;
     match check_symbols(alloc, frame, &table) {
         Err(stop) => return Err(stop),

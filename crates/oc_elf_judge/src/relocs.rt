@@ -1,18 +1,24 @@
 //! Relocation entries, and the conditions on each.
-ghost use Rattle.std.specs.Prelude.{◌≡◌, ◌+◌, ◌*◌, ◌<◌, ◌≤◌, ◌^◌, length, is_some, None, Some, IfErr, OnOk};
+ghost use Rattle.std.specs.Prelude.{◌≡◌, ◌+◌, ◌<◌, ◌≤◌, ◌^◌, ◌&&◌, ◌||◌, not, nat_eq, nat_le, is_some, None, Some, IfErr, IfOk, IfSome, OnOk};
 ghost use Rattle.oc_base.specs.Stops.{IsStop};
 ghost use Rattle.oc_linking.specs.Numbers.{first_upto};
 ghost use Rattle.oc_linking.specs.FirstFault.{first_broken};
+ghost use Rattle.oc_linking.specs.declared.terms.Base.TheVariants.{Address};
+ghost use Rattle.oc_neutral.specs.Rows.{same_base};
+ghost use Rattle.oc_neutral.specs.declared.elf.TheConstants as elf;
+ghost use Rattle.oc_elf.specs.CarriedSymbols as symbols;
+ghost use Rattle.oc_elf.specs.Entries.{is_local_entry};
 ghost use Rattle.oc_elf.specs.Fields as fields;
 ghost use Rattle.oc_elf.specs.Frames.{header_at};
 ghost use Rattle.oc_elf_judge.specs.Known.{AreTaken, IsAimed, IsTable};
 ghost use Rattle.oc_elf.specs.RelocRules as rules;
+ghost use Rattle.oc_elf.specs.Sections.{is_type};
 ghost use Rattle.oc_elf.specs.Tables as tables;
 
 use crate::homes::home_of;
 use crate::symbols::{entry_of, is_local, is_section_symbol, symbol_count};
 use oc_base::{Code, Fault, Phase, Stop};
-use oc_elf::{Frame, R_NONE, Rel, Shdr, meaning_of, rel_at, rel_size};
+use oc_elf::{Frame, R_NONE, Rel, Shdr, Sym, meaning_of, rel_at, rel_size};
 use oc_neutral::Base;
 use oc_neutral::elf::SHT_NOBITS;
 use oc_shelf::{Bitmap, Slots};
@@ -53,34 +59,6 @@ pub fn is_idle(r: &Rel) -> bool
     r.r_type == R_NONE
 }
 
-// whether its type has a row
-fn has_row(frame: &Frame, r: &Rel) -> bool
-    ensures { result ≡ is_some (fields.row_for frame.now r.now) }
-{
-    meaning_of(frame.class(), r.r_type).is_some()
-}
-
-/// How many bytes its field has; 0 where its type has no row. Constant time.
-pub(crate) fn width_of(frame: &Frame, r: &Rel) -> u32
-    ensures width { result ≡ fields.width_of frame.now r.now }
-    ensures small { result ≤ 8 }
-{
-    match meaning_of(frame.class(), r.r_type) {
-        Some(meaning) => meaning.form.width.bytes(),
-        None => 0,
-    }
-}
-
-// whether the value of its type begins with the address of the target
-fn takes_address(frame: &Frame, r: &Rel) -> bool
-    ensures { result ≡ rules.takes_address frame.now r.now }
-{
-    match meaning_of(frame.class(), r.r_type) {
-        Some(meaning) => matches!(meaning.form.base, Base::Address),
-        None => false,
-    }
-}
-
 // the fault of an entry of section `i` with this code and place
 fn reloc_fault(code: Code, i: u32, place: u64) -> Fault
     ensures { result ≡ rules.reloc_fault code i place }
@@ -104,11 +82,10 @@ fn stored_size(s: &Shdr) -> u64
     }
 }
 
-// whether the field lies in bytes of the file that are its section's
-fn lies_within(frame: &Frame, s: &Shdr, r: &Rel) -> bool
-    ensures { result ≡ rules.lies_within frame.now s.now r.now }
+// whether a field of so many bytes lies in bytes of the file that are its section's
+fn lies_within(s: &Shdr, r: &Rel, width: u64) -> bool
+    ensures { result ≡ (not (is_type elf.SHT_NOBITS s.now) && nat_le (r.now.r_offset + width) s.now.sh_size) }
 {
-    let width = u64::from(width_of(frame, r));
     s.sh_type != SHT_NOBITS && width <= s.sh_size && r.r_offset <= s.sh_size - width
 }
 
@@ -124,51 +101,56 @@ pub struct Aims<'a> {
     pub symbols: &'a Slots,
 }
 
-// whether symbol `j` can be named
+// symbol `j`, where it can be named
 #[tactic(auto, unfolding(oc_elf::specs::RelocRules::is_nameable))]
-fn is_nameable(frame: &Frame, aims: &Aims, j: u32) -> bool
+fn named_symbol(frame: &Frame, aims: &Aims, j: u32) -> Option<Sym>
     requires { IsAimed frame.now aims.now.table.now aims.now.sections.now aims.now.symbols.now }
-    ensures { result ≡ rules.is_nameable frame.now j }
+    ensures named { is_some result ≡ rules.is_nameable frame.now j }
+    ensures entry { IfSome result (λ s. s ≡ tables.entry_of frame.now j) }
 {
     if j >= symbol_count(frame, aims.table) {
-        return false;
+        return None;
     }
-    j == 0 || aims.symbols.get(j).is_some() || is_section_symbol(&entry_of(frame, aims.table, j))
-}
-
-// whether its symbol, which exists, can be the target of an entry
-#[tactic(auto, unfolding(oc_elf::specs::RelocRules::is_target_for))]
-fn is_target_for(frame: &Frame, aims: &Aims, r: &Rel) -> bool
-    requires aims { IsAimed frame.now aims.now.table.now aims.now.sections.now aims.now.symbols.now }
-    requires there { r.now.r_sym < tables.symbol_count frame.now }
-    ensures { result ≡ rules.is_target_for frame.now r.now }
-{
-    if r.r_sym == 0 {
-        return false;
-    }
-    let s = entry_of(frame, aims.table, r.r_sym);
-    !is_local(&s) || home_of(frame, aims.sections, &s).is_some() && takes_address(frame, r)
-}
-
-// the fault of the conditions that an entry meets by itself
-#[tactic(auto, unfolding(oc_elf::specs::RelocRules::own_conditions))]
-fn own_fault(frame: &Frame, aims: &Aims, i: u32, place: u64, r: &Rel) -> Option<Fault>
-    requires { IsAimed frame.now aims.now.table.now aims.now.sections.now aims.now.symbols.now }
-    ensures { result ≡ first_broken (rules.own_conditions frame.now i place r.now) }
-{
-    if !has_row(frame, r) {
-        return Some(reloc_fault(Code::RelocKind, i, place));
-    }
-    if !lies_within(frame, &frame.header(i), r) {
-        return Some(reloc_fault(Code::BadOffset, i, place));
-    }
-    if !is_nameable(frame, aims, r.r_sym) {
-        return Some(reloc_fault(Code::BadTarget, i, place));
-    }
-    if !is_target_for(frame, aims, r) {
-        return Some(reloc_fault(Code::TargetKind, i, place));
+    let s = entry_of(frame, aims.table, j);
+    if j == 0 || aims.symbols.get(j).is_some() || is_section_symbol(&s) {
+        return Some(s);
     }
     None
+}
+
+// whether symbol `j`, which is `s`, can be the target of an entry whose value begins with this
+fn is_target(frame: &Frame, aims: &Aims, j: u32, s: &Sym, base: Base) -> bool
+    requires { IsAimed frame.now aims.now.table.now aims.now.sections.now aims.now.symbols.now }
+    ensures { result ≡ (not (nat_eq j 0) && (not (is_local_entry s.now) || is_some (symbols.home_of frame.now s.now) && same_base base Address)) }
+{
+    j != 0
+        && (!is_local(s)
+            || home_of(frame, aims.sections, s).is_some() && matches!(base, Base::Address))
+}
+
+// how many bytes the field of an entry has, where it meets its own conditions
+fn own_width(frame: &Frame, aims: &Aims, i: u32, place: u64, r: &Rel) -> Result<u64, Fault>
+    requires { IsAimed frame.now aims.now.table.now aims.now.sections.now aims.now.symbols.now }
+    ensures clean { OnOk result (first_broken (rules.own_conditions frame.now i place r.now) ≡ None) }
+    ensures width { IfOk result (λ width. width ≡ fields.width_of frame.now r.now) }
+    ensures fault { IfErr result (λ fault. first_broken (rules.own_conditions frame.now i place r.now) ≡ Some fault) }
+{
+    let meaning = match meaning_of(frame.class(), r.r_type) {
+        Some(meaning) => meaning,
+        None => return Err(reloc_fault(Code::RelocKind, i, place)),
+    };
+    let width = u64::from(meaning.form.width.bytes());
+    if !lies_within(&frame.header(i), r, width) {
+        return Err(reloc_fault(Code::BadOffset, i, place));
+    }
+    let s = match named_symbol(frame, aims, r.r_sym) {
+        Some(s) => s,
+        None => return Err(reloc_fault(Code::BadTarget, i, place)),
+    };
+    if !is_target(frame, aims, r.r_sym, &s, meaning.form.base) {
+        return Err(reloc_fault(Code::TargetKind, i, place));
+    }
+    Ok(width)
 }
 
 // judges entry `k`, where the bytes of the fields before are taken, and takes its own
@@ -194,11 +176,11 @@ fn judge_entry(
         return Ok(());
     }
     let place = reloc_place(frame, i, table, k);
-    match own_fault(frame, aims, i, place, &r) {
-        Some(fault) => return Err(Stop::Refused(fault)),
-        None => (),
-    }
-    let end = r.r_offset + u64::from(width_of(frame, &r));
+    let width = match own_width(frame, aims, i, place, &r) {
+        Err(fault) => return Err(Stop::Refused(fault)),
+        Ok(width) => width,
+    };
+    let end = r.r_offset + width;
     if bytes.is_met(r.r_offset, end) {
         return Err(Stop::Refused(reloc_fault(Code::Overlap, i, place)));
     }

@@ -1,5 +1,6 @@
 //! The stage of section headers.
 ghost use Rattle.std.specs.Prelude.{◌≡◌, ◌+◌, ◌<◌, ◌≤◌, length, if◌then◌else◌, true, None, Some, slice_set, IfErr, IfOk, IfNone, OnOk};
+ghost use Rattle.std.specs.Option.{unwrap_or};
 ghost use Rattle.oc_base.specs.declared.limits.TheConstants.{MOST_CONTENTS};
 ghost use Rattle.oc_base.specs.Stops.{IsStop};
 ghost use Rattle.oc_linking.specs.Numbers.{or_else};
@@ -15,7 +16,7 @@ ghost use Rattle.oc_elf.specs.SectionRules as rules;
 use crate::groups::group_fault;
 use crate::sections::{Sums, carried_fault, counted, form_fault, table_fault};
 use oc_base::{Fault, Stop};
-use oc_elf::{Frame, SHT_SYMTAB, first_of, reloc_type};
+use oc_elf::{Frame, SHT_SYMTAB, Shdr, first_of, reloc_type};
 use oc_shelf::{Slots, earlier};
 use std::alloc::Global;
 
@@ -28,6 +29,14 @@ pub struct Tables {
     pub relocs: Slots,
     /// The group of each section.
     pub owners: Slots,
+}
+
+/// The header of a table that may be absent: header 0, which describes nothing, where it is. Constant
+/// time.
+pub fn table_header(frame: &Frame, number: Option<u32>) -> Shdr
+    ensures { result ≡ header_at frame.now.headers (unwrap_or number 0) }
+{
+    frame.header(number.unwrap_or(0))
 }
 
 // the fault of the conditions on section `k`, where `first` is the first symbol table before, and

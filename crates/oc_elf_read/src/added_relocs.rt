@@ -18,7 +18,7 @@ ghost use Rattle.oc_elf.specs.Tables.{reloc_count, symbol_count};
 use crate::built_relocs::{in_order, reloc_for};
 use oc_base::NoMemory;
 use oc_elf::{Frame, Shdr};
-use oc_elf_judge::{Aims, is_kept, reloc_of};
+use oc_elf_judge::{Aims, is_kept, reloc_of, table_header};
 use oc_neutral::{Builder, Keep};
 use oc_shelf::{PlacedEntry, Slots};
 use std::alloc::Global;
@@ -125,7 +125,7 @@ fn add_relocs_of(
     if !is_kept(frame, keep, i) {
         return Ok(());
     }
-    let table = frame.header(tables.get(i).unwrap_or(0));
+    let table = table_header(frame, tables.get(i));
     let place = RelocSection {
         number: i,
         position: aims.sections.get(i).unwrap(),

@@ -20,6 +20,16 @@ use oc_neutral::{Binding, Builder, Fallback, Mark, Symbol, Value, Visibility};
 use oc_shelf::Slots;
 use std::alloc::Global;
 
+// A symbol that all modules see (gABI, "Symbol Visibility").
+const STV_DEFAULT: u8 = 0;
+// A symbol that no other module sees, with what the processor's supplement adds (gABI, "Symbol
+// Visibility").
+const STV_INTERNAL: u8 = 1;
+// A symbol that no other module sees (gABI, "Symbol Visibility").
+const STV_HIDDEN: u8 = 2;
+// A symbol that other modules see, and do not define instead (gABI, "Symbol Visibility").
+const STV_PROTECTED: u8 = 3;
+
 // the value that a section or the number ABS gives
 fn value_of(frame: &Frame, positions: &Slots, s: &Sym) -> Option<Value>
     requires positions { AreSlots (position_of frame.now) (length frame.now.headers) positions.now }
@@ -111,10 +121,11 @@ fn visibility_of(s: &Sym) -> Visibility
     ensures { result ≡ entries.visibility_of s.now }
 {
     match s.st_other % 4 {
-        0 => Visibility::Default,
-        1 => Visibility::Internal,
-        2 => Visibility::Hidden,
-        _ => Visibility::Protected,
+        STV_DEFAULT => Visibility::Default,
+        STV_INTERNAL => Visibility::Internal,
+        STV_HIDDEN => Visibility::Hidden,
+        STV_PROTECTED => Visibility::Protected,
+        _ => unreachable!(),
     }
 }
 

@@ -12,7 +12,7 @@ use crate::added_relocs::add_relocations;
 use crate::started::start;
 use oc_base::{NoMemory, Stop};
 use oc_elf::{ElfClass, Frame, read_frame};
-use oc_elf_judge::{Aims, Found, check_rest};
+use oc_elf_judge::{Aims, Found, check_rest, table_header};
 use oc_neutral::{Keep, Neutral, are_bytes};
 use oc_shows::Reads;
 use std::alloc::Global;
@@ -26,7 +26,7 @@ fn object_of(alloc: Global, frame: &Frame, keep: &Keep, found: &Found) -> Result
 {
     frame.is_frame();
     are_bytes(frame.file());
-    let table = frame.header(found.tables.symtab.unwrap_or(0));
+    let table = table_header(frame, found.tables.symtab);
     let mut builder = start(alloc, frame, &table, &found.tables.owners, &found.sections)?;
     builder.is_draft();
     let aims = Aims {

@@ -1,9 +1,10 @@
 //! How the form and the addend of a relocation are written (i386 and x86-64 psABI, "Relocation Types").
 ghost use Rattle.std.specs.Prelude.{◌≡◌};
 ghost use Rattle.oc_elf_file.specs.Bodies as bodies;
+ghost use Rattle.oc_elf_write.specs.Raws.{IsHeld};
 
 use oc_algebra::{residue, to_field};
-use oc_base::{Format, Word};
+use oc_base::Word;
 use oc_elf::{ElfClass, R_NONE};
 use oc_neutral::Reloc;
 use oc_target::{Spelling, lookup};
@@ -19,14 +20,12 @@ pub(crate) fn type_of(class: ElfClass, reloc: Reloc) -> u32
     }
 }
 
-/// The number in the field of a relocation of ELF32, 0 where that has no such form. Constant time.
+/// The number in the field of a relocation of ELF32: its addend, which the field holds. Constant time.
 pub(crate) fn field_number(reloc: Reloc) -> u64
+    requires { IsHeld reloc }
     ensures { result ≡ bodies.field_number reloc }
 {
-    match lookup(Format::Elf32, reloc.form, reloc.hint) {
-        Ok(_) => to_field(Word::W32, reloc.form.width, 0, reloc.addend).unwrap_or(0),
-        Err(_) => 0,
-    }
+    to_field(Word::W32, reloc.form.width, 0, reloc.addend).unwrap()
 }
 
 /// The addend in the entry of a relocation: ELF32 has none. Constant time.

@@ -18,8 +18,7 @@ fn no_members(alloc: Global, groups: u32) -> Result<Vec<Vec<u32>>, NoMemory>
     ensures each { IfOk result (λ words. (g : ℕ) → g < groups → items_at words.items g ≡ GRP_COMDAT ∷ []) }
 {
     let mut words = Vec::with_capacity(alloc, groups as usize)?;
-    for g in 0..groups {
-        let _ = g;
+    for _ in 0..groups {
         words.push(vec![in alloc; GRP_COMDAT; 1]?)?;
     }
     Ok(words)

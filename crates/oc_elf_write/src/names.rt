@@ -3,7 +3,7 @@ ghost use Rattle.std.specs.Prelude.{◌≡◌, ◌++◌, ℕ, List, IfOk, IsSome
 ghost use Rattle.oc_elf_file.specs.Heads as elf_heads;
 ghost use Rattle.oc_elf_file.specs.Symbols as symbols;
 ghost use Rattle.oc_elf_write.specs.Heads.{head_in};
-ghost use Rattle.oc_elf_write.specs.Strings.{table_with};
+ghost use Rattle.oc_elf_write.specs.Strings.{HasPlace, table_with};
 
 use crate::heads::Head;
 use oc_base::{Bytes, NoMemory, Word};
@@ -12,12 +12,16 @@ use oc_neutral::Neutral;
 use oc_strings::Table;
 use std::alloc::Global;
 
-/// The offset of a name in a string table; 0, where the empty name lies, if it was not given. It is
-/// looked for first at the position `near` among the given names: time as for `Table::offset_near`.
+/// The offset of a name in a string table; the empty one lies before those that were given. Others are
+/// looked for first at the position `near` among these: time as for `Table::offset_near`.
 pub(crate) fn offset_in(names: &Table, near: usize, name: &[u8]) -> u32
+    requires { HasPlace names.now name.now }
     ensures { (given : List (List ℕ)) → names.now ≡ table_with given → result ≡ symbols.offset_in given name.now }
 {
-    names.offset_near(near, name).unwrap_or(0)
+    if name.is_empty() {
+        return 0;
+    }
+    names.offset_near(near, name).unwrap()
 }
 
 // what comes before the name of a section in that of its relocation table

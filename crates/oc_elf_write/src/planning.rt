@@ -1,6 +1,7 @@
 //! Planning the canonical ELF file of an object that is ready to be written.
 ghost use Rattle.std.specs.Prelude.{◌≡◌, IfOk, map};
-ghost use Rattle.oc_elf.specs.Classes.{format_of};
+ghost use Rattle.oc_target.specs.Fitted.{IsFitted};
+ghost use Rattle.oc_elf.specs.Classes.{format_of, word_of};
 ghost use Rattle.oc_shelf.specs.Writing.Parts.{file_of};
 ghost use Rattle.oc_elf_file.specs.Canonical.{elf_file};
 ghost use Rattle.oc_elf_file.specs.Layout.{parts_of};
@@ -17,7 +18,7 @@ use crate::lines::lines_of;
 use crate::numbers::Numbers;
 use crate::plan::{ElfParts, Plan};
 use crate::raw::with_addends;
-use oc_base::{NoMemory, Word};
+use oc_base::NoMemory;
 use oc_elf::ElfClass;
 use oc_neutral::{Neutral, Section};
 use oc_shelf::Layout;
@@ -25,12 +26,13 @@ use oc_target::Fitted;
 use std::alloc::Global;
 
 // the sections of an object, with the addends in their fields where the entries have none
-fn sections_of(word: Word, neutral: Neutral) -> Vec<Section>
-    ensures { map (λ s. s.bytes) result.items ≡ all_raws word neutral }
+fn sections_of(class: ElfClass, neutral: Neutral) -> Vec<Section>
+    requires { IsFitted (format_of class) neutral }
+    ensures { map (λ s. s.bytes) result.items ≡ all_raws (word_of class) neutral }
 {
     neutral.is_object();
     let (_groups, sections, _symbols, relocs) = neutral.into_parts();
-    with_addends(word, &relocs, sections)
+    with_addends(class.word(), &relocs, sections)
 }
 
 // what the file of an object is made of, and where its parts stand
@@ -58,7 +60,7 @@ fn made_of(alloc: Global, class: ElfClass, fitted: Fitted) -> Result<(ElfParts, 
     };
     let shdrs = stored_shdrs(alloc, class, neutral, made, &heads, &layout.places)?;
     let ehdr = file_header(class, count, layout.places[1 + heads.len()]);
-    let sections = sections_of(class.word(), fitted.into_neutral());
+    let sections = sections_of(class, fitted.into_neutral());
     let parts = ElfParts {
         class,
         ehdr,

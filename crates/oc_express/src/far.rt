@@ -8,11 +8,11 @@ ghost use Rattle.oc_neutral.specs.Families.{family_of};
 ghost use Rattle.oc_neutral.specs.HomeNames.{output_names};
 ghost use Rattle.oc_target.specs.Far.{lies_far, lies_far_in};
 
-use crate::strings::{default_names, given_names, is_tabled};
 use oc_base::{Bytes, Format, NoMemory};
 use oc_neutral::Neutral;
 use oc_neutral::coff::{MOST_NAME_OFFSET, STRINGS_HEAD};
 use oc_strings::offsets;
+use oc_target::{default_names, given_names, is_tabled};
 use std::alloc::Global;
 
 // whether an offset has more digits than a section header has room for

@@ -7,7 +7,6 @@ ghost use Rattle.oc_linking.specs.FirstFault.{first_broken};
 ghost use Rattle.oc_linking.specs.Numbers.{first_upto};
 ghost use Rattle.oc_neutral.specs.Faces as faces;
 ghost use Rattle.oc_neutral.specs.HomeNames.{output_names};
-ghost use Rattle.oc_neutral.specs.KeySymbols.{has_key_symbol};
 ghost use Rattle.oc_neutral.specs.Objects.{Object};
 ghost use Rattle.oc_neutral.specs.Relocated.{is_relocated};
 ghost use Rattle.oc_neutral.specs.Families as families;
@@ -17,7 +16,7 @@ ghost use Rattle.oc_neutral.specs.Omf.Family as omf;
 ghost use Rattle.oc_neutral.specs.TargetSections as conditions;
 ghost use Rattle.oc_neutral.specs.Tests as tests;
 ghost use Rattle.oc_target.specs.Far.{lies_far};
-ghost use Rattle.oc_target.specs.Cut.{is_cut_key};
+ghost use Rattle.oc_express.specs.Marked.{AreCut, AreKeyed};
 
 use oc_base::{Bytes, Code, Fault, Format, Phase, Spot};
 use oc_neutral::{Kind, Neutral, Section, coff, elf};
@@ -69,11 +68,9 @@ fn is_unavailable(target: Format, kind: Kind) -> bool
 }
 
 // whether the section is a member of a group whose key has a NUL; `cut` tells this for each group
-fn has_cut_key(neutral: &Neutral, section: &Section, cut: &[bool]) -> bool
-    requires { (g : ℕ) → slice_index_or cut.now g false ≡ is_cut_key neutral.now g }
-    ensures { result ≡ option_map_or rules.has_nul (option_and_then (faces.key_of neutral.now.groups) section.now.group) false }
+fn has_cut_key(section: &Section, cut: &[bool]) -> bool
+    ensures { (n : Object) → AreCut n cut.now → result ≡ option_map_or rules.has_nul (option_and_then (faces.key_of n.groups) section.now.group) false }
 {
-    let _ = neutral;
     match section.group {
         Some(group) => is_marked(cut, group as usize),
         None => false,
@@ -81,11 +78,10 @@ fn has_cut_key(neutral: &Neutral, section: &Section, cut: &[bool]) -> bool
 }
 
 // whether the name has a NUL, or the key of the section's group has one
-fn is_cut(neutral: &Neutral, name: &[u8], section: &Section, cut: &[bool]) -> bool
-    requires { (g : ℕ) → slice_index_or cut.now g false ≡ is_cut_key neutral.now g }
-    ensures { result ≡ tests.is_cut neutral.now name.now section.now }
+fn is_cut(name: &[u8], section: &Section, cut: &[bool]) -> bool
+    ensures { (n : Object) → AreCut n cut.now → result ≡ tests.is_cut n name.now section.now }
 {
-    has_nul(name) || has_cut_key(neutral, section, cut)
+    has_nul(name) || has_cut_key(section, cut)
 }
 
 /// Whether a name is longer than one of OMF can be. Constant time.
@@ -97,17 +93,8 @@ pub(crate) fn is_too_long(name: &[u8]) -> bool
 
 // whether the target cannot write the name of a section, or the key of its group; `far` tells whether
 // the name lies too far in the target's string table
-fn is_name_form(
-    target: Format,
-    neutral: &Neutral,
-    name: &[u8],
-    section: &Section,
-    far: bool,
-    cut: &[bool],
-) -> bool
-    requires far { far ≡ lies_far target neutral.now name.now }
-    requires cut { (g : ℕ) → slice_index_or cut.now g false ≡ is_cut_key neutral.now g }
-    ensures { result ≡ conditions.is_name_form target neutral.now name.now section.now }
+fn is_name_form(target: Format, name: &[u8], section: &Section, far: bool, cut: &[bool]) -> bool
+    ensures { (n : Object) → far ≡ lies_far target n name.now → AreCut n cut.now → result ≡ conditions.is_name_form target n name.now section.now }
 {
     match target {
         Format::Elf32
@@ -115,9 +102,9 @@ fn is_name_form(
         | Format::BigElf32
         | Format::BigElf64
         | Format::Mac32
-        | Format::Mac64 => { is_cut(neutral, name, section, cut) }
+        | Format::Mac64 => { is_cut(name, section, cut) }
         Format::Coff32 | Format::Coff64 | Format::BigCoff32 | Format::BigCoff64 => is_cut(
-            neutral, name, section, cut,
+            name, section, cut,
         ) || far,
         Format::Omf => is_too_long(name),
     }
@@ -125,11 +112,9 @@ fn is_name_form(
 
 // whether the target cannot write a member of that group; `keyed` tells for each group whether it
 // has its key symbol
-fn lacks_member(target: Format, neutral: &Neutral, group: u32, keyed: &[bool]) -> bool
-    requires { (g : ℕ) → slice_index_or keyed.now g false ≡ has_key_symbol neutral.now g }
-    ensures { result ≡ (family_of target).lacks_member neutral.now group }
+fn lacks_member(target: Format, group: u32, keyed: &[bool]) -> bool
+    ensures { (n : Object) → AreKeyed n keyed.now → result ≡ (family_of target).lacks_member n group }
 {
-    let _ = neutral;
     match target {
         Format::Elf32 | Format::Elf64 | Format::BigElf32 | Format::BigElf64 => false,
         Format::Coff32 | Format::Coff64 | Format::BigCoff32 | Format::BigCoff64 => !is_marked(
@@ -141,12 +126,11 @@ fn lacks_member(target: Format, neutral: &Neutral, group: u32, keyed: &[bool]) -
 }
 
 // whether the section is a member of a group, which the target cannot write
-fn is_group_form(target: Format, neutral: &Neutral, section: &Section, keyed: &[bool]) -> bool
-    requires { (g : ℕ) → slice_index_or keyed.now g false ≡ has_key_symbol neutral.now g }
-    ensures { result ≡ conditions.is_group_form target neutral.now section.now }
+fn is_group_form(target: Format, section: &Section, keyed: &[bool]) -> bool
+    ensures { (n : Object) → AreKeyed n keyed.now → result ≡ conditions.is_group_form target n section.now }
 {
     match section.group {
-        Some(group) => lacks_member(target, neutral, group, keyed),
+        Some(group) => lacks_member(target, group, keyed),
         None => false,
     }
 }
@@ -163,8 +147,8 @@ fn code_of(
     cut: &[bool],
 ) -> Option<Code>
     requires far { far ≡ lies_far target neutral.now name.now }
-    requires keyed { (g : ℕ) → slice_index_or keyed.now g false ≡ has_key_symbol neutral.now g }
-    requires cut { (g : ℕ) → slice_index_or cut.now g false ≡ is_cut_key neutral.now g }
+    requires keyed { AreKeyed neutral.now keyed.now }
+    requires cut { AreCut neutral.now cut.now }
     ensures { option_map (fault_at (conditions.section_spot section.now)) result ≡ first_broken (conditions.section_conditions target neutral.now name.now section.now) }
 {
     let from = neutral.format();
@@ -176,9 +160,9 @@ fn code_of(
         Some(Code::KindUnavailable)
     } else if section.align > most_align(target) {
         Some(Code::AlignTooBig)
-    } else if is_name_form(target, neutral, name, section, far, cut) {
+    } else if is_name_form(target, name, section, far, cut) {
         Some(Code::NameForm)
-    } else if is_group_form(target, neutral, section, keyed) {
+    } else if is_group_form(target, section, keyed) {
         Some(Code::GroupForm)
     } else {
         None
@@ -221,8 +205,8 @@ pub(crate) fn sections_fault(
 ) -> Option<Fault>
     requires names { names.now ≡ output_names target neutral.now }
     requires far { (i : ℕ) → slice_index_or far.now i false ≡ lies_far target neutral.now (get_or names.now i []) }
-    requires keyed { (g : ℕ) → slice_index_or keyed.now g false ≡ has_key_symbol neutral.now g }
-    requires cut { (g : ℕ) → slice_index_or cut.now g false ≡ is_cut_key neutral.now g }
+    requires keyed { AreKeyed neutral.now keyed.now }
+    requires cut { AreCut neutral.now cut.now }
     ensures { result ≡ first_upto (λ i. first_broken (conditions.conditions_at target neutral.now i)) (length neutral.now.sections) }
 {
     for k in 0..neutral.section_count() {

@@ -191,10 +191,3 @@ module _ (n : Object) (fine : IsObject n) (x : Placing) where
   exports_are entries index =
       entries_are entries (λ k d l. index.each k d l)
       ∙ ap (flat_map (name_text (word_for n.format) (exports (word_for n.format) (laid n x) (given n x) (shown_symbols n)))) (ordered n fine entries index)
-
--- an entry is of a symbol that is there
-pub entry_there : (n : Object) (entries : List Named) → IsIndex (names_of (shown_symbols n)) entries → (k : ℕ) (d : Named) → k < length entries → (get_or entries k d).at < length n.symbols
-entry_there n entries index k d l =
-    let low = named_within (names_of (shown_symbols n)) (get_or entries k d).at (get_or entries k d).name.now (index.each k d l) in
-    let e = length-names n in
-    omega (arith, low, e)

@@ -33,10 +33,6 @@ hex_of_byte b small = elim (cases_lt b 16) [
   | inr high ↦ ap padded (hex_two_digits false b high small) ∙ two_padded (digit (b / 16)) (digit (b % 16))
 ]
 
--- a digit is a character of ASCII
-pub digit_ascii : (d : ℕ) → d < 16 → digit d < 128
-digit_ascii d low = grind (arith, low)
-
 -- two digits put after a text
 pub two_digits : (old : List ℕ) (b c d : ℕ) → b < 256 → c ≡ digit (b / 16) → d ≡ digit (b % 16) → (old ++ c ∷ []) ++ d ∷ [] ≡ old ++ hex 2 b
 two_digits old b c d small is own = append_assoc old (c ∷ []) (d ∷ []) ∙ ap (λ x. old ++ x ∷ d ∷ []) is ∙ ap (λ x. old ++ digit (b / 16) ∷ x ∷ []) own ∙ ap (λ xs. old ++ xs) (sym (hex_of_byte b small))

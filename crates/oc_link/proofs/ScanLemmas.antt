@@ -58,20 +58,3 @@ emptied_at discarded s (suc k) i (x ∷ xs) c at here = emptied_at discarded (s 
 pub length-emptied : (discarded : ℕ → Bool) (s : ℕ) (xs : List (List ℕ)) → length (emptied discarded s xs) ≡ length xs
 length-emptied discarded s [] = refl
 length-emptied discarded s (x ∷ xs) = ap suc (length-emptied discarded (s + 1) xs)
-
--- what is left of a list from a position on
-pub drop_here : {X : Type 0} (xs : List X) (k : ℕ) (x : X) → slice_get xs k ≡ Some x → drop k xs ≡ x ∷ drop (k + 1) xs
-drop_here [] k x here = absurd (none-some x here)
-drop_here (y ∷ ys) zero x here = ap (λ z. z ∷ ys) (same_Some y x here)
-drop_here (y ∷ ys) (suc k) x here = let e : suc (k + 1) ≡ suc k + 1 = omega arith in drop_here ys k x here ∙ ap (λ i. x ∷ drop i (y ∷ ys)) e
-
--- a section without one that passes is passed over
-pub section_passed : (test : Patch → Bool) (patches : Patches) (k : ℕ) (xs : List (List ℕ)) (c : List ℕ) → slice_get xs k ≡ Some c → first_at test (patches k) (length c) ≡ None
-    → first_field test patches k (drop k xs) ≡ first_field test patches (k + 1) (drop (k + 1) xs)
-section_passed test patches k xs c here none =
-    ap (first_field test patches k) (drop_here xs k c here) ∙ ap (λ o. or_else (option_map (λ at. (k, at)) o) (first_field test patches (k + 1) (drop (k + 1) xs))) none
-
-pub section_stops : (test : Patch → Bool) (patches : Patches) (k : ℕ) (xs : List (List ℕ)) (c : List ℕ) (at : ℕ) → slice_get xs k ≡ Some c → first_at test (patches k) (length c) ≡ Some at
-    → first_field test patches k (drop k xs) ≡ Some (k, at)
-section_stops test patches k xs c at here some =
-    ap (first_field test patches k) (drop_here xs k c here) ∙ ap (λ o. or_else (option_map (λ at. (k, at)) o) (first_field test patches (k + 1) (drop (k + 1) xs))) some

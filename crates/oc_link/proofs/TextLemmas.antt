@@ -91,12 +91,6 @@ module _ (n : Object) (fine : IsObject n) (x : Placing) (s : ℕ) (y : Section) 
       by true = omega arith
       by false = omega arith
 
-  -- its whole text
-  pub none_is : (laid n x).discarded s ≡ true → [] ≡ section_text_of n x s
-  none_is gone =
-      sym (ap (λ o. option_map_or (λ (z : parts.Section). texts.section_text (word_for n.format) (laid n x) (images n x) (s, z)) o []) (framed n s y here)
-      ∙ ap (λ b. cond b [] (texts.head_text (word_for n.format) s ((laid n x).site s).address y.size ++ texts.image_text y.kind (get_or (images n x) s []))) gone)
-
   pub whole_is : (laid n x).discarded s ≡ false → (spot : Spot) → slice_get x.spots s ≡ Some spot
       → texts.head_text (word_for n.format) s spot.address y.size ++ image_text_of n x s ≡ section_text_of n x s
   whole_is keeps spot lies =

@@ -162,15 +162,6 @@ module _ (n : Object) (x : Placing) where
       ap (λ y. unwrap_or y (fallback_site (word_for n.format) (laid n x) (given n x) (shown_symbols n) (shown_fallback n.symbols f))) (sym (gives (ap is_local is)))
       ∙ ap (site_in n x name) (sym is)
 
--- a section that is taken is there
-pub less_there : (n : Object) (count : ℕ) (l : Less) → count ≡ length n.sections → IsLessThere n l → IsLessIn count l
-less_there n count (less.Section k) same is = omega (arith, same, is)
-less_there n count less.Zero same is = tt
-less_there n count less.Place same is = tt
-less_there n count less.GotBase same is = tt
-less_there n count less.ImageBase same is = tt
-less_there n count less.Home same is = tt
-
 -- a field with its value
 pub patch_is : (n : Object) (x : Placing) (s : ℕ) (f : Field Reloc) (t : TargetValue) (w : Word) (base addend taken r : ℕ) → w ≡ word_for n.format
     → as_valued t ≡ target_worth n.symbols (laid n x) (valued n x) f.item.target → base ≡ base_of (laid n x) (as_valued t) f.item.form.base → addend ≡ residue_of w f.item.addend

@@ -36,17 +36,6 @@ refused_outcome : (o p : Option (List ℕ)) (f : Fault) → IsSomeAnd o (λ b. o
 refused_outcome None p f is = absurd is
 refused_outcome (Some b) p f is = ap (object_outcome b p) is
 
--- an object without a placement
-unplaced_outcome : (o p : Option (List ℕ)) → IsSomeAnd o (λ b. object_refusal b ≡ None) → p ≡ None → outcome_of o p ≡ Absent
-unplaced_outcome None p is gone = absurd is
-unplaced_outcome (Some b) p is gone = ap (object_outcome b p) is ∙ ap (placement_outcome b) gone
-
--- an object at a placement that is too long
-long_outcome : (o p : Option (List ℕ)) → IsSomeAnd o (λ b. object_refusal b ≡ None) → IsSomeAnd p (λ t. 67108864 < length t) → outcome_of o p ≡ Misplacement long_text
-long_outcome None p is long = absurd is
-long_outcome (Some b) None is long = absurd long
-long_outcome (Some b) (Some t) is long = ap (object_outcome b (Some t)) is ∙ ap (λ x. cond x (Misplacement long_text) (outcome_from b t (identified b))) (lt-ltb 67108864 (length t) long)
-
 -- what placing gives an object is what it gives the file
 text_agrees : (f : Dialect) (b : List ℕ) (n : Object) → ((x : Placing) → link_text_of n x ≡ link_text_in f b x) → (r : Result Placing Bad) → linking_outcome f b r ≡ text_outcome n r
 text_agrees f b n texts (Ok x) = ap LinkText (sym (texts x))
@@ -85,37 +74,6 @@ module _ (footprints : FootprintsAgree) (texts : TextsAgree) where
   text_explained object placement files n before after t fault.TooLong fine is held short why = absurd why
   text_explained object placement files n before after t (fault.Placement line code) fine is held short why =
       outcome_of_files object placement files n t (Misplacement (placement_text line code)) fine is held short why
-
--- files are told where one of them is absent
-absent_outcome : (object placement name : List ℕ) (files : Option Held) → ((m : Held) → files ≡ Some m → file_of name m ≡ None → ComesOf object placement Absent m) → IsAbsent name files
-    → IsAbsence object placement files
-absent_outcome object placement name None comes absent = absurd absent
-absent_outcome object placement name (Some m) comes absent = comes m refl absent
-
--- why an object was not read
-pub input_explained : (object placement : List ℕ) (files : Option Held) (before after : ℕ) (f : InputFault) → reports.Explains object_refusal object files before after f
-    → Explains object placement files before after (fault.Input f)
-input_explained object placement files before after (input.Refused f) why = why
-input_explained object placement files before after input.Unread (inl rose) = inl rose
-input_explained object placement files before after input.Unread (inr absent) =
-    inr (absent_outcome object placement object files (λ m told gone. ap (λ o. outcome_of o (file_of placement m)) gone) absent)
-input_explained object placement files before after input.NoMemory why = tt
-
--- a count that rose at last rose in all
-rose_later : (before middle after : ℕ) → before ≤ middle → Rose middle after → Rose before after
-rose_later before middle after later rose = search rules
-
--- why a placement was not read
-pub placement_explained : (object placement : List ℕ) (files : Option Held) (n : Object) (before middle after : ℕ) (f : LinkFault) → before ≤ middle → IsObjectOf object files n
-    → ExplainsPlacement placement files middle after f → Explains object placement files before after f
-placement_explained object placement files n before middle after (fault.Input (input.Refused f)) later is why = absurd why
-placement_explained object placement files n before middle after (fault.Input input.Unread) later is (inl rose) = inl (rose_later before middle after later rose)
-placement_explained object placement files n before middle after (fault.Input input.Unread) later is (inr absent) =
-    inr (absent_outcome object placement placement files (λ m told gone. unplaced_outcome (file_of object m) (file_of placement m) (is.accepted.held m told) gone) absent)
-placement_explained object placement files n before middle after (fault.Input input.NoMemory) later is why = tt
-placement_explained object placement files n before middle after fault.TooLong later is why =
-    λ m told. long_outcome (file_of object m) (file_of placement m) (is.accepted.held m told) (why m told)
-placement_explained object placement files n before middle after (fault.Placement line code) later is why = absurd why
 
 -- a file that is refused for its length is too long
 long_refusal : (b : List ℕ) (f : Fault) → length_refusal b ≡ Some f → 67108864 < length b

@@ -166,6 +166,7 @@ impl<'a> Frame<'a> {
         requires is { h.now ≡ (framed.table_at self.now i).header }
         ensures { length (framed.table_at self.now i).relocs ≡ h.now.nreloc }
     {
+        // read for the proof: the invariant of the struct, and the range of the field
         let _ = (self.nsects, i, h.nreloc);
     }
 
@@ -176,6 +177,7 @@ impl<'a> Frame<'a> {
         requires stored { is_zerofill h.now ≡ false }
         ensures { length (framed.table_at self.now i).raw ≡ h.now.size }
     {
+        // read for the proof: the invariant of the struct, and the range of the field
         let _ = (self.nsects, i, h.size);
     }
 }

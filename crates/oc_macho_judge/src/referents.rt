@@ -57,10 +57,9 @@ pub fn is_own(alloc: Global, frame: &Frame, s: &Nlist) -> Result<bool, NoMemory>
 
 // what a symbol that is carried is
 #[tactic(auto, unfolding(oc_macho::specs::Symbols::binding_of))]
-fn carried_referent(frame: &Frame, s: &Nlist) -> Referent
-    ensures { result ≡ referents.of_binding (symbols.binding_of frame.now s.now) }
+fn carried_referent(s: &Nlist) -> Referent
+    ensures { (t : Tables) → result ≡ referents.of_binding (symbols.binding_of t s.now) }
 {
-    let _ = frame;
     if is_external(s) {
         return external_referent(s);
     }
@@ -98,7 +97,7 @@ fn symbol_referent(alloc: Global, frame: &Frame, j: u32) -> Result<Referent, NoM
     if is_stab(&s) || !is_external(&s) && is_nameless(frame, &s) {
         return Ok(Referent::Nothing);
     }
-    Ok(carried_referent(frame, &s))
+    Ok(carried_referent(&s))
 }
 
 // what section number `k` is

@@ -259,10 +259,6 @@ module _ (w : Word) (file : List ℕ) (bytes : AreBytes file) (keep : Keep) (cle
       by None g h = absurd (none-some x h)
       by (Some s) g h = of s g (same_Some (stored_section [] s) x h)
 
-  word_of : t.word ≡ w
-  unfolding tables_of
-  word_of = refl
-
   pub readable : IsReadable object
   unfolding tables_of
   readable = record {

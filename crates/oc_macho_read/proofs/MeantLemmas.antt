@@ -3,7 +3,7 @@ use Rattle.std.proofs.Common.{Bool, List, None, Option, Some, ap, arith, cond, f
 use Rattle.std.proofs.lemmas.Bool.{ne_eqb}
 use Rattle.std.proofs.lemmas.Option.{none-some, same_Some, slice_get_within}
 use Rattle.std.specs.Option.{option_and_then, option_map, option_map_or, unwrap_or}
-use Rattle.std.specs.Prelude.{is_some, ◌+ℤ◌}
+use Rattle.std.specs.Prelude.{IsSome, is_some, ◌+ℤ◌}
 use Rattle.oc_algebra.proofs.Laws.{reduced_same, residue_less}
 use Rattle.oc_algebra.specs.Fields.{extended}
 use Rattle.oc_algebra.specs.Residues.{reduced_number, residue_of}
@@ -15,12 +15,12 @@ use Rattle.oc_linking.specs.Numbers.{minus}
 use Rattle.oc_linking.specs.declared.terms.Keep.{Keep}
 use Rattle.oc_linking.specs.declared.terms.Less.{Less}
 use Rattle.oc_macho_judge.proofs.SectionLemmas.{there}
-use Rattle.oc_macho.specs.Aims.{aim_in, fixed_place, target_in}
+use Rattle.oc_macho.specs.Aims.{aim_in, fixed_place, numbered_aim, target_in}
 use Rattle.oc_macho.specs.Entries.{row_for, taken_entry, taken_reference, target_entry}
 use Rattle.oc_macho.specs.Fields.{FieldParts, added_by, counted_of, field_parts_by, given_back, taken_section, number_of}
 use Rattle.oc_macho.specs.Framed.{IsTable, table_at}
 use Rattle.oc_macho.specs.Meanings.{meaning_of, meant_by}
-use Rattle.oc_macho.specs.Sections.{address_of, contents_of, is_zerofill}
+use Rattle.oc_macho.specs.Sections.{address_of, contents_of, holder_of, is_zerofill}
 use Rattle.oc_macho.specs.Symbols.{binding_of, is_type, offset_of}
 use Rattle.oc_macho.specs.Tables.{SectionTable, Tables}
 use Rattle.oc_macho.specs.declared.constants.TheConstants.{N_ABS}
@@ -129,6 +129,15 @@ aimed_low t j aimed = by (named_is t j aimed.aim aimed.is)
     by : IsNamed t j aimed.aim → j < length t.symbols
     by (Carried m) = slice_get_within t.symbols j m.nlist m.there
     by (Own s here left offset m counted) = slice_get_within t.symbols j s here
+
+-- a section holds the address of one
+pub aimed_held : (t : Tables) (v : ℕ) → IsAimed t (reference.Address v) → IsSome (holder_of t v)
+unfolding aim_in
+aimed_held t v aimed = by (holder_of t v) aimed.is
+  where
+    by : (o : Option ℕ) → option_and_then (numbered_aim t) o ≡ Some (Some aimed.aim) → IsSome o
+    by None is = absurd (none-some (Some aimed.aim) is)
+    by (Some k) is = refl
 
 pub taken_aimed : (t : Tables) (item : Item) (r : Reference) → AreAimed t item → taken_reference t.word item ≡ Some r → IsAimed t r
 taken_aimed t item r aimed is = let m = aimed.taken r is in record { aim = m.aim; is = m.is }

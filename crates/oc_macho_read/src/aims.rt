@@ -1,7 +1,7 @@
 //! What relocation entries refer to, as building asks for it.
 ghost use Rattle.std.specs.Prelude.{◌≡◌, ◌<◌, length};
 ghost use Rattle.oc_shelf.specs.Reading.Slots.{AreSlots};
-ghost use Rattle.oc_macho.specs.declared.relocation_info.Reference.TheVariants.{Symbol};
+ghost use Rattle.oc_macho.specs.declared.relocation_info.Reference.TheVariants.{Address, Symbol};
 ghost use Rattle.oc_macho_judge.specs.Holders.{AreHolders};
 ghost use Rattle.std.specs.Option.{unwrap_or};
 ghost use Rattle.oc_macho.specs.Sections.{holder_of};
@@ -27,10 +27,12 @@ pub(crate) struct Aim {
     pub(crate) beyond: u64,
 }
 
-/// What is looked up in a file: the positions of its carried symbols, and which section holds an
-/// address.
+/// What relocations are made by beside the file: which sections are kept, the positions of the carried
+/// symbols, and which section holds an address.
 #[derive(Clone, Copy)]
 pub(crate) struct Known<'a> {
+    /// The kinds of sections that are kept.
+    pub(crate) keep: Keep,
     /// The position of each symbol among the carried ones, by its number.
     pub(crate) positions: &'a Slots,
     /// The sections by the addresses that the file gives to them.
@@ -52,23 +54,23 @@ fn section_aim(frame: &Frame, k: u32) -> Aim
 
 // the section that holds an address
 fn holder_aim(frame: &Frame, holders: &Holders, v: u32) -> Aim
-    requires { AreHolders frame.now holders.now }
+    requires holders { AreHolders frame.now holders.now }
+    requires aimed { given.IsAimed frame.now (Address v) }
     ensures { result ≡ given.section_aim frame.now (unwrap_or (holder_of frame.now v) 0) }
 {
-    let k = holders.holder(v).unwrap_or(0);
+    let k = holders.holder(v).unwrap();
     section_aim(frame, k)
 }
 
 // symbol `j`; one that is not carried stands for its section
-fn symbol_aim(frame: &Frame, keep: &Keep, positions: &Slots, j: u32) -> Aim
-    requires positions { AreSlots (symbol_position frame.now keep.now) (length frame.now.symbols) positions.now }
+fn symbol_aim(frame: &Frame, known: &Known, j: u32) -> Aim
+    requires positions { AreSlots (symbol_position frame.now known.now.keep) (length frame.now.symbols) known.now.positions.now }
     requires there { j < length frame.now.symbols }
-    ensures { result ≡ given.aim_for frame.now keep.now (Symbol j) }
+    ensures { result ≡ given.aim_for frame.now known.now.keep (Symbol j) }
 {
-    let _ = keep;
     let s = frame.symbol(j);
     let section = u32::from(s.n_sect).saturating_sub(1);
-    let target = match positions.get(j) {
+    let target = match known.positions.get(j) {
         Some(position) => Target::Symbol(position),
         None => Target::Section(section),
     };
@@ -82,28 +84,28 @@ fn symbol_aim(frame: &Frame, keep: &Keep, positions: &Slots, j: u32) -> Aim
 
 /// What a reference is to, where a field can refer so. Constant time for a symbol or a section's
 /// number; for an address that of a look-up among the sections.
-pub(crate) fn aim_of(frame: &Frame, keep: &Keep, known: &Known, r: Reference) -> Aim
-    requires positions { AreSlots (symbol_position frame.now keep.now) (length frame.now.symbols) known.now.positions.now }
+pub(crate) fn aim_of(frame: &Frame, known: &Known, r: Reference) -> Aim
+    requires positions { AreSlots (symbol_position frame.now known.now.keep) (length frame.now.symbols) known.now.positions.now }
     requires holders { AreHolders frame.now known.now.holders.now }
     requires aimed { given.IsAimed frame.now r }
-    ensures { result ≡ given.aim_for frame.now keep.now r }
+    ensures { result ≡ given.aim_for frame.now known.now.keep r }
 {
     match r {
-        Reference::Symbol(j) => symbol_aim(frame, keep, known.positions, j),
+        Reference::Symbol(j) => symbol_aim(frame, known, j),
         Reference::Section(k) => section_aim(frame, k),
         Reference::Address(v) => holder_aim(frame, known.holders, v),
     }
 }
 
 /// What a pair takes. The time is that of `aim_of`.
-pub(crate) fn taken_aim(frame: &Frame, keep: &Keep, known: &Known, item: &Item) -> Option<Aim>
-    requires positions { AreSlots (symbol_position frame.now keep.now) (length frame.now.symbols) known.now.positions.now }
+pub(crate) fn taken_aim(frame: &Frame, known: &Known, item: &Item) -> Option<Aim>
+    requires positions { AreSlots (symbol_position frame.now known.now.keep) (length frame.now.symbols) known.now.positions.now }
     requires holders { AreHolders frame.now known.now.holders.now }
     requires aimed { given.AreAimed frame.now item.now }
-    ensures { result ≡ given.taken_aim frame.now keep.now item.now }
+    ensures { result ≡ given.taken_aim frame.now known.now.keep item.now }
 {
     match item.taken(frame.word()) {
-        Some(r) => Some(aim_of(frame, keep, known, r)),
+        Some(r) => Some(aim_of(frame, known, r)),
         None => None,
     }
 }

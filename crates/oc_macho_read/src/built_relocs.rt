@@ -22,7 +22,7 @@ use oc_algebra::{extend, field_at, reduce};
 use oc_base::{NoMemory, Word};
 use oc_macho::{Frame, Item, Meaning, SectionHeader, meaning_of};
 use oc_macho_judge::{begins_behind, item_of};
-use oc_neutral::{Form, Keep, Less, Reloc, Width};
+use oc_neutral::{Form, Less, Reloc, Width};
 use oc_shelf::{PlacedEntry, sort_by_place};
 use std::alloc::Global;
 
@@ -147,7 +147,6 @@ fn reloc_as(word: Word, site: Site, meaning: &Meaning, target: &Aim, taken: Opti
 // the relocation of the entries of a field of section `i` with that meaning
 fn reloc_with(
     frame: &Frame,
-    keep: &Keep,
     known: &Known,
     i: u32,
     h: &SectionHeader,
@@ -156,12 +155,12 @@ fn reloc_with(
 ) -> Reloc
     requires read { AreRead frame.now }
     requires table { IsTable frame.now i h.now }
-    requires positions { AreSlots (symbol_position frame.now keep.now) (length frame.now.symbols) known.now.positions.now }
+    requires positions { AreSlots (symbol_position frame.now known.now.keep) (length frame.now.symbols) known.now.positions.now }
     requires holders { AreHolders frame.now known.now.holders.now }
     requires aimed { given.AreAimed frame.now item.now }
     requires stored { sections.is_zerofill h.now ≡ false }
     requires inside { item.now.first.r_address + bytes_of meaning.now.form.width ≤ h.now.size }
-    ensures { result ≡ given.reloc_of_item frame.now keep.now i (table_at frame.now i) item.now meaning.now }
+    ensures { result ≡ given.reloc_of_item frame.now known.now.keep i (table_at frame.now i) item.now meaning.now }
 {
     let word = frame.word();
     let at = item.first.r_address;
@@ -170,8 +169,8 @@ fn reloc_with(
         at,
         number: number_in(frame.raw(i, h), at, meaning.form.width),
     };
-    let target = aim_of(frame, keep, known, item.target(word));
-    let taken = taken_aim(frame, keep, known, item);
+    let target = aim_of(frame, known, item.target(word));
+    let taken = taken_aim(frame, known, item);
     reloc_as(word, site, meaning, &target, taken)
 }
 
@@ -179,7 +178,6 @@ fn reloc_with(
 /// their type is not known. The time is that of `aim_of`.
 pub(crate) fn reloc_for(
     frame: &Frame,
-    keep: &Keep,
     known: &Known,
     i: u32,
     h: &SectionHeader,
@@ -187,14 +185,14 @@ pub(crate) fn reloc_for(
 ) -> Option<Reloc>
     requires read { AreRead frame.now }
     requires table { IsTable frame.now i h.now }
-    requires positions { AreSlots (symbol_position frame.now keep.now) (length frame.now.symbols) known.now.positions.now }
+    requires positions { AreSlots (symbol_position frame.now known.now.keep) (length frame.now.symbols) known.now.positions.now }
     requires holders { AreHolders frame.now known.now.holders.now }
     requires aimed { given.AreAimed frame.now item.now }
     requires inside { rules.is_outside h.now item.now ≡ false }
-    ensures { result ≡ given.reloc_by frame.now keep.now i (table_at frame.now i) item.now }
+    ensures { result ≡ given.reloc_by frame.now known.now.keep i (table_at frame.now i) item.now }
 {
     match meaning_of(frame.word(), &item.first) {
-        Some(meaning) => Some(reloc_with(frame, keep, known, i, h, item, &meaning)),
+        Some(meaning) => Some(reloc_with(frame, known, i, h, item, &meaning)),
         None => None,
     }
 }

@@ -1,5 +1,6 @@
 //! The sections of the object.
 ghost use Rattle.std.specs.Prelude.{◌≡◌, ◌+◌, ◌<◌, ◌≤◌, ◌^◌, ◌++◌, [], ◌∷◌, length, replicate, if◌then◌else◌, None, IfOk, OnOk};
+ghost use Rattle.oc_base.specs.declared.limits.TheConstants.{MOST_INPUT};
 ghost use Rattle.oc_linking.specs.FirstFault.{stage_fault};
 ghost use Rattle.oc_neutral.specs.Building.{is_zero};
 ghost use Rattle.oc_neutral.specs.Mach.Kinds as kinds;
@@ -81,13 +82,12 @@ fn add_section(alloc: Global, frame: &Frame, builder: &mut Builder, i: u32) -> R
     requires tables { AreRead frame.now }
     requires clean { stage_fault (section_stage frame.now) ≡ None }
     requires there { i < length frame.now.sections }
+    requires few { length frame.now.sections ≤ MOST_INPUT }
     requires before { builder.old ≡ sectioned frame.now i }
     ensures { OnOk result (builder.new ≡ sectioned frame.now (i + 1)) }
 {
     let h = frame.section(i);
     frame.has_entries(i, &h);
-    let count = frame.section_count();
-    let _ = count;
     let section = section_of(alloc, frame, i, &h)?;
     builder.add_clean_section(section)?;
     Ok(())

@@ -7,9 +7,9 @@ ghost use Rattle.oc_macho.specs.SectionFaults.{section_stage};
 ghost use Rattle.oc_macho.specs.SymbolFaults.{symbol_stage};
 ghost use Rattle.oc_macho.specs.Symbols as symbols;
 ghost use Rattle.oc_macho_read.specs.Built as built;
-ghost use Rattle.oc_macho_read.specs.Pins.{ArePins};
 
 use crate::bindings::binding_of;
+use crate::pins::pins_of;
 use oc_base::{Bytes, NoMemory};
 use oc_macho::{Frame, N_PEXT, Nlist, has};
 use oc_macho_judge::{is_external, is_own, is_stab, name_of};
@@ -58,60 +58,33 @@ fn symbol_of(
     })
 }
 
-// adds symbol `j`, where it is carried, and its position to the slots
-fn add_symbol(
-    alloc: Global,
-    frame: &Frame,
-    keep: &Keep,
-    pins: &[bool],
-    builder: &mut Builder,
-    positions: &mut Slots,
-    j: u32,
-) -> Result<(), NoMemory>
-    requires sections { stage_fault (section_stage frame.now) ≡ None }
-    requires symbols { stage_fault (symbol_stage frame.now) ≡ None }
-    requires there { j < length frame.now.symbols }
-    requires pins { ArePins frame.now keep.now pins.now }
-    requires before { builder.old ≡ built.symboled frame.now keep.now j }
-    requires positions { AreSlots (built.symbol_position frame.now keep.now) j positions.old }
-    ensures added { OnOk result (builder.new ≡ built.symboled frame.now keep.now (j + 1)) }
-    ensures placed { OnOk result (AreSlots (built.symbol_position frame.now keep.now) (j + 1) positions.new) }
-{
-    let count = frame.symbol_count();
-    let _ = keep;
-    let _ = count;
-    let s = frame.symbol(j);
-    let carried = is_carried(alloc, frame, &s)?;
-    if !carried {
-        positions.push(None)?;
-        return Ok(());
-    }
-    let symbol = symbol_of(alloc, frame, pins[j as usize], j, &s)?;
-    let position = builder.add_new_symbol(symbol)?;
-    positions.push(Some(position))?;
-    Ok(())
-}
-
 /// Adds the carried symbols, and gives the position of each, by its number. `NoMemory` where memory
-/// ran out. Linear in the symbols and their names.
+/// ran out. Linear in the symbols and their names, the sections and the relocation entries.
 pub(crate) fn add_symbols(
     alloc: Global,
     frame: &Frame,
     keep: &Keep,
-    pins: &[bool],
     builder: &mut Builder,
 ) -> Result<Slots, NoMemory>
     requires sections { stage_fault (section_stage frame.now) ≡ None }
     requires symbols { stage_fault (symbol_stage frame.now) ≡ None }
-    requires pins { ArePins frame.now keep.now pins.now }
     requires before { builder.old ≡ built.symboled frame.now keep.now 0 }
     ensures added { OnOk result (builder.new ≡ built.started frame.now keep.now) }
     ensures placed { IfOk result (λ positions. AreSlots (built.symbol_position frame.now keep.now) (length frame.now.symbols) positions) }
 {
+    let pins = pins_of(alloc, frame, keep)?;
     let mut positions = Slots::empty(alloc, 0)?;
     let count = frame.symbol_count();
     for j in 0..count {
-        add_symbol(alloc, frame, keep, pins, builder, &mut positions, j)?;
+        let s = frame.symbol(j);
+        let carried = is_carried(alloc, frame, &s)?;
+        if !carried {
+            positions.push(None)?;
+            continue;
+        }
+        let symbol = symbol_of(alloc, frame, pins[j as usize], j, &s)?;
+        let position = builder.add_new_symbol(symbol)?;
+        positions.push(Some(position))?;
     }
     Ok(positions)
 }

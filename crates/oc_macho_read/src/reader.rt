@@ -11,13 +11,11 @@ ghost use Rattle.oc_macho.specs.Tables.{tables_of};
 ghost use Rattle.oc_macho_judge.specs.Holders.{AreHolders};
 ghost use Rattle.oc_macho_read.specs.Adding.{IsClean};
 ghost use Rattle.oc_macho_read.specs.Built as built;
-ghost use Rattle.oc_macho_read.specs.Pins.{ArePins};
 
 use crate::added_relocs::add_relocations;
 use crate::aims::Known;
 use crate::built_sections::add_sections;
 use crate::built_symbols::add_symbols;
-use crate::pins::pins_of;
 use oc_base::{NoMemory, Stop, Word};
 use oc_macho::{Frame, format_of};
 use oc_macho_judge::{Found, judged};
@@ -35,36 +33,29 @@ fn start(alloc: Global, frame: &Frame, keep: &Keep) -> Result<(Builder, Slots), 
 {
     let mut builder = Builder::new(alloc, format_of(frame.word()));
     add_sections(alloc, frame, &mut builder)?;
-    let pins = pins_of(alloc, frame, keep)?;
-    let positions = add_symbols(alloc, frame, keep, pins.as_slice(), &mut builder)?;
+    let positions = add_symbols(alloc, frame, keep, &mut builder)?;
     Ok((builder, positions))
 }
 
 // the object of a file of that word without faults, by what is found in it
-fn object_of(
-    alloc: Global,
-    word: Word,
-    file: &[u8],
-    found: &Found,
-    keep: &Keep,
-) -> Result<Neutral, NoMemory>
-    requires tables { found.now.frame ≡ tables_of word file.now }
+fn object_of(alloc: Global, file: &[u8], found: &Found, keep: &Keep) -> Result<Neutral, NoMemory>
+    requires tables { found.now.frame ≡ tables_of found.now.frame.word file.now }
     requires holders { AreHolders found.now.frame found.now.holders }
     requires clean { first_fault (rest_stages found.now.frame keep.now) ≡ None }
-    ensures shows { IfOk result (Shows (mach_dialect word) file.now keep.now) }
+    ensures shows { IfOk result (Shows (mach_dialect found.now.frame.word) file.now keep.now) }
     ensures readable { IfOk result IsReadable }
 {
-    let _ = word;
     are_bytes(file);
     let (mut builder, positions) = start(alloc, &found.frame, keep)?;
     builder.is_draft();
-    let count = found.frame.symbol_count();
-    let _ = count;
+    // the proof asks that there are few
+    let _count = found.frame.symbol_count();
     let known = Known {
+        keep: *keep,
         positions: &positions,
         holders: &found.holders,
     };
-    add_relocations(alloc, &found.frame, keep, &known, &mut builder)?;
+    add_relocations(alloc, &found.frame, &known, &mut builder)?;
     Ok(builder.finish())
 }
 
@@ -77,7 +68,7 @@ fn read_bytes(alloc: Global, word: Word, bytes: &[u8], keep: &Keep) -> Result<Ne
     ensures fault { IfErr result (IsStop (fault_of word bytes.now keep.now)) }
 {
     let found = judged(alloc, word, bytes, keep)?;
-    Ok(object_of(alloc, word, bytes, &found, keep)?)
+    Ok(object_of(alloc, bytes, &found, keep)?)
 }
 
 /// The reader of Mach-O objects of 32 bits, for i386.

@@ -1,7 +1,8 @@
 -- The names that are given to the string table have room.
-use Rattle.std.proofs.Common.{◌≡◌, ℕ, suc, ◌+◌, ◌*◌, ◌^◌, ◌<◌, ◌≤◌, Bool, true, false, ◌&&◌, cond, List, [], ◌∷◌, ◌++◌, length, map, Some, refl, ap, arith, length-append}
+use Rattle.std.proofs.Common.{◌≡◌, ℕ, zero, suc, ◌+◌, ◌*◌, ◌^◌, ◌<◌, ◌≤◌, Bool, true, false, ◌&&◌, cond, List, [], ◌∷◌, ◌++◌, length, map, Some, refl, sym, ap, subst, arith, length-append}
 use Rattle.std.specs.Prelude.{slice_get, codes, decimal}
-use Rattle.std.specs.List.{sum_by, enumerate_from, filter}
+use Rattle.std.specs.List.{Contains, sum_by, enumerate_from, filter}
+use Rattle.std.proofs.lemmas.Option.{none-some, same_Some}
 use Rattle.std.proofs.lemmas.Fmt.{length-decimal-le}
 use Rattle.std.proofs.lemmas.List.{length-map}
 use Rattle.std.proofs.lemmas.List.Sums.{sum_by-cons}
@@ -103,3 +104,13 @@ module _ (w : Word) (n : Object) (is : IsForMach w n) where
       let few = few_lines w n is in
       let bounds = is.meets.bounds in
       omega (arith, a, b, c, d, e, own, la, lb, f, g, h, i, j, few, bounds.symbols, bounds.texts)
+
+-- the name of a line is one of them
+pub named_among : (w : Word) (n : Object) (k : ℕ) (x : Line) (names : List (List ℕ)) → names ≡ line_names w n → slice_get (lines_of w n) k ≡ Some x → Contains names (line_name x)
+unfolding line_names
+named_among w n k x names are here = subst (λ (ns : List (List ℕ)). Contains ns (line_name x)) (sym are) (among (lines_of w n) k here)
+  where
+    among : (xs : List Line) (k : ℕ) → slice_get xs k ≡ Some x → Contains (map line_name xs) (line_name x)
+    among [] k here = absurd (none-some x here)
+    among (y ∷ ys) zero here = (0, omega arith, ap line_name (same_Some y x here))
+    among (y ∷ ys) (suc k) here = let m = among ys k here in (suc m.0, omega (arith, m.1), m.2)

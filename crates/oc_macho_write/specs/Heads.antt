@@ -10,7 +10,20 @@ use Rattle.oc_macho_file.specs.Canonical.{file_header, section_headers, symtab_c
 use Rattle.oc_macho_file.specs.Layout.{segment_length, contents_begin}
 use Rattle.oc_macho_file.specs.Lines.{inner_lines, defined_lines, undefined_lines}
 use Rattle.oc_macho.specs.declared.structures.Dysymtab.{Dysymtab}
+use Rattle.oc_target.specs.Fitted.{IsFitted}
+use Rattle.oc_macho.specs.MachHeader.{mach_format}
+use Rattle.oc_macho_write.specs.declared.headers.Output.{Output}
 use Rattle.oc_macho_write.specs.declared.heads.Heads.{Heads}
+use Rattle.oc_macho_write.specs.Addresses.{AreAllAddresses}
+use Rattle.oc_macho_write.specs.Bodies.{AreBodies}
+use Rattle.oc_macho_write.specs.Places.{ArePlaces}
+
+-- the object is ready for Mach-O, and all this was made of it
+pub record IsOutput (x : Output) : Type 0 where
+  pub fitted : IsFitted (mach_format x.word) x.neutral.now
+  pub addresses : AreAllAddresses x.neutral.now x.addresses.now
+  pub bodies : AreBodies x.word x.neutral.now x.bodies.now
+  pub places : ArePlaces x.word x.neutral.now x.places.now
 
 -- the command for the segment
 abbrev pub segment_of : Word → Object → SegmentCommand

@@ -7,6 +7,8 @@ use Rattle.oc_neutral.specs.Bindings.{is_zero}
 use Rattle.oc_neutral.specs.Dressing.{is_common}
 use Rattle.oc_shows.specs.SymbolLines.{is_defined, is_undefined, is_weak_with}
 use Rattle.oc_neutral.specs.Objects.{Object}
+use Rattle.oc_target.specs.Fitted.{IsFitted}
+use Rattle.oc_macho.specs.MachHeader.{mach_format}
 use Rattle.oc_macho_file.specs.Lines as lines
 use Rattle.oc_macho_write.specs.declared.lines.Line.{Line}
 use Rattle.oc_macho_write.specs.declared.lines.Line.TheVariants as line
@@ -30,6 +32,12 @@ AreAdded n these old new = lines_in n new ≡ lines_in n old ++ map Some these
 -- these are the lines of the object, all there
 abbrev pub AreLines : Word → Object → List Line → Type 0
 AreLines w n these = lines_in n these ≡ map Some (lines.lines_of w n)
+
+-- these are the lines of an object that is ready for Mach-O, in one of its words
+pub record AreLinesOf (n : Object) (these : List Line) : Type 0 where
+  pub word : Word
+  pub fitted : IsFitted (mach_format word) n
+  pub lines : AreLines word n these
 
 -- a symbol with that binding is of that kind
 abbrev pub is_outer : Outer → Binding → Bool

@@ -1,13 +1,14 @@
 //! The addresses that an output gives to its sections: from 0 on, those with bytes in the file, and
 //! after them those without (our profile).
 ghost use Rattle.std.specs.Prelude.{◌≡◌, ◌+◌, ◌^◌, ◌<◌, ◌≤◌, ℕ, length, slice_index_or, IfOk};
+ghost use Rattle.oc_base.specs.declared.format.Word.{Word};
 ghost use Rattle.oc_neutral.specs.Building as building;
 ghost use Rattle.oc_target.specs.Fitted.{IsFitted};
 ghost use Rattle.oc_macho.specs.MachHeader.{mach_format};
 ghost use Rattle.oc_macho_file.specs.Addresses.{is_at};
 ghost use Rattle.oc_macho_write.specs.Addresses.{AreAllAddresses, place_or, those_end, those_laid};
 
-use oc_base::{NoMemory, Word};
+use oc_base::NoMemory;
 use oc_neutral::{Kind, Neutral, Section};
 use oc_shelf::aligned_place;
 use std::alloc::Global;
@@ -66,11 +67,10 @@ fn lay_sections(addresses: &mut [u64], neutral: &Neutral, blank: bool, at: u64) 
 impl Addresses {
     /// The addresses of the sections of an object. `NoMemory` where memory ran out. Linear in the
     /// sections.
-    pub(crate) fn of(alloc: Global, word: Word, neutral: &Neutral) -> Result<Addresses, NoMemory>
-        requires { IsFitted (mach_format word) neutral.now }
+    pub(crate) fn of(alloc: Global, neutral: &Neutral) -> Result<Addresses, NoMemory>
+        requires { (word : Word) × IsFitted (mach_format word) neutral.now }
         ensures { IfOk result (λ addresses. AreAllAddresses neutral.now addresses) }
     {
-        let _ = word;
         let mut sections = vec![in alloc; 0; neutral.section_count() as usize]?;
         let stored_end = lay_sections(sections.as_mut_slice(), neutral, false, 0);
         let memory_end = lay_sections(sections.as_mut_slice(), neutral, true, stored_end);

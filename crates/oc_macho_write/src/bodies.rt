@@ -57,9 +57,9 @@ pub(crate) fn bodies_of(
     requires lines { AreLines word neutral.now lines.now }
     ensures { IfOk result (λ bodies. AreBodies word neutral.now bodies) }
 {
-    let numbers = Numbers::of(alloc, word, neutral, lines)?;
-    let strings = strings_of(alloc, word, neutral, lines)?;
-    let nlists = nlists_of(alloc, word, neutral, &strings, &addresses.sections, lines)?;
+    let numbers = Numbers::of(alloc, neutral, lines)?;
+    let strings = strings_of(alloc, neutral, lines)?;
+    let nlists = nlists_of(alloc, neutral, &strings, &addresses.sections, lines)?;
     let context = FieldContext {
         word,
         addresses: &addresses.sections,

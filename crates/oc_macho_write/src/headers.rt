@@ -1,15 +1,11 @@
 //! The file header, the commands and the section headers (Mach-O reference, "mach_header",
 //! "segment_command", "section" and "symtab_command").
 ghost use Rattle.std.specs.Prelude.{◌≡◌, ◌<◌, ◌^◌, ℕ, length, slice_get, Some, IfOk, if◌then◌else◌, nat_eq};
-ghost use Rattle.oc_target.specs.Fitted.{IsFitted};
 ghost use Rattle.oc_neutral.specs.Objects.{Object};
 ghost use Rattle.oc_neutral.specs.declared.section.Section.{Section as Held};
-ghost use Rattle.oc_macho.specs.MachHeader.{mach_format};
 ghost use Rattle.oc_macho_file.specs.Canonical as canonical;
 ghost use Rattle.oc_macho_write.specs.Addresses.{AreAllAddresses};
-ghost use Rattle.oc_macho_write.specs.Bodies.{AreBodies};
 ghost use Rattle.oc_macho_write.specs.Heads as heads;
-ghost use Rattle.oc_macho_write.specs.Places.{ArePlaces};
 
 use crate::addresses::Addresses;
 use crate::bodies::Bodies;
@@ -25,6 +21,21 @@ use oc_macho::{
 };
 use oc_neutral::Neutral;
 use std::alloc::Global;
+
+/// An object that is written, and what was made of it before its headers.
+#[derive(Clone, Copy)]
+pub(crate) struct Output<'a> {
+    /// The word of the file.
+    pub(crate) word: Word,
+    /// The object.
+    pub(crate) neutral: &'a Neutral,
+    /// The addresses of its sections.
+    pub(crate) addresses: &'a Addresses,
+    /// What the file contains besides headers and the bytes of sections.
+    pub(crate) bodies: &'a Bodies,
+    /// Where headers point to.
+    pub(crate) places: &'a Places,
+}
 
 /// The header of a file with so many sections, without flags. Constant time.
 pub(crate) fn file_header(word: Word, sections: usize) -> MachHeader
@@ -69,79 +80,55 @@ fn pointer_to(place: u64, count: usize) -> u32
 }
 
 // the header of the section at a position
-fn section_header(
-    word: Word,
-    neutral: &Neutral,
-    addresses: &Addresses,
-    bodies: &Bodies,
-    places: &Places,
-    position: u32,
-) -> SectionHeader
-    requires fitted { IsFitted (mach_format word) neutral.now }
-    requires addresses { AreAllAddresses neutral.now addresses.now }
-    requires bodies { AreBodies word neutral.now bodies.now }
-    requires places { ArePlaces word neutral.now places.now }
-    requires there { position < length neutral.now.sections }
-    ensures { (s : Held) → slice_get neutral.now.sections position ≡ Some s → result ≡ canonical.section_header word neutral.now (position, s) }
+fn section_header(output: &Output, position: u32) -> SectionHeader
+    requires made { heads.IsOutput output.now }
+    requires there { position < length output.now.neutral.now.sections }
+    ensures { (s : Held) → slice_get output.now.neutral.now.sections position ≡ Some s
+        → result ≡ canonical.section_header output.now.word output.now.neutral.now (position, s) }
 {
-    let _ = word;
-    let section = neutral.section(position);
+    let section = output.neutral.section(position);
     let name = section.name.as_slice();
     let k = position as usize;
-    let count = bodies.relocs[k].len();
+    let count = output.bodies.relocs[k].len();
     SectionHeader {
         sectname: padded(section_of(name)),
         segname: padded(segment_of(name)),
-        addr: addresses.sections[k],
+        addr: output.addresses.sections[k],
         size: u64::from(section.size),
-        offset: places.raws[k] as u32,
+        offset: output.places.raws[k] as u32,
         align: exponent_of(section.align),
-        reloff: pointer_to(places.relocs[k], count),
+        reloff: pointer_to(output.places.relocs[k], count),
         nreloc: count as u32,
         flags: section.tag as u32,
     }
 }
 
-/// The section headers of a file whose parts lie at these places. `NoMemory` where memory ran out.
-/// Linear in the sections.
+/// The section headers of a file. `NoMemory` where memory ran out. Linear in the sections.
 pub(crate) fn section_headers(
     alloc: Global,
-    word: Word,
-    neutral: &Neutral,
-    addresses: &Addresses,
-    bodies: &Bodies,
-    places: &Places,
+    output: &Output,
 ) -> Result<Vec<SectionHeader>, NoMemory>
-    requires fitted { IsFitted (mach_format word) neutral.now }
-    requires addresses { AreAllAddresses neutral.now addresses.now }
-    requires bodies { AreBodies word neutral.now bodies.now }
-    requires places { ArePlaces word neutral.now places.now }
-    ensures { IfOk result (λ headers. headers.items ≡ canonical.section_headers word neutral.now) }
+    requires { heads.IsOutput output.now }
+    ensures { IfOk result (λ headers. headers.items ≡ canonical.section_headers output.now.word output.now.neutral.now) }
 {
-    let mut headers = Vec::with_capacity(alloc, neutral.section_count() as usize)?;
-    for k in 0..neutral.section_count() {
-        headers.push(section_header(word, neutral, addresses, bodies, places, k))?;
+    let count = output.neutral.section_count();
+    let mut headers = Vec::with_capacity(alloc, count as usize)?;
+    for k in 0..count {
+        headers.push(section_header(output, k))?;
     }
     Ok(headers)
 }
 
 /// The command that places symbols and strings. Constant time.
-pub(crate) fn symtab_command(
-    word: Word,
-    neutral: &Neutral,
-    bodies: &Bodies,
-    places: &Places,
-) -> SymtabCommand
-    requires fitted { IsFitted (mach_format word) neutral.now }
-    requires bodies { AreBodies word neutral.now bodies.now }
-    requires places { ArePlaces word neutral.now places.now }
-    ensures { result ≡ canonical.symtab_command word neutral.now }
+pub(crate) fn symtab_command(output: &Output) -> SymtabCommand
+    requires { heads.IsOutput output.now }
+    ensures { result ≡ canonical.symtab_command output.now.word output.now.neutral.now }
 {
-    let _ = neutral;
+    let bodies = output.bodies;
     SymtabCommand {
-        symoff: places.symbols as u32,
+        symoff: output.places.symbols as u32,
         nsyms: bodies.nlists.len() as u32,
-        stroff: places.strings as u32,
-        strsize: strings_size(word, &bodies.strings) as u32,
+        stroff: output.places.strings as u32,
+        strsize: strings_size(output.word, &bodies.strings) as u32,
     }
 }

@@ -1,23 +1,14 @@
 //! The headers and commands of a file together.
 ghost use Rattle.std.specs.Prelude.{◌≡◌, ◌+◌, ◌-◌, ◌^◌, ◌<◌, ◌≤◌, length, IfOk};
-ghost use Rattle.oc_target.specs.Fitted.{IsFitted};
-ghost use Rattle.oc_macho.specs.MachHeader.{mach_format};
 ghost use Rattle.oc_macho_file.specs.Lines as mach_lines;
-ghost use Rattle.oc_macho_write.specs.Addresses.{AreAllAddresses};
-ghost use Rattle.oc_macho_write.specs.Bodies.{AreBodies};
-ghost use Rattle.oc_macho_write.specs.Heads.{AreHeads};
+ghost use Rattle.oc_macho_write.specs.Heads.{AreHeads, IsOutput};
 ghost use Rattle.oc_macho_write.specs.Lines.{AreLines};
-ghost use Rattle.oc_macho_write.specs.Places.{ArePlaces};
 
-use crate::addresses::Addresses;
-use crate::bodies::Bodies;
-use crate::headers::{file_header, section_headers, segment_of_file, symtab_command};
+use crate::headers::{Output, file_header, section_headers, segment_of_file, symtab_command};
 use crate::layout::segment_length;
 use crate::lines::Lines;
-use crate::places::Places;
-use oc_base::{NoMemory, Word};
+use oc_base::NoMemory;
 use oc_macho::{Dysymtab, MachHeader, SectionHeader, SegmentCommand, SymtabCommand};
-use oc_neutral::Neutral;
 use std::alloc::Global;
 
 /// The headers and commands of a file.
@@ -53,33 +44,23 @@ fn dysymtab_of(lines: &Lines) -> Dysymtab
     }
 }
 
-/// The headers and commands of the file of an object, of which this was made. `NoMemory` where memory
-/// ran out. Linear in the sections.
-pub(crate) fn heads_of(
-    alloc: Global,
-    word: Word,
-    neutral: &Neutral,
-    addresses: &Addresses,
-    lines: &Lines,
-    bodies: &Bodies,
-    places: &Places,
-) -> Result<Heads, NoMemory>
-    requires fitted { IsFitted (mach_format word) neutral.now }
-    requires addresses { AreAllAddresses neutral.now addresses.now }
-    requires lines { AreLines word neutral.now lines.now.all.items }
-    requires inner { lines.now.inner ≡ length (mach_lines.inner_lines word neutral.now) }
-    requires defined { lines.now.defined ≡ lines.now.inner + length (mach_lines.defined_lines neutral.now) }
-    requires bodies { AreBodies word neutral.now bodies.now }
-    requires places { ArePlaces word neutral.now places.now }
-    ensures { IfOk result (λ heads. AreHeads word neutral.now heads) }
+/// The headers and commands of the file of an object with these lines. `NoMemory` where memory ran
+/// out. Linear in the sections.
+pub(crate) fn heads_of(alloc: Global, output: &Output, lines: &Lines) -> Result<Heads, NoMemory>
+    requires made { IsOutput output.now }
+    requires lines { AreLines output.now.word output.now.neutral.now lines.now.all.items }
+    requires inner { lines.now.inner ≡ length (mach_lines.inner_lines output.now.word output.now.neutral.now) }
+    requires defined { lines.now.defined ≡ lines.now.inner + length (mach_lines.defined_lines output.now.neutral.now) }
+    ensures { IfOk result (λ heads. AreHeads output.now.word output.now.neutral.now heads) }
 {
-    let count = neutral.section_count() as usize;
+    let word = output.word;
+    let count = output.neutral.section_count() as usize;
     Ok(Heads {
         file: file_header(word, count),
         cmdsize: segment_length(word, count) as u32,
-        segment: segment_of_file(word, count, addresses),
-        sections: section_headers(alloc, word, neutral, addresses, bodies, places)?,
-        symtab: symtab_command(word, neutral, bodies, places),
+        segment: segment_of_file(word, count, output.addresses),
+        sections: section_headers(alloc, output)?,
+        symtab: symtab_command(output),
         dysymtab: dysymtab_of(lines),
     })
 }

@@ -1,5 +1,6 @@
 //! The names of sections in their headers, and of the symbols that stand for them.
 ghost use Rattle.std.specs.Prelude.{◌≡◌, ℕ, List, IfOk};
+ghost use Rattle.std.specs.List.{Contains};
 ghost use Rattle.oc_neutral.specs.Mach.Kinds as kinds;
 ghost use Rattle.oc_neutral.specs.Mach.SectionSymbols.{section_symbol_name};
 ghost use Rattle.oc_macho_file.specs.Layout as layout;
@@ -45,10 +46,11 @@ pub(crate) fn section_of(name: &[u8]) -> &[u8]
     }
 }
 
-/// The offset of a name in a string table; 0, where the empty name lies, if it was not given. It is
-/// looked for first at the position `near` among the given names: time as for `Table::offset_near`.
+/// The offset of a name in a string table, to which it was given. It is looked for first at the
+/// position `near` among the given names: time as for `Table::offset_near`.
 pub(crate) fn offset_in(names: &Table, near: usize, name: &[u8]) -> u32
+    requires { Contains names.now.names name.now }
     ensures { (given : List (List ℕ)) → names.now ≡ table_with given → result ≡ layout.offset_in given name.now }
 {
-    names.offset_near(near, name).unwrap_or(0)
+    names.offset_near(near, name).unwrap()
 }

@@ -1,13 +1,11 @@
 //! The numbers of the symbols in the symbol table (Mach-O reference, "nlist").
 ghost use Rattle.std.specs.Prelude.{◌≡◌, ◌+◌, ◌^◌, ◌<◌, IfOk, length};
 ghost use Rattle.oc_base.specs.declared.format.Word.{Word};
-ghost use Rattle.oc_target.specs.Fitted.{IsFitted};
 ghost use Rattle.oc_neutral.specs.declared.reloc.Target.TheVariants as to;
 ghost use Rattle.oc_neutral.specs.Objects.{Object};
-ghost use Rattle.oc_macho.specs.MachHeader.{mach_format};
 ghost use Rattle.oc_macho_file.specs.Bodies.{reference_to};
 ghost use Rattle.oc_macho_file.specs.Lines as mach_lines;
-ghost use Rattle.oc_macho_write.specs.Lines.{AreLines};
+ghost use Rattle.oc_macho_write.specs.Lines.{AreLines, AreLinesOf};
 ghost use Rattle.oc_macho_write.specs.Numbers.{AreSized, CanGive, HasNumber, IsBlank, IsGiven, IsNumbered};
 
 use crate::lines::Line;
@@ -53,17 +51,10 @@ impl Numbers {
     }
 
     /// The numbers of these lines. `NoMemory` where memory ran out. Linear in the lines.
-    pub(crate) fn of(
-        alloc: Global,
-        word: Word,
-        neutral: &Neutral,
-        lines: &[Line],
-    ) -> Result<Numbers, NoMemory>
-        requires fitted { IsFitted (mach_format word) neutral.now }
-        requires lines { AreLines word neutral.now lines.now }
-        ensures { IfOk result (λ numbers. IsNumbered word neutral.now numbers) }
+    pub(crate) fn of(alloc: Global, neutral: &Neutral, lines: &[Line]) -> Result<Numbers, NoMemory>
+        requires { AreLinesOf neutral.now lines.now }
+        ensures { (w : Word) → AreLines w neutral.now lines.now → IfOk result (λ numbers. IsNumbered w neutral.now numbers) }
     {
-        let _ = word;
         let mut numbers = Numbers::new(alloc, neutral)?;
         for at in 0..lines.len() {
             numbers.give(lines[at], at as u32);

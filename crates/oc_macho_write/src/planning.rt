@@ -12,6 +12,7 @@ ghost use Rattle.oc_macho_write.specs.Values.{AreAddresses};
 use crate::addresses::Addresses;
 use crate::bodies::bodies_of;
 use crate::forms::FieldContext;
+use crate::headers::Output;
 use crate::heads::heads_of;
 use crate::layout::layout_of;
 use crate::lines::lines_of;
@@ -48,13 +49,20 @@ fn made_of(alloc: Global, word: Word, fitted: Fitted) -> Result<(MachParts, Layo
 {
     fitted.is_fitted();
     let neutral = fitted.neutral();
-    let addresses = Addresses::of(alloc, word, neutral)?;
+    let addresses = Addresses::of(alloc, neutral)?;
     let lines = lines_of(alloc, word, neutral)?;
     let bodies = bodies_of(alloc, word, neutral, &addresses, &lines.all)?;
     let parts = parts_of(alloc, neutral)?;
     let layout = layout_of(alloc, word, neutral, &bodies, &parts)?;
     let places = Places::of(alloc, neutral, &parts, &layout.places)?;
-    let heads = heads_of(alloc, word, neutral, &addresses, &lines, &bodies, &places)?;
+    let output = Output {
+        word,
+        neutral,
+        addresses: &addresses,
+        bodies: &bodies,
+        places: &places,
+    };
+    let heads = heads_of(alloc, &output, &lines)?;
     let sections = sections_of(word, &addresses.sections, fitted.into_neutral());
     let parts = MachParts {
         word,

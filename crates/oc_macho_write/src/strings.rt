@@ -1,13 +1,12 @@
 //! The string table (Mach-O reference, "nlist"; our profile).
 ghost use Rattle.std.specs.Prelude.{◌≡◌, ◌+◌, ◌^◌, ◌<◌, ◌≤◌, ◌-◌, Some, IsSome, IfOk, length};
-ghost use Rattle.oc_target.specs.Fitted.{IsFitted};
-ghost use Rattle.oc_macho.specs.MachHeader.{mach_format};
+ghost use Rattle.oc_base.specs.declared.format.Word.{Word};
 ghost use Rattle.oc_shelf.specs.Writing.Parts.{aligned};
 ghost use Rattle.oc_macho.specs.MachHeader.{address_size};
 ghost use Rattle.oc_macho_file.specs.Layout as layout;
 ghost use Rattle.oc_macho_file.specs.Layout.{filled, strings_of};
 ghost use Rattle.oc_macho_file.specs.Lines as mach_lines;
-ghost use Rattle.oc_macho_write.specs.Lines.{AreLines, line_in};
+ghost use Rattle.oc_macho_write.specs.Lines.{AreLines, AreLinesOf, line_in};
 ghost use Rattle.oc_macho_write.specs.Strings.{table_with};
 
 use crate::lines::Line;
@@ -35,37 +34,20 @@ fn line_name(alloc: Global, neutral: &Neutral, line: Line) -> Result<Bytes, NoMe
     }
 }
 
-// the names of these lines
-fn line_names(
-    alloc: Global,
-    word: Word,
-    neutral: &Neutral,
-    lines: &[Line],
-) -> Result<Vec<Bytes>, NoMemory>
-    requires { AreLines word neutral.now lines.now }
-    ensures { IfOk result (λ given. given.items ≡ layout.line_names word neutral.now) }
-{
-    let _ = word;
-    let mut given = Vec::with_capacity(alloc, lines.len())?;
-    for line in lines {
-        given.push(line_name(alloc, neutral, *line)?)?;
-    }
-    Ok(given)
-}
-
 /// The table of the names of these lines. `NoMemory` where memory ran out. Time as for `Table::of`.
 pub(crate) fn strings_of(
     alloc: Global,
-    word: Word,
     neutral: &Neutral,
     lines: &[Line],
 ) -> Result<Table, NoMemory>
-    requires fitted { IsFitted (mach_format word) neutral.now }
-    requires lines { AreLines word neutral.now lines.now }
-    ensures { IfOk result (λ table. table ≡ table_with (layout.line_names word neutral.now)) }
+    requires { AreLinesOf neutral.now lines.now }
+    ensures { (w : Word) → AreLines w neutral.now lines.now → IfOk result (λ table. table ≡ table_with (layout.line_names w neutral.now)) }
 {
-    let given = line_names(alloc, word, neutral, lines)?;
-    Table::of(alloc, STRINGS_HEAD, &given)
+    let mut names = Vec::with_capacity(alloc, lines.len())?;
+    for line in lines {
+        names.push(line_name(alloc, neutral, *line)?)?;
+    }
+    Table::of(alloc, STRINGS_HEAD, &names)
 }
 
 // the size of a string table with the empty name before it

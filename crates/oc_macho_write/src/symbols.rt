@@ -1,20 +1,21 @@
 //! The entries of the symbol table (Mach-O reference, "nlist").
-ghost use Rattle.std.specs.Prelude.{◌≡◌, ◌<◌, ℕ, length, map, Some, IsSome, IfOk};
+ghost use Rattle.std.specs.Prelude.{◌≡◌, ◌+◌, ◌<◌, ℕ, length, map, Some, IsSome, IfOk};
 ghost use Rattle.oc_base.specs.declared.format.Word.{Word};
-ghost use Rattle.oc_target.specs.Fitted.{IsFitted};
+ghost use Rattle.std.specs.List.{Contains};
 ghost use Rattle.oc_neutral.specs.Invariants.{IsBinding};
-ghost use Rattle.oc_macho.specs.MachHeader.{mach_format};
+ghost use Rattle.oc_neutral.specs.Mach.SectionSymbols.{section_symbol_name};
+ghost use Rattle.oc_neutral.specs.Objects.{Object};
 ghost use Rattle.oc_macho_file.specs.Layout as layout;
 ghost use Rattle.oc_macho_file.specs.Lines as mach_lines;
 ghost use Rattle.oc_macho_file.specs.Symbols as symbols;
 ghost use Rattle.oc_macho_write.specs.Lines.{AreLines, IsNamed, line_in};
-ghost use Rattle.oc_macho_write.specs.Strings.{table_with};
+ghost use Rattle.oc_macho_write.specs.Strings.{AreNamedIn, table_with};
 ghost use Rattle.oc_macho_write.specs.Values.{AreAddresses};
 
 use crate::lines::Line;
 use crate::names::{offset_in, section_symbol_name};
 use crate::values;
-use oc_base::{NoMemory, Word};
+use oc_base::NoMemory;
 use oc_macho::Nlist;
 use oc_neutral::{Neutral, Symbol};
 use oc_strings::Table;
@@ -23,18 +24,17 @@ use std::alloc::Global;
 // the entry of the symbol of a section, which lies at its start
 fn own_nlist(
     alloc: Global,
-    neutral: &Neutral,
     names: &Table,
     near: usize,
     addresses: &[u64],
     section: u32,
 ) -> Result<Nlist, NoMemory>
-    requires addresses { AreAddresses neutral.now addresses.now }
-    requires there { section < length neutral.now.sections }
-    ensures { IfOk result (λ nlist. (w : Word) → names.now ≡ table_with (layout.line_names w neutral.now) → nlist ≡ symbols.own_entry w neutral.now section) }
+    requires addresses { (n : Object) × (AreAddresses n addresses.now) × (section < length n.sections) }
+    requires named { Contains names.now.names (section_symbol_name (section + 1)) }
+    ensures { IfOk result (λ nlist. (w : Word) (n : Object) → AreAddresses n addresses.now → names.now ≡ table_with (layout.line_names w n) → nlist ≡ symbols.own_entry w n section) }
 {
     let name = section_symbol_name(alloc, u64::from(section) + 1)?;
-    let stood = values::at_place(neutral, addresses, section, 0);
+    let stood = values::at_place(addresses, section, 0);
     Ok(Nlist {
         n_strx: offset_in(names, near, name.as_slice()),
         n_type: stood.n_type,
@@ -54,6 +54,7 @@ fn symbol_nlist(
 ) -> Nlist
     requires addresses { AreAddresses neutral.now addresses.now }
     requires there { IsBinding neutral.now symbol.now.binding }
+    requires named { Contains names.now.names symbol.now.name }
     ensures { (w : Word) → names.now ≡ table_with (layout.line_names w neutral.now) → result ≡ symbols.symbol_entry w neutral.now symbol.now }
 {
     let stood = values::of_binding(neutral, addresses, symbol.binding);
@@ -79,15 +80,15 @@ fn line_nlist(
     requires addresses { AreAddresses neutral.now addresses.now }
     requires there { IsSome (line_in neutral.now line) }
     requires section { IsNamed neutral.now line }
+    requires named { (is : mach_lines.Line) → line_in neutral.now line ≡ Some is → Contains names.now.names (mach_lines.line_name is) }
     ensures { IfOk result (λ nlist. (w : Word) (is : mach_lines.Line) → names.now ≡ table_with (layout.line_names w neutral.now)
         → line_in neutral.now line ≡ Some is → nlist ≡ symbols.line_entry w neutral.now is) }
 {
     neutral.is_object();
     match line {
-        Line::Own(k) => own_nlist(alloc, neutral, names, near, addresses, k),
-        Line::Local(k) | Line::Outer(k) => {
-            Ok(symbol_nlist(names, near, addresses, neutral, neutral.symbol(k)))
-        }
+        Line::Own(k) => own_nlist(alloc, names, near, addresses, k),
+        Line::Local(k) => Ok(symbol_nlist(names, near, addresses, neutral, neutral.symbol(k))),
+        Line::Outer(k) => Ok(symbol_nlist(names, near, addresses, neutral, neutral.symbol(k))),
     }
 }
 
@@ -96,19 +97,16 @@ fn line_nlist(
 /// in the string table, each where that of its line was given.
 pub(crate) fn nlists_of(
     alloc: Global,
-    word: Word,
     neutral: &Neutral,
     names: &Table,
     addresses: &[u64],
     lines: &[Line],
 ) -> Result<Vec<Nlist>, NoMemory>
-    requires fitted { IsFitted (mach_format word) neutral.now }
-    requires names { names.now ≡ table_with (layout.line_names word neutral.now) }
     requires addresses { AreAddresses neutral.now addresses.now }
-    requires lines { AreLines word neutral.now lines.now }
-    ensures { IfOk result (λ nlists. nlists.items ≡ map (symbols.line_entry word neutral.now) (mach_lines.lines_of word neutral.now)) }
+    requires lines { AreNamedIn names.now neutral.now lines.now }
+    ensures { (w : Word) → names.now ≡ table_with (layout.line_names w neutral.now) → AreLines w neutral.now lines.now
+        → IfOk result (λ nlists. nlists.items ≡ map (symbols.line_entry w neutral.now) (mach_lines.lines_of w neutral.now)) }
 {
-    let _ = word;
     let mut nlists = Vec::with_capacity(alloc, lines.len())?;
     for (k, line) in lines.iter().enumerate() {
         nlists.push(line_nlist(alloc, names, k, addresses, neutral, *line)?)?;

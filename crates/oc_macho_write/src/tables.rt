@@ -69,7 +69,6 @@ impl WritesRows for RelocationRows<'_> {
     }
 
     fn size(&self) -> usize {
-        let _ = &self.entries;
         RELOCATION_INFO_SIZE
     }
 

@@ -3,6 +3,7 @@ ghost use Rattle.std.specs.Prelude.{◌≡◌, ◌*◌, ◌^◌, ◌<◌, ◌≤
 ghost use Rattle.std.specs.Option.{option_map_or};
 ghost use Rattle.oc_neutral.specs.Invariants.{IsBinding, IsFallback, IsValue};
 ghost use Rattle.oc_neutral.specs.KeySymbols as keys;
+ghost use Rattle.oc_neutral.specs.Objects.{Object};
 ghost use Rattle.oc_shows.specs.Manners.{hidden, mach_vis};
 ghost use Rattle.oc_neutral.specs.Normal.{Place as Held};
 ghost use Rattle.oc_macho_file.specs.Symbols as symbols;
@@ -47,17 +48,10 @@ fn elsewhere(size: u64) -> ValueFields
 }
 
 /// An offset in the section at a position, where the sections have these addresses. Constant time.
-pub(crate) fn at_place(
-    neutral: &Neutral,
-    addresses: &[u64],
-    section: u32,
-    offset: u32,
-) -> ValueFields
-    requires addresses { AreAddresses neutral.now addresses.now }
-    requires there { section < length neutral.now.sections }
-    ensures { AreValueFields result (symbols.value_fields_at neutral.now section offset) }
+pub(crate) fn at_place(addresses: &[u64], section: u32, offset: u32) -> ValueFields
+    requires { (n : Object) × (AreAddresses n addresses.now) × (section < length n.sections) }
+    ensures { (n : Object) → AreAddresses n addresses.now → AreValueFields result (symbols.value_fields_at n section offset) }
 {
-    let _ = neutral;
     ValueFields {
         n_type: N_SECT,
         n_sect: (section + 1) as u8,
@@ -66,13 +60,12 @@ pub(crate) fn at_place(
 }
 
 // a value
-fn of_value(neutral: &Neutral, addresses: &[u64], value: Value) -> ValueFields
-    requires addresses { AreAddresses neutral.now addresses.now }
-    requires there { IsValue neutral.now value }
-    ensures { AreValueFields result (symbols.value_fields_by neutral.now value) }
+fn of_value(addresses: &[u64], value: Value) -> ValueFields
+    requires { (n : Object) × (AreAddresses n addresses.now) × IsValue n value }
+    ensures { (n : Object) → AreAddresses n addresses.now → AreValueFields result (symbols.value_fields_by n value) }
 {
     match value {
-        Value::Place { section, offset } => at_place(neutral, addresses, section, offset),
+        Value::Place { section, offset } => at_place(addresses, section, offset),
         Value::Absolute(number) => ValueFields {
             n_type: N_ABS,
             n_sect: 0,
@@ -96,13 +89,13 @@ pub(crate) fn global_place(binding: Binding) -> Option<(u32, u32)>
 }
 
 // the place of the Global that a fallback names
-fn of_named(neutral: &Neutral, addresses: &[u64], place: Option<(u32, u32)>) -> ValueFields
-    requires addresses { AreAddresses neutral.now addresses.now }
-    requires there { IfSome place (λ p. p.0 < length neutral.now.sections) }
-    ensures { AreValueFields result (option_map_or (λ (p : Held). symbols.value_fields_at neutral.now p.0 p.1) place (symbols.value_fields_elsewhere 0)) }
+fn of_named(addresses: &[u64], place: Option<(u32, u32)>) -> ValueFields
+    requires { (n : Object) × (AreAddresses n addresses.now) × IfSome place (λ p. p.0 < length n.sections) }
+    ensures { (n : Object) → AreAddresses n addresses.now
+        → AreValueFields result (option_map_or (λ (p : Held). symbols.value_fields_at n p.0 p.1) place (symbols.value_fields_elsewhere 0)) }
 {
     match place {
-        Some((section, offset)) => at_place(neutral, addresses, section, offset),
+        Some((section, offset)) => at_place(addresses, section, offset),
         None => elsewhere(0),
     }
 }
@@ -115,9 +108,9 @@ fn of_fallback(neutral: &Neutral, addresses: &[u64], fallback: Fallback) -> Valu
 {
     neutral.is_object();
     match fallback {
-        Fallback::Place { section, offset } => at_place(neutral, addresses, section, offset),
+        Fallback::Place { section, offset } => at_place(addresses, section, offset),
         Fallback::Zero => elsewhere(0),
-        Fallback::Name(k) => of_named(neutral, addresses, global_place(neutral.symbol(k).binding)),
+        Fallback::Name(k) => of_named(addresses, global_place(neutral.symbol(k).binding)),
     }
 }
 
@@ -128,7 +121,7 @@ pub(crate) fn of_binding(neutral: &Neutral, addresses: &[u64], binding: Binding)
     ensures { AreValueFields result (symbols.value_fields_of neutral.now binding) }
 {
     match binding {
-        Binding::Local(value) | Binding::Global(value) => of_value(neutral, addresses, value),
+        Binding::Local(value) | Binding::Global(value) => of_value(addresses, value),
         Binding::Undefined => elsewhere(0),
         Binding::Common { size, .. } => elsewhere(size),
         Binding::Weak(fallback) => of_fallback(neutral, addresses, fallback),

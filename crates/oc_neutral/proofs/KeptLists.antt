@@ -1,5 +1,5 @@
 -- Lists of which some stay: where each that stays comes to stand.
-use Rattle.std.proofs.Common.{◌≡◌, ℕ, zero, suc, ◌+◌, ◌<◌, ◌≤◌, Bool, true, false, cond, List, [], ◌∷◌, ◌++◌, length, take, take_all, drop, set, get_or, Some, inl, inr, refl, sym, ◌∙◌, ap, arith}
+use Rattle.std.proofs.Common.{◌≡◌, ℕ, zero, suc, ◌+◌, ◌<◌, ◌≤◌, Bool, true, false, cond, List, [], ◌∷◌, ◌++◌, length, take, drop, set, get_or, Some, inl, inr, refl, sym, ◌∙◌, ap, arith}
 use Rattle.std.specs.Prelude.{slice_get}
 use Rattle.std.specs.List.{AllByRecursion, sum_by, swap}
 use Rattle.std.proofs.lemmas.Bool.{cases_lt, true≢false}
@@ -147,9 +147,6 @@ pub record IsKeeping {X : Type 0} (stay : List Bool) (old now : List X) (left at
   pub rest : drop at now ≡ drop at old
 
 module _ {X : Type 0} (stay : List Bool) (old : List X) where
-  pub keeping_starts : IsKeeping stay old old 0 0
-  keeping_starts = record { low = omega arith; long = refl; first = refl; rest = refl }
-
   module _ (now : List X) (left at : ℕ) (d : X) (all : length stay ≡ length old) (lt : at < length stay) (keeping : IsKeeping stay old now left at) where
     same_item : get_or now at d ≡ get_or old at d
     same_item = let zero_more : at + 0 ≡ at = omega arith in
@@ -183,9 +180,3 @@ module _ {X : Type 0} (stay : List Bool) (old : List X) where
       first = keeping.first ∙ sym (more false (get_or_default stay at true f lt ∙ goes));
       rest = same_rest;
     }
-
-  pub keeping_ends : (now : List X) (left at : ℕ) → length stay ≡ length old → length stay ≤ at → IsKeeping stay old now left at → take left now ≡ kept_of stay old
-  keeping_ends now left at all over keeping =
-      keeping.first
-      ∙ ap (λ xs. kept_of xs (take at old)) (take_all at stay over)
-      ∙ ap (kept_of stay) (take_all at old (omega (arith, all, over)))

@@ -30,11 +30,6 @@ pub number_is : (of : Option (List ℕ)) (count s : ℕ) → s < length (numbers
 number_is None count s lt = let long = length-range_with_len 0 count in sym (get_or-range_with_len 0 count s 0 (omega (arith, lt, long)) ∙ omega arith)
 number_is (Some ns) count s lt = refl
 
--- the section is among those that have a number
-pub number_within : (of : Option (List ℕ)) (count s : ℕ) → s < length (numbers_by of count) → IfSome of (λ numbers. s < length numbers)
-number_within None count s lt = tt
-number_within (Some ns) count s lt = lt
-
 pub kept_rise : (low high : ℕ) (stay : List Bool) (ns : List ℕ) → AreRising low high ns → AreRising low high (kept_of stay ns)
 kept_rise low high stay [] rises = rises
 kept_rise low high [] (n ∷ ns) rises = rises
@@ -210,12 +205,6 @@ module _ {T : Type 0} where
 
   -- ... lists that are emptied
 
-  pub emptied_count : (stay : List Bool) (ls : Lists T) → length (emptied stay ls) ≡ length ls
-  emptied_count [] ls = refl
-  emptied_count (b ∷ stay) [] = refl
-  emptied_count (true ∷ stay) (xs ∷ ls) = ap suc (emptied_count stay ls)
-  emptied_count (false ∷ stay) (xs ∷ ls) = ap suc (emptied_count stay ls)
-
   emptied_next : (stay : List Bool) (ls : Lists T) (k : ℕ) → k < length stay
       → emptied (take (suc k) stay) ls ≡ cond (get_or stay k true) (emptied (take k stay) ls) (set (emptied (take k stay) ls) k [])
   emptied_next [] ls k lt = absurd (omega (arith, lt))
@@ -285,9 +274,6 @@ module _ {T : Type 0} (of : Option (List ℕ)) (ls : Lists T) (are : AreNumbers 
 
   number : number_at of s ≡ get_or ns s 0
   number = number_is of (length ls) s low
-
-  pub at_within : IfSome of (λ numbers. s < length numbers)
-  at_within = number_within of (length ls) s low
 
   pub at_there : number_at of s < length ls
   at_there = let t = by_there ns ls are s low in omega (arith, number, t)

@@ -1,5 +1,5 @@
 //! The groups that entries define.
-ghost use Rattle.std.specs.Prelude.{◌≡◌, ◌||◌, not, nat_eq, nat_lt, OnOk, IfErr};
+ghost use Rattle.std.specs.Prelude.{◌≡◌, Bool, ◌||◌, not, nat_eq, nat_lt, OnOk, IfErr};
 ghost use Rattle.oc_omf.specs.declared.constants.TheConstants.{SEGMENT_INDEX};
 ghost use Rattle.oc_omf.specs.Cursor.{each_read};
 ghost use Rattle.oc_omf_judge.specs.Defined.{IsStoppedAt, IsTakenUp, group_fault_by};
@@ -93,20 +93,18 @@ pub(crate) fn group_fault(
     None
 }
 
-/// Judges the group in the contents of an entry, of the odd type where `wide`, and records it.
+/// Judges the group in the contents of an entry, and records it.
 ///
 /// Stops exactly where it has a fault, with the first; or where memory ran out. Linear in the
 /// contents.
 pub(crate) fn take_group(
     defined: &mut Defined<'_>,
     spot: EntryPlace,
-    wide: bool,
     contents: &View<'_>,
 ) -> Result<(), Stop>
-    ensures taken { OnOk result (IsTakenUp defined.old (spot.index, spot.place) (said_on topic.Group spot.place wide contents.now) defined.new) }
-    ensures stop { IfErr result (IsStoppedAt defined.old (spot.index, spot.place) (said_on topic.Group spot.place wide contents.now)) }
+    ensures taken { OnOk result ((wide : Bool) → IsTakenUp defined.old (spot.index, spot.place) (said_on topic.Group spot.place wide contents.now) defined.new) }
+    ensures stop { IfErr result (λ s. (wide : Bool) → IsStoppedAt defined.old (spot.index, spot.place) (said_on topic.Group spot.place wide contents.now) s) }
 {
-    let _ = wide;
     let names = defined.names.len() as u64;
     let segments = defined.segments.len() as u64;
     match group_fault(names, segments, spot, contents) {

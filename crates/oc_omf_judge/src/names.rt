@@ -1,5 +1,5 @@
 //! The names that entries define.
-ghost use Rattle.std.specs.Prelude.{◌≡◌, ◌++◌, OnOk, IfErr, None};
+ghost use Rattle.std.specs.Prelude.{◌≡◌, ◌++◌, Bool, OnOk, IfErr, None};
 ghost use Rattle.oc_base.specs.Stops.{IsStop};
 ghost use Rattle.oc_linking.specs.FirstFault.{first_broken};
 ghost use Rattle.oc_omf.specs.Cursor.{each_read, name_read};
@@ -41,20 +41,18 @@ pub(crate) fn take_names<'a>(
     Ok(())
 }
 
-/// Judges the names in the contents of an entry, of the odd type where `wide`, and takes them up.
+/// Judges the names in the contents of an entry, and takes them up.
 ///
 /// Stops exactly where the end of the contents cuts one; or where memory ran out. Linear in the
 /// contents.
 pub(crate) fn take_name_entry<'a>(
     defined: &mut Defined<'a>,
     spot: EntryPlace,
-    wide: bool,
     contents: &View<'a>,
 ) -> Result<(), Stop>
-    ensures taken { OnOk result (IsTakenUp defined.old (spot.index, spot.place) (said_on topic.Names spot.place wide contents.now) defined.new) }
-    ensures stop { IfErr result (IsStoppedAt defined.old (spot.index, spot.place) (said_on topic.Names spot.place wide contents.now)) }
+    ensures taken { OnOk result ((wide : Bool) → IsTakenUp defined.old (spot.index, spot.place) (said_on topic.Names spot.place wide contents.now) defined.new) }
+    ensures stop { IfErr result (λ s. (wide : Bool) → IsStoppedAt defined.old (spot.index, spot.place) (said_on topic.Names spot.place wide contents.now) s) }
 {
-    let _ = wide;
     match take_names(&mut defined.names, spot, contents) {
         Ok(()) => Ok(()),
         Err(stop) => Err(stop),

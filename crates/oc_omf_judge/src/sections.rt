@@ -1,5 +1,5 @@
 //! Judging names, segments, groups and data, entry by entry.
-ghost use Rattle.std.specs.Prelude.{◌≡◌, ◌<◌, ◌≤◌, length, None, IfErr, IfOk, OnOk};
+ghost use Rattle.std.specs.Prelude.{◌≡◌, ◌<◌, ◌≤◌, ℕ, Bool, List, length, None, IfErr, IfOk, OnOk};
 ghost use Rattle.oc_base.specs.Stops.{IsStop};
 ghost use Rattle.oc_linking.specs.FirstFault.{first_broken, stage_fault};
 ghost use Rattle.oc_omf_judge.specs.Defined.{IsDefined, IsStoppedAt, IsTakenUp, bytes_in, kind_in};
@@ -79,20 +79,12 @@ fn judge_others(defined: &Defined<'_>, spot: EntryPlace, ends: bool) -> Option<F
     None
 }
 
-// the same, for a loop
-fn take_others(
-    defined: &mut Defined<'_>,
-    spot: EntryPlace,
-    ends: bool,
-    wide: bool,
-    contents: &View<'_>,
-) -> Result<(), Stop>
+// the same, for a loop: such an entry defines nothing, whatever its contents are
+fn take_others(defined: &mut Defined<'_>, spot: EntryPlace, ends: bool) -> Result<(), Stop>
     requires { length defined.old.covered.items ≡ length defined.old.segments.items }
-    ensures taken { OnOk result (IsTakenUp defined.old (spot.index, spot.place) (said_on (topic.Others ends) spot.place wide contents.now) defined.new) }
-    ensures stop { IfErr result (IsStoppedAt defined.old (spot.index, spot.place) (said_on (topic.Others ends) spot.place wide contents.now)) }
+    ensures taken { OnOk result ((wide : Bool) (b : List ℕ) → IsTakenUp defined.old (spot.index, spot.place) (said_on (topic.Others ends) spot.place wide b) defined.new) }
+    ensures stop { IfErr result (λ s. (wide : Bool) (b : List ℕ) → IsStoppedAt defined.old (spot.index, spot.place) (said_on (topic.Others ends) spot.place wide b) s) }
 {
-    let _ = wide;
-    let _ = contents.len();
     match judge_others(defined, spot, ends) {
         Some(fault) => Err(Stop::Refused(fault)),
         None => Ok(()),
@@ -114,11 +106,11 @@ fn take_entry<'a>(
     ensures stop { IfErr result (IsStoppedAt defined.old (spot.index, spot.place) (said_on topic spot.place wide contents.now)) }
 {
     match topic {
-        Topic::Names => take_name_entry(defined, spot, wide, contents),
+        Topic::Names => take_name_entry(defined, spot, contents),
         Topic::Segment => take_segment(defined, spot, wide, contents),
-        Topic::Group => take_group(defined, spot, wide, contents),
+        Topic::Group => take_group(defined, spot, contents),
         Topic::Data(iterated) => take_data(alloc, defined, spot, wide, iterated, contents),
-        Topic::Others(ends) => take_others(defined, spot, ends, wide, contents),
+        Topic::Others(ends) => take_others(defined, spot, ends),
         Topic::Publics(_local) => Ok(()),
         Topic::Externals(_local) => Ok(()),
         Topic::Communals => Ok(()),

@@ -1,5 +1,5 @@
 //! Judging symbols, entry by entry.
-ghost use Rattle.std.specs.Prelude.{◌≡◌, ◌+◌, ◌++◌, ◌∷◌, [], ◌≤◌, List, length, true, None, IfErr, IfOk, OnOk};
+ghost use Rattle.std.specs.Prelude.{◌≡◌, ◌+◌, ◌++◌, ◌∷◌, [], ◌≤◌, ℕ, Bool, List, length, true, None, IfErr, IfOk, OnOk};
 ghost use Rattle.oc_base.specs.declared.limits.TheConstants.{MOST_INPUT};
 ghost use Rattle.oc_base.specs.Stops.{IsStop};
 ghost use Rattle.oc_linking.specs.FirstFault.{first_fault};
@@ -22,16 +22,10 @@ use std::alloc::Global;
 use std::collections::BTreeMap;
 
 // records the segment in the contents of an entry, if one is read
-fn see_segment(
-    seen: &mut EarlierSymbols<'_>,
-    spot: EntryPlace,
-    wide: bool,
-    contents: &View<'_>,
-) -> Result<(), Stop>
-    ensures taken { OnOk result ((known : Held) → specs.IsEntrySeen known seen.old spot.index (said_on topic.Segment spot.place wide contents.now) seen.new) }
-    ensures stop { IfErr result (λ s. (known : Held) → specs.IsEntryStopped known seen.old spot.index (said_on topic.Segment spot.place wide contents.now) s) }
+fn see_segment(seen: &mut EarlierSymbols<'_>, wide: bool, contents: &View<'_>) -> Result<(), Stop>
+    ensures taken { OnOk result ((known : Held) (index place : ℕ) → specs.IsEntrySeen known seen.old index (said_on topic.Segment place wide contents.now) seen.new) }
+    ensures stop { IfErr result (λ s. (known : Held) (index place : ℕ) → specs.IsEntryStopped known seen.old index (said_on topic.Segment place wide contents.now) s) }
 {
-    let _ = spot.index;
     match read_segment(contents, wide) {
         Ok((segment, _at)) => {
             seen.segments.push(segment)?;
@@ -42,17 +36,10 @@ fn see_segment(
 }
 
 // records the group in the contents of an entry, if one is read
-fn see_group(
-    seen: &mut EarlierSymbols<'_>,
-    spot: EntryPlace,
-    wide: bool,
-    contents: &View<'_>,
-) -> Result<(), Stop>
-    ensures taken { OnOk result ((known : Held) → specs.IsEntrySeen known seen.old spot.index (said_on topic.Group spot.place wide contents.now) seen.new) }
-    ensures stop { IfErr result (λ s. (known : Held) → specs.IsEntryStopped known seen.old spot.index (said_on topic.Group spot.place wide contents.now) s) }
+fn see_group(seen: &mut EarlierSymbols<'_>, contents: &View<'_>) -> Result<(), Stop>
+    ensures taken { OnOk result ((known : Held) (index place : ℕ) (wide : Bool) → specs.IsEntrySeen known seen.old index (said_on topic.Group place wide contents.now) seen.new) }
+    ensures stop { IfErr result (λ s. (known : Held) (index place : ℕ) (wide : Bool) → specs.IsEntryStopped known seen.old index (said_on topic.Group place wide contents.now) s) }
 {
-    let _ = spot.index;
-    let _ = wide;
     match read_index(contents, 0) {
         Ok((name, _at)) => {
             seen.groups.push(name)?;
@@ -76,8 +63,8 @@ fn see_entry<'a>(
     ensures stop { IfErr result (specs.IsEntryStopped known.now seen.old spot.index (said_on topic spot.place wide contents.now)) }
 {
     match topic {
-        Topic::Segment => see_segment(seen, spot, wide, contents),
-        Topic::Group => see_group(seen, spot, wide, contents),
+        Topic::Segment => see_segment(seen, wide, contents),
+        Topic::Group => see_group(seen, contents),
         Topic::Publics(local) => take_public_entry(seen, spot, wide, local, contents),
         Topic::Externals(local) => take_externals(known, seen, spot, local, contents),
         Topic::Communals => take_communals(seen, spot, contents),

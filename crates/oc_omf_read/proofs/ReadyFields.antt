@@ -93,6 +93,15 @@ module _ (s : FixupContext) (vectors : List (Vec ℕ Global)) (ready : IsReady s
       ∙ sym (made f.section) in
       subst (λ (q : Reloc). IsTaken (started s.omf.now) d f.section f.at q (given_with (entries_in s.omf.now) s.keep (take (j + 1) fields))) same k
 
+  -- the same of a field that is the one there
+  pub taken_as : (f : FixupField) → f ≡ get_or fields j e → (d : Draft) → HasAdded (started s.omf.now) d (given_with (entries_in s.omf.now) s.keep (take j fields)) → (number : ℕ) (r : Reloc) → number ≡ number_at (items_at vectors f.section) f.at 4
+      → ((x : ℕ) → r ≡ row_reloc W32 (fixup_row (framed_as f.fix.framed)) x (added_by f.fix number) f.fix.target)
+      → IsTaken (started s.omf.now) d f.section f.at r (given_with (entries_in s.omf.now) s.keep (take (j + 1) fields))
+  taken_as f is d has number r read made =
+      subst (λ (g : FixupField). IsTaken (started s.omf.now) d g.section g.at r (given_with (entries_in s.omf.now) s.keep (take (j + 1) fields))) (sym is)
+      (ready_taken d has number r (subst (λ (g : FixupField). number ≡ number_at (items_at vectors g.section) g.at 4) is read)
+      (subst (λ (g : FixupField). (x : ℕ) → r ≡ row_reloc W32 (fixup_row (framed_as g.fix.framed)) x (added_by g.fix number) g.fix.target) is made))
+
 pub ready_done : (s : FixupContext) (vectors : List (Vec ℕ Global)) (ready : IsReady s vectors) (fields : List FixupField) → IsPermutation (fields_of (meaning_seen s) s.keep (fixups_in (entries_in s.omf.now))) fields → (n : ℕ) → n ≡ length fields → (x at : ℕ)
     → given_with (entries_in s.omf.now) s.keep (take n fields) x at ≡ given_at (entries_in s.omf.now) s.keep x at
 ready_done s vectors ready fields are n all x at = all_done s.omf.now ready.bytes s.keep ready.sections ready.symbols ready.relocs (few_symbols_in s.omf.now ready.head ready.symbols) ready.start fields are n all x at

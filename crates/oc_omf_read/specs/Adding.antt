@@ -2,8 +2,7 @@
 use Rattle.std.specs.Prelude.{◌≡◌, ℕ, List, None, Vec}
 use Rattle.std.specs.Global.{Global}
 use Rattle.oc_linking.specs.FirstFault.{first_fault, stage_fault}
-use Rattle.oc_shows.specs.Built.{HasAdded, IsStarted}
-use Rattle.oc_neutral.specs.Building.{Draft}
+use Rattle.oc_shows.specs.Built.{IsStarted}
 use Rattle.oc_neutral.specs.Invariants.{AreBytes}
 use Rattle.oc_omf.specs.Entries.{entries_in}
 use Rattle.oc_omf.specs.HeaderFaults.{IsModule}
@@ -12,11 +11,9 @@ use Rattle.oc_omf.specs.Rules.{omf_dialect}
 use Rattle.oc_omf.specs.SectionFaults.{section_stage}
 use Rattle.oc_omf.specs.SymbolFaults.{symbol_stages}
 use Rattle.oc_omf.specs.Tables.{tables_of}
-use Rattle.oc_omf_read.specs.declared.fields.FixupField.{FixupField}
 use Rattle.oc_omf_read.specs.declared.fixes.FixupContext.{FixupContext}
 use Rattle.oc_omf_read.specs.Built.{started}
 use Rattle.oc_omf_read.specs.Contents.{AreStored}
-use Rattle.oc_omf_read.specs.Fields.{given_with}
 
 -- the stages have no fault, the vectors have the bytes of segments, and what is built before the relocations is what the module starts with
 pub record IsReady (s : FixupContext) (vectors : List (Vec ℕ Global)) : Type 0 where
@@ -27,7 +24,3 @@ pub record IsReady (s : FixupContext) (vectors : List (Vec ℕ Global)) : Type 0
   pub relocs : first_fault (relocation_stages (entries_in s.omf.now) s.keep) ≡ None
   pub contents : AreStored (tables_of (entries_in s.omf.now)) (tables_of (entries_in s.omf.now)) vectors
   pub start : IsStarted omf_dialect s.omf.now s.keep (started s.omf.now)
-
--- the relocations of some fields are added
-abbrev pub AreAdded : FixupContext → List FixupField → Draft → Type 0
-AreAdded s fields d = HasAdded (started s.omf.now) d (given_with (entries_in s.omf.now) s.keep fields)

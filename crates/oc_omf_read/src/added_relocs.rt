@@ -1,22 +1,21 @@
 //! The relocations of the object.
-ghost use Rattle.std.specs.Prelude.{◌≡◌, ◌+◌, ◌<◌, ◌≤◌, length, take, OnOk};
+ghost use Rattle.std.specs.Prelude.{◌≡◌, ◌+◌, ◌<◌, ◌≤◌, length, OnOk};
 ghost use Rattle.std.specs.List.Sorted.{IsPermutation};
 ghost use Rattle.oc_base.specs.Numbers.{number_at};
 ghost use Rattle.oc_shows.specs.Built.{HasAdded};
 ghost use Rattle.oc_omf.specs.Entries.{entries_in};
-ghost use Rattle.oc_omf.specs.Fields.{fixups_in};
-ghost use Rattle.oc_omf_read.specs.Adding.{AreAdded, IsReady};
-ghost use Rattle.oc_omf_read.specs.Aims.{meaning_seen};
+ghost use Rattle.oc_omf_read.specs.Adding.{IsReady};
+ghost use Rattle.oc_omf_read.specs.Aims.{Sees};
 ghost use Rattle.oc_omf_read.specs.Built.{started};
 ghost use Rattle.oc_omf_read.specs.Contents.{items_at};
-ghost use Rattle.oc_omf_read.specs.Fields as listed;
 ghost use Rattle.oc_omf_read.specs.Given.{given_at};
 
-use crate::fields::FixupField;
+use crate::fields::{FixupField, fields_in};
 use crate::fix::reloc_of;
 use crate::fixes::FixupContext;
 use oc_base::{NoMemory, u32_in};
 use oc_neutral::Builder;
+use std::alloc::Global;
 
 // the number that is written in a field
 fn number_in(contents: &[Vec<u8>], field: FixupField) -> u32
@@ -28,26 +27,6 @@ fn number_in(contents: &[Vec<u8>], field: FixupField) -> u32
         contents[field.section as usize].as_slice(),
         field.at as usize,
     )
-}
-
-// adds the relocation of field `j`
-fn add_field(
-    context: &FixupContext,
-    builder: &mut Builder,
-    contents: &[Vec<u8>],
-    fields: &[FixupField],
-    j: usize,
-) -> Result<(), NoMemory>
-    requires ready { IsReady context.now contents.now }
-    requires fields { IsPermutation (listed.fields_of (meaning_seen context.now) context.now.keep (fixups_in (entries_in context.now.omf.now))) fields.now }
-    requires there { j < length fields.now }
-    requires before { AreAdded context.now (take j fields.now) builder.old }
-    ensures { OnOk result (AreAdded context.now (take (j + 1) fields.now) builder.new) }
-{
-    let _ = context;
-    let field = fields[j];
-    let number = number_in(contents, field);
-    builder.add_clean_reloc(field.section, field.at, reloc_of(&field.fix, number))
 }
 
 // where a field comes among all: those of one section come together, in the order of their offsets
@@ -63,21 +42,24 @@ fn sort_by_place(fields: &mut Vec<FixupField>)
 }
 
 /// Adds the relocations of all fields, in the order of their places. `NoMemory` where memory ran out.
-/// The time is that of n log2(n) steps for n fields, in any order.
+/// The time is that of `fields_in`, and of n log2(n) steps for n fields, in any order.
 pub(crate) fn add_relocations(
+    alloc: Global,
     context: &FixupContext,
     builder: &mut Builder,
     contents: &[Vec<u8>],
-    fields: &mut Vec<FixupField>,
 ) -> Result<(), NoMemory>
+    requires sees { Sees context.now }
     requires ready { IsReady context.now contents.now }
-    requires fields { fields.old.items ≡ listed.fields_of (meaning_seen context.now) context.now.keep (fixups_in (entries_in context.now.omf.now)) }
     requires before { builder.old ≡ started context.now.omf.now }
     ensures { OnOk result (HasAdded (started context.now.omf.now) builder.new (given_at (entries_in context.now.omf.now) context.now.keep)) }
 {
-    sort_by_place(fields);
+    let mut fields = fields_in(alloc, context)?;
+    sort_by_place(&mut fields);
     for j in 0..fields.len() {
-        add_field(context, builder, contents, fields.as_slice(), j)?;
+        let field = fields[j];
+        let number = number_in(contents, field);
+        builder.add_clean_reloc(field.section, field.at, reloc_of(&field.fix, number))?;
     }
     Ok(())
 }

@@ -113,22 +113,20 @@ fn take_fixup(
     }
 }
 
-// records the threads and fixups of entry `i`
+// records the threads and fixups of an entry
 fn take_subrecords(
     alloc: Global,
     context: &FixupContext,
     fields: &mut Vec<FixupField>,
     behind: &mut Behind,
     entry: &Entry,
-    i: u32,
 ) -> Result<(), NoMemory>
     requires sees { aims.Sees context.now }
-    requires here { slice_get (entries_in context.now.omf.now) i ≡ Some (said entry.now) }
     requires class { classes.class_of entry.now.kind ≡ class.Fixups }
-    requires before { listed.HasFields context.now i fields.old.items behind.old }
-    ensures { OnOk result (listed.HasFields context.now (i + 1) fields.new.items behind.new) }
+    requires low { listed.AreLow (listed.held behind.old) }
+    ensures { OnOk result ((i : ℕ) → slice_get (entries_in context.now.omf.now) i ≡ Some (said entry.now)
+        → listed.HasFields context.now i fields.old.items behind.old → listed.HasFields context.now (i + 1) fields.new.items behind.new) }
 {
-    let _ = i;
     let wide = is_wide(entry.kind);
     let mut at = 0;
     while at < entry.contents.len() {
@@ -176,7 +174,7 @@ fn take_entry<'f>(
 {
     let entry = context.omf.entry(i);
     match class_of(entry.kind) {
-        EntryClass::Fixups => take_subrecords(alloc, context, fields, behind, &entry, i),
+        EntryClass::Fixups => take_subrecords(alloc, context, fields, behind, &entry),
         EntryClass::Names
         | EntryClass::Segment
         | EntryClass::Group

@@ -16,7 +16,6 @@ ghost use Rattle.oc_omf_judge.specs.Defined.{IsDefined};
 use crate::added_relocs::add_relocations;
 use crate::contents::contents_in;
 use crate::declarations::declared_in;
-use crate::fields::fields_in;
 use crate::fixes::FixupContext;
 use crate::mentioned::mentions_of;
 use crate::started::start;
@@ -58,8 +57,7 @@ pub(crate) fn object_of<'f>(
         mentions: &mentions,
         keep: *keep,
     };
-    let mut fields = fields_in(alloc, &context)?;
-    add_relocations(&context, &mut builder, contents.as_slice(), &mut fields)?;
+    add_relocations(alloc, &context, &mut builder, contents.as_slice())?;
     Ok(builder.finish())
 }
 

@@ -47,16 +47,6 @@ pub in_each-one : (size : ℕ) (places : List ℕ) → in_each 1 size places ≡
 in_each-one size places = let none_before : 0 * size ≡ 0 = omega arith in ap (λ by. moved by places) none_before ∙ moved-nothing places
 
 -- a size that is cut at 2^32 serves where the places fit
-pub fits_low : (count size low : ℕ) (places : List ℕ) → low ≡ min size (2 ^ 32) → All (λ place. place < 2 ^ 32) places → FitIn count size places → FitIn count low places
-fits_low count size low places cut small fit = λ k d l.
-    let p = fit k d l in
-    let s = small k d l in
-    (omega (arith, p.0), fits_count count (omega (arith, p.1)))
-  where
-    fits_count : (n : ℕ) → n * size < 2 ^ 31 → n * low < 2 ^ 31
-    fits_count zero l = omega arith
-    fits_count (suc n) l = let less : size < 2 ^ 31 = size_of-one (suc n) size (2 ^ 31) (omega arith) (omega arith) in let same : low ≡ size = omega arith in rw same l
-
 pub in_each-low : (count size low : ℕ) (places : List ℕ) → low ≡ min size (2 ^ 32) → FitIn count size places → in_each count low places ≡ in_each count size places
 in_each-low zero size low places cut fit = refl
 in_each-low (suc n) size low [] cut fit = in_each-nothing (suc n) low ∙ sym (in_each-nothing (suc n) size)
@@ -89,16 +79,27 @@ fits_behind live block at s before places is size bound =
     kept-bound live (size_of block) (copies_of block at) places (λ place. before + place < 2 ^ 32) (copies_of-within block at) is
     (λ here place l. let small : s + size_of block < 2 ^ 31 = bound here in omega (arith, size))
 
+live_of : (a b : Bool) → IsTrue (a && b) → IsTrue a
+live_of true b h = refl
+live_of false b h = h
+
 -- the places found in one copy have room in all copies
 pub fits_repeated : (live : Bool) (count : ℕ) (inside : Blocks) (at : ℕ) (places : List ℕ) → Some places ≡ kept (live && nat_lt 0 count) (copies_of inside at)
     → (IsTrue live → count * size_of inside + 0 < 2 ^ 31) → FitIn count (size_of inside) places
 fits_repeated live count inside at places is bound =
     kept-bound (live && nat_lt 0 count) (size_of inside) (copies_of inside at) places (λ place. (place < size_of inside) × (count * size_of inside < 2 ^ 31)) (copies_of-within inside at) is
     (λ here place l. let all : count * size_of inside + 0 < 2 ^ 31 = bound (live_of live (nat_lt 0 count) here) in (l, omega arith))
-  where
-    live_of : (a b : Bool) → IsTrue (a && b) → IsTrue a
-    live_of true b h = refl
-    live_of false b h = h
+
+-- also where the size of a copy is cut at 2^32
+pub fits_low : (live : Bool) (count : ℕ) (inside : Blocks) (at low : ℕ) (places : List ℕ) → low ≡ min (size_of inside) (2 ^ 32)
+    → Some places ≡ kept (live && nat_lt 0 count) (copies_of inside at) → (IsTrue live → count * size_of inside + 0 < 2 ^ 31) → FitIn count low places
+fits_low live count inside at low places cut is bound =
+    kept-bound (live && nat_lt 0 count) (size_of inside) (copies_of inside at) places (λ place. (place < low) × (count * low < 2 ^ 31)) (copies_of-within inside at) is
+    (λ here place l.
+    let small : size_of inside < 2 ^ 31 = live_inside live (live && nat_lt 0 count) count (size_of inside) refl bound here in
+    let same : low ≡ size_of inside = omega arith in
+    let all : count * size_of inside + 0 < 2 ^ 31 = bound (live_of live (nat_lt 0 count) here) in
+    rw same (l, omega arith))
 
 -- a row, cut around one of its blocks
 pub rows_of-around : (blocks : List Iterated) (i : ℕ) (block : Iterated) → i < length blocks → block ≡ get_or blocks i block

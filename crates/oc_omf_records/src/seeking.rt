@@ -1,5 +1,5 @@
 //! Where the copies of four content bytes lie.
-ghost use Rattle.std.specs.Prelude.{◌≡◌, ◌+◌, ◌^◌, ◌<◌, ◌++◌, ◌&&◌, min, nat_lt, All, IfOk, OnOk, IsTrue, true};
+ghost use Rattle.std.specs.Prelude.{◌≡◌, ◌+◌, ◌^◌, ◌<◌, ◌++◌, ◌&&◌, nat_lt, All, IfOk, OnOk, IsTrue, true};
 ghost use Rattle.oc_omf_records.specs.Blocks.{moved, in_each, in_content, size_of};
 ghost use Rattle.oc_omf_records.specs.Rows.{row_of, rows_of, is_sized, are_sized};
 ghost use Rattle.oc_omf_records.specs.Seeking.{Finds, places_in, kept, FitIn};
@@ -67,7 +67,7 @@ fn seek_block(alloc: Global, block: &Iterated, at: u32, live: bool) -> Result<So
         } => {
             match seek_row(alloc, blocks, at, is_live(live, *count))? {
                 Sought::Found(places) => {
-                    Ok(Sought::Found(in_each_row(alloc, *count, *size, blocks, places)?))
+                    Ok(Sought::Found(in_each_row(alloc, *count, *size, places)?))
                 }
                 Sought::Beyond(size) => Ok(Sought::Beyond(product(*count, size))),
             }
@@ -115,20 +115,17 @@ fn moved_by(places: Vec<u32>, by: u64) -> Vec<u32>
     places
 }
 
-/// The places in a row of blocks, in each of `count` copies of the row, of which one has `size` bytes, or
-/// more where that is 2^32.
+/// The places in a row of blocks of `size` bytes, in each of `count` copies of the row; of one copy they
+/// are given back as they are.
 fn in_each_row(
     alloc: Global,
     count: u32,
     size: u64,
-    blocks: &[Iterated],
     places: Vec<u32>,
 ) -> Result<Vec<u32>, AllocError>
-    requires size { size ≡ min (size_of (rows_of blocks.now)) (2 ^ 32) }
-    requires fit { FitIn count (size_of (rows_of blocks.now)) places.items }
-    ensures { IfOk result (λ all. all.items ≡ in_each count (size_of (rows_of blocks.now)) places.items) }
+    requires { FitIn count size places.items }
+    ensures { IfOk result (λ all. all.items ≡ in_each count size places.items) }
 {
-    let _ = blocks;
     if places.is_empty() || count == 1 {
         return Ok(places);
     }

@@ -1,14 +1,19 @@
--- The indexes of the names of sections.
-use Rattle.std.proofs.Common.{◌≡◌, ℕ, ◌+◌, ◌-◌, ◌^◌, ◌<◌, ◌≤◌, true, cond, None, List, [], length, Some, ◌∙◌, ap, arith}
+-- The indexes of the names of sections, and the codes of their alignments.
+use Rattle.std.proofs.Common.{◌≡◌, ℕ, zero, suc, ◌+◌, ◌-◌, ◌^◌, ◌<◌, ◌≤◌, Bool, true, false, ◌||◌, cond, nat_eq, eq-eqb, None, List, [], ◌∷◌, length, map, Some, refl, ◌∙◌, ap, arith}
 use Rattle.std.specs.Prelude.{slice_get, bytes_eq}
-use Rattle.std.specs.List.{list_any, position_or_len}
+use Rattle.std.specs.List.{AllByRecursion, enumerate_from, list_any, position_or_len}
+use Rattle.std.proofs.lemmas.Option.{none-some, same_Some}
+use Rattle.oc_neutral.specs.Omf.Family.{omf_aligns}
+use Rattle.oc_plans.specs.Numbered.{section_with_numbers}
 use Rattle.oc_neutral.specs.declared.section.Section.{Section}
 use Rattle.oc_neutral.specs.Objects.{Object}
 use Rattle.oc_base.specs.declared.format.Format.TheVariants.{Omf}
 use Rattle.oc_omf_file.specs.Names.{class_of, names_of}
+use Rattle.oc_omf_file.proofs.CodedLaws.{IsForOmf}
 use Rattle.oc_omf_file.proofs.NameLaws.{section_named, section_classed, name_within}
 use Rattle.oc_omf_write.specs.declared.names.Names.{Names}
-use Rattle.oc_omf_write.specs.Names.{names_for, AreNames, IsIndexed}
+use Rattle.oc_omf_write.specs.Names.{names_for, AreNames, IsAligned, IsIndexed}
+use Rattle.oc_omf_write.specs.Raws.{addend_in, sections_in}
 
 -- a text that is among them has an index
 indexed : (sections : List Section) (names : Names) (text : List ℕ) → AreNames sections (names_for sections) names → list_any (bytes_eq text) (names_for sections) ≡ true
@@ -31,3 +36,23 @@ module _ (sections : List Section) (names : Names) (are : AreNames sections (nam
   pub class_indexed : IsIndexed names (class_of s)
   unfolding names_of
   class_indexed = indexed sections names (class_of s) are (section_classed (of_sections sections) k s here) (name_within (of_sections sections) (class_of s) (section_classed (of_sections sections) k s here)) few
+
+-- ... alignments
+
+any_here : (test : ℕ → Bool) (xs : List ℕ) (k x : ℕ) → slice_get xs k ≡ Some x → test x ≡ true → list_any test xs ≡ true
+any_here test [] k x here is = absurd (none-some x here)
+any_here test (y ∷ xs) zero x here is = ap (λ (b : Bool). b || list_any test xs) (ap test (same_Some y x here) ∙ is)
+any_here test (y ∷ xs) (suc k) x here is = ap (λ (b : Bool). test y || b) (any_here test xs k x here is) ∙ right (test y)
+  where
+    right : (b : Bool) → (b || true) ≡ true
+    right true = refl
+    right false = refl
+
+aligned_from : (n : Object) (i : ℕ) (xs : List Section) → ((k : ℕ) (s : Section) → slice_get xs k ≡ Some s → IsAligned s)
+    → AllByRecursion IsAligned (map (section_with_numbers (addend_in n) n.relocs) (enumerate_from i xs))
+aligned_from n i [] each = tt
+aligned_from n i (x ∷ xs) each = (each 0 x refl, aligned_from n (i + 1) xs (λ k s h. each (suc k) s h))
+
+-- the sections of an object that is ready for OMF have alignments that segments can have
+pub are_aligned : (n : Object) → IsForOmf n → AllByRecursion IsAligned (sections_in n)
+are_aligned n is = aligned_from n 0 n.sections (λ k s here. let m = is.meets.sections k s here in any_here (nat_eq s.align) omf_aligns m.exponent s.align m.align (eq-eqb s.align s.align refl))

@@ -16,9 +16,3 @@ hex_fits n d i low digit few =
 -- one decimal digit more
 pub decimal_more : (n d i : ℕ) → n < 10 ^ i → d < 10 → 10 * n + d < 10 ^ (i + 1)
 decimal_more n d i low digit = let e = pow_more 10 i in omega (arith, e, low, digit)
-
-pub decimal_fits : (n d i : ℕ) → n < 10 ^ i → d < 10 → i < 10 → 10 * n + d < 2 ^ 64
-decimal_fits n d i low digit few =
-    let cap : 10 ^ (i + 1) ≤ 10 ^ 10 = pow-le-pow_right {n = 10} (omega arith) {i = i + 1} {j = 10} (omega (arith, few)) in
-    let m = decimal_more n d i low digit in
-    omega (arith, cap, m)

@@ -140,10 +140,6 @@ module _ (all : NameList) (n : ℕ) (name : List ℕ) where
 
 -- ... listing
 
--- no name so far
-pub none_listed : (all : NameList) → AreListed all 0 []
-none_listed all = record { listed = refl; each = All-nil (IsNamed all); all = λ k name low here. absurd (omega (arith, low)) }
-
 -- the names that are there among more
 present-append : (xs ys : NameList) → present (xs ++ ys) ≡ present xs ++ present ys
 present-append [] ys = refl

@@ -33,16 +33,6 @@ module _ (footprint : Footprint) where
   line_badly line notes piece rest bad is =
       line_more line notes piece rest ∙ ap (λ r. then_by r (λ more. notes_from footprint (line + 1) more (slice_split is_newline rest))) is
 
--- a text that does not end with a newline
-pub rest_badly : (line : ℕ) (notes : Notes) (rest : List ℕ) → 0 < length rest → with_rest line notes rest ≡ Err (record { line = line; code = BadLine })
-rest_badly line notes [] some = absurd (omega (arith, some))
-rest_badly line notes (b ∷ bs) some = refl
-
--- one that does
-pub rest_well : (line : ℕ) (notes : Notes) (rest : List ℕ) → length rest ≡ 0 → with_rest line notes rest ≡ Ok notes
-rest_well line notes [] none = refl
-rest_well line notes (b ∷ bs) none = absurd (omega (arith, none))
-
 module _ (footprint : Footprint) (line : ℕ) (notes : Notes) (piece rest : List ℕ) (pieces : List (List ℕ)) (is : pieces ≡ piece ∷ slice_split is_newline rest) (whole : Result Notes Bad)
     (so_far : notes_from footprint line notes pieces ≡ whole) where
   -- a turn of the loop over lines

@@ -1,5 +1,5 @@
 -- Names and tops that are held as slices.
-use Rattle.std.proofs.Common.{◌≡◌, ℕ, ◌+◌, ◌-◌, ◌<◌, List, [], ◌∷◌, ◌++◌, length, get_or, take, sym, ◌∙◌, ap, append_assoc}
+use Rattle.std.proofs.Common.{◌≡◌, ℕ, ◌+◌, ◌<◌, List, [], ◌∷◌, ◌++◌, length, get_or, take, sym, ◌∙◌, ap, append_assoc}
 use Rattle.std.proofs.lemmas.List.{get_or-map, map_more, append-nil}
 use Rattle.std.proofs.lemmas.List.Concat.{flat_map-append}
 use denote.Ref.{Bor}

@@ -1,7 +1,8 @@
 //! Names in the order of their bytes, read from the last one on.
-ghost use Rattle.std.specs.Prelude.{◌≡◌, ◌↔◌, ℕ, ◌<◌, ◌^◌, IsTrue, MatchBool, reverse, slice_index, IfOk};
+ghost use Rattle.std.specs.Prelude.{◌≡◌, ◌↔◌, ℕ, ◌<◌, ◌≤◌, ◌^◌, IsTrue, MatchBool, length, reverse, slice_index, IfOk};
 ghost use Rattle.std.specs.Ordering.{nat_cmp};
 ghost use Rattle.std.specs.Cmp.Lexicographic.{slice_cmp};
+ghost use Rattle.oc_base.specs.Strings.{ends};
 ghost use Rattle.oc_strings.specs.Keys as keys;
 ghost use Rattle.oc_strings.specs.Order.{IsNumbered, names_of, Ascends, EndsWithName, IsOrder, SharesEnd};
 ghost use Rattle.oc_strings.specs.Tables.{texts};
@@ -92,7 +93,9 @@ fn without_blocks<'a, 'b>(a: &'a [u8], b: &'b [u8]) -> (&'a [u8], &'b [u8])
 
 /// Two names without the words of eight bytes that are the same, from the last one on.
 fn without_words<'a, 'b>(a: &'a [u8], b: &'b [u8]) -> (&'a [u8], &'b [u8])
-    ensures { slice_cmp nat_cmp (reverse result.0.now) (reverse result.1.now) ≡ slice_cmp nat_cmp (reverse a.now) (reverse b.now) }
+    ensures order { slice_cmp nat_cmp (reverse result.0.now) (reverse result.1.now) ≡ slice_cmp nat_cmp (reverse a.now) (reverse b.now) }
+    ensures tail { ends result.0.now result.1.now ≡ ends a.now b.now }
+    ensures apart { ¬ SharesEnd 8 result.0.now result.1.now }
 {
     let mut a_left = a;
     let mut b_left = b;
@@ -128,6 +131,14 @@ pub(crate) fn compare_backward(a: &[u8], b: &[u8]) -> Ordering
     let (a_left, b_left) = without_blocks(a, b);
     let (a_left, b_left) = without_words(a_left, b_left);
     compare_ends(a_left, b_left)
+}
+
+/// Whether the name ends the text. Both are read from the last byte on, as far as they are the same.
+pub(crate) fn is_tail(name: &[u8], text: &[u8]) -> bool
+    ensures { result ≡ ends name.now text.now }
+{
+    let (name_left, text_left) = without_words(name, text);
+    name_left.len() < WORD && text_left.ends_with(name_left)
 }
 
 /// The entry of a name with this place among the given ones.
@@ -179,7 +190,7 @@ fn ends_with_name(entries: &[Entry], name: &[u8]) -> bool
     ensures { MatchBool result (EndsWithName entries.now name.now) (¬ EndsWithName entries.now name.now) }
 {
     match entries.last() {
-        Some(last) => last.name == name,
+        Some(last) => last.name.len() == name.len() && is_tail(name, last.name),
         None => false,
     }
 }

@@ -1,7 +1,7 @@
 //! The string table of given names.
 ghost use Rattle.std.specs.Prelude.{◌≡◌, ℕ, ◌+◌, ◌-◌, ◌^◌, ◌<◌, ◌≤◌, ◌↔◌, Contains, IfOk, IfSome, IsSome, IsTrue, length, sum_by};
 ghost use Rattle.oc_base.specs.Strings.{table_text, table_place};
-ghost use Rattle.oc_strings.specs.Tables.{StringTable, StandsAt};
+ghost use Rattle.oc_strings.specs.Tables.{StringTable, StandsAt, texts};
 
 use crate::layout::Layout;
 use crate::parts::{bytes_of, numbers, places, slices};
@@ -60,15 +60,14 @@ impl Table {
     ///
     /// `NoMemory` is the only refusal. The names are sorted, so the time is at most the sum of
     /// their lengths times the logarithm of their number; besides the bytes, the memory is a few
-    /// words for each name.
-    pub fn of(alloc: Global, head: u32, names: &[Bytes]) -> Result<Table, NoMemory>
-        requires { head + sum_by (λ name. length name + 1) names.now < 2 ^ 32 }
-        ensures { IfOk result (λ table. table ≡ record { head = head; names = names.now }) }
+    /// words for each name. The names are not copied but into the table.
+    pub fn of_slices(alloc: Global, head: u32, names: &[&[u8]]) -> Result<Table, NoMemory>
+        requires { head + sum_by (λ name. length name + 1) (texts names.now) < 2 ^ 32 }
+        ensures { IfOk result (λ table. table ≡ record { head = head; names = texts names.now }) }
     {
-        let names = slices(alloc, names)?;
-        let layout = Layout::of(alloc, head, &names)?;
+        let layout = Layout::of(alloc, head, names)?;
         let bytes = bytes_of(alloc, &layout.tops)?;
-        let given = places(alloc, &names, &layout.offsets)?;
+        let given = places(alloc, names, &layout.offsets)?;
         let order = numbers(alloc, &layout.entries)?;
         Ok(Table {
             head,
@@ -76,6 +75,16 @@ impl Table {
             given,
             order,
         })
+    }
+
+    /// The table of names that own their bytes, as `of_slices` makes it, with a word or two more of
+    /// memory for each name while it is made.
+    pub fn of(alloc: Global, head: u32, names: &[Bytes]) -> Result<Table, NoMemory>
+        requires { head + sum_by (λ name. length name + 1) names.now < 2 ^ 32 }
+        ensures { IfOk result (λ table. table ≡ record { head = head; names = names.now }) }
+    {
+        let names = slices(alloc, names)?;
+        Table::of_slices(alloc, head, &names)
     }
 
     /// The offset of the name in bytes, and `None` exactly where it was not given. No memory. The

@@ -3,7 +3,7 @@ ghost use Rattle.std.specs.Prelude.{◌≡◌, ℕ, ◌<◌, Option, IfOk, lengt
 ghost use Rattle.std.specs.Option.{option_or};
 ghost use Rattle.oc_strings.specs.Order.{names_of, name_at, StrictlyAscends, IsNextTail, AreNextTails, ends_next, place_in};
 
-use crate::order::Entry;
+use crate::order::{Entry, is_tail};
 use oc_base::NoMemory;
 use std::alloc::Global;
 
@@ -13,7 +13,7 @@ pub(crate) fn is_top(entries: &[Entry], k: usize) -> bool
     ensures { result ≡ not (ends_next (names_of entries.now) k) }
 {
     match entries.get(k + 1) {
-        Some(next) => !next.name.ends_with(entries[k].name),
+        Some(next) => !is_tail(entries[k].name, next.name),
         None => true,
     }
 }
@@ -28,7 +28,7 @@ fn next_tail(entries: &[Entry], tails: &[Option<usize>]) -> Option<usize>
     let name = entries[tails.len()].name;
     let mut candidate = tails.len().checked_sub(1);
     while let Some(k) = candidate {
-        if name.ends_with(entries[k].name) {
+        if is_tail(entries[k].name, name) {
             return Some(k);
         }
         candidate = tails[k];

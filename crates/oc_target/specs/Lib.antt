@@ -9,6 +9,7 @@ pub mod Fitted
 pub mod Fitting
 pub mod Found
 pub mod Homes
+pub mod Keyed
 pub mod Lookup
 pub mod MachMeets
 pub mod Meets

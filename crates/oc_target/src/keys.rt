@@ -1,13 +1,16 @@
 //! Which groups have their key symbol in the object, and which sections have it in them.
-ghost use Rattle.std.specs.Prelude.{◌≡◌, ℕ, ◌<◌, ◌&&◌, ◌||◌, IfOk, length, nat_eq, false, slice_index_or};
+ghost use Rattle.std.specs.Prelude.{◌≡◌, ℕ, ◌<◌, ◌&&◌, ◌||◌, not, IfOk, length, nat_eq, false, slice_index_or};
 ghost use Rattle.std.specs.List.{list_any};
 ghost use Rattle.std.specs.Option.{option_map_or};
+ghost use Rattle.oc_linking.specs.Parts as parts;
 ghost use Rattle.oc_neutral.specs.KeySymbols as keys;
 ghost use Rattle.oc_neutral.specs.Faces as faces;
 ghost use Rattle.oc_neutral.specs.KindRules as rules;
 ghost use Rattle.oc_target.specs.Cut.{is_cut_key};
 ghost use Rattle.oc_target.specs.Found.{held};
+ghost use Rattle.oc_target.specs.Keyed as places;
 
+use crate::locals::is_local;
 use oc_base::NoMemory;
 use oc_neutral::{Binding, Neutral, Symbol, Value};
 use std::alloc::Global;
@@ -69,10 +72,18 @@ pub fn is_key(neutral: &Neutral, symbol: &Symbol) -> bool
     }
 }
 
-// the section in which a symbol is the key symbol of the section's group
+/// Whether a symbol is not Local, and no key symbol. Linear in its name, no memory.
+pub fn is_unkeyed(neutral: &Neutral, symbol: &Symbol) -> bool
+    ensures { result ≡ (not (parts.is_local symbol.now.binding) && not (keys.is_key neutral.now symbol.now)) }
+{
+    !is_local(symbol.binding) && !is_key(neutral, symbol)
+}
+
+/// The section in which a symbol is the key symbol of the section's group. Linear in its name, no memory.
 #[tactic(auto, using(crate::proofs::KeyPlaces::key_at_place))]
-fn key_place(neutral: &Neutral, symbol: &Symbol) -> Option<u32>
-    ensures { (k : ℕ) → option_map_or (nat_eq k) result false ≡ keys.is_key_at neutral.now k symbol.now }
+pub fn key_place(neutral: &Neutral, symbol: &Symbol) -> Option<u32>
+    ensures place { result ≡ places.key_place neutral.now symbol.now }
+    ensures test { (k : ℕ) → option_map_or (nat_eq k) result false ≡ keys.is_key_at neutral.now k symbol.now }
 {
     let (section, _) = global_place(symbol.binding)?;
     if is_key_in(neutral, section, symbol.name.as_slice()) {

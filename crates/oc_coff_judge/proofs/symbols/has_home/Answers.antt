@@ -5,6 +5,6 @@ use Rattle.oc_coff_judge.proofs.PlacedLemmas.{position_anywhere}
 use Rattle.oc_coff_judge.proofs.symbols.has_home.Goals as goal
 
 pub returns : goal.returns
-returns c =
+returns c = λ file are.
     c.is_some.ensures
-    ∙ ap is_some (c.get.ensures ∙ position_anywhere (tables_in c.args.coff.now) c.args.positions.now c.requires c.args.s.now.SectionNumber)
+    ∙ ap is_some (c.get.ensures ∙ position_anywhere (tables_in file) c.args.positions.now are c.args.s.now.SectionNumber)

@@ -7,4 +7,4 @@ use Rattle.oc_coff_read.specs.Given.{given_with}
 use Rattle.oc_coff_read.proofs.added_relocs.add_table.Given as goal
 
 abbrev pub invariant-loop-j : goal.invariant-loop-j
-invariant-loop-j l = HasAdded (started l.word l.coff) l.builder (given_with l.word (tables_in l.coff) l.keep l.place.position (take l.j l.entries.items))
+invariant-loop-j l = HasAdded (started l.context.word l.context.coff.now) l.builder (given_with l.context.word (tables_in l.context.coff.now) l.context.keep.now l.place.position (take l.j l.entries.items))

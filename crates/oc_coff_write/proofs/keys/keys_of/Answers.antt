@@ -3,7 +3,7 @@ use Rattle.std.specs.Option.{option_or, option_map_or}
 use Rattle.std.proofs.lemmas.List.{take_all}
 use Rattle.std.specs.Prelude.{nat_eq, take}
 use Rattle.oc_coff_write.specs.Keys.{first_made, keyed_at}
-use Rattle.oc_coff_write.proofs.KeyLemmas.{first_more, place_test}
+use Rattle.oc_coff_write.proofs.KeyLemmas.{first_more}
 use Rattle.oc_coff_write.proofs.keys.keys_of.Goals as goal
 
 pub loop-k-preserved : goal.loop-k-preserved
@@ -14,7 +14,7 @@ loop-k-preserved c =
       c.note.ensures.counted ∙ c.loop-k.invariant.0,
       λ j l.
           let at : k ≡ 0 + k = omega arith in
-          let test = ap (λ o. option_map_or (nat_eq j) o false) c.key_place.ensures ∙ place_test n s j in
+          let test = c.key_place.ensures.test j in
           c.note.ensures.noted j (subst (λ m. j < m) (sym c.loop-k.invariant.0) l)
           ∙ ap (λ o. option_or o (cond (option_map_or (nat_eq j) c.key_place.result false) (Some k) None)) (c.loop-k.invariant.1 j l)
           ∙ ap (λ b. option_or (first_made (keyed_at n j) 0 (take k n.symbols)) (cond b (Some k) None)) test

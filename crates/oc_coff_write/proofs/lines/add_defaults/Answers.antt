@@ -9,7 +9,7 @@ use Rattle.oc_coff_write.proofs.lines.add_defaults.Goals as goal
 pub loop-k-preserved : goal.loop-k-preserved
 loop-k-preserved c =
     let n = c.args.neutral.now in
-    line_turn n DefaultLine needs_default c.loop-k.k c.symbol-symbol.result.now _ _ _ _ _ c.symbol-symbol.ensures (ap (option_map (DefaultLine c.loop-k.k)) c.symbol-symbol.ensures) c.needs_default-wanted.ensures c.in_ok-give_line.ensures c.loop-k.invariant
+    line_turn n DefaultLine needs_default c.loop-k.k c.symbol-symbol.result.now _ _ _ _ _ c.symbol-symbol.ensures (ap (option_map (DefaultLine c.loop-k.k)) c.symbol-symbol.ensures) c.needs_default-wanted.ensures.needed c.in_ok-give_line.ensures c.loop-k.invariant
 
 pub returns : goal.returns
 returns c =

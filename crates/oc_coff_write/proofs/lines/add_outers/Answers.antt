@@ -8,7 +8,7 @@ use Rattle.oc_coff_write.proofs.lines.add_outers.Goals as goal
 pub loop-k-preserved : goal.loop-k-preserved
 loop-k-preserved c =
     let n = c.args.neutral.now in
-    line_turn n OuterLine (is_free n) c.loop-k.k c.symbol-symbol.result.now _ _ _ _ _ c.symbol-symbol.ensures (ap (option_map (OuterLine c.loop-k.k)) c.symbol-symbol.ensures) c.is_free-wanted.ensures c.in_ok-give_line.ensures c.loop-k.invariant
+    line_turn n OuterLine (is_free n) c.loop-k.k c.symbol-symbol.result.now _ _ _ _ _ c.symbol-symbol.ensures (ap (option_map (OuterLine c.loop-k.k)) c.symbol-symbol.ensures) c.is_unkeyed-wanted.ensures c.in_ok-give_line.ensures c.loop-k.invariant
 
 pub returns : goal.returns
 returns c =

@@ -4,7 +4,6 @@ use Rattle.oc_neutral.specs.Objects.{Object}
 use Rattle.oc_coff_file.specs.Layout.{parts_of}
 use Rattle.oc_coff_write.specs.Bodies.{raws_in}
 use Rattle.oc_coff_write.specs.LaidParts.{AreLaid}
-use Rattle.oc_coff_write.specs.Plans.{AreMade}
 use Rattle.oc_coff_write.proofs.planning.made_of.Goals as goal
 
 pub returns-clause-made : goal.returns-clause-made

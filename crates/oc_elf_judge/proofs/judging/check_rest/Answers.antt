@@ -1,18 +1,17 @@
 -- The symbol table lies in the file.
-use Rattle.std.proofs.Common.{sym, ◌∙◌, ap, subst}
-use Rattle.oc_elf.specs.Frames.{header_at}
+use Rattle.std.proofs.Common.{sym, subst}
 use Rattle.oc_elf_judge.specs.Known.{IsSymtab}
 use Rattle.oc_elf_judge.proofs.TableLemmas.{are_signed, symtab_is}
 use Rattle.oc_elf_judge.proofs.judging.check_rest.Goals as goal
 
 pub weigh_symbols-requires : goal.weigh_symbols-requires
 weigh_symbols-requires c =
-    subst (IsSymtab c.args.frame.now) (sym (c.header-table.ensures ∙ ap (header_at c.args.frame.now.headers) c.unwrap_or.ensures))
+    subst (IsSymtab c.args.frame.now) (sym c.table_header-table.ensures)
     (symtab_is c.args.frame.now c.is_frame.ensures c.in-Ok.ensures.clean c.in-Ok.tables.symtab c.in-Ok.ensures.symtab)
 
 pub check_symbols-requires-clause-table : goal.check_symbols-requires-clause-table
 check_symbols-requires-clause-table c =
-    subst (IsSymtab c.args.frame.now) (sym (c.header-table.ensures ∙ ap (header_at c.args.frame.now.headers) c.unwrap_or.ensures))
+    subst (IsSymtab c.args.frame.now) (sym c.table_header-table.ensures)
     (symtab_is c.args.frame.now c.is_frame.ensures c.in-Ok.ensures.clean c.in-Ok.tables.symtab c.in-Ok.ensures.symtab)
 
 pub check_symbols-requires-clause-signed : goal.check_symbols-requires-clause-signed
@@ -20,12 +19,12 @@ check_symbols-requires-clause-signed c = are_signed c.args.frame.now c.is_frame.
 
 pub symbol_positions-requires-clause-table : goal.symbol_positions-requires-clause-table
 symbol_positions-requires-clause-table c =
-    subst (IsSymtab c.args.frame.now) (sym (c.header-table.ensures ∙ ap (header_at c.args.frame.now.headers) c.unwrap_or.ensures))
+    subst (IsSymtab c.args.frame.now) (sym c.table_header-table.ensures)
     (symtab_is c.args.frame.now c.is_frame.ensures c.in-Ok.ensures.clean c.in-Ok.tables.symtab c.in-Ok.ensures.symtab)
 
 pub check_relocs-requires-clause-aims : goal.check_relocs-requires-clause-aims
 check_relocs-requires-clause-aims c = record {
-  table_is = subst (IsSymtab c.args.frame.now) (sym (c.header-table.ensures ∙ ap (header_at c.args.frame.now.headers) c.unwrap_or.ensures))
+  table_is = subst (IsSymtab c.args.frame.now) (sym c.table_header-table.ensures)
       (symtab_is c.args.frame.now c.is_frame.ensures c.in-Ok.ensures.clean c.in-Ok.tables.symtab c.in-Ok.ensures.symtab);
   sections_are = c.in_ok-sections.ensures;
   symbols_are = c.in_ok-symbols.ensures;

@@ -1,9 +1,8 @@
 -- A section that is left out is given nothing; any other is carried, and its table lies in the file.
-use Rattle.std.proofs.Common.{◌+◌, ◌∙◌, sym, ap, subst}
+use Rattle.std.proofs.Common.{◌+◌, ◌∙◌, sym, subst}
 use Rattle.std.specs.Option.{IsSome}
 use Rattle.oc_shows.proofs.BuiltSteps.{added_same}
 use Rattle.oc_elf_read.specs.Built.{symboled}
-use Rattle.oc_elf.specs.Frames.{header_at}
 use Rattle.oc_elf_read.specs.Given.{given_before}
 use Rattle.oc_elf_judge.specs.Known.{IsTable}
 use Rattle.oc_elf.specs.Tables.{symbol_count}
@@ -24,5 +23,5 @@ unwrap-requires c =
 
 pub add_table-requires-clause-table : goal.add_table-requires-clause-table
 add_table-requires-clause-table c =
-    subst (IsTable c.args.frame.now c.args.i) (sym (c.header-table.ensures ∙ ap (header_at c.args.frame.now.headers) c.unwrap_or.ensures))
+    subst (IsTable c.args.frame.now c.args.i) (sym c.table_header-table.ensures)
     (table_is c.args.frame.now c.is_frame.ensures (stages_clean c.args.frame.now c.args.keep.now c.requires.clean).sections c.args.i c.get.result (c.get.ensures ∙ c.requires.tables.each c.args.i c.requires.low))

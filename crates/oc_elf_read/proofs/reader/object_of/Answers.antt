@@ -1,10 +1,9 @@
 -- What is built can be finished, and what is read shows the file.
-use Rattle.std.proofs.Common.{sym, ◌∙◌, ap, subst}
+use Rattle.std.proofs.Common.{sym, subst}
 use Rattle.oc_neutral.specs.Invariants.{AreBytes, IsDraft}
 use Rattle.oc_shows.specs.Readable.{IsReadable}
 use Rattle.oc_shows.specs.Shows.{Shows}
 use Rattle.oc_elf.specs.Elf.{elf_dialect}
-use Rattle.oc_elf.specs.Frames.{header_at}
 use Rattle.oc_elf_judge.specs.Known.{IsSymtab}
 use Rattle.oc_elf_read.proofs.FoundFields.{stages_clean}
 use Rattle.oc_elf_judge.proofs.PositionLemmas.{few_symbols}
@@ -15,7 +14,7 @@ use Rattle.oc_elf_read.proofs.reader.object_of.Goals as goal
 
 pub start-requires-clause-table : goal.start-requires-clause-table
 start-requires-clause-table c =
-    subst (IsSymtab c.args.frame.now) (sym (c.header-table.ensures ∙ ap (header_at c.args.frame.now.headers) c.unwrap_or.ensures))
+    subst (IsSymtab c.args.frame.now) (sym c.table_header-table.ensures)
     (symtab_found c.args.frame.now c.args.keep.now c.is_frame.ensures c.requires.clean c.args.found.now.tables.symtab c.requires.found.symtab_is)
 
 pub start-requires-clause-signed : goal.start-requires-clause-signed
@@ -23,7 +22,7 @@ start-requires-clause-signed c = are_signed c.args.frame.now c.is_frame.ensures 
 
 pub add_relocations-requires-clause-aims : goal.add_relocations-requires-clause-aims
 add_relocations-requires-clause-aims c = record {
-  table_is = subst (IsSymtab c.args.frame.now) (sym (c.header-table.ensures ∙ ap (header_at c.args.frame.now.headers) c.unwrap_or.ensures))
+  table_is = subst (IsSymtab c.args.frame.now) (sym c.table_header-table.ensures)
       (symtab_found c.args.frame.now c.args.keep.now c.is_frame.ensures c.requires.clean c.args.found.now.tables.symtab c.requires.found.symtab_is);
   sections_are = c.requires.found.sections_are;
   symbols_are = c.requires.found.symbols_are;
@@ -36,8 +35,8 @@ pub finish-requires : goal.finish-requires
 finish-requires c =
     read_complete c.args.frame.now c.args.keep.now c.is_frame.ensures c.requires.clean (subst IsDraft c.in_ok-builder.ensures c.is_draft.ensures) c.add_relocations.new.builder c.in_ok-add_relocations.ensures
     (subst AreBytes c.file.ensures c.are_bytes.ensures)
-    (few_symbols c.args.frame.now c.header-table.result
-    (subst (IsSymtab c.args.frame.now) (sym (c.header-table.ensures ∙ ap (header_at c.args.frame.now.headers) c.unwrap_or.ensures))
+    (few_symbols c.args.frame.now c.table_header-table.result
+    (subst (IsSymtab c.args.frame.now) (sym c.table_header-table.ensures)
     (symtab_found c.args.frame.now c.args.keep.now c.is_frame.ensures c.requires.clean c.args.found.now.tables.symtab c.requires.found.symtab_is)))
 
 pub returns-clause-shows : goal.returns-clause-shows

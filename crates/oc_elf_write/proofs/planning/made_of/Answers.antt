@@ -1,5 +1,5 @@
 -- What is made is that of the object.
-use Rattle.std.proofs.Common.{◌≡◌, ℕ, ◌+◌, ◌-◌, ◌^◌, ◌<◌, cond, length, get_or, refl, rules, sym, ◌∙◌, ap, subst, arith}
+use Rattle.std.proofs.Common.{◌≡◌, ℕ, ◌+◌, ◌-◌, ◌^◌, ◌<◌, cond, List, length, get_or, refl, rules, sym, ◌∙◌, ap, subst, arith}
 use Rattle.oc_target.specs.Fitted.{IsFitted}
 use Rattle.oc_neutral.specs.Objects.{Object}
 use Rattle.oc_elf.specs.Classes.{format_of, is_big, word_of}
@@ -8,89 +8,36 @@ use Rattle.oc_elf_file.specs.Heads.{heads_of, head_where, is_shstrtab_head}
 use Rattle.oc_neutral.specs.Families.{is_many}
 use Rattle.oc_elf_file.specs.Canonical.{shown_count, shown_names}
 use Rattle.oc_elf_file.specs.Layout.{is_head_table, laid_parts, parts_of}
-use Rattle.oc_elf_file.proofs.CodedLaws.{for_elf, many_is}
+use Rattle.oc_elf_file.proofs.CodedLaws.{many_is}
 use Rattle.oc_elf_file.proofs.HeaderFits.{count_low, names_low}
-use Rattle.oc_elf_file.proofs.FileSize.{few_lines}
-use Rattle.oc_elf_file.proofs.HeadCounts.{few_heads, length-heads}
+use Rattle.oc_elf_write.specs.declared.heads.Head.{Head}
+use Rattle.oc_elf_write.specs.declared.lines.Line.{Line}
 use Rattle.oc_elf_write.specs.Keys.{AreKeys}
 use Rattle.oc_elf_write.specs.LaidParts.{AreLaid}
-use Rattle.oc_elf_write.specs.Plans.{AreMade}
 use Rattle.oc_elf_write.specs.Raws.{all_raws}
-use Rattle.oc_elf_write.proofs.HeadLemmas.{as_many_heads}
-use Rattle.oc_elf_write.proofs.HeaderLemmas.{symtab_number, shstrtab_number, many_heads}
+use Rattle.oc_elf_write.proofs.HeadLemmas.{as_many_heads, ready_for}
+use Rattle.oc_elf_write.proofs.HeaderLemmas.{symtab_number, shstrtab_number}
 use Rattle.oc_elf_write.proofs.LaidLemmas.{places_many, table_place}
-use Rattle.oc_elf_write.proofs.LineLemmas.{as_many_lines, inner_low}
 use Rattle.oc_elf_write.proofs.planning.made_of.Goals as goal
 
 pub of-requires-clause-few : goal.of-requires-clause-few
-of-requires-clause-few c =
-    let class = c.args.class in
-    let m : Object = c.neutral-neutral.result.now in
-    let same : m ≡ c.args.fitted = c.neutral-neutral.ensures in
-    let fit : IsFitted (format_of class) m = subst (λ (x : Object). IsFitted (format_of class) x) (sym same) (subst (λ f. IsFitted f c.args.fitted) c.requires c.is_fitted.ensures) in
-    let is = for_elf class m fit in
-    let heads = as_many_heads m c.in_ok-heads.heads.items c.in_ok-heads.ensures in
-    let few = few_heads class m is in
-    let counted = length-heads class m is in
-    let lines = as_many_lines m c.in_ok-lines.lines.all.items c.in_ok-lines.ensures.all in
-    let all = few_lines class m is in
-    let symbols = is.meets.bounds.symbols in
-    let long = ap length c.deref-2.ensures.value in
-    omega (arith, heads, few, counted, lines, all, symbols, long)
+of-requires-clause-few c = subst (λ (ls : List Line). length ls < 2 ^ 32) (sym c.deref-2.ensures.value) c.in_ok-lines.ensures.few
 
 pub bodies_of-requires-clause-few : goal.bodies_of-requires-clause-few
-bodies_of-requires-clause-few c =
-    let class = c.args.class in
-    let m : Object = c.neutral-neutral.result.now in
-    let same : m ≡ c.args.fitted = c.neutral-neutral.ensures in
-    let fit : IsFitted (format_of class) m = subst (λ (x : Object). IsFitted (format_of class) x) (sym same) (subst (λ f. IsFitted f c.args.fitted) c.requires c.is_fitted.ensures) in
-    let is = for_elf class m fit in
-    let heads = as_many_heads m c.in_ok-heads.heads.items c.in_ok-heads.ensures in
-    let few = few_heads class m is in
-    let counted = length-heads class m is in
-    let long = ap length c.deref-3.ensures.value in
-    omega (arith, heads, few, long)
-
-pub overflow_cast-made : goal.overflow_cast-made
-overflow_cast-made c =
-    let class = c.args.class in
-    let m : Object = c.neutral-neutral.result.now in
-    let same : m ≡ c.args.fitted = c.neutral-neutral.ensures in
-    let fit : IsFitted (format_of class) m = subst (λ (x : Object). IsFitted (format_of class) x) (sym same) (subst (λ f. IsFitted f c.args.fitted) c.requires c.is_fitted.ensures) in
-    let is = for_elf class m fit in
-    let heads = as_many_heads m c.in_ok-heads.heads.items c.in_ok-heads.ensures in
-    let few = few_heads class m is in
-    let counted = length-heads class m is in
-    let lines = as_many_lines m c.in_ok-lines.lines.all.items c.in_ok-lines.ensures.all in
-    let all = few_lines class m is in
-    let symbols = is.meets.bounds.symbols in
-    let low = inner_low m in
-    let inner = c.in_ok-lines.ensures.inner in
-    omega (arith, few, counted, all, symbols, low, inner)
+bodies_of-requires-clause-few c = subst (λ (hs : List Head). length hs < 2 ^ 32) (sym c.deref-3.ensures.value) c.in_ok-heads.ensures.few
 
 pub overflow_cast-count : goal.overflow_cast-count
 overflow_cast-count c =
-    let class = c.args.class in
-    let m : Object = c.neutral-neutral.result.now in
-    let same : m ≡ c.args.fitted = c.neutral-neutral.ensures in
-    let fit : IsFitted (format_of class) m = subst (λ (x : Object). IsFitted (format_of class) x) (sym same) (subst (λ f. IsFitted f c.args.fitted) c.requires c.is_fitted.ensures) in
-    let is = for_elf class m fit in
-    let heads = as_many_heads m c.in_ok-heads.heads.items c.in_ok-heads.ensures in
-    let few = few_heads class m is in
-    let counted = length-heads class m is in
     let long : c.len-count.result ≡ length c.in_ok-heads.heads.items = search rules in
-    omega (arith, heads, few, long)
+    let few = c.in_ok-heads.ensures.few in
+    omega (arith, long, few)
 
 pub stored_shdrs-requires-clause-made : goal.stored_shdrs-requires-clause-made
 stored_shdrs-requires-clause-made c =
     let class = c.args.class in
     let m : Object = c.neutral-neutral.result.now in
-    let same : m ≡ c.args.fitted = c.neutral-neutral.ensures in
-    let fit : IsFitted (format_of class) m = subst (λ (x : Object). IsFitted (format_of class) x) (sym same) (subst (λ f. IsFitted f c.args.fitted) c.requires c.is_fitted.ensures) in
-    let is = for_elf class m fit in
-    let heads = as_many_heads m c.in_ok-heads.heads.items c.in_ok-heads.ensures in
-    let few = few_heads class m is in
-    let counted = length-heads class m is in
+    let is = ready_for class c.args.fitted m c.neutral-neutral.ensures c.requires c.is_fitted.ensures in
+    let heads = as_many_heads m c.in_ok-heads.heads.items c.in_ok-heads.ensures.heads in
     let long : c.len-count.result ≡ length c.in_ok-heads.heads.items = search rules in
     let number = c.symtab_number.ensures in
     let place = symtab_number m in
@@ -108,7 +55,7 @@ pub index-requires : goal.index-requires
 index-requires c =
     let class = c.args.class in
     let m : Object = c.neutral-neutral.result.now in
-    let heads = as_many_heads m c.in_ok-heads.heads.items c.in_ok-heads.ensures in
+    let heads = as_many_heads m c.in_ok-heads.heads.items c.in_ok-heads.ensures.heads in
     let long : c.len.result ≡ length c.in_ok-heads.heads.items = search rules in
     let begins = ap length c.in_ok-layout.ensures.begins in
     let many = places_many class m in
@@ -116,25 +63,16 @@ index-requires c =
 
 pub file_header-ehdr-requires-clause-some : goal.file_header-ehdr-requires-clause-some
 file_header-ehdr-requires-clause-some c =
-    let class = c.args.class in
-    let m : Object = c.neutral-neutral.result.now in
-    let same : m ≡ c.args.fitted = c.neutral-neutral.ensures in
-    let fit : IsFitted (format_of class) m = subst (λ (x : Object). IsFitted (format_of class) x) (sym same) (subst (λ f. IsFitted f c.args.fitted) c.requires c.is_fitted.ensures) in
-    let is = for_elf class m fit in
-    let heads = as_many_heads m c.in_ok-heads.heads.items c.in_ok-heads.ensures in
-    let few = few_heads class m is in
-    let counted = length-heads class m is in
     let long : c.len-count.result ≡ length c.in_ok-heads.heads.items = search rules in
-    omega (arith, heads, counted, long)
+    let some = c.in_ok-heads.ensures.some in
+    omega (arith, long, some)
 
 pub file_header-ehdr-requires-clause-count : goal.file_header-ehdr-requires-clause-count
 file_header-ehdr-requires-clause-count c =
     let class = c.args.class in
     let m : Object = c.neutral-neutral.result.now in
-    let same : m ≡ c.args.fitted = c.neutral-neutral.ensures in
-    let fit : IsFitted (format_of class) m = subst (λ (x : Object). IsFitted (format_of class) x) (sym same) (subst (λ f. IsFitted f c.args.fitted) c.requires c.is_fitted.ensures) in
-    let is = for_elf class m fit in
-    let heads = as_many_heads m c.in_ok-heads.heads.items c.in_ok-heads.ensures in
+    let is = ready_for class c.args.fitted m c.neutral-neutral.ensures c.requires c.is_fitted.ensures in
+    let heads = as_many_heads m c.in_ok-heads.heads.items c.in_ok-heads.ensures.heads in
     let long : c.len-count.result ≡ length c.in_ok-heads.heads.items = search rules in
     subst (λ k. shown_count class k < 2 ^ 16) (sym (long ∙ heads)) (count_low class m is)
 
@@ -142,10 +80,8 @@ pub file_header-ehdr-requires-clause-names : goal.file_header-ehdr-requires-clau
 file_header-ehdr-requires-clause-names c =
     let class = c.args.class in
     let m : Object = c.neutral-neutral.result.now in
-    let same : m ≡ c.args.fitted = c.neutral-neutral.ensures in
-    let fit : IsFitted (format_of class) m = subst (λ (x : Object). IsFitted (format_of class) x) (sym same) (subst (λ f. IsFitted f c.args.fitted) c.requires c.is_fitted.ensures) in
-    let is = for_elf class m fit in
-    let heads = as_many_heads m c.in_ok-heads.heads.items c.in_ok-heads.ensures in
+    let is = ready_for class c.args.fitted m c.neutral-neutral.ensures c.requires c.is_fitted.ensures in
+    let heads = as_many_heads m c.in_ok-heads.heads.items c.in_ok-heads.ensures.heads in
     let long : c.len-count.result ≡ length c.in_ok-heads.heads.items = search rules in
     let place = shstrtab_number m in
     let last : head_where m is_shstrtab_head ≡ c.len-count.result - 1 = omega (arith, place, heads, long) in
@@ -153,19 +89,21 @@ file_header-ehdr-requires-clause-names c =
 
 pub symtab_number-requires : goal.symtab_number-requires
 symtab_number-requires c =
-    let m : Object = c.neutral-neutral.result.now in
-    let heads = as_many_heads m c.in_ok-heads.heads.items c.in_ok-heads.ensures in
     let long : c.len-count.result ≡ length c.in_ok-heads.heads.items = search rules in
-    let many = many_heads m in
-    omega (arith, heads, long, many)
+    let some = c.in_ok-heads.ensures.some in
+    omega (arith, long, some)
+
+pub sections_of-sections-requires : goal.sections_of-sections-requires
+sections_of-sections-requires c =
+    subst (λ (x : Object). IsFitted (format_of c.args.class) x) (sym c.into_neutral.ensures) (subst (λ f. IsFitted f c.args.fitted) c.requires c.is_fitted.ensures)
 
 pub returns-clause-made : goal.returns-clause-made
 returns-clause-made c =
     let class = c.args.class in
     let m : Object = c.neutral-neutral.result.now in
     let same : m ≡ c.args.fitted = c.neutral-neutral.ensures in
-    let raws = (rw c.word.ensures at c.sections_of-sections.ensures) ∙ ap (all_raws (word_of class)) (c.into_neutral.ensures ∙ sym same) in
-    let heads = as_many_heads m c.in_ok-heads.heads.items c.in_ok-heads.ensures in
+    let raws = c.sections_of-sections.ensures ∙ ap (all_raws (word_of class)) (c.into_neutral.ensures ∙ sym same) in
+    let heads = as_many_heads m c.in_ok-heads.heads.items c.in_ok-heads.ensures.heads in
     let long : c.len-count.result ≡ length c.in_ok-heads.heads.items = search rules in
     let long-3 : c.len.result ≡ length c.in_ok-heads.heads.items = search rules in
     let many : length (heads_of m) ≡ c.len-count.result = sym (long ∙ heads) in
@@ -175,7 +113,7 @@ returns-clause-made c =
     rw (← same) (record {
       is = refl;
       ehdr = ehdr;
-      heads = c.in_ok-heads.ensures;
+      heads = c.in_ok-heads.ensures.heads;
       shdrs = c.in_ok-shdrs.ensures;
       raws = raws;
       bodies = c.in_ok-bodies.ensures;

@@ -5,4 +5,4 @@ use Rattle.oc_macho_read.specs.Given.{given_before}
 use Rattle.oc_macho_read.proofs.added_relocs.add_relocations.Given as goal
 
 abbrev pub invariant-loop-i : goal.invariant-loop-i
-invariant-loop-i l = HasAdded (started l.frame l.keep) l.builder (given_before l.frame l.keep l.i)
+invariant-loop-i l = HasAdded (started l.frame l.known.keep) l.builder (given_before l.frame l.known.keep l.i)

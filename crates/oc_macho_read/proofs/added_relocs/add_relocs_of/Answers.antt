@@ -15,11 +15,11 @@ pub add_table-requires-clause-table : goal.add_table-requires-clause-table
 add_table-requires-clause-table c = table_of c.args.frame.now c.args.i c.section-h.result c.requires.there c.requires.ready.clean.sections c.section-h.ensures c.has_entries.ensures
 
 pub add_table-requires-clause-kept : goal.add_table-requires-clause-kept
-add_table-requires-clause-kept c = sym (c.keeps.ensures ∙ ap (keeps c.args.keep.now) (c.kind_of.ensures ∙ ap kind_of c.section-h.ensures)) ∙ c.if-not-keeps.false
+add_table-requires-clause-kept c = sym (c.keeps.ensures ∙ ap (keeps c.args.known.now.keep) (c.kind_of.ensures ∙ ap kind_of c.section-h.ensures)) ∙ c.if-not-keeps.false
 
 pub returns-then-not-keeps : goal.returns-then-not-keeps
 returns-then-not-keeps c =
     let t = c.args.frame.now in
-    added_same (started t c.args.keep.now) c.args.builder.now (given_before t c.args.keep.now c.args.i) (given_before t c.args.keep.now (c.args.i + 1)) c.requires.before
-    (given_left t c.args.keep.now c.args.i (table_at t c.args.i) (there t c.args.i c.requires.there)
-    (sym (c.keeps.ensures ∙ ap (keeps c.args.keep.now) (c.kind_of.ensures ∙ ap kind_of c.section-h.ensures)) ∙ c.if-not-keeps.true))
+    added_same (started t c.args.known.now.keep) c.args.builder.now (given_before t c.args.known.now.keep c.args.i) (given_before t c.args.known.now.keep (c.args.i + 1)) c.requires.before
+    (given_left t c.args.known.now.keep c.args.i (table_at t c.args.i) (there t c.args.i c.requires.there)
+    (sym (c.keeps.ensures ∙ ap (keeps c.args.known.now.keep) (c.kind_of.ensures ∙ ap kind_of c.section-h.ensures)) ∙ c.if-not-keeps.true))

@@ -6,4 +6,4 @@ use Rattle.oc_macho_read.specs.Given.{given_with}
 use Rattle.oc_macho_read.proofs.added_relocs.add_table.Given as goal
 
 abbrev pub invariant-loop-j : goal.invariant-loop-j
-invariant-loop-j l = HasAdded (started l.frame l.keep) l.builder (given_with l.frame l.keep l.i (take l.j l.fields.items))
+invariant-loop-j l = HasAdded (started l.frame l.known.keep) l.builder (given_with l.frame l.known.keep l.i (take l.j l.fields.items))

@@ -21,10 +21,10 @@ reloc_with-requires-clause-inside c =
 pub returns-in-Some : goal.returns-in-Some
 returns-in-Some c =
     ap (λ (r : Reloc). Some r) c.reloc_with.ensures
-    ∙ made_some c.args.frame.now c.args.keep.now c.args.i (table_at c.args.frame.now c.args.i) (there c.args.frame.now c.args.i c.requires.table.there) c.args.item.now c.requires.aimed c.in-Some.meaning
+    ∙ made_some c.args.frame.now c.args.known.now.keep c.args.i (table_at c.args.frame.now c.args.i) (there c.args.frame.now c.args.i c.requires.table.there) c.args.item.now c.requires.aimed c.in-Some.meaning
     (sym (c.meaning_of.ensures ∙ ap (λ (w : Word). meaning_of w c.args.item.now.first) c.word.ensures) ∙ c.in-Some.is)
 
 pub returns-in-None : goal.returns-in-None
 returns-in-None c =
-    made_none c.args.frame.now c.args.keep.now c.args.i (table_at c.args.frame.now c.args.i) (there c.args.frame.now c.args.i c.requires.table.there) c.args.item.now c.requires.aimed
+    made_none c.args.frame.now c.args.known.now.keep c.args.i (table_at c.args.frame.now c.args.i) (there c.args.frame.now c.args.i c.requires.table.there) c.args.item.now c.requires.aimed
     (sym (c.meaning_of.ensures ∙ ap (λ (w : Word). meaning_of w c.args.item.now.first) c.word.ensures) ∙ c.in-None.is)

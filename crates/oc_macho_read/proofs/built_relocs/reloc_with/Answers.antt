@@ -17,6 +17,6 @@ returns c =
     let narrow : to_z w64 (of_z w64 c.number_in.result) ≡ c.number_in.result = search rules in
     c.reloc_as.ensures
     ∙ ap (λ (n : ℤ). reloc_meant c.word-word.result c.args.h.now.addr c.args.item.now.first.r_address n c.args.meaning.now c.aim_of-target.result c.taken_aim-taken.result) narrow
-    ∙ item_made_of c.args.frame.now c.args.keep.now c.args.i c.args.h.now c.args.item.now c.args.meaning.now c.word-word.result c.number_in.result c.raw.result.now c.aim_of-target.result c.taken_aim-taken.result c.requires.table c.requires.stored
+    ∙ item_made_of c.args.frame.now c.args.known.now.keep c.args.i c.args.h.now c.args.item.now c.args.meaning.now c.word-word.result c.number_in.result c.raw.result.now c.aim_of-target.result c.taken_aim-taken.result c.requires.table c.requires.stored
     c.word-word.ensures c.raw.ensures c.number_in.ensures
-    (c.aim_of-target.ensures ∙ ap (aim_for c.args.frame.now c.args.keep.now) (c.target.ensures ∙ ap (λ (w : Word). (target_entry w c.args.item.now).refers) c.word-word.ensures)) c.taken_aim-taken.ensures
+    (c.aim_of-target.ensures ∙ ap (aim_for c.args.frame.now c.args.known.now.keep) (c.target.ensures ∙ ap (λ (w : Word). (target_entry w c.args.item.now).refers) c.word-word.ensures)) c.taken_aim-taken.ensures

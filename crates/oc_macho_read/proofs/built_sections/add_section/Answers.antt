@@ -25,9 +25,7 @@ section_of-requires-clause-align c =
 pub add_clean_section-requires-clause-room : goal.add_clean_section-requires-clause-room
 add_clean_section-requires-clause-room c =
     let long = ap (λ (d : Draft). length d.object.sections) c.requires.before in
-    let few = c.section_count-count.ensures.few in
-    let count = c.section_count-count.ensures.count in
-    let room = section_room c.args.frame.now c.requires.clean c.args.i c.requires.there (omega (arith, few, count)) in
+    let room = section_room c.args.frame.now c.requires.clean c.args.i c.requires.there c.requires.few in
     omega (arith, long, room)
 
 pub add_clean_section-requires-clause-bytes : goal.add_clean_section-requires-clause-bytes

@@ -11,9 +11,6 @@ add_sections-requires-clause-clean c = c.requires.clean.sections
 pub add_sections-requires-clause-before : goal.add_sections-requires-clause-before
 add_sections-requires-clause-before c = c.new-builder.ensures ∙ ap empty_draft (c.format_of.ensures ∙ ap mach_format c.word.ensures)
 
-pub pins_of-requires : goal.pins_of-requires
-pins_of-requires c = c.requires.clean.sections
-
 pub add_symbols-requires-clause-sections : goal.add_symbols-requires-clause-sections
 add_symbols-requires-clause-sections c = c.requires.clean.sections
 

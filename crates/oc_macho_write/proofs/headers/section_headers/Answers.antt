@@ -11,10 +11,10 @@ use Rattle.oc_macho_write.proofs.headers.section_headers.Goals as goal
 
 pub loop-k-preserved : goal.loop-k-preserved
 loop-k-preserved c =
-    let w = c.args.word in
-    let n = c.args.neutral.now in
+    let w = c.args.output.now.word in
+    let n = c.args.output.now.neutral.now in
     let k = c.loop-k.k in
-    let low : k < length n.sections = omega (arith, c.loop-k-test.true, c.section_count-k-end.ensures) in
+    let low : k < length n.sections = omega (arith, c.loop-k-test.true, c.section_count-count.ensures) in
     let x = there_at n.sections k low in
     more_given c.loop-k.headers.items _ _ _ (section_header w n (k, x.0) ∷ []) _
     (◌∙◌ {A = List SectionHeader} c.in_ok-push.ensures.items (ap (λ (h : SectionHeader). c.loop-k.headers.items ++ h ∷ []) (c.section_header.ensures x.0 x.1)))
@@ -22,8 +22,8 @@ loop-k-preserved c =
 
 pub returns : goal.returns
 returns c =
-    let w = c.args.word in
-    let n = c.args.neutral.now in
+    let w = c.args.output.now.word in
+    let n = c.args.output.now.neutral.now in
     let k = c.loop-k.k in
-    let done : length n.sections ≤ k = omega (arith, c.loop-k-test.false, c.section_count-k-end.ensures) in
+    let done : length n.sections ≤ k = omega (arith, c.loop-k-test.false, c.section_count-count.ensures) in
     all_given c.loop-k.headers.items _ _ (ap (λ xs. map (section_header w n) (enumerate_from k xs)) (drop_all k n.sections done)) c.loop-k.invariant

@@ -25,31 +25,31 @@ three_groups w n =
 
 pub dysymtab_of-requires-clause-within : goal.dysymtab_of-requires-clause-within
 dysymtab_of-requires-clause-within c =
-    let w = c.args.word in
-    let n = c.args.neutral.now in
+    let w = c.args.output.now.word in
+    let n = c.args.output.now.neutral.now in
     let many = as_many_lines w n c.args.lines.now.all.items c.requires.lines in
     let groups = three_groups w n in
     omega (arith, many, groups, c.requires.inner, c.requires.defined)
 
 pub dysymtab_of-requires-clause-few : goal.dysymtab_of-requires-clause-few
 dysymtab_of-requires-clause-few c =
-    let w = c.args.word in
-    let n = c.args.neutral.now in
+    let w = c.args.output.now.word in
+    let n = c.args.output.now.neutral.now in
     let many = as_many_lines w n c.args.lines.now.all.items c.requires.lines in
-    let few = few_lines w n (for_mach w n c.requires.fitted) in
+    let few = few_lines w n (for_mach w n c.requires.made.fitted) in
     omega (arith, many, few)
 
 pub returns : goal.returns
 returns c =
-    let w = c.args.word in
-    let n = c.args.neutral.now in
+    let w = c.args.output.now.word in
+    let n = c.args.output.now.neutral.now in
     let same = sym c.section_count-count.ensures in
     let many = as_many_lines w n c.args.lines.now.all.items c.requires.lines in
     let groups = three_groups w n in
     record {
       file = c.file_header.ensures n same;
       cmdsize = c.segment_length.ensures.length n same;
-      segment = c.segment_of_file.ensures n same c.requires.addresses;
+      segment = c.segment_of_file.ensures n same c.requires.made.addresses;
       sections = c.in_ok-section_headers.ensures;
       symtab = c.symtab_command.ensures;
       dysymtab = dysymtab_is c.dysymtab_of.result (length (inner_lines w n)) (length (defined_lines n)) (length (undefined_lines n))

@@ -2,11 +2,12 @@
 use Rattle.std.proofs.Common.{◌≡◌, refl, length, sym, ◌∙◌, ap, subst}
 use Rattle.std.proofs.lemmas.List.{length-map}
 use Rattle.oc_neutral.specs.Objects.{Object}
+use Rattle.oc_target.specs.Fitted.{IsFitted}
+use Rattle.oc_macho.specs.MachHeader.{mach_format}
 use Rattle.oc_shelf.specs.Writing.Parts.{Laid}
 use Rattle.oc_macho_file.specs.Layout as layout
 use Rattle.oc_macho_file.specs.Layout.{laid_parts, parts_of}
 use Rattle.oc_macho_write.specs.LaidParts.{AreLaid}
-use Rattle.oc_macho_write.specs.Plans.{AreMade}
 use Rattle.oc_macho_write.specs.Relocations.{all_raws}
 use Rattle.oc_macho_write.proofs.PartLemmas.{as_many_parts}
 use Rattle.oc_macho_write.proofs.PlaceLemmas.{as_many_laid}
@@ -19,8 +20,13 @@ of-requires-2-clause-counted c =
     let parts = as_many_parts m c.in_ok-parts.parts.items c.in_ok-parts.ensures in
     ap length (c.deref-4.ensures.value ∙ c.in_ok-layout.ensures.begins) ∙ length-map (laid_parts w m) (λ (l : Laid layout.Part). l.at) ∙ as_many_laid w m ∙ sym parts ∙ sym (ap length c.deref-3.ensures.value)
 
-pub heads_of-requires-clause-places : goal.heads_of-requires-clause-places
-heads_of-requires-clause-places c = c.in_ok-places.ensures c.args.word (c.deref-4.ensures.value ∙ c.in_ok-layout.ensures.begins)
+pub heads_of-requires-clause-made : goal.heads_of-requires-clause-made
+heads_of-requires-clause-made c = record {
+  fitted = subst (λ (m : Object). IsFitted (mach_format c.args.word) m) (sym c.neutral-neutral.ensures) (subst (λ f. IsFitted f c.args.fitted) c.requires c.is_fitted.ensures);
+  addresses = c.in_ok-addresses.ensures;
+  bodies = c.in_ok-bodies.ensures;
+  places = c.in_ok-places.ensures c.args.word (c.deref-4.ensures.value ∙ c.in_ok-layout.ensures.begins);
+}
 
 pub returns-clause-made : goal.returns-clause-made
 returns-clause-made c =

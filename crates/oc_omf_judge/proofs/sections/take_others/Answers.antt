@@ -8,14 +8,14 @@ use Rattle.oc_omf_judge.proofs.StageLaws.{others_judged}
 use Rattle.oc_omf_judge.proofs.sections.take_others.Goals as goal
 
 pub returns-in-Some-clause-stop : goal.returns-in-Some-clause-stop
-returns-in-Some-clause-stop c = λ t is.
+returns-in-Some-clause-stop c = λ wide b t is.
     let x : ℕ × ℕ = (c.args.spot.index, c.args.spot.place) in
-    others_judged t x c.args.ends c.args.spot.place c.args.wide c.args.contents.now ∙ sym (c.judge_others.ensures t is) ∙ c.in-Some.is
+    others_judged t x c.args.ends c.args.spot.place wide b ∙ sym (c.judge_others.ensures t is) ∙ c.in-Some.is
 
 pub returns-in-None-clause-taken : goal.returns-in-None-clause-taken
-returns-in-None-clause-taken c = λ t is.
+returns-in-None-clause-taken c = λ wide b t is.
     let x : ℕ × ℕ = (c.args.spot.index, c.args.spot.place) in (
-      others_judged t x c.args.ends c.args.spot.place c.args.wide c.args.contents.now ∙ sym (c.judge_others.ensures t is) ∙ c.in-None.is,
-      same_defined t (and_entry t (said_on (topic.Others c.args.ends) c.args.spot.place c.args.wide c.args.contents.now)) c.args.defined.now is
+      others_judged t x c.args.ends c.args.spot.place wide b ∙ sym (c.judge_others.ensures t is) ∙ c.in-None.is,
+      same_defined t (and_entry t (said_on (topic.Others c.args.ends) c.args.spot.place wide b)) c.args.defined.now is
           (append-nil t.names) (append-nil t.segments) (append-nil t.groups) (append-nil t.pieces),
     )

@@ -5,8 +5,13 @@ use Rattle.oc_omf_read.proofs.DefinedLemmas.{entry_here}
 use Rattle.oc_omf_read.proofs.FieldLemmas.{not_fixups, with_data}
 use Rattle.oc_omf_read.proofs.fields.take_entry.Goals as goal
 
-pub take_subrecords-requires-clause-here : goal.take_subrecords-requires-clause-here
-take_subrecords-requires-clause-here c = entry_here c.args.context.now.omf.now c.args.i c.entry-entry.result.place c.entry-entry.result c.entry-entry.ensures.place c.entry-entry.ensures.entry
+pub take_subrecords-requires-clause-low : goal.take_subrecords-requires-clause-low
+take_subrecords-requires-clause-low c = c.requires.before.low
+
+pub returns-in-Fixups : goal.returns-in-Fixups
+returns-in-Fixups c =
+    let here = entry_here c.args.context.now.omf.now c.args.i c.entry-entry.result.place c.entry-entry.result c.entry-entry.ensures.place c.entry-entry.ensures.entry in
+    on_ok_weaker c.take_subrecords.result (λ taken. taken c.args.i here c.requires.before) c.take_subrecords.ensures
 
 pub returns-in-Names : goal.returns-in-Names
 returns-in-Names c =

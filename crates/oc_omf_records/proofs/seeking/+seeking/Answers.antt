@@ -7,7 +7,7 @@ use Rattle.oc_omf_records.specs.Rows.{row_of, rows_of}
 use Rattle.oc_omf_records.specs.Seeking.{Finds, places_in, kept}
 use Rattle.oc_omf_records.proofs.RowLemmas.{blocks_in-item, blocks_in-inside}
 use Rattle.oc_omf_records.proofs.SizedLemmas.{row_of-Content, row_of-Nested, kept_size, kept_blocks, are_sized-item}
-use Rattle.oc_omf_records.proofs.SeekingLemmas.{live_inside, size_of-next, fits_behind, fits_repeated, Finds-in_next, Finds-beyond_next, Finds-in_copies, Finds-in_content}
+use Rattle.oc_omf_records.proofs.SeekingLemmas.{live_inside, size_of-next, fits_behind, fits_repeated, Finds-in_next, Finds-beyond_next, Finds-in_copies, Finds-in_content, fits_low, in_each-low}
 use Rattle.oc_omf_records.proofs.seeking.+seeking.Goals as goal
 
 -- what is found in a block, of its own blocks
@@ -26,7 +26,9 @@ seek_block-in_each_row-requires t c =
     let size = ap (λ x. size_of (row_of x)) c.in-Nested.is ∙ ap size_of (row_of-Nested c.in-Nested.count c.in-Nested.size c.in-Nested.blocks) in
     let one = inside c.is_live.result (c.args.live && nat_lt 0 c.in-Nested.count) c.deref-in-Nested.result.now c.in-Nested.blocks.items c.args.at c.in_ok-places-in-Nested.field-0 c.in-Found.places
     c.is_live.ensures c.deref-in-Nested.ensures.value c.in-Found.is c.in_ok-places-in-Nested.ensures in
-    rw c.deref-in-Found.ensures.value (record { size = kept_size c.args.block.now c.in-Nested.count c.in-Nested.size c.in-Nested.blocks c.in-Nested.is c.requires.sized; fit = fits_repeated c.args.live c.in-Nested.count (rows_of c.in-Nested.blocks.items) c.args.at c.in-Found.places.items one (λ here. omega (arith, size, c.requires.small here)) })
+    let cut = kept_size c.args.block.now c.in-Nested.count c.in-Nested.size c.in-Nested.blocks c.in-Nested.is c.requires.sized in
+    fits_low c.args.live c.in-Nested.count (rows_of c.in-Nested.blocks.items) c.args.at c.in-Nested.size c.in-Found.places.items cut one
+    (λ here. omega (arith, size, c.requires.small here))
 
 pub seek_block-returns-in_ok-in_each-in-Some : goal.seek_block-returns-in_ok-in_each-in-Some
 seek_block-returns-in_ok-in_each-in-Some t c =
@@ -41,7 +43,10 @@ pub seek_block-returns-in_ok-in_each_row-in-Found : goal.seek_block-returns-in_o
 seek_block-returns-in_ok-in_each_row-in-Found t c =
     let one = inside c.is_live.result (c.args.live && nat_lt 0 c.in-Nested.count) c.deref-in-Nested.result.now c.in-Nested.blocks.items c.args.at c.in_ok-places-in-Nested.field-0 c.in-Found.places
     c.is_live.ensures c.deref-in-Nested.ensures.value c.in-Found.is c.in_ok-places-in-Nested.ensures in
-    let copies = c.in_ok-in_each_row-in-Found.ensures ∙ ap (λ blocks. in_each c.in-Nested.count (size_of (rows_of blocks)) c.in-Found.places.items) c.deref-in-Found.ensures.value in
+    let size = ap (λ x. size_of (row_of x)) c.in-Nested.is ∙ ap size_of (row_of-Nested c.in-Nested.count c.in-Nested.size c.in-Nested.blocks) in
+    let cut = kept_size c.args.block.now c.in-Nested.count c.in-Nested.size c.in-Nested.blocks c.in-Nested.is c.requires.sized in
+    let copies = c.in_ok-in_each_row-in-Found.ensures ∙ in_each-low c.in-Nested.count (size_of (rows_of c.in-Nested.blocks.items)) c.in-Nested.size c.in-Found.places.items cut
+    (fits_repeated c.args.live c.in-Nested.count (rows_of c.in-Nested.blocks.items) c.args.at c.in-Found.places.items one (λ here. omega (arith, size, c.requires.small here))) in
     rw (c.in-Nested.is, row_of-Nested c.in-Nested.count c.in-Nested.size c.in-Nested.blocks)
     (Finds-in_copies c.args.live c.in-Nested.count (rows_of c.in-Nested.blocks.items) c.args.at c.in-Found.places c.in_ok-in_each_row-in-Found.field-0 one copies)
 

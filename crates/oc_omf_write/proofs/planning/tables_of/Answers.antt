@@ -8,12 +8,13 @@ use Rattle.oc_neutral.specs.Objects.{Object}
 use Rattle.oc_omf_file.specs.Outputs.{symbol_outputs}
 use Rattle.oc_omf_file.proofs.CodedLaws.{for_omf, few_names}
 use Rattle.oc_omf_write.specs.Entries.{entry_for}
-use Rattle.oc_omf_write.specs.Names.{AreNames, IsNameOf, names_for, segment_in, text_by}
+use Rattle.oc_omf_write.specs.Names.{AreNames, IsAligned, IsNameOf, names_for, segment_in, text_by}
 use Rattle.oc_omf_write.specs.Numbers.{AreNumbers, HasPlace}
 use Rattle.oc_omf_write.specs.Raws.{sections_in}
 use Rattle.oc_omf_write.specs.Written.{fixups_in}
 use Rattle.oc_omf_write.proofs.NumberLemmas.{are_numbers}
 use Rattle.oc_omf_write.proofs.PlannedLemmas.{names_same}
+use Rattle.oc_omf_write.proofs.SegmentLemmas.{are_aligned}
 use Rattle.oc_omf_write.proofs.ReadyLemmas.{all_places, few_entries, are_made, sections_in_counted}
 use Rattle.oc_omf_write.proofs.planning.tables_of.Goals as goal
 
@@ -56,6 +57,12 @@ segments_of-requires-clause-few c =
     let low = few_names c.args.fitted (for_omf c.args.fitted fit) in
     let all = ap length (ap names_for (c.deref-4.ensures.value ∙ c.parts_of-sections.ensures.sections ∙ ap sections_in c.into_neutral.ensures) ∙ names_same c.args.fitted) in
     omega (arith, low, all)
+
+pub segments_of-requires-clause-aligns : goal.segments_of-requires-clause-aligns
+segments_of-requires-clause-aligns c =
+    let fit = subst (λ f. IsFitted f c.args.fitted) c.requires c.is_fitted.ensures in
+    let same = c.deref-4.ensures.value ∙ c.parts_of-sections.ensures.sections ∙ ap sections_in c.into_neutral.ensures in
+    subst (AllByRecursion IsAligned) (sym same) (are_aligned c.args.fitted (for_omf c.args.fitted fit))
 
 pub returns : goal.returns
 returns c =

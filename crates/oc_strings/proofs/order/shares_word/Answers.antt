@@ -1,4 +1,4 @@
-use Rattle.std.proofs.Common.{◌≡◌, sym, ◌∙◌, arith}
+use Rattle.std.proofs.Common.{sym, ◌∙◌, arith}
 use Rattle.std.proofs.lemmas.Bool.{eqb-true, eq-eqb}
 use Rattle.oc_strings.proofs.KeyLemmas.{shares_from, shares_to}
 use Rattle.oc_strings.proofs.order.shares_word.Goals as goal

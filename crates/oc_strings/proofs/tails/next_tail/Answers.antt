@@ -12,5 +12,5 @@ loop-candidate-preserved c =
     let below : c.in-Some.k < length c.args.entries.now = omega (arith, beyond.0) in
     tail_step names c.requires.ascends (length c.args.tails.now) c.in-Some.k (get_or c.args.tails.now c.in-Some.k None) (omega (arith, count_of_names c.args.entries.now)) beyond
     (ends_by_place c.args.entries.now c.in-Some.k (length c.args.tails.now) (record { name = record { ref_ptr = (0, 0); now = [] }; number = 0; back = 0 }) false below within
-    (sym c.ends_with.ensures.value ∙ c.if-ends_with.false))
+    (sym c.is_tail.ensures ∙ c.if-is_tail.false))
     (c.requires.known c.in-Some.k None beyond.0)

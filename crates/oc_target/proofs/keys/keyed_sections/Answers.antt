@@ -12,7 +12,7 @@ loop-k-preserved c =
       λ k l.
           let marked = c.mark.ensures.marked k (subst (λ m. k < m) (sym c.loop-k.invariant.0) l) in
           let before = c.loop-k.invariant.1 k l in
-          let next = c.key_place.ensures k in
+          let next = c.key_place.ensures.test k in
           let more = any_more (is_key_at n k) n.symbols c.loop-k.k c.symbol.result.now c.symbol.ensures in
           cc (marked, before, next, more),
     )

@@ -18,8 +18,8 @@ returns-then-k-eq0 c =
     subst (λ (xs : List ℕ). IsFilled xs c.args.from c.args.out.now c.copy_window.new.out c.copy_window.result)
     (c.as_slice.ensures ∙ c.pack_ehdr.ensures ∙ ap (λ w. ehdr_bytes w p.ehdr) c.word-word.ensures ∙ sym (ap (λ k. get_or (parts_by p) k []) c.if-k-eq0.true)) c.copy_window.ensures
 
-pub shdrs_window-requires : goal.shdrs_window-requires
-shdrs_window-requires c =
+pub rows_window-requires : goal.rows_window-requires
+rows_window-requires c =
     let p = c.args.self.now in
     let long : c.len.result ≡ length p.heads.items = search rules in
     let past : length p.heads.items < c.args.k = omega (arith, long, c.if-k-len.true) in
@@ -31,8 +31,8 @@ returns-then-k-len c =
     let p = c.args.self.now in
     let long : c.len.result ≡ length p.heads.items = search rules in
     let past : length p.heads.items < c.args.k = omega (arith, long, c.if-k-len.true) in
-    subst (λ (xs : List ℕ). IsFilled xs c.args.from c.args.out.now c.shdrs_window.new.out c.shdrs_window.result) (sym (table_here p c.args.k c.requires.there past))
-    (subst (λ (hs : List Shdr). IsFilled (table_of (map (shdr_bytes (word_of p.class)) hs)) c.args.from c.args.out.now c.shdrs_window.new.out c.shdrs_window.result) c.deref.ensures.value (rw c.word-word.ensures at c.shdrs_window.ensures))
+    subst (λ (xs : List ℕ). IsFilled xs c.args.from c.args.out.now c.rows_window.new.out c.rows_window.result) (sym (table_here p c.args.k c.requires.there past))
+    (subst (λ (hs : List Shdr). IsFilled (table_of (map (shdr_bytes (word_of p.class)) hs)) c.args.from c.args.out.now c.rows_window.new.out c.rows_window.result) c.deref.ensures.value (rw c.word-word.ensures at c.rows_window.ensures))
 
 pub body_window-requires-clause-there : goal.body_window-requires-clause-there
 body_window-requires-clause-there c =

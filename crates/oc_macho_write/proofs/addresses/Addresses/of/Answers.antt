@@ -11,11 +11,11 @@ use Rattle.oc_macho_write.proofs.AddressLemmas.{addresses_are, ends_low, memory_
 use Rattle.oc_macho_write.proofs.addresses.Addresses.of.Goals as goal
 
 pub lay_sections-stored_end-requires-clause-near : goal.lay_sections-stored_end-requires-clause-near
-lay_sections-stored_end-requires-clause-near c = (ends_low c.args.word c.args.neutral.now (for_mach c.args.word c.args.neutral.now c.requires)).0
+lay_sections-stored_end-requires-clause-near c = (ends_low c.requires.0 c.args.neutral.now (for_mach c.requires.0 c.args.neutral.now c.requires.1)).0
 
 pub lay_sections-memory_end-requires-clause-near : goal.lay_sections-memory_end-requires-clause-near
 lay_sections-memory_end-requires-clause-near c =
-    subst (λ at. those_end true c.args.neutral.now at < 2 ^ 48) (sym c.lay_sections-stored_end.ensures.end) (ends_low c.args.word c.args.neutral.now (for_mach c.args.word c.args.neutral.now c.requires)).1
+    subst (λ at. those_end true c.args.neutral.now at < 2 ^ 48) (sym c.lay_sections-stored_end.ensures.end) (ends_low c.requires.0 c.args.neutral.now (for_mach c.requires.0 c.args.neutral.now c.requires.1)).1
 
 pub returns : goal.returns
 returns c =
@@ -33,7 +33,7 @@ returns c =
     let last : take len (two ++ drop (length two) (take len (one ++ drop (length one) items))) ≡ two
     = ap (λ (xs : List ℕ). take len (two ++ drop (length two) xs)) back ∙ put_back two one len (second.ensures.counted ∙ sym first.ensures.counted) (long ∙ many ∙ sym first.ensures.counted) in
     record {
-      sections = subst (AreAddresses n) (sym last) (addresses_are c.args.word n (for_mach c.args.word n c.requires) one two second.ensures.counted
+      sections = subst (AreAddresses n) (sym last) (addresses_are c.requires.0 n (for_mach c.requires.0 n c.requires.1) one two second.ensures.counted
           (λ j low. first.ensures.each j low ∙ ap (place_or (is_at j) (those_laid false n 0)) (ap (λ (xs : List ℕ). get_or xs j 0) (c.as_mut_slice.ensures.value ∙ zeros) ∙ get_or-replicate c.section_count.result j 0 0 (subst (λ m. j < m) (sym c.section_count.ensures) low)))
           (λ j low. second.ensures.each j low
           ∙ ap (λ at. place_or (is_at j) (those_laid true n at) (get_or c.as_mut_slice-2.result.now j 0)) first.ensures.end
