@@ -4,7 +4,7 @@ import os
 from svg import PALE, Picture
 
 ELF = "crates/objconv_main/data/a"
-COFF = "crates/objconv_main/stdout"
+COFF = "crates/objconv_main/data/b"
 # what has which bytes of the whole file: from, to, kind; all else is grey
 ELF_PARTS = [(0x40, 0x46, "section"), (0x48, 0x50, "relocation"), (0x50, 0x90, "symbol"), (0x90, 0xBF, "name"),
              (0xE8, 0x110, "section"), (0x110, 0x138, "relocation"), (0x138, 0x160, "symbol"), (0x160, 0x1B0, "name")]

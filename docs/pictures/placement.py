@@ -3,7 +3,7 @@ import os
 
 from svg import PALE, Picture
 
-OBJECT, CONVERTED = "crates/objlink/data/a", "crates/objconv_main/stdout"
+OBJECT, CONVERTED = "crates/objlink/data/a", "crates/objconv_main/data/b"
 # where the contents of the one section stand in each of the two files
 CONTENTS_ELF, CONTENTS_COFF, SIZE = 0x40, 0x3C, 6
 # of each placement: address of the section, address of foo, and the start of the section of the image in which foo lies
