@@ -65,7 +65,7 @@ use Rattle.oc_elf_file.specs.Lines.{Line, NullLine, SectionLine, SignatureLine, 
 use Rattle.oc_elf_file.specs.Groups.{is_member_head, member_number, group_words, group_bytes}
 use Rattle.oc_elf_file.specs.Bodies.{number_or, field_number, field_patch, field_patches, raw_of, target_number, type_of, addend_of, rel_of, rels_of}
 use Rattle.oc_elf_file.specs.Layout.{Part, FileHead, Body, HeadTable, parts_of, is_named, head_names, line_names, strings_of, body_size, part_size, part_align, part_begin, laid_parts, is_head_table}
-use Rattle.oc_elf_file.specs.Headers.{shdr_of, part_header, made_headers, told_names, zero_shdr, with_first, stored_headers}
+use Rattle.oc_elf_file.specs.Headers.{shdr_of, part_header, made_headers, extended_names, zero_shdr, with_first, stored_headers}
 use Rattle.oc_elf_file.specs.Symbols.{offset_in, ValueFields, value_fields_at, value_fields_elsewhere, value_fields_by, value_fields_for, value_fields_of, bind_by, type_by, st_info_by, other_by, symbol_entry, line_entry}
 use Rattle.oc_elf_file.specs.Canonical.{shown_count, shown_names, file_header, body_bytes, part_bytes, elf_file}
 use Rattle.oc_elf_file.proofs.CodedLaws.{IsForElf}
@@ -713,7 +713,7 @@ module _ (class : ElfClass) (n : Object) (is : IsForElf class n) where
       ap (λ (k : ℕ). zero k (head_where a is_shstrtab_head)) (ap length heads_again ∙ length-map (heads_of n) head_again) ∙ ap (λ (k : ℕ). zero (length (heads_of n)) k) shstrtab_again
     where
       zero : ℕ → ℕ → Shdr
-      zero count names = cond {A = Shdr} (is_big class) (record null_shdr { sh_size = count; sh_link = told_names names }) null_shdr
+      zero count names = cond {A = Shdr} (is_big class) (record null_shdr { sh_size = count; sh_link = extended_names names }) null_shdr
 
   stored_again : stored_headers class a ≡ stored_headers class n
   unfolding stored_headers

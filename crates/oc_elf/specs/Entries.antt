@@ -7,6 +7,7 @@ use Rattle.oc_linking.specs.declared.terms.Visibility.{Visibility}
 use Rattle.oc_linking.specs.declared.terms.Visibility.TheVariants.{Default, Internal, Hidden, Protected}
 use Rattle.oc_elf.specs.declared.constants.TheConstants.{SHN_LORESERVE}
 use Rattle.oc_elf.specs.declared.constants.TheConstants.{SHN_UNDEF, STB_LOCAL, STT_OBJECT, STT_FUNC, STT_SECTION, STT_COMMON}
+use Rattle.oc_elf.specs.declared.constants.TheConstants.{STV_DEFAULT, STV_INTERNAL, STV_HIDDEN}
 use Rattle.oc_elf.specs.declared.sym.Sym.{Sym}
 use Rattle.oc_elf.specs.Sym.{bind_of, type_of}
 use Rattle.oc_elf.specs.Names.{name_in}
@@ -40,4 +41,5 @@ mark_of s = if nat_eq (type_of s) STT_OBJECT || nat_eq (type_of s) STT_COMMON th
 -- its visibility: the low two bits of st_other
 abbrev pub visibility_of : Sym → Visibility
 visibility_of s =
-    if nat_eq (s.st_other % 4) 0 then Default else (if nat_eq (s.st_other % 4) 1 then Internal else (if nat_eq (s.st_other % 4) 2 then Hidden else Protected))
+    if nat_eq (s.st_other % 4) STV_DEFAULT then Default
+    else (if nat_eq (s.st_other % 4) STV_INTERNAL then Internal else (if nat_eq (s.st_other % 4) STV_HIDDEN then Hidden else Protected))

@@ -11,7 +11,7 @@ use Rattle.oc_elf.specs.declared.shdr.Shdr.{Shdr}
 use Rattle.oc_elf.specs.declared.sym.Sym.{Sym}
 use Rattle.oc_elf.specs.declared.rel.Rel.{Rel}
 use Rattle.oc_elf.specs.Classes.{is_big, word_of}
-use Rattle.oc_elf.specs.declared.constants.TheConstants.{ELFCLASS32, ELFCLASS64, FIRST_TOLD}
+use Rattle.oc_elf.specs.declared.constants.TheConstants.{ELFCLASS32, ELFCLASS64, FIRST_EXTENDED}
 
 -- how many bytes an address and an offset have
 abbrev pub word_bytes : Word → ℕ
@@ -45,20 +45,20 @@ unfoldable pub shdr_bytes : Word → Shdr → List ℕ
 shdr_bytes word s = packed (shdr_numbers word s)
 
 -- the section number is stored elsewhere
-abbrev pub is_told : ℕ → Bool
-is_told m = not (nat_lt m FIRST_TOLD) && nat_lt m SHN_LORESERVE
+abbrev pub is_extended : ℕ → Bool
+is_extended m = not (nat_lt m FIRST_EXTENDED) && nat_lt m SHN_LORESERVE
 
 -- in the entry of a symbol: the number, or that it is stored elsewhere
 abbrev pub stored_index : ElfClass → ℕ → ℕ
-stored_index class m = if is_big class && is_told m then SHN_XINDEX else m % 2 ^ 16
+stored_index class m = if is_big class && is_extended m then SHN_XINDEX else m % 2 ^ 16
 
 -- and in the table of section numbers
-abbrev pub told_index : ℕ → ℕ
-told_index m = if is_told m then m else 0
+abbrev pub extended_index : ℕ → ℕ
+extended_index m = if is_extended m then m else 0
 
 -- its bytes there
 unfoldable pub index_bytes : Sym → List ℕ
-index_bytes s = bytes_of_number SHNDX_SIZE (told_index s.st_shndx)
+index_bytes s = bytes_of_number SHNDX_SIZE (extended_index s.st_shndx)
 
 -- the numbers of a symbol table entry with its section number, in the order of the word
 abbrev pub sym_row : Word → Sym → ℕ → List (ℕ × ℕ)

@@ -12,7 +12,7 @@ use Rattle.oc_strings.specs.Repeats.{NameList, repeat_at}
 use Rattle.oc_shelf.specs.Reading.Firsts.{any_upto}
 use Rattle.oc_neutral.specs.declared.elf.TheConstants.{ALIGN_BITS}
 use Rattle.oc_elf.specs.declared.constants.TheConstants.{SHN_LORESERVE}
-use Rattle.oc_elf.specs.declared.constants.TheConstants.{ZERO_TOLD, SHN_UNDEF, SHN_ABS, SHN_COMMON, STB_WEAK, STT_FILE, STT_COMMON}
+use Rattle.oc_elf.specs.declared.constants.TheConstants.{EXTENDED_ZERO, SHN_UNDEF, SHN_ABS, SHN_COMMON, STB_WEAK, STT_FILE, STT_COMMON}
 use Rattle.oc_elf.specs.declared.sym.Sym.{Sym}
 use Rattle.oc_elf.specs.Sym.{bind_of, type_of}
 use Rattle.oc_elf.specs.Frames.{FileFrame, header_at}
@@ -49,7 +49,7 @@ kind_conditions f k place s =
     (not (is_some (name_at f s)), symbol_fault BadName k place)
     ∷ (not (agree (is_local_entry s) (nat_lt k (symtab_of f).sh_info)), symbol_fault BadSymbol k place)
     ∷ (is_odd_symbol s, symbol_fault SymbolKind k place)
-    ∷ (is_sectional s && not (nat_lt s.st_shndx (length f.headers) || nat_eq s.st_shndx ZERO_TOLD), symbol_fault BadSymbol k place)
+    ∷ (is_sectional s && not (nat_lt s.st_shndx (length f.headers) || nat_eq s.st_shndx EXTENDED_ZERO), symbol_fault BadSymbol k place)
     ∷ []
 
 -- and by its value

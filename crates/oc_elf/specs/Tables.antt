@@ -9,7 +9,7 @@ use Rattle.oc_elf.specs.Rel.{rel_in, rel_size}
 use Rattle.oc_elf.specs.Frames.{FileFrame, header_at}
 use Rattle.oc_elf.specs.Sections.{is_type, shndx_by, symtab_among, table_among}
 use Rattle.oc_elf.specs.Classes.{is_big, word_of}
-use Rattle.oc_elf.specs.declared.constants.TheConstants.{SHT_SYMTAB_SHNDX, INDEX_TOLD, NO_INDEX, ZERO_TOLD, SHNDX_SIZE}
+use Rattle.oc_elf.specs.declared.constants.TheConstants.{SHT_SYMTAB_SHNDX, SIGNED_XINDEX, NO_INDEX, EXTENDED_ZERO, SHNDX_SIZE}
 use Rattle.oc_base.specs.Numbers.{number_at}
 
 -- the symbol table; the header of no section where there is none
@@ -37,12 +37,12 @@ abbrev pub index_place : FileFrame → ℕ → ℕ
 index_place f k = (shndx_of f).sh_offset + SHNDX_SIZE * k
 
 -- a number that is stored there, where a header can have it; header 0 gets another, for 0 is that of no section
-abbrev pub told : ℕ → ℕ
-told e = if nat_eq e 0 then ZERO_TOLD else (if nat_lt e ZERO_TOLD then e else NO_INDEX)
+abbrev pub extended : ℕ → ℕ
+extended e = if nat_eq e 0 then EXTENDED_ZERO else (if nat_lt e EXTENDED_ZERO then e else NO_INDEX)
 
 -- the one of symbol k
 abbrev pub index_of : FileFrame → ℕ → ℕ
-index_of f k = if is_type SHT_SYMTAB_SHNDX (shndx_of f) then told (number_at f.file (index_place f k) 4) else NO_INDEX
+index_of f k = if is_type SHT_SYMTAB_SHNDX (shndx_of f) then extended (number_at f.file (index_place f k) 4) else NO_INDEX
 
 -- a symbol with another section number
 abbrev pub with_index : Sym → ℕ → Sym
@@ -50,7 +50,7 @@ with_index s n = record { st_name = s.st_name; st_value = s.st_value; st_size = 
 
 -- symbol k with its section number, where that is in the table
 abbrev pub indexed : FileFrame → ℕ → Sym → Sym
-indexed f k s = if is_big f.class && nat_eq s.st_shndx INDEX_TOLD then with_index s (index_of f k) else s
+indexed f k s = if is_big f.class && nat_eq s.st_shndx SIGNED_XINDEX then with_index s (index_of f k) else s
 
 -- symbol k
 unfoldable pub entry_of : FileFrame → ℕ → Sym

@@ -6,7 +6,7 @@ ghost use Rattle.oc_shelf.specs.declared.writing.rows.TheConstants.{ROW};
 ghost use Rattle.oc_elf.specs.Structures as structures;
 
 use crate::class::ElfClass;
-use crate::constants::{ELFCLASS32, ELFCLASS64, FIRST_TOLD, SHN_LORESERVE, SHN_XINDEX};
+use crate::constants::{ELFCLASS32, ELFCLASS64, FIRST_EXTENDED, SHN_LORESERVE, SHN_XINDEX};
 use crate::ehdr::Ehdr;
 use crate::rel::Rel;
 use crate::shdr::Shdr;
@@ -19,9 +19,9 @@ const ELFMAG: [u8; 4] = *b"\x7fELF";
 
 /// Whether 16 bits have room for a section number. Constant time.
 pub fn has_room(number: u32) -> bool
-    ensures { result ≡ nat_lt number FIRST_TOLD }
+    ensures { result ≡ nat_lt number FIRST_EXTENDED }
 {
-    number < FIRST_TOLD
+    number < FIRST_EXTENDED
 }
 
 /// The size of an address and an offset, in bytes: tables lie at multiples of it. Constant time.
@@ -187,8 +187,8 @@ pub fn pack_shdr(word: Word, shdr: &Shdr) -> Packed
 }
 
 // the section number is stored elsewhere than in the entry
-fn is_told(number: u32) -> bool
-    ensures { result ≡ structures.is_told number }
+fn is_extended(number: u32) -> bool
+    ensures { result ≡ structures.is_extended number }
 {
     !has_room(number) && number < SHN_LORESERVE
 }
@@ -197,7 +197,7 @@ fn is_told(number: u32) -> bool
 fn stored_index(class: ElfClass, number: u32) -> u16
     ensures { result ≡ structures.stored_index class number }
 {
-    if class.is_big() && is_told(number) {
+    if class.is_big() && is_extended(number) {
         SHN_XINDEX
     } else {
         (number % 0x1_0000) as u16
@@ -205,10 +205,10 @@ fn stored_index(class: ElfClass, number: u32) -> u16
 }
 
 // and in the table of section numbers
-fn told_index(number: u32) -> u32
-    ensures { result ≡ structures.told_index number }
+fn extended_index(number: u32) -> u32
+    ensures { result ≡ structures.extended_index number }
 {
-    if is_told(number) { number } else { 0 }
+    if is_extended(number) { number } else { 0 }
 }
 
 /// An entry of the table of section numbers. Constant time.
@@ -216,7 +216,7 @@ fn told_index(number: u32) -> u32
 pub fn pack_index(sym: &Sym) -> Packed
     ensures { result ≡ structures.index_bytes sym.now }
 {
-    pack_word(told_index(sym.st_shndx))
+    pack_word(extended_index(sym.st_shndx))
 }
 
 // a symbol table entry of ELF32, with its section number

@@ -25,7 +25,7 @@ use Rattle.oc_base.specs.declared.format.Word.TheVariants.{W32, W64}
 use Rattle.oc_elf_file.specs.Heads.{Head, NullHead, GroupHead, SectionHead, RelocHead, SymtabHead, ShndxHead, StrtabHead, ShstrtabHead, heads_of, head_where, head_name, section_number, is_symtab_head, is_strtab_head, is_shstrtab_head}
 use Rattle.oc_elf_file.specs.Lines.{Line, lines_of, inner_lines, numbered_lines, signature_number, outer_lines}
 use Rattle.oc_elf_file.specs.Layout.{head_names, line_names, strings_of, body_size, laid_parts, is_head_table}
-use Rattle.oc_elf_file.specs.Headers.{plain_header, shdr_of, made_headers, told_names, zero_shdr, stored_headers}
+use Rattle.oc_elf_file.specs.Headers.{plain_header, shdr_of, made_headers, extended_names, zero_shdr, stored_headers}
 use Rattle.oc_elf_file.specs.Symbols.{offset_in}
 use Rattle.oc_elf_file.specs.Canonical.{shown_count, shown_names, file_header, body_bytes, elf_file}
 use Rattle.oc_elf_file.proofs.HeadLaws.{IsHeadAt, head_at, symtab_at, strtab_at, shstrtab_at, section_at}
@@ -312,17 +312,17 @@ module _ (class : ElfClass) (n : Object) (is : IsForElf class n) where
   pub zero_fits : Fit (shdr_numbers (word_of class) (zero_shdr class n))
   zero_fits = header_fits (word_of class) (zero_shdr class n) (by (is_big class))
     where
-      names : told_names (head_where n is_shstrtab_head) < 2 ^ 32
+      names : extended_names (head_where n is_shstrtab_head) < 2 ^ 32
       names = elim (cases_lt (head_where n is_shstrtab_head) 0xFF00) [
         | inl low ↦
             let k : ℕ = head_where n is_shstrtab_head in
-            let s : told_names k ≡ 0 = ap (λ t. cond t 0 k) (lt-ltb k 0xFF00 low) in omega (arith, s)
+            let s : extended_names k ≡ 0 = ap (λ t. cond t 0 k) (lt-ltb k 0xFF00 low) in omega (arith, s)
         | inr high ↦
             let k : ℕ = head_where n is_shstrtab_head in
-            let s : told_names k ≡ k = ap (λ t. cond t 0 k) (le-ltb k 0xFF00 high) in let l = head_low k ShstrtabHead (shstrtab_at n) in omega (arith, s, l)
+            let s : extended_names k ≡ k = ap (λ t. cond t 0 k) (le-ltb k 0xFF00 high) in let l = head_low k ShstrtabHead (shstrtab_at n) in omega (arith, s, l)
       ]
 
-      by : (b : Bool) → IsSmall (cond b (record null_shdr { sh_size = length (heads_of n); sh_link = told_names (head_where n is_shstrtab_head) }) null_shdr)
+      by : (b : Bool) → IsSmall (cond b (record null_shdr { sh_size = length (heads_of n); sh_link = extended_names (head_where n is_shstrtab_head) }) null_shdr)
       by true =
           let few = few_heads class n is in
           let link = names in

@@ -16,7 +16,7 @@ use Rattle.oc_elf.specs.Tables.{with_index}
 use Rattle.oc_elf.specs.Rel.{rel_in, rel_size}
 use Rattle.oc_shelf.specs.Writing.Packed.{packed}
 use Rattle.oc_shelf.specs.Writing.Parts.{Stands}
-use Rattle.oc_elf.specs.Structures.{ehdr_numbers, ehdr_bytes, shdr_numbers, shdr_bytes, stored_index, told_index, index_bytes, sym_row, sym_numbers, sym_bytes, rel_numbers, rel_bytes}
+use Rattle.oc_elf.specs.Structures.{ehdr_numbers, ehdr_bytes, shdr_numbers, shdr_bytes, stored_index, extended_index, index_bytes, sym_row, sym_numbers, sym_bytes, rel_numbers, rel_bytes}
 use Rattle.oc_shelf.proofs.WritingLaws.PackedLemmas.{Fit, length-packed, number_in}
 
 -- ... their sizes
@@ -41,7 +41,7 @@ length-sym_bytes class s = length-sym_row (word_of class) s (stored_index class 
 
 pub length-index_bytes : (s : Sym) → length (index_bytes s) ≡ 4
 unfolding index_bytes
-length-index_bytes s = length-bytes_of_number 4 (told_index s.st_shndx)
+length-index_bytes s = length-bytes_of_number 4 (extended_index s.st_shndx)
 
 pub length-rel_bytes : (word : Word) (r : Rel) → length (rel_bytes word r) ≡ rel_size word
 unfolding rel_bytes

@@ -8,7 +8,7 @@ use Rattle.oc_elf.specs.Classes.{machine_of, is_big, word_of}
 use Rattle.oc_elf.specs.Ehdr.{ehdr_size}
 use Rattle.oc_elf.specs.Shdr.{shdr_size}
 use Rattle.oc_shelf.specs.Writing.Parts.{joined, place_where}
-use Rattle.oc_elf.specs.declared.constants.TheConstants.{FIRST_TOLD}
+use Rattle.oc_elf.specs.declared.constants.TheConstants.{FIRST_EXTENDED}
 use Rattle.oc_elf.specs.Structures.{ehdr_bytes, shdr_bytes, sym_bytes, index_bytes, rel_bytes}
 use Rattle.oc_elf_file.specs.Heads.{Head, NullHead, GroupHead, SectionHead, RelocHead, SymtabHead, ShndxHead, StrtabHead, ShstrtabHead, heads_of, head_where, is_shstrtab_head}
 use Rattle.oc_elf_file.specs.Lines.{Line, lines_of, numbered_lines}
@@ -24,7 +24,7 @@ shown_count class count = if is_big class then 0 else count
 
 -- and the number of that of their names, where there is room for it
 abbrev pub shown_names : ElfClass → ℕ → ℕ
-shown_names class k = if is_big class && not (nat_lt k FIRST_TOLD) then SHN_XINDEX else k
+shown_names class k = if is_big class && not (nat_lt k FIRST_EXTENDED) then SHN_XINDEX else k
 
 -- the file header
 unfoldable pub file_header : ElfClass → Object → Ehdr

@@ -10,7 +10,7 @@ use Rattle.oc_elf.specs.Shdr.{null_shdr}
 use Rattle.oc_elf.specs.Sym.{sym_size}
 use Rattle.oc_elf.specs.Rel.{rel_size}
 use Rattle.oc_shelf.specs.Writing.Parts.{Laid}
-use Rattle.oc_elf.specs.declared.constants.TheConstants.{FIRST_TOLD, SHF_INFO_LINK}
+use Rattle.oc_elf.specs.declared.constants.TheConstants.{FIRST_EXTENDED, SHF_INFO_LINK}
 use Rattle.oc_elf.specs.Structures.{word_bytes}
 use Rattle.oc_elf_file.specs.Heads.{Head, NullHead, GroupHead, SectionHead, RelocHead, SymtabHead, ShndxHead, StrtabHead, ShstrtabHead, heads_of, head_where, section_number, is_symtab_head, is_strtab_head, is_shstrtab_head, head_name}
 use Rattle.oc_elf_file.specs.Lines.{inner_lines, numbered_lines, signature_number}
@@ -81,12 +81,12 @@ unfoldable pub made_headers : ElfClass → Object → List Shdr
 made_headers class n = filter_map (part_header class n) (laid_parts class n)
 
 -- the number of the header of the names of sections, where header 0 has it
-abbrev pub told_names : ℕ → ℕ
-told_names k = if nat_lt k FIRST_TOLD then 0 else k
+abbrev pub extended_names : ℕ → ℕ
+extended_names k = if nat_lt k FIRST_EXTENDED then 0 else k
 
 -- header 0 as it is written: where sections are many, it has their number, and that of the names of sections where the file header has no room
 abbrev pub zero_shdr : ElfClass → Object → Shdr
-zero_shdr class n = if is_big class then record null_shdr { sh_size = length (heads_of n); sh_link = told_names (head_where n is_shstrtab_head) } else null_shdr
+zero_shdr class n = if is_big class then record null_shdr { sh_size = length (heads_of n); sh_link = extended_names (head_where n is_shstrtab_head) } else null_shdr
 
 -- headers with another first one
 abbrev pub with_first : Shdr → List Shdr → List Shdr

@@ -11,9 +11,9 @@ ghost use Rattle.oc_elf.specs.Tables as tables;
 use crate::sections::is_power;
 use oc_base::{Code, Fault, Phase, u32_in};
 use oc_elf::{
-    Frame, INDEX_TOLD, NO_INDEX, SHN_ABS, SHN_COMMON, SHN_LORESERVE, SHN_UNDEF, SHNDX_SIZE,
-    SHT_SYMTAB_SHNDX, STB_LOCAL, STB_WEAK, STT_COMMON, STT_FILE, STT_SECTION, Shdr, Sym, ZERO_TOLD,
-    is_carried_type, name_in, sym_at, sym_size,
+    EXTENDED_ZERO, Frame, NO_INDEX, SHN_ABS, SHN_COMMON, SHN_LORESERVE, SHN_UNDEF, SHNDX_SIZE,
+    SHT_SYMTAB_SHNDX, SIGNED_XINDEX, STB_LOCAL, STB_WEAK, STT_COMMON, STT_FILE, STT_SECTION, Shdr,
+    Sym, is_carried_type, name_in, sym_at, sym_size,
 };
 use oc_neutral::elf::ALIGN_BITS;
 use oc_shelf::earlier;
@@ -36,12 +36,12 @@ pub(crate) fn symbol_place(frame: &Frame, table: &Shdr, k: u32) -> u64
 }
 
 // a number that is stored elsewhere, where a header can have it
-fn told(number: u32) -> u32
-    ensures { result ≡ tables.told number }
+fn extended(number: u32) -> u32
+    ensures { result ≡ tables.extended number }
 {
     if number == 0 {
-        ZERO_TOLD
-    } else if number < ZERO_TOLD {
+        EXTENDED_ZERO
+    } else if number < EXTENDED_ZERO {
         number
     } else {
         NO_INDEX
@@ -59,7 +59,7 @@ fn index_of(frame: &Frame, table: &Shdr, k: u32) -> u32
         return NO_INDEX;
     }
     let place = s.sh_offset + SHNDX_SIZE * u64::from(k);
-    told(u32_in(frame.file(), place as usize))
+    extended(u32_in(frame.file(), place as usize))
 }
 
 // a symbol with another section number
@@ -81,7 +81,7 @@ pub fn entry_of(frame: &Frame, table: &Shdr, k: u32) -> Sym
 {
     let place = symbol_place(frame, table, k);
     let s = sym_at(frame.word(), frame.file(), place as usize);
-    if frame.class().is_big() && s.st_shndx == INDEX_TOLD {
+    if frame.class().is_big() && s.st_shndx == SIGNED_XINDEX {
         return with_index(s, index_of(frame, table, k));
     }
     s
@@ -190,7 +190,7 @@ fn kind_fault(frame: &Frame, table: &Shdr, k: u32, place: u64, s: &Sym) -> Optio
     if is_odd_symbol(s) {
         return Some(symbol_fault(Code::SymbolKind, k, place));
     }
-    if is_sectional(s) && !(s.st_shndx < frame.count() || s.st_shndx == ZERO_TOLD) {
+    if is_sectional(s) && !(s.st_shndx < frame.count() || s.st_shndx == EXTENDED_ZERO) {
         return Some(symbol_fault(Code::BadSymbol, k, place));
     }
     None

@@ -13,22 +13,13 @@ ghost use Rattle.oc_elf.specs.Tables.{symbol_count};
 
 use oc_base::{Bytes, NoMemory};
 use oc_elf::{
-    Frame, SHN_ABS, SHN_COMMON, SHN_UNDEF, STB_WEAK, STT_COMMON, STT_FUNC, STT_OBJECT, Shdr, Sym,
+    Frame, SHN_ABS, SHN_COMMON, SHN_UNDEF, STB_WEAK, STT_COMMON, STT_FUNC, STT_OBJECT, STV_DEFAULT,
+    STV_HIDDEN, STV_INTERNAL, STV_PROTECTED, Shdr, Sym,
 };
 use oc_elf_judge::{entry_of, home_of, is_local, is_passed, name_of, symbol_count};
 use oc_neutral::{Binding, Builder, Fallback, Mark, Symbol, Value, Visibility};
 use oc_shelf::Slots;
 use std::alloc::Global;
-
-// A symbol that all modules see (gABI, "Symbol Visibility").
-const STV_DEFAULT: u8 = 0;
-// A symbol that no other module sees, with what the processor's supplement adds (gABI, "Symbol
-// Visibility").
-const STV_INTERNAL: u8 = 1;
-// A symbol that no other module sees (gABI, "Symbol Visibility").
-const STV_HIDDEN: u8 = 2;
-// A symbol that other modules see, and do not define instead (gABI, "Symbol Visibility").
-const STV_PROTECTED: u8 = 3;
 
 // the value that a section or the number ABS gives
 fn value_of(frame: &Frame, positions: &Slots, s: &Sym) -> Option<Value>

@@ -231,8 +231,8 @@ fn shndx_header(plain: Shdr, link: u32) -> Shdr
 }
 
 // the number of the header of the names of sections, where header 0 has it
-fn told_names(number: u32) -> u32
-    ensures { result ≡ headers.told_names number }
+fn extended_names(number: u32) -> u32
+    ensures { result ≡ headers.extended_names number }
 {
     if has_room(number) { 0 } else { number }
 }
@@ -245,7 +245,7 @@ fn zero_header(class: ElfClass, heads: u32) -> Shdr
     if class.is_big() {
         Shdr {
             sh_size: u64::from(heads),
-            sh_link: told_names(heads - 1),
+            sh_link: extended_names(heads - 1),
             ..null_shdr()
         }
     } else {

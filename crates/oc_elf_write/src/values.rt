@@ -11,7 +11,7 @@ ghost use Rattle.oc_elf_write.specs.Values.{AreValueFields};
 use crate::heads::section_number;
 use oc_elf::{
     SHN_ABS, SHN_COMMON, SHN_UNDEF, STB_GLOBAL, STB_LOCAL, STB_WEAK, STT_FUNC, STT_NOTYPE,
-    STT_OBJECT,
+    STT_OBJECT, STV_DEFAULT, STV_HIDDEN, STV_INTERNAL, STV_PROTECTED,
 };
 use oc_neutral::{Binding, Fallback, Mark, Neutral, Value, Visibility};
 
@@ -155,10 +155,10 @@ pub(crate) fn other_by(visibility: Visibility) -> u8
     ensures { result ≡ symbols.other_by visibility }
 {
     match visibility {
-        Visibility::Default => 0,
-        Visibility::Internal => 1,
-        Visibility::Hidden => 2,
-        Visibility::Protected => 3,
+        Visibility::Default => STV_DEFAULT,
+        Visibility::Internal => STV_INTERNAL,
+        Visibility::Hidden => STV_HIDDEN,
+        Visibility::Protected => STV_PROTECTED,
     }
 }
 

@@ -182,31 +182,31 @@ same_more number_of left x rest now after whole value step room told becomes sam
 -- ... the loop over the fields of a section
 
 -- the numbers of these fields are written in a section, but for those that are left
-pub record IsWriting (Tells : Numbering → Type 0) (Leads : Reloc → Type 0) (position : ℕ) (all : List (Field Reloc)) (old : Section) (left : List (Field Reloc)) (now : Section) : Type 0 where
+pub record IsWriting (Tells : Numbering → Type 0) (Knows : ℕ → Reloc → Type 0) (position : ℕ) (all : List (Field Reloc)) (old : Section) (left : List (Field Reloc)) (now : Section) : Type 0 where
   pub long : length now.bytes ≡ length old.bytes
   pub room : HaveRoom (length now.bytes) left
-  pub there : AreAll Leads left
+  pub there : AreAll Knows left
   pub same : (number_of : Numbering) → Tells number_of → with_numbers (number_of position) left now ≡ with_numbers (number_of position) all old
 
-module _ (Tells : Numbering → Type 0) (Leads : Reloc → Type 0) (position : ℕ) (all : List (Field Reloc)) (old : Section) where
-  -- the number of the next can be told
-  pub writing_there : (left : List (Field Reloc)) (y : Field Reloc) (rest : List (Field Reloc)) (now : Section) → left ≡ y ∷ rest → IsWriting Tells Leads position all old left now → Leads y.item
-  writing_there left y rest now step is = (subst (AreAll Leads) step is.there).0
+module _ (Tells : Numbering → Type 0) (Knows : ℕ → Reloc → Type 0) (position : ℕ) (all : List (Field Reloc)) (old : Section) where
+  -- the number of the next is known
+  pub writing_there : (left : List (Field Reloc)) (y : Field Reloc) (rest : List (Field Reloc)) (now : Section) → left ≡ y ∷ rest → IsWriting Tells Knows position all old left now → Knows y.at y.item
+  writing_there left y rest now step is = (subst (AreAll Knows) step is.there).0
 
-  pub writing_more : (left : List (Field Reloc)) (y : Field Reloc) (rest : List (Field Reloc)) (now : Section) → left ≡ y ∷ rest → IsWriting Tells Leads position all old left now
+  pub writing_more : (left : List (Field Reloc)) (y : Field Reloc) (rest : List (Field Reloc)) (now : Section) → left ≡ y ∷ rest → IsWriting Tells Knows position all old left now
       → (number : ℕ) → ((number_of : Numbering) → Tells number_of → number ≡ number_of position y.at y.item) → (after : Section) → after ≡ with_number y.width number y.at now
-      → IsWriting Tells Leads position all old rest after
+      → IsWriting Tells Knows position all old rest after
   writing_more left y rest now step is number told after becomes =
       let long : length after.bytes ≡ length now.bytes = ap (λ (s : Section). length s.bytes) becomes ∙ length-written y.width number y.at now.bytes in
       record {
         long = long ∙ is.long;
         room = room_more (length now.bytes) (length after.bytes) left y rest step long is.room;
-        there = (subst (AreAll Leads) step is.there).1;
+        there = (subst (AreAll Knows) step is.there).1;
         same = λ number_of tells. same_more (number_of position) left y rest now after (with_numbers (number_of position) all old) number step is.room (told number_of tells) becomes (is.same number_of tells);
       }
 
   -- behind the last all are written
-  pub writing_done : (left : List (Field Reloc)) (now : Section) → left ≡ [] → IsWriting Tells Leads position all old left now → (number_of : Numbering) → Tells number_of → now ≡ with_numbers (number_of position) all old
+  pub writing_done : (left : List (Field Reloc)) (now : Section) → left ≡ [] → IsWriting Tells Knows position all old left now → (number_of : Numbering) → Tells number_of → now ≡ with_numbers (number_of position) all old
   writing_done left now none is number_of tells = sym (section_done (number_of position) now) ∙ ap (λ xs. with_numbers (number_of position) xs now) (sym none) ∙ is.same number_of tells
 
 -- ... the loop over all sections

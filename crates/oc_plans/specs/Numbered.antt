@@ -15,9 +15,9 @@ use Rattle.oc_neutral.specs.Objects.{reloc_among}
 abbrev pub Numbering : Type 0
 Numbering = ℕ → ℕ → Reloc → ℕ
 
--- this is so of each of these relocations
-abbrev pub AreAll : (Reloc → Type 0) → List (Field Reloc) → Type 0
-AreAll P fields = AllByRecursion (λ (f : Field Reloc). P f.item) fields
+-- this is so of each of these relocations at its offset
+abbrev pub AreAll : (ℕ → Reloc → Type 0) → List (Field Reloc) → Type 0
+AreAll P fields = AllByRecursion (λ (f : Field Reloc). P f.at f.item) fields
 
 -- the field of a relocation with the number that it has there
 abbrev pub patch_by : (Reloc → ℕ) → Reloc → Patch

@@ -16,12 +16,13 @@ pub trait FieldNumbers {
     /// These are the numbers.
     ghost tells: { Self → Numbering → Type 0 };
 
-    /// The number of a relocation of the section at a position is known: what it refers to exists.
-    ghost leads: { Self → ℕ → Entry → Type 0 };
+    /// The number of a relocation at an offset of the section at a position is known: the format
+    /// writes it, and what it refers to exists.
+    ghost knows: { Self → ℕ → ℕ → Entry → Type 0 };
 
     /// The number in the field of a relocation at an offset of the section at a position. Constant time.
     fn number(&self, section: u32, at: u32, reloc: Reloc) -> u64
-        requires { leads self.now section reloc }
+        requires { knows self.now section at reloc }
         ensures { (number_of : Numbering) → tells self.now number_of → result ≡ number_of section at reloc };
 }
 
@@ -32,7 +33,7 @@ fn write_numbers<N: FieldNumbers>(
     relocs: Walk<'_, Reloc>,
     section: &mut Section,
 )
-    requires there { AreAll (N.leads numbers.now position) relocs }
+    requires there { AreAll (N.knows numbers.now position) relocs }
     requires apart { FollowFrom 0 relocs }
     requires wide { AllByRecursion IsWide relocs }
     requires inside { AllByRecursion (EndsWithin (length section.old.bytes)) relocs }
@@ -47,7 +48,7 @@ fn write_numbers<N: FieldNumbers>(
 
 // writes the numbers of relocations into their fields in the bytes of the sections
 fn write_all<N: FieldNumbers>(numbers: &N, relocs: &Relocs, sections: &mut [Section])
-    requires there { (k : ℕ) → k < length relocs.now.lists → AreAll (N.leads numbers.now k) (list_of relocs.now.lists k) }
+    requires there { (k : ℕ) → k < length relocs.now.lists → AreAll (N.knows numbers.now k) (list_of relocs.now.lists k) }
     requires within { LieWithin sections.old relocs.now.lists }
     ensures long { length sections.new ≡ length sections.old }
     ensures numbers { (number_of : Numbering) → N.tells numbers.now number_of → sections.new ≡ all_with_numbers number_of relocs.now.lists sections.old }
@@ -64,7 +65,7 @@ pub fn with_numbers<N: FieldNumbers>(
     relocs: &Relocs,
     mut sections: Vec<Section>,
 ) -> Vec<Section>
-    requires there { (k : ℕ) → k < length relocs.now.lists → AreAll (N.leads numbers.now k) (list_of relocs.now.lists k) }
+    requires there { (k : ℕ) → k < length relocs.now.lists → AreAll (N.knows numbers.now k) (list_of relocs.now.lists k) }
     requires within { LieWithin sections.items relocs.now.lists }
     ensures { (number_of : Numbering) → N.tells numbers.now number_of → result.items ≡ all_with_numbers number_of relocs.now.lists sections.items }
 {

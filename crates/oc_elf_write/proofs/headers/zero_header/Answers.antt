@@ -3,7 +3,7 @@ use Rattle.std.proofs.Common.{◌≡◌, ℕ, ◌-◌, true, cond, length, sym, 
 use Rattle.oc_elf.specs.declared.shdr.Shdr.{Shdr}
 use Rattle.oc_elf.specs.Classes.{is_big}
 use Rattle.oc_elf.specs.Shdr.{null_shdr}
-use Rattle.oc_elf_file.specs.Headers.{told_names}
+use Rattle.oc_elf_file.specs.Headers.{extended_names}
 use Rattle.oc_elf_file.specs.Heads.{heads_of, head_where, is_shstrtab_head}
 use Rattle.oc_elf_write.proofs.HeaderLemmas.{shstrtab_number}
 use Rattle.oc_elf_write.proofs.headers.zero_header.Goals as goal
@@ -15,6 +15,6 @@ returns-then-is_big c = λ n many.
     let z : Shdr → ℕ → ℕ → Shdr = λ s a b. record s { sh_size = a; sh_link = b } in
     let place = shstrtab_number n in
     let last : c.args.heads - 1 ≡ head_where n is_shstrtab_head = omega (arith, place, many) in
-    ap (λ s. z s c.from.result c.told_names.result) c.null_shdr.ensures ∙ ap (λ a. z null_shdr a c.told_names.result) (c.from.ensures ∙ sym many)
-    ∙ ap (z null_shdr (length (heads_of n))) (c.told_names.ensures ∙ ap told_names last)
-    ∙ ap (λ b. cond b (z null_shdr (length (heads_of n)) (told_names (head_where n is_shstrtab_head))) null_shdr) (sym big)
+    ap (λ s. z s c.from.result c.extended_names.result) c.null_shdr.ensures ∙ ap (λ a. z null_shdr a c.extended_names.result) (c.from.ensures ∙ sym many)
+    ∙ ap (z null_shdr (length (heads_of n))) (c.extended_names.ensures ∙ ap extended_names last)
+    ∙ ap (λ b. cond b (z null_shdr (length (heads_of n)) (extended_names (head_where n is_shstrtab_head))) null_shdr) (sym big)

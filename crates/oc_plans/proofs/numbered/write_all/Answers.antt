@@ -1,5 +1,5 @@
 -- Each turn writes the numbers of one section.
-use Rattle.std.proofs.Common.{◌≤◌, ◌<◌, List, length, get_or, refl, sym, ◌∙◌, ap, subst, arith}
+use Rattle.std.proofs.Common.{ℕ, ◌≤◌, ◌<◌, List, length, get_or, refl, sym, ◌∙◌, ap, subst, arith}
 use Rattle.std.specs.List.{AllByRecursion}
 use Rattle.oc_chains.specs.declared.field.Field.{Field}
 use Rattle.oc_neutral.specs.declared.reloc.Reloc.{Reloc}
@@ -20,8 +20,8 @@ pub write_numbers-requires-clause-there : goal.write_numbers-requires-clause-the
 write_numbers-requires-clause-there g c =
     let k = c.loop-k.k in
     let inside : k < length c.args.relocs.now.lists = omega (arith, c.loop-k-test.true, c.section_count-k-end.ensures) in
-    let Leads : Reloc → Type 0 = g.N.FieldNumbers.leads c.args.numbers.now k in
-    subst (AreAll Leads) (sym c.walk.ensures.items) (c.requires.there k inside)
+    let Knows : ℕ → Reloc → Type 0 = g.N.FieldNumbers.knows c.args.numbers.now k in
+    subst (AreAll Knows) (sym c.walk.ensures.items) (c.requires.there k inside)
 
 pub write_numbers-requires-clause-inside : goal.write_numbers-requires-clause-inside
 write_numbers-requires-clause-inside g c =
