@@ -30,8 +30,8 @@ ABOVE = [
 BELOW = [("linking,\nbytes",
           [["oc_linking"], ["oc_algebra", "oc_chains"], ["oc_strings", "oc_weight"], ["oc_outside"], ["oc_base"]])]
 # crates that no other crate stands on, and that are no programs for a user
-BESIDE = ["tests_base", "tests_object", "tests_formats", "worked_conversions", "worked_runs", "worked_programs",
-          "bench"]
+BESIDE = ["tests_base", "tests_object", "tests_cases", "tests_elf", "tests_coff", "tests_macho", "tests_omf",
+          "worked_conversions", "worked_runs", "worked_programs", "bench"]
 # they hold instances alone, and are drawn also before crates.txt has them
 INSTANCES = {"oc_big_elf", "oc_big_coff"}
 STEPS = [

@@ -1,0 +1,9 @@
+//! Tests of the readers of OMF, by what those make public: a module for each crate.
+#![tactic(auto)]
+
+#[cfg(test)]
+mod omf;
+#[cfg(test)]
+mod omf_judge;
+#[cfg(test)]
+mod omf_read;
