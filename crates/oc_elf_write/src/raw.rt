@@ -3,8 +3,7 @@ ghost use Rattle.std.specs.Prelude.{◌≡◌, ◌<◌, ℕ, length};
 ghost use Rattle.oc_base.specs.declared.format.Word.TheVariants.{W32};
 ghost use Rattle.oc_chains.specs.Lists.{list_of};
 ghost use Rattle.oc_neutral.specs.Constants.{LieWithin};
-ghost use Rattle.oc_plans.specs.Numbered.{AreAll};
-ghost use Rattle.oc_elf_write.specs.Raws.{IsHeld, with_addends};
+ghost use Rattle.oc_elf_write.specs.Raws.{AreHeld, with_addends};
 
 use crate::forms::field_number;
 use oc_base::Word;
@@ -20,7 +19,7 @@ impl FieldNumbers for Addends {
 
     ghost tells = { λ x number_of. number_of ≡ addend_in };
 
-    ghost leads = { λ x position r. IsHeld r };
+    ghost knows = { λ x position at r. IsHeld r };
 
     fn number(&self, _position: u32, _at: u32, reloc: Reloc) -> u64 {
         field_number(reloc)
@@ -30,7 +29,7 @@ impl FieldNumbers for Addends {
 /// The sections with the addends of relocations in their bytes, where the entries have none.
 /// Linear in the sections and relocations, no memory.
 pub(crate) fn with_addends(word: Word, relocs: &Relocs, sections: Vec<Section>) -> Vec<Section>
-    requires held { word ≡ W32 → (k : ℕ) → k < length relocs.now.lists → AreAll IsHeld (list_of relocs.now.lists k) }
+    requires held { word ≡ W32 → (k : ℕ) → k < length relocs.now.lists → AreHeld (list_of relocs.now.lists k) }
     requires within { LieWithin sections.items relocs.now.lists }
     ensures { result.items ≡ with_addends word relocs.now.lists sections.items }
 {

@@ -1,6 +1,6 @@
 -- The row of a form, as a look-up tells it: the number of its types, and what the addend has beyond the field.
-use Rattle.std.proofs.Common.{◌≡◌, ℕ, ◌+◌, ◌<◌, Bool, true, false, true≢false, ◌&&◌, cond, Option, Some, None, map, inl, inr, refl, sym, ◌∙◌, ap, subst, arith}
-use Rattle.std.specs.Prelude.{◌⊎◌, pos, neg_ℤ, ◌-ℤ◌, ◌+ℤ◌, slice_get, find, nat_lt, is_some, Ok, Err}
+use Rattle.std.proofs.Common.{◌≡◌, ℕ, ◌+◌, ◌<◌, Bool, true, false, true≢false, ◌&&◌, cond, ℤ, IsOk, Option, Some, None, map, inl, inr, refl, sym, ◌∙◌, ap, subst, arith}
+use Rattle.std.specs.Prelude.{◌⊎◌, pos, neg_ℤ, ◌-ℤ◌, ◌+ℤ◌, slice_get, find, nat_lt, is_ok, is_some, Ok}
 use Rattle.std.specs.Option.{option_map, option_map_or}
 use Rattle.std.proofs.lemmas.Bool.{and_parts}
 use Rattle.std.proofs.lemmas.Bool.Decides.{nat_tests}
@@ -13,14 +13,15 @@ use Rattle.oc_linking.specs.declared.terms.Width.{Width}
 use Rattle.oc_linking.specs.declared.terms.Width.TheVariants as width
 use Rattle.oc_linking.specs.Numbers.{or_else}
 use Rattle.oc_algebra.specs.declared.form.Form.{Form}
+use Rattle.oc_algebra.specs.Fields.{to_field_of}
 use Rattle.oc_neutral.specs.declared.reloc.Reloc.{Reloc}
 use Rattle.oc_neutral.specs.Rows.{Row, Taken, TakesZero, TakesPlace, TakesGotBase, TakesImageBase, TakesHome, TakesSection, same_taken, same_width, taken_of, shift_of}
 use Rattle.oc_neutral.specs.RelocTables.{rows_of}
 use Rattle.oc_neutral.specs.Shifts.{entry_target_shift, written_shift}
 use Rattle.oc_neutral.specs.Spelling.{is_written, numbers_in, row_taking, spelling_of, written_row}
 use Rattle.oc_neutral.specs.Objects.{Object}
+use Rattle.oc_neutral.proofs.Mapped.{from_mapped}
 use Rattle.oc_target.proofs.MeetsRows.{of_table, found_there}
-use Rattle.oc_target.specs.declared.forms.NoForm.{NoForm}
 use Rattle.oc_target.specs.declared.forms.Spelling.{Spelling}
 use Rattle.oc_target.specs.declared.forms.Spelling.TheVariants as spelling
 use Rattle.oc_target.specs.Lookup.{answer_of}
@@ -28,9 +29,10 @@ use Rattle.oc_macho.specs.MachHeader.{mach_format}
 use Rattle.oc_macho_file.specs.Addresses.{address_of}
 use Rattle.oc_macho_file.specs.Bodies as bodies
 use Rattle.oc_macho_file.specs.Bodies.{end_address, field_shift, entry_target_of, written_reloc_at, taken_section}
+use Rattle.oc_macho_file.proofs.CodedLaws.{word_back}
 use Rattle.oc_macho_write.specs.declared.forms.FieldContext.{FieldContext}
 use Rattle.oc_macho_write.specs.declared.forms.SpelledReloc.{SpelledReloc}
-use Rattle.oc_macho_write.specs.Forms.{AreWritten, IsFor, IsWritten}
+use Rattle.oc_macho_write.specs.Forms.{CanWrite, FieldHolds, HasForm, HasPlace, IsFor, IsStanding, IsWritten}
 
 -- ... the rows of the tables
 
@@ -152,43 +154,44 @@ pub pair_told : (a m k : ℕ) (o : Option ℕ) → answer_of (Some (numbers_in a
 pair_told a m k None e = absurd (cc e)
 pair_told a m k (Some b) e = (ap (λ z. Some z) (cc e), cc e)
 
--- the relocation stands exactly where the format has its form
-pub told : (w : Word) (s at : ℕ) (r : Reloc) (x : Spelling) → answer_of (spelling_of (mach_format w) r.form r.hint) ≡ Ok x
-    → AreWritten w (Some (record { section = s; at = at; reloc = r; spelling = x })) (written_reloc_at w s at r)
-told w s at r x is = by (written_row (mach_format w) r.form r.hint) refl is
-  where
-    by : (o : Option Row) → written_row (mach_format w) r.form r.hint ≡ o → answer_of (option_map (λ (y : Row). numbers_in y.number y.second) o) ≡ Ok x
-        → AreWritten w (Some (record { section = s; at = at; reloc = r; spelling = x })) (option_map (λ (row : Row). record { section = s; at = at; reloc = r; row = row }) o)
-    by None h e = absurd (cc e)
-    by (Some row) h e = record { section = refl; at = refl; reloc = refl; row = h; spelled = e }
+-- a relocation with a row of its format
+abbrev standing : ℕ → ℕ → Reloc → Row → bodies.WrittenReloc
+standing s at r row = record { section = s; at = at; reloc = r; row = row }
 
-pub none_told : (w : Word) (s at : ℕ) (r : Reloc) (x : NoForm) → answer_of (spelling_of (mach_format w) r.form r.hint) ≡ Err x → AreWritten w None (written_reloc_at w s at r)
-none_told w s at r x is = by (written_row (mach_format w) r.form r.hint) is
-  where
-    by : (o : Option Row) → answer_of (option_map (λ (y : Row). numbers_in y.number y.second) o) ≡ Err x → AreWritten w None (option_map (λ (row : Row). record { section = s; at = at; reloc = r; row = row }) o)
-    by None e = tt
-    by (Some row) e = absurd (cc e)
+-- where the format has its form, a look-up tells how it is written
+pub has_answer : (w : Word) (s at : ℕ) (r : Reloc) → HasForm w s at r → IsOk (answer_of (spelling_of (mach_format w) r.form r.hint))
+has_answer w s at r has =
+    let row = from_mapped (standing s at r) (written_row (mach_format w) r.form r.hint) has.written has.there in
+    subst (λ (o : Option Row). IsOk (answer_of (option_map (λ (y : Row). numbers_in y.number y.second) o))) (sym row.1) refl
+
+pub told : (w : Word) (s at : ℕ) (r : Reloc) (x : Spelling) → answer_of (spelling_of (mach_format w) r.form r.hint) ≡ Ok x
+    → (is : bodies.WrittenReloc) → written_reloc_at w s at r ≡ Some is → IsWritten w (record { section = s; at = at; reloc = r; spelling = x }) is
+told w s at r x e is there =
+    let row = from_mapped (standing s at r) (written_row (mach_format w) r.form r.hint) is there in
+    subst (IsWritten w (record { section = s; at = at; reloc = r; spelling = x })) row.2 (record {
+      section = refl;
+      at = refl;
+      reloc = refl;
+      row = row.1;
+      spelled = ap (λ (o : Option Row). answer_of (option_map (λ (y : Row). numbers_in y.number y.second) o)) (sym row.1) ∙ e;
+    })
 
 -- ... a relocation that stands
 
-pub found : (w : Word) (x : SpelledReloc) (o : Option bodies.WrittenReloc) → AreWritten w (Some x) o → (is : bodies.WrittenReloc) × (o ≡ Some is) × IsWritten w x is
-found w x None e = absurd e
-found w x (Some is) e = (is, refl, e)
+-- the answer of a field is the one for the number that is written
+pub field_same : (w v : Word) (n : Object) (y : SpelledReloc) (is : bodies.WrittenReloc) (shift addend : ℤ) → v ≡ w → IsWritten w y is → shift ≡ field_shift w n is → addend ≡ y.reloc.addend
+    → to_field_of v y.reloc.form.width shift addend ≡ to_field_of w is.reloc.form.width (field_shift w n is) is.reloc.addend
+field_same w v n y is shift addend word written shifted same =
+    ap (λ z. to_field_of z y.reloc.form.width shift addend) word
+    ∙ ap (λ z. to_field_of w y.reloc.form.width z addend) shifted
+    ∙ ap (to_field_of w y.reloc.form.width (field_shift w n is)) same
+    ∙ ap (λ (r : Reloc). to_field_of w r.form.width (field_shift w n is) r.addend) written.reloc
 
-pub none_found : (w : Word) (o : Option bodies.WrittenReloc) → AreWritten w None o → o ≡ None
-none_found w None e = refl
-none_found w (Some is) e = absurd e
-
-stands_at : (s at : ℕ) (r : Reloc) (o : Option Row) (is : bodies.WrittenReloc) → option_map (λ (row : Row). record { section = s; at = at; reloc = r; row = row }) o ≡ Some is → (is.section ≡ s) × (is.reloc ≡ r)
-stands_at s at r None is e = absurd (none-some is e)
-stands_at s at r (Some row) is e = let same = same_Some _ is e in (ap (λ (y : bodies.WrittenReloc). y.section) (sym same), ap (λ (y : bodies.WrittenReloc). y.reloc) (sym same))
-
--- what it refers to is there
-pub stands_for : (w : Word) (x : FieldContext) (y : SpelledReloc) (s at : ℕ) (r : Reloc) → AreWritten w (Some y) (written_reloc_at w s at r) → IsFor x s r → IsFor x y.section y.reloc
-stands_for w x y s at r are is =
-    let f = found w y (written_reloc_at w s at r) are in
-    let same = stands_at s at r (written_row (mach_format w) r.form r.hint) f.0 f.1 in
-    subst (λ k. IsFor x k y.reloc) (sym (f.2.section ∙ same.0)) (subst (IsFor x s) (sym (f.2.reloc ∙ same.1)) is)
+-- which is a number
+pub field_held : (w : Word) (n : Object) (y : SpelledReloc) (is : bodies.WrittenReloc) (shift addend : ℤ) → IsWritten w y is → shift ≡ field_shift w n is → addend ≡ y.reloc.addend → FieldHolds w n is
+    → IsOk (to_field_of w y.reloc.form.width shift addend)
+field_held w n y is shift addend written shifted same holds =
+    ap is_ok (field_same w w n y is shift addend refl written shifted same ∙ ap (λ v. to_field_of v is.reloc.form.width (field_shift w n is) is.reloc.addend) (sym (word_back w)) ∙ holds.1)
 
 module _ (w : Word) (y : SpelledReloc) (is : bodies.WrittenReloc) (written : IsWritten w y is) where
   -- its row
@@ -200,6 +203,18 @@ module _ (w : Word) (y : SpelledReloc) (is : bodies.WrittenReloc) (written : IsW
 
   pub spelled_pair : (m k : ℕ) → y.spelling ≡ spelling.Pair m k → (is.row.second ≡ Some k) × (is.row.number ≡ m)
   spelled_pair m k e = pair_told is.row.number m k is.row.second (written.spelled ∙ ap (λ z. Ok z) e)
+
+-- what it refers to is there
+pub stands_for : (x : FieldContext) (y : SpelledReloc) (s at : ℕ) (r : Reloc) (can : CanWrite x s at r) → IsWritten x.word y can.form.written → IsStanding x y
+stands_for x y s at r can written =
+    let is = can.form.written in
+    let own = (from_mapped (standing s at r) (written_row (mach_format x.word) r.form r.hint) is can.form.there).2 in
+    let section : s ≡ y.section = ap (λ (z : bodies.WrittenReloc). z.section) own ∙ sym written.section in
+    let reloc : r ≡ y.reloc = ap (λ (z : bodies.WrittenReloc). z.reloc) own ∙ sym written.reloc in
+    record {
+      there = subst (λ k. IsFor x k y.reloc) section (subst (IsFor x s) reloc can.there);
+      ends = λ short first second pair. subst (λ (q : Reloc). HasPlace x q.target) reloc (can.ends short (ap is_some (spelled_pair x.word y is written first second pair).0));
+    }
 
 -- where it takes nothing, or what its form takes
 alone_takes : (form : Form) (row : Row) → IsSpelled form row → row.second ≡ None → row.taken ≡ taken_of form.less

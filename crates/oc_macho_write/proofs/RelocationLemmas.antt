@@ -9,6 +9,7 @@ use Rattle.oc_neutral.specs.declared.reloc.Reloc.{Reloc}
 use Rattle.oc_neutral.specs.Mach.Relocs.{length_of}
 use Rattle.oc_neutral.specs.Objects.{Object}
 use Rattle.oc_neutral.specs.Rows.{TakesPlace, same_taken}
+use Rattle.oc_plans.specs.Numbered.{AreAll}
 use Rattle.oc_shelf.specs.Writing.Parts.{Laid}
 use Rattle.oc_target.proofs.Giving.{all_given, more_given}
 use Rattle.oc_macho.specs.declared.relocation_info.Reference.{Reference}
@@ -19,7 +20,7 @@ use Rattle.oc_macho_file.specs.Bodies.{entries_at, entries_of, pair_entries, pla
 use Rattle.oc_macho_file.specs.Lines.{Line, numbered_lines, own_number}
 use Rattle.oc_macho_write.specs.declared.forms.FieldContext.{FieldContext}
 use Rattle.oc_macho_write.specs.declared.forms.SpelledReloc.{SpelledReloc}
-use Rattle.oc_macho_write.specs.Forms.{IsFor, IsWritten, LeadFrom}
+use Rattle.oc_macho_write.specs.Forms.{CanWrite, IsWritten}
 use Rattle.oc_macho_write.proofs.FormLemmas.{its_row, pair_absolute}
 
 -- ... the entries of a relocation that stands
@@ -75,7 +76,7 @@ pair_by W64 e n lines y is written first second own to one two f some owns refer
 -- the entries that are made, where those of the fields that are left are still to be
 pub record IsMaking (x : FieldContext) (n : Object) (k : ℕ) (now : List RelocationInfo) (left : List (Field Reloc)) : Type 0 where
   pub all : now ++ flat_map (entries_at x.word n (numbered_lines x.word n) k) left ≡ entries_of x.word n (numbered_lines x.word n) k
-  pub have : LeadFrom x k left
+  pub can : AreAll (CanWrite x k) left
 
 module _ (x : FieldContext) (n : Object) (k : ℕ) where
   abbrev make : Field Reloc → List RelocationInfo
@@ -84,21 +85,21 @@ module _ (x : FieldContext) (n : Object) (k : ℕ) where
   abbrev whole : List RelocationInfo
   whole = entries_of x.word n (numbered_lines x.word n) k
 
-  pub making_begun : LeadFrom x k (list_of n.relocs k) → (now : List RelocationInfo) (left : List (Field Reloc)) → now ≡ [] → left ≡ list_of n.relocs k → IsMaking x n k now left
+  pub making_begun : AreAll (CanWrite x k) (list_of n.relocs k) → (now : List RelocationInfo) (left : List (Field Reloc)) → now ≡ [] → left ≡ list_of n.relocs k → IsMaking x n k now left
   unfolding entries_of
-  making_begun leads now left none same = record {
+  making_begun can now left none same = record {
     all = ap (λ es. es ++ flat_map make left) none ∙ ap (flat_map make) same;
-    have = subst (LeadFrom x k) (sym same) leads;
+    can = subst (AreAll (CanWrite x k)) (sym same) can;
   }
 
-  pub making_has : (now : List RelocationInfo) (left : List (Field Reloc)) (y : Field Reloc) (rest : List (Field Reloc)) → left ≡ y ∷ rest → IsMaking x n k now left → IsFor x k y.item
-  making_has now left y rest step is = (subst (LeadFrom x k) step is.have).0
+  pub making_can : (now : List RelocationInfo) (left : List (Field Reloc)) (y : Field Reloc) (rest : List (Field Reloc)) → left ≡ y ∷ rest → IsMaking x n k now left → CanWrite x k y.at y.item
+  making_can now left y rest step is = (subst (AreAll (CanWrite x k)) step is.can).0
 
   pub making_more : (now : List RelocationInfo) (left : List (Field Reloc)) (y : Field Reloc) (rest : List (Field Reloc)) → left ≡ y ∷ rest → IsMaking x n k now left
       → (after : List RelocationInfo) → after ≡ now ++ make y → IsMaking x n k after rest
   making_more now left y rest step is after added = record {
     all = more_given now after (flat_map make left) (flat_map make rest) (make y) whole added (ap (flat_map make) step) is.all;
-    have = (subst (LeadFrom x k) step is.have).1;
+    can = (subst (AreAll (CanWrite x k)) step is.can).1;
   }
 
   pub making_done : (now : List RelocationInfo) (left : List (Field Reloc)) → left ≡ [] → IsMaking x n k now left → now ≡ whole

@@ -1,9 +1,11 @@
 -- What numbers are made of, where the object is one.
-use Rattle.std.proofs.Common.{ℕ, ◌<◌, ◌^◌, List, length, sym, ap, subst, arith}
-use Rattle.std.specs.Prelude.{IfSome}
+use Rattle.std.proofs.Common.{◌≡◌, ℕ, ◌<◌, ◌^◌, true, true≢false, List, length, Option, Some, None, refl, sym, ◌∙◌, ap, subst, arith}
+use Rattle.std.specs.Prelude.{IfSome, is_some, slice_get}
 use Rattle.std.specs.List.{AllByRecursion}
-use Rattle.std.proofs.lemmas.Option.{slice_get_within}
+use Rattle.std.specs.Option.{option_and_then}
+use Rattle.std.proofs.lemmas.Option.{none-some, slice_get_within}
 use Rattle.oc_base.specs.declared.format.Word.{Word}
+use Rattle.oc_base.specs.declared.format.Word.TheVariants.{W32, W64}
 use Rattle.oc_linking.specs.declared.terms.Less.{Less}
 use Rattle.oc_linking.specs.declared.terms.Less.TheVariants as less
 use Rattle.oc_linking.specs.declared.terms.Value.TheVariants as value
@@ -16,19 +18,29 @@ use Rattle.oc_neutral.specs.declared.reloc.Reloc.{Reloc}
 use Rattle.oc_neutral.specs.declared.reloc.Target.{Target}
 use Rattle.oc_neutral.specs.declared.reloc.Target.TheVariants as target
 use Rattle.oc_neutral.specs.Invariants as neutral
-use Rattle.oc_neutral.specs.Invariants.{IsBinding, IsHeld, IsObject, IsSymbol}
+use Rattle.oc_neutral.specs.Invariants.{IsBinding, IsSymbol}
 use Rattle.oc_neutral.specs.KeySymbols.{global_place}
 use Rattle.oc_neutral.specs.Normal.{Place}
-use Rattle.oc_neutral.specs.Objects.{Object}
-use Rattle.oc_neutral.proofs.Positions.{each_weaker, there_at}
+use Rattle.oc_neutral.specs.Objects.{Object, reloc_at}
+use Rattle.oc_neutral.specs.TargetRelocations.{fixed_end, global_section}
+use Rattle.oc_neutral.proofs.Positions.{each_weaker}
+use Rattle.oc_target.specs.Meets.{HoldsAddend}
 use Rattle.oc_plans.specs.Numbered.{AreAll}
+use Rattle.oc_shelf.proofs.WritingLaws.MemberLemmas.{all_members}
+use Rattle.oc_macho.specs.MachHeader.{mach_format}
+use Rattle.oc_macho_file.specs.Bodies.{field_shift}
+use Rattle.oc_macho_file.specs.Lines.{numbered_lines}
+use Rattle.oc_macho_file.proofs.CodedLaws.{IsForMach}
+use Rattle.oc_macho_file.proofs.EntryLaws.{entry, field_there, known, mach_reloc, meets, row, row_is, standing, standing_is}
+use Rattle.oc_macho_file.proofs.PinLaws.{IsTakenSection, Another, Own, taken_is}
+use Rattle.oc_macho_file.proofs.RowLaws.{IsKnown, KnownAlone, KnownPair}
 use Rattle.oc_macho_write.specs.declared.forms.FieldContext.{FieldContext}
 use Rattle.oc_macho_write.specs.declared.numbers.Numbers.{Numbers}
-use Rattle.oc_macho_write.specs.Forms.{IsFor, IsLessThere, IsReady, IsFieldContext, IsThere, LeadFrom}
+use Rattle.oc_macho_write.specs.Forms.{CanWrite, FieldHolds, HasPlace, IsLessThere, IsReady, IsFieldContext, IsThere}
 use Rattle.oc_macho_write.specs.Numbers.{AreSized}
 use Rattle.oc_macho_write.specs.Relocations.{CanTell, HasNumbers}
 
-module _ (w : Word) (n : Object) (x : FieldContext) (object : IsObject n) (context : IsFieldContext w n x) where
+module _ (n : Object) (x : FieldContext) (is : IsForMach x.word n) (context : IsFieldContext x.word n x) where
   low : (k : ℕ) → k < length n.sections → k < length x.addresses.now
   low k l = let e = context.addresses.counted in omega (arith, e, l)
 
@@ -50,7 +62,7 @@ module _ (w : Word) (n : Object) (x : FieldContext) (object : IsObject n) (conte
         let inside : k < length n.sections = (let e = context.addresses.counted in omega (arith, e, l)) in
         subst (λ z. z < 2 ^ 32) (sym (context.addresses.each k inside)) (context.addresses.small k inside);
     few = (let e = context.addresses.counted in let few = context.addresses.few in omega (arith, e, few));
-    placed = subst (AllByRecursion (λ (s : Symbol). IfSome (global_place s.binding) (λ (p : Place). p.0 < length x.addresses.now))) (sym context.symbols) (each_weaker (IsSymbol n) (λ (s : Symbol). IfSome (global_place s.binding) (λ (p : Place). p.0 < length x.addresses.now)) placed n.symbols object.complete.symbols);
+    placed = subst (AllByRecursion (λ (s : Symbol). IfSome (global_place s.binding) (λ (p : Place). p.0 < length x.addresses.now))) (sym context.symbols) (each_weaker (IsSymbol n) (λ (s : Symbol). IfSome (global_place s.binding) (λ (p : Place). p.0 < length x.addresses.now)) placed n.symbols is.object.complete.symbols);
   }
 
   target_there : (t : Target) → neutral.IsThere n t → IsThere x t
@@ -65,19 +77,67 @@ module _ (w : Word) (n : Object) (x : FieldContext) (object : IsObject n) (conte
   less_there less.Home here = tt
   less_there (less.Section k) here = low k here
 
-  -- all that the relocations of a section refer to is there
-  pub leads : (k : ℕ) → k < length n.sections → LeadFrom x k (list_of n.relocs k)
-  leads k l =
-      let s = there_at n.sections k l in
-      each_weaker (IsHeld n k s.0.bytes) (λ (f : Field Reloc). IsFor x k f.item)
-      (λ f held. record { own = low k l; target = target_there f.item.target held.normal.target; less = less_there f.item.form.less held.normal.less })
-      (list_of n.relocs k) (object.built.fields.each k s.0 s.1)
+  end_there : (t : Target) (end : ℕ) → fixed_end n t ≡ Some end → HasPlace x t
+  end_there (target.Section k) end e = tt
+  end_there (target.Symbol k) end e =
+      ap (λ (ss : List Symbol). is_some (option_and_then (λ (s : Symbol). global_place s.binding) (slice_get ss k))) context.symbols ∙ by (slice_get n.symbols k) e
+    where
+      placed_so : (b : Binding) → global_section b ≡ Some end → is_some (global_place b) ≡ true
+      placed_so (Global (value.Place j offset)) h = refl
+      placed_so (Global (value.Absolute a)) h = absurd (none-some end h)
+      placed_so (Local v) h = absurd (none-some end h)
+      placed_so Undefined h = absurd (none-some end h)
+      placed_so (Common size align) h = absurd (none-some end h)
+      placed_so (Weak f) h = absurd (none-some end h)
+
+      by : (o : Option Symbol) → option_and_then (λ (s : Symbol). global_section s.binding) o ≡ Some end → is_some (option_and_then (λ (s : Symbol). global_place s.binding) o) ≡ true
+      by None h = absurd (none-some end h)
+      by (Some s) h = placed_so s.binding h
+
+  module _ (k at : ℕ) (r : Reloc) (there : reloc_at n k at ≡ Some r) where
+    -- in i386 a pair is written of a difference, whose ends the target asks to lie in sections
+    ends : x.word ≡ W32 → is_some (row x.word n is k at r there).second ≡ true → HasPlace x r.target
+    ends short pair = by (known x.word n is k at r there).known
+      where
+        of_taken : IsTakenSection x.word n is k at r there → HasPlace x r.target
+        of_taken (Another j l same) = let d = (mach_reloc x.word n is k at r there).difference j (ap mach_format short) l in end_there r.target d.end d.fixed
+        of_taken (Own long l far same) = absurd (let e : W32 ≡ W64 = sym short ∙ long in cc)
+
+        by : IsKnown x.word (entry x.word n is k at r there) → HasPlace x r.target
+        by (KnownAlone none alone lacks) = absurd (true≢false (sym pair ∙ ap is_some (sym (row_is x.word n is k at r there (λ y. y.second)) ∙ none)))
+        by (KnownPair p taken d) = of_taken (taken_is x.word n is k at r there taken d)
+
+    abbrev can : CanWrite x k at r
+    can =
+        let m = meets x.word n is k at r there in
+        record {
+          there = record { own = low k (slice_get_within n.sections k m.section m.there); target = target_there r.target m.normal.target; less = less_there r.form.less m.normal.less };
+          form = record { written = standing x.word n is k at r there; there = standing_is x.word n is k at r there };
+          ends = ends;
+        }
+
+    -- its field holds the addend: in i386 each does, and in x86-64 the target asks for it
+    holds : FieldHolds x.word n (standing x.word n is k at r there)
+    holds = by x.word refl
+      where
+        by : (v : Word) → x.word ≡ v → FieldHolds x.word n (standing x.word n is k at r there)
+        by W32 e = (mach_reloc x.word n is k at r there).holds (field_shift x.word n (standing x.word n is k at r there)) (ap mach_format e)
+        by W64 e =
+            subst (HoldsAddend (mach_format x.word) r) (sym (ap (λ v. field_shift v n (standing x.word n is k at r there)) e))
+            ((mach_reloc x.word n is k at r there).held (ap mach_format e))
+
+    tells : CanTell x k at r
+    tells = record { ready = scene_ready; can = can; object = n; context = context; holds = holds }
+
+  -- the relocations of a section can be written
+  pub all_can : (k : ℕ) → AreAll (CanWrite x k) (list_of n.relocs k)
+  all_can k = all_members (λ (f : Field Reloc). CanWrite x k f.at f.item) (list_of n.relocs k) (λ i f here. can k f.at f.item (field_there x.word n is (numbered_lines x.word n) k i f here))
 
   -- their numbers can be made
-  pub told : (k : ℕ) → k < length n.sections → AreAll (CanTell x k) (list_of n.relocs k)
-  told k l = each_weaker (λ (f : Field Reloc). IsFor x k f.item) (λ (f : Field Reloc). CanTell x k f.item) (λ f is. (scene_ready, is)) (list_of n.relocs k) (leads k l)
+  pub all_told : (k : ℕ) → AreAll (CanTell x k) (list_of n.relocs k)
+  all_told k = all_members (λ (f : Field Reloc). CanTell x k f.at f.item) (list_of n.relocs k) (λ i f here. tells k f.at f.item (field_there x.word n is (numbered_lines x.word n) k i f here))
 
-  -- and has a number
+  -- there is a place for the number of each section and symbol
   pub sized_numbers : (y : Numbers) → AreSized n y → HasNumbers x y
   sized_numbers y sized = record {
     owns = (let a = sized.owns in let b = context.addresses.counted in omega (arith, a, b));

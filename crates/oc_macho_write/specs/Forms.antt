@@ -1,8 +1,9 @@
 -- How relocations are written, and what their numbers are made of (Mach-O reference, "Relocation Data Structures").
-use Rattle.std.specs.Prelude.{◌≡◌, ℕ, ◌^◌, ◌<◌, List, length, slice_index_or, IfSome, Option, Some, None, Ok}
+use Rattle.std.specs.Prelude.{◌≡◌, ℕ, ◌^◌, ◌<◌, true, length, slice_get, slice_index_or, is_some, IfSome, Some, Ok}
 use Rattle.std.specs.List.{AllByRecursion}
+use Rattle.std.specs.Option.{option_and_then}
 use Rattle.oc_base.specs.declared.format.Word.{Word}
-use Rattle.oc_chains.specs.declared.field.Field.{Field}
+use Rattle.oc_base.specs.declared.format.Word.TheVariants.{W32}
 use Rattle.oc_linking.specs.declared.terms.Less.{Less}
 use Rattle.oc_linking.specs.declared.terms.Less.TheVariants as less
 use Rattle.oc_neutral.specs.declared.reloc.Reloc.{Reloc}
@@ -13,7 +14,9 @@ use Rattle.oc_neutral.specs.KeySymbols.{global_place}
 use Rattle.oc_neutral.specs.Normal.{Place}
 use Rattle.oc_neutral.specs.Objects.{Object}
 use Rattle.oc_neutral.specs.Spelling.{written_row, numbers_in}
+use Rattle.oc_target.specs.declared.forms.Spelling.TheVariants as spelling
 use Rattle.oc_target.specs.Lookup.{answer_of}
+use Rattle.oc_target.specs.Meets.{HoldsAddend}
 use Rattle.oc_macho.specs.MachHeader.{mach_format}
 use Rattle.oc_macho_file.specs.Bodies as bodies
 use Rattle.oc_macho_write.specs.declared.forms.FieldContext.{FieldContext}
@@ -34,12 +37,10 @@ pub record IsWritten (w : Word) (x : SpelledReloc) (is : bodies.WrittenReloc) : 
   pub row : written_row (mach_format w) is.reloc.form is.reloc.hint ≡ Some is.row
   pub spelled : answer_of (Some (numbers_in is.row.number is.row.second)) ≡ Ok x.spelling
 
--- both are present, or neither is
-abbrev pub AreWritten : Word → Option SpelledReloc → Option bodies.WrittenReloc → Type 0
-AreWritten w None None = Unit {0}
-AreWritten w None (Some is) = ⊥
-AreWritten w (Some x) None = ⊥
-AreWritten w (Some x) (Some is) = IsWritten w x is
+-- the format has the form of this relocation at an offset of the section at a position
+pub record HasForm (w : Word) (section at : ℕ) (r : Reloc) : Type 0 where
+  pub written : bodies.WrittenReloc
+  pub there : bodies.written_reloc_at w section at r ≡ Some written
 
 -- numbers can be made of it: addresses have 32 bits, and each Global that has a place lies in a section
 pub record IsReady (x : FieldContext) : Type 0 where
@@ -67,6 +68,30 @@ pub record IsFor (x : FieldContext) (section : ℕ) (r : Reloc) : Type 0 where
   pub target : IsThere x r.target
   pub less : IsLessThere x r.form.less
 
--- all that these relocations of the section at a position refer to exists
-abbrev pub LeadFrom : FieldContext → ℕ → List (Field Reloc) → Type 0
-LeadFrom x section fields = AllByRecursion (λ (f : Field Reloc). IsFor x section f.item) fields
+-- the target has a place: a section, or a Global that lies in one
+abbrev pub HasPlace : FieldContext → Target → Type 0
+HasPlace x (target.Section k) = Unit {0}
+HasPlace x (target.Symbol k) = is_some (option_and_then (λ s. global_place s.binding) (slice_get x.symbols.now k)) ≡ true
+
+-- a relocation at an offset of the section at a position can be written; in i386, which writes a pair with addresses, its ends have places
+pub record CanWrite (x : FieldContext) (section at : ℕ) (r : Reloc) : Type 0 where
+  pub there : IsFor x section r
+  pub form : HasForm x.word section at r
+  pub ends : x.word ≡ W32 → is_some form.written.row.second ≡ true → HasPlace x r.target
+
+-- what the relocation where it lies refers to exists, and in i386 the ends of a pair have places
+pub record IsStanding (x : FieldContext) (y : SpelledReloc) : Type 0 where
+  pub there : IsFor x y.section y.reloc
+  pub ends : x.word ≡ W32 → (first second : ℕ) → y.spelling ≡ spelling.Pair first second → HasPlace x y.reloc.target
+
+-- the field of a relocation holds its addend
+abbrev pub FieldHolds : Word → Object → bodies.WrittenReloc → Type 0
+FieldHolds w n is = HoldsAddend (mach_format w) is.reloc (bodies.field_shift w n is)
+
+-- the field of this relocation holds its addend, in an object that numbers are made of
+pub record IsHeld (x : FieldContext) (y : SpelledReloc) : Type 0 where
+  pub object : Object
+  pub context : IsFieldContext x.word object x
+  pub is : bodies.WrittenReloc
+  pub written : IsWritten x.word y is
+  pub holds : FieldHolds x.word object is

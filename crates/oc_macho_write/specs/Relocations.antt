@@ -12,7 +12,7 @@ use Rattle.oc_macho_file.specs.Bodies.{field_number, raw_of, written_reloc_at}
 use Rattle.oc_macho_file.specs.Layout.{relocs_of}
 use Rattle.oc_macho_write.specs.declared.forms.FieldContext.{FieldContext}
 use Rattle.oc_macho_write.specs.declared.numbers.Numbers.{Numbers}
-use Rattle.oc_macho_write.specs.Forms.{IsFor, IsReady, IsFieldContext}
+use Rattle.oc_macho_write.specs.Forms.{CanWrite, FieldHolds, IsReady, IsFieldContext}
 
 -- the relocation entries of each section
 abbrev pub all_entries : Word → Object → List (List RelocationInfo)
@@ -37,6 +37,10 @@ pub record IsNumbering (x : FieldContext) (number_of : Numbering) : Type 0 where
   pub context : IsFieldContext x.word object x
   pub same : number_of ≡ number_at x.word object
 
--- the number of a relocation of the section at a position can be made
-abbrev pub CanTell : FieldContext → ℕ → Reloc → Type 0
-CanTell x section r = (IsReady x) × (IsFor x section r)
+-- the number of a relocation at an offset of the section at a position can be made: it can be written, and its field holds the addend
+pub record CanTell (x : FieldContext) (section at : ℕ) (r : Reloc) : Type 0 where
+  pub ready : IsReady x
+  pub can : CanWrite x section at r
+  pub object : Object
+  pub context : IsFieldContext x.word object x
+  pub holds : FieldHolds x.word object can.form.written

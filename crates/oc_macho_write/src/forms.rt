@@ -1,19 +1,17 @@
 //! How the form and the addend of a relocation are written (Mach-O reference, "Relocation Data
 //! Structures").
-ghost use Rattle.std.specs.Prelude.{◌≡◌, ◌^◌, ◌<◌, ◌+◌, if◌then◌else◌, length, IfSome, pos, neg_ℤ, ◌-ℤ◌};
-ghost use Rattle.std.specs.Option.{option_map_or};
+ghost use Rattle.std.specs.Prelude.{◌≡◌, ◌^◌, ◌<◌, ◌+◌, if◌then◌else◌, length, Some, pos, neg_ℤ, ◌-ℤ◌};
 ghost use Rattle.oc_base.specs.declared.format.Word.{Word};
 ghost use Rattle.oc_base.specs.declared.format.Word.TheVariants.{W32, W64};
 ghost use Rattle.oc_neutral.specs.Mach.Relocs as relocs;
-ghost use Rattle.oc_neutral.specs.Normal.{Place as Held};
 ghost use Rattle.oc_neutral.specs.Objects.{Object};
 ghost use Rattle.oc_neutral.specs.Rows.{TakesPlace, same_taken, taken_of};
 ghost use Rattle.oc_neutral.specs.Shifts.{entry_target_shift};
 ghost use Rattle.oc_macho_file.specs.Addresses.{address_of};
 ghost use Rattle.oc_macho_file.specs.Bodies as bodies;
-ghost use Rattle.oc_macho_write.specs.Relocations.{number_at};
+ghost use Rattle.oc_macho_write.specs.Relocations.{CanTell, number_at};
 ghost use Rattle.oc_macho_write.specs.declared.forms.FieldContext.{FieldContext as Setting};
-ghost use Rattle.oc_macho_write.specs.Forms.{AreWritten, IsFor, IsReady, IsFieldContext, IsThere, IsWritten};
+ghost use Rattle.oc_macho_write.specs.Forms.{HasForm, HasPlace, IsFor, IsHeld, IsReady, IsFieldContext, IsStanding, IsThere, IsWritten};
 
 use crate::values::global_place;
 use oc_algebra::to_field;
@@ -49,18 +47,17 @@ pub(crate) struct SpelledReloc {
     pub(crate) spelling: Spelling,
 }
 
-/// A relocation at an offset of a section, where the format has its form. Constant time.
-pub(crate) fn spelled_at(word: Word, section: u32, at: u32, reloc: Reloc) -> Option<SpelledReloc>
-    ensures { AreWritten word result (bodies.written_reloc_at word section at reloc) }
+/// A relocation at an offset of a section, whose form the format has. Constant time.
+pub(crate) fn spelled_at(word: Word, section: u32, at: u32, reloc: Reloc) -> SpelledReloc
+    requires { HasForm word section at reloc }
+    ensures { (is : bodies.WrittenReloc) → bodies.written_reloc_at word section at reloc ≡ Some is → IsWritten word result is }
 {
-    match lookup(format_of(word), reloc.form, reloc.hint) {
-        Ok(spelling) => Some(SpelledReloc {
-            section,
-            at,
-            reloc,
-            spelling,
-        }),
-        Err(_) => None,
+    let spelling = lookup(format_of(word), reloc.form, reloc.hint).unwrap();
+    SpelledReloc {
+        section,
+        at,
+        reloc,
+        spelling,
     }
 }
 
@@ -118,16 +115,17 @@ impl FieldContext<'_> {
         self.addresses[section as usize]
     }
 
-    // the address of a place
-    fn place_address(&self, place: Option<(u32, u32)>) -> u64
+    // the place of an end of a difference
+    fn end_place(&self, target: Target) -> (u32, u32)
         requires ready { IsReady self.now }
-        requires there { IfSome place (λ p. p.0 < length self.now.addresses.now) }
-        ensures address { (w : Word) (n : Object) → IsFieldContext w n self.now → result ≡ option_map_or (λ (p : Held). address_of n p.0 + p.1) place 0 }
-        ensures low { result < 2 ^ 33 }
+        requires there { IsThere self.now target }
+        requires place { HasPlace self.now target }
+        ensures place { (w : Word) (n : Object) → IsFieldContext w n self.now → bodies.end_place n target ≡ Some result }
+        ensures there { result.0 < length self.now.addresses.now }
     {
-        match place {
-            Some((section, offset)) => self.address_of(section) + u64::from(offset),
-            None => 0,
+        match target {
+            Target::Section(k) => (k, 0),
+            Target::Symbol(k) => global_place(self.symbols[k as usize].binding).unwrap(),
         }
     }
 
@@ -135,41 +133,24 @@ impl FieldContext<'_> {
     fn end_address(&self, target: Target) -> u64
         requires ready { IsReady self.now }
         requires there { IsThere self.now target }
+        requires place { HasPlace self.now target }
         ensures address { (w : Word) (n : Object) → IsFieldContext w n self.now → result ≡ bodies.end_address n target }
         ensures low { result < 2 ^ 33 }
     {
-        match target {
-            Target::Section(k) => self.address_of(k),
-            Target::Symbol(k) => self.place_address(global_place(self.symbols[k as usize].binding)),
-        }
-    }
-
-    // that of the section of a place
-    fn place_section_address(&self, place: Option<(u32, u32)>) -> u64
-        requires ready { IsReady self.now }
-        requires there { IfSome place (λ p. p.0 < length self.now.addresses.now) }
-        ensures address { (w : Word) (n : Object) → IsFieldContext w n self.now → result ≡ option_map_or (λ (p : Held). address_of n p.0) place 0 }
-        ensures low { result < 2 ^ 32 }
-    {
-        match place {
-            Some((section, _)) => self.address_of(section),
-            None => 0,
-        }
+        let (section, offset) = self.end_place(target);
+        self.address_of(section) + u64::from(offset)
     }
 
     /// The address of the section of an end of a difference. Constant time.
     pub(crate) fn end_section_address(&self, target: Target) -> u64
         requires ready { IsReady self.now }
         requires there { IsThere self.now target }
+        requires place { HasPlace self.now target }
         ensures address { (w : Word) (n : Object) → IsFieldContext w n self.now → result ≡ bodies.end_section_address n target }
         ensures low { result < 2 ^ 32 }
     {
-        match target {
-            Target::Section(k) => self.address_of(k),
-            Target::Symbol(k) => {
-                self.place_section_address(global_place(self.symbols[k as usize].binding))
-            }
-        }
+        let (section, _) = self.end_place(target);
+        self.address_of(section)
     }
 
     // the address of the field, where an entry of i386 takes the field's place
@@ -202,8 +183,9 @@ impl FieldContext<'_> {
 
     // what the addend of i386 has beyond the field
     fn shift32(&self, standing: &SpelledReloc) -> i64
+        requires word { self.now.word ≡ W32 }
         requires ready { IsReady self.now }
-        requires there { IsFor self.now standing.now.section standing.now.reloc }
+        requires there { IsStanding self.now standing.now }
         ensures { (n : Object) (is : bodies.WrittenReloc) → IsFieldContext W32 n self.now → IsWritten W32 standing.now is → result ≡ bodies.field_shift W32 n is }
     {
         let target = standing.reloc.target;
@@ -226,7 +208,7 @@ impl FieldContext<'_> {
     // what the addend of a relocation has beyond the field
     fn field_shift(&self, standing: &SpelledReloc) -> i64
         requires ready { IsReady self.now }
-        requires there { IsFor self.now standing.now.section standing.now.reloc }
+        requires there { IsStanding self.now standing.now }
         ensures { (w : Word) (n : Object) (is : bodies.WrittenReloc) → IsFieldContext w n self.now → IsWritten w standing.now is → result ≡ bodies.field_shift w n is }
     {
         match self.word {
@@ -238,25 +220,22 @@ impl FieldContext<'_> {
     // the number in the field of a relocation at its place
     fn spelled_number(&self, standing: &SpelledReloc) -> u64
         requires ready { IsReady self.now }
-        requires there { IsFor self.now standing.now.section standing.now.reloc }
+        requires there { IsStanding self.now standing.now }
+        requires held { IsHeld self.now standing.now }
         ensures { (w : Word) (n : Object) (is : bodies.WrittenReloc) → IsFieldContext w n self.now → IsWritten w standing.now is → result ≡ bodies.field_number w n is }
     {
         let shift = self.field_shift(standing);
         let reloc = standing.reloc;
-        to_field(self.word, reloc.form.width, shift, reloc.addend).unwrap_or(0)
+        to_field(self.word, reloc.form.width, shift, reloc.addend).unwrap()
     }
 
-    /// The number in the field of a relocation at an offset of a section, 0 where the format has no such
-    /// form. Constant time.
+    /// The number in the field of a relocation at an offset of a section, where it can be made. Constant
+    /// time.
     pub(crate) fn field_number(&self, section: u32, at: u32, reloc: Reloc) -> u64
-        requires ready { IsReady self.now }
-        requires there { IsFor self.now section reloc }
+        requires { CanTell self.now section at reloc }
         ensures { (w : Word) (n : Object) → IsFieldContext w n self.now → result ≡ number_at w n section at reloc }
     {
-        match spelled_at(self.word, section, at, reloc) {
-            Some(standing) => self.spelled_number(&standing),
-            None => 0,
-        }
+        self.spelled_number(&spelled_at(self.word, section, at, reloc))
     }
 }
 

@@ -2,6 +2,7 @@
 ghost use Rattle.std.specs.Prelude.{◌≡◌, IfOk, map};
 ghost use Rattle.oc_macho.specs.MachHeader.{mach_format};
 ghost use Rattle.oc_shelf.specs.Writing.Parts.{file_of};
+ghost use Rattle.oc_target.specs.Fitted.{IsFitted};
 ghost use Rattle.oc_macho_file.specs.Canonical.{mach_file};
 ghost use Rattle.oc_macho_file.specs.Layout as file;
 ghost use Rattle.oc_macho_write.specs.LaidParts.{AreLaid};
@@ -28,10 +29,10 @@ use std::alloc::Global;
 
 // the sections of an object, which have these addresses, with the numbers in their fields
 fn sections_of(word: Word, addresses: &[u64], neutral: Neutral) -> Vec<Section>
+    requires fitted { IsFitted (mach_format word) neutral }
     requires addresses { AreAddresses neutral addresses.now }
     ensures { map (λ s. s.bytes) result.items ≡ all_raws word neutral }
 {
-    neutral.is_object();
     let (_groups, sections, symbols, relocs) = neutral.into_parts();
     let context = FieldContext {
         word,

@@ -8,7 +8,7 @@ impl FieldNumbers for FieldContext<'_> {
 
     ghost tells = { IsNumbering };
 
-    ghost leads = { CanTell };
+    ghost knows = { CanTell };
 
     fn number(&self, section: u32, at: u32, reloc: Reloc) -> u64 {
         self.field_number(section, at, reloc)

@@ -2,13 +2,14 @@
 //! "scattered_relocation_info").
 ghost use Rattle.std.specs.Prelude.{◌≡◌, ◌<◌, ◌++◌, ◌^◌, [], ◌∷◌, length, IfOk, OnOk, Some};
 ghost use Rattle.oc_base.specs.declared.format.Word.{Word};
+ghost use Rattle.oc_base.specs.declared.format.Word.TheVariants.{W32};
 ghost use Rattle.oc_target.specs.Fitted.{IsFitted};
 ghost use Rattle.oc_neutral.specs.Mach.Relocs as relocs;
 ghost use Rattle.oc_neutral.specs.Objects.{Object};
 ghost use Rattle.oc_macho.specs.MachHeader.{mach_format};
 ghost use Rattle.oc_macho_file.specs.Bodies as bodies;
 ghost use Rattle.oc_macho_file.specs.Lines.{numbered_lines};
-ghost use Rattle.oc_macho_write.specs.Forms.{IsFor, IsReady, IsFieldContext, IsWritten};
+ghost use Rattle.oc_macho_write.specs.Forms.{CanWrite, HasPlace, IsFor, IsReady, IsFieldContext, IsStanding, IsWritten};
 ghost use Rattle.oc_macho_write.specs.Numbers.{IsNumbered};
 ghost use Rattle.oc_macho_write.specs.Relocations.{all_entries, HasNumbers};
 ghost use Rattle.oc_macho_write.specs.Words.{items_of};
@@ -71,6 +72,7 @@ fn pair_of(
 ) -> (RelocationInfo, RelocationInfo)
     requires ready { IsReady context }
     requires there { IsFor context standing.now.section standing.now.reloc }
+    requires ends { context.word ≡ W32 → HasPlace context standing.now.reloc.target }
     requires numbers { HasNumbers context numbers.now }
     ensures { (n : Object) (is : bodies.WrittenReloc)
         → IsFieldContext context.entry.word n context.entry → IsNumbered context.entry.word n numbers.now
@@ -102,7 +104,7 @@ fn add_standing(
     standing: &SpelledReloc,
 ) -> Result<(), NoMemory>
     requires ready { IsReady context }
-    requires there { IsFor context standing.now.section standing.now.reloc }
+    requires there { IsStanding context standing.now }
     requires written { (is : bodies.WrittenReloc) × IsWritten context.word standing.now is }
     requires numbers { HasNumbers context numbers.now }
     ensures { OnOk result ((n : Object) (is : bodies.WrittenReloc)
@@ -125,7 +127,7 @@ fn add_standing(
     Ok(())
 }
 
-// adds the entries of a relocation of a section, where the format has its form
+// adds the entries of a relocation of a section
 fn add_entries(
     entries: &mut Vec<RelocationInfo>,
     context: FieldContext<'_>,
@@ -134,16 +136,14 @@ fn add_entries(
     field: Field<Reloc>,
 ) -> Result<(), NoMemory>
     requires ready { IsReady context }
-    requires there { IsFor context section field.item }
+    requires can { CanWrite context section field.at field.item }
     requires numbers { HasNumbers context numbers.now }
     ensures { OnOk result ((n : Object)
         → IsFieldContext context.entry.word n context.entry → IsNumbered context.entry.word n numbers.now
         → entries.new.items ≡ entries.old.items ++ bodies.entries_at context.entry.word n (numbered_lines context.entry.word n) section field) }
 {
-    match spelled_at(context.word, section, field.at, field.item) {
-        Some(standing) => add_standing(entries, context, numbers, &standing),
-        None => Ok(()),
-    }
+    let standing = spelled_at(context.word, section, field.at, field.item);
+    add_standing(entries, context, numbers, &standing)
 }
 
 // the entries of the section at a position

@@ -187,14 +187,14 @@ module _ (n : Object) (is : IsForOmf n) (t : Tables) (numbers : List ℕ) (made 
   is_put front (output.Communal k s) b fits other =
       let here = b.of_symbol.0 in
       let there = symbol_there k s here in
-      (record { item = s; here = there; passes = (short_name k s here (ap is_local b.of_symbol.3), fits) }, ap (λ o. option_map_or (λ (x : Symbol). communal_bytes x.name (size_by x.binding)) o []) there)
+      (record { item = s; here = there; passes = record { name = short_name k s here (ap is_local b.of_symbol.3); size = b.of_symbol.1; align = b.of_symbol.2; is = b.of_symbol.3; small = subst (λ y. size_by y < 2 ^ 32) b.of_symbol.3 fits } }, ap (λ o. option_map_or (λ (x : Symbol). communal_bytes x.name (size_by x.binding)) o []) there)
   is_put front (output.Public k s) b fits other =
       let here = b.of_symbol.0 in
       let there = symbol_there k s here in (
         record {
           item = s;
           here = there;
-          passes = (short_name k s here (ap is_local b.of_symbol.2), λ x place. subst (λ (y : Place). y.0 + 1 < 32768) (same_Some fits.0 x (sym fits.1 ∙ place)) fits.2);
+          passes = record { name = short_name k s here (ap is_local b.of_symbol.2); place = fits.0; is = fits.1; small = fits.2 };
         },
         ap (λ o. option_map_or public_by o []) there,
       )

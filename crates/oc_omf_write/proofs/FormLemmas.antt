@@ -1,8 +1,8 @@
 -- The row of a form, and the number in a field that is written by it.
 use Rattle.std.proofs.Common.{◌≡◌, ℕ, Bool, true, false, cond, Option, Some, None, refl, sym, ◌∙◌, ap}
 use Rattle.std.specs.Prelude.{slice_get, find}
-use Rattle.std.specs.Option.{option_map, option_map_or, unwrap_or}
-use Rattle.std.proofs.lemmas.Option.{none-some, same_Some}
+use Rattle.std.specs.Option.{option_map_or}
+use Rattle.std.proofs.lemmas.Option.{none-some}
 use Rattle.oc_base.specs.declared.format.Format.TheVariants.{Omf}
 use Rattle.oc_base.specs.declared.format.Word.TheVariants.{W32}
 use Rattle.oc_linking.specs.declared.terms.Hint.{Hint}
@@ -12,13 +12,12 @@ use Rattle.oc_algebra.specs.declared.form.Form.{Form}
 use Rattle.oc_algebra.specs.Fields.{to_field_of}
 use Rattle.oc_neutral.specs.declared.reloc.Reloc.{Reloc}
 use Rattle.oc_neutral.specs.Objects.{Object}
-use Rattle.oc_neutral.specs.Omf.Relocs.{ByFlat, fixup_row}
 use Rattle.oc_neutral.specs.Rows.{Row, Taken, TakesPlace, TakesSection, same_taken, taken_of, shift_of}
 use Rattle.oc_neutral.specs.RelocTables.{rows_of}
 use Rattle.oc_neutral.specs.Spelling.{is_written, row_taking, written_row}
 use Rattle.oc_target.proofs.MeetsRows.{of_table, found_there}
 use Rattle.oc_omf_file.specs.Fixups.{written_reloc, row_by, number_or, number_by, field_number}
-use Rattle.oc_omf_write.specs.Written.{number_in, shift_by, number_with}
+use Rattle.oc_omf_write.specs.Written.{HasRow, number_in, shift_by, number_with}
 
 -- a row of the format
 abbrev IsRow : Row → Type 0
@@ -49,30 +48,17 @@ of_format form hint row e = by (row_taking Omf form hint (taken_of form.less)) r
     by (Some r) h e = from_taking form hint (taken_of form.less) row (h ∙ e)
 
 -- its number tells its shift
-shift_is : (row : Row) → IsRow row → shift_of row ≡ shift_by row.number
-shift_is row is = of_table shift_of (λ (x : Row). shift_by x.number) (rows_of Omf) is.0 row refl is.1
+row_shift : (row : Row) → IsRow row → shift_of row ≡ shift_by row.number
+row_shift row is = of_table shift_of (λ (x : Row). shift_by x.number) (rows_of Omf) is.0 row refl is.1
 
--- the number of a row, that of an address where there is none
-pub number_of_row : (row : Option Row) → unwrap_or (option_map (λ (x : Row). x.number) row) (fixup_row ByFlat).number ≡ number_in row
-number_of_row None = refl
-number_of_row (Some row) = refl
+module _ (r : Reloc) (has : HasRow r.form r.hint) where
+  -- the shift of the row by its number
+  pub shift_is : shift_of has.row ≡ shift_by (number_in (row_by r))
+  shift_is = row_shift has.row (of_format r.form r.hint has.row has.written) ∙ ap (λ o. shift_by (number_in o)) (sym has.written)
 
--- the number in a field by the number of its row
-pub number_where : (n : Object) (r : Reloc) (x : ℕ) → option_map (λ (row : Row). row.number) (row_by r) ≡ Some x → field_number n r ≡ number_with (written_reloc n r) x
-unfolding field_number
-number_where n r x e = by (row_by r) refl e
-  where
-    by : (o : Option Row) → row_by r ≡ o → option_map (λ (row : Row). row.number) o ≡ Some x → option_map_or (number_by (written_reloc n r)) o 0 ≡ number_with (written_reloc n r) x
-    by None h e = absurd (none-some x e)
-    by (Some row) h e =
-        ap (λ z. number_or (to_field_of W32 (written_reloc n r).form.width z (written_reloc n r).addend)) (shift_is row (of_format r.form r.hint row h))
-        ∙ ap (number_with (written_reloc n r)) (same_Some row.number x e)
-
--- 0 where there is none
-pub number_none : (n : Object) (r : Reloc) → option_map (λ (row : Row). row.number) (row_by r) ≡ None → field_number n r ≡ 0
-unfolding field_number
-number_none n r e = by (row_by r) e
-  where
-    by : (o : Option Row) → option_map (λ (row : Row). row.number) o ≡ None → option_map_or (number_by (written_reloc n r)) o 0 ≡ 0
-    by None e = refl
-    by (Some row) e = absurd (none-some row.number (sym e))
+  -- the number in the field by that of the row
+  pub number_is : (n : Object) → field_number n r ≡ number_with (written_reloc n r) (number_in (row_by r))
+  unfolding field_number
+  number_is n =
+      ap (λ o. option_map_or (number_by (written_reloc n r)) o 0) has.written
+      ∙ ap (λ z. number_or (to_field_of W32 (written_reloc n r).form.width z (written_reloc n r).addend)) shift_is

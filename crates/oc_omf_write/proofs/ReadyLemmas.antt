@@ -26,7 +26,7 @@ use Rattle.oc_omf_write.specs.declared.fixups.Fixup.{Fixup}
 use Rattle.oc_omf_write.specs.declared.tables.Tables.{Tables}
 use Rattle.oc_omf_write.specs.Entries.{entry_for}
 use Rattle.oc_omf_write.specs.Made.{IsMade}
-use Rattle.oc_omf_write.specs.Names.{IsNameOf, names_entry, texts_in, names_for, segment_in}
+use Rattle.oc_omf_write.specs.Names.{IsNameOf, IsSegment, names_entry, texts_in, names_for, segment_in}
 use Rattle.oc_omf_write.specs.Numbers.{HasPlace, AreNumbers}
 use Rattle.oc_omf_write.specs.Pieces.{AreInSections, FollowWithin, fixups_at, piece_entries, section_entries, data_entries, places_of}
 use Rattle.oc_omf_write.specs.Plans.{AreEntries}
@@ -37,6 +37,7 @@ use Rattle.oc_omf_write.specs.Written as written
 use Rattle.oc_omf_write.proofs.EntryLemmas.{section_there, fixups_here, fixups_follow}
 use Rattle.oc_omf_write.proofs.PieceLemmas.{follow_from}
 use Rattle.oc_omf_write.proofs.PlannedLemmas.{fixups_counted, names_same}
+use Rattle.oc_omf_write.proofs.SegmentLemmas.{are_segments}
 use Rattle.oc_shelf.proofs.WritingLaws.MemberLemmas.{all_members}
 
 -- ... the entries of symbols
@@ -164,6 +165,7 @@ module _ (n : Object) (is : IsForOmf n) (t : Tables) (numbers : List ℕ) (made 
 
   pub sound : AllByRecursion (IsNameOf (length t.sections.items)) t.names.items → AreSound t
   sound named = record {
+    segments = subst (AllByRecursion IsSegment) (sym made.sections) (are_segments n is);
     named = named;
     short = subst (AllByRecursion (λ (text : List ℕ). length text ≤ 255)) (sym made.texts) (all_members (λ (text : List ℕ). length text ≤ 255) (names_of n) (short_names n is));
     order = λ k low.

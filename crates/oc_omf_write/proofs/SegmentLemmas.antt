@@ -1,6 +1,6 @@
 -- The indexes of the names of sections, and the codes of their alignments.
 use Rattle.std.proofs.Common.{◌≡◌, ℕ, zero, suc, ◌+◌, ◌-◌, ◌^◌, ◌<◌, ◌≤◌, Bool, true, false, ◌||◌, cond, nat_eq, eq-eqb, None, List, [], ◌∷◌, length, map, Some, refl, ◌∙◌, ap, arith}
-use Rattle.std.specs.Prelude.{slice_get, bytes_eq}
+use Rattle.std.specs.Prelude.{slice_get, bytes_eq, is_some}
 use Rattle.std.specs.List.{AllByRecursion, enumerate_from, list_any, position_or_len}
 use Rattle.std.proofs.lemmas.Option.{none-some, same_Some}
 use Rattle.oc_neutral.specs.Omf.Family.{omf_aligns}
@@ -12,7 +12,7 @@ use Rattle.oc_omf_file.specs.Names.{class_of, names_of}
 use Rattle.oc_omf_file.proofs.CodedLaws.{IsForOmf}
 use Rattle.oc_omf_file.proofs.NameLaws.{section_named, section_classed, name_within}
 use Rattle.oc_omf_write.specs.declared.names.Names.{Names}
-use Rattle.oc_omf_write.specs.Names.{names_for, AreNames, IsAligned, IsIndexed}
+use Rattle.oc_omf_write.specs.Names.{names_for, AreNames, IsIndexed, IsSegment}
 use Rattle.oc_omf_write.specs.Raws.{addend_in, sections_in}
 
 -- a text that is among them has an index
@@ -48,11 +48,14 @@ any_here test (y ∷ xs) (suc k) x here is = ap (λ (b : Bool). test y || b) (an
     right true = refl
     right false = refl
 
-aligned_from : (n : Object) (i : ℕ) (xs : List Section) → ((k : ℕ) (s : Section) → slice_get xs k ≡ Some s → IsAligned s)
-    → AllByRecursion IsAligned (map (section_with_numbers (addend_in n) n.relocs) (enumerate_from i xs))
-aligned_from n i [] each = tt
-aligned_from n i (x ∷ xs) each = (each 0 x refl, aligned_from n (i + 1) xs (λ k s h. each (suc k) s h))
+segments_from : (n : Object) (i : ℕ) (xs : List Section) → ((k : ℕ) (s : Section) → slice_get xs k ≡ Some s → IsSegment s)
+    → AllByRecursion IsSegment (map (section_with_numbers (addend_in n) n.relocs) (enumerate_from i xs))
+segments_from n i [] each = tt
+segments_from n i (x ∷ xs) each = let own = each 0 x refl in (record { align = own.align; class = own.class }, segments_from n (i + 1) xs (λ k s h. each (suc k) s h))
 
--- the sections of an object that is ready for OMF have alignments that segments can have
-pub are_aligned : (n : Object) → IsForOmf n → AllByRecursion IsAligned (sections_in n)
-are_aligned n is = aligned_from n 0 n.sections (λ k s here. let m = is.meets.sections k s here in any_here (nat_eq s.align) omf_aligns m.exponent s.align m.align (eq-eqb s.align s.align refl))
+-- the sections of an object that is ready for OMF can be segments
+pub are_segments : (n : Object) → IsForOmf n → AllByRecursion IsSegment (sections_in n)
+are_segments n is =
+    segments_from n 0 n.sections (λ k s here.
+    let m = is.meets.sections k s here in
+    record { align = any_here (nat_eq s.align) omf_aligns m.exponent s.align m.align (eq-eqb s.align s.align refl); class = ap is_some m.classed })

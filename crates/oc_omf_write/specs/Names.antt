@@ -1,5 +1,5 @@
 -- The names of sections, each once, and their positions (TIS OMF 1.1, "LNAMES: List of Names Record"; our profile).
-use Rattle.std.specs.Prelude.{◌≡◌, ℕ, ◌+◌, ◌<◌, ◌≤◌, true, bytes_eq, nat_eq, if◌then◌else◌, List, [], ◌∷◌, ◌++◌, drop, length, map, flat_map, fold, codes, slice_get, slice_range, Option, Some, None}
+use Rattle.std.specs.Prelude.{◌≡◌, ℕ, ◌+◌, ◌<◌, ◌≤◌, true, bytes_eq, nat_eq, if◌then◌else◌, List, [], ◌∷◌, ◌++◌, drop, length, map, flat_map, fold, codes, slice_get, slice_range, is_some, Option, Some, None}
 use Rattle.std.specs.BTreeMap.{BTreeMap, get_by}
 use Rattle.std.specs.Cmp.Lexicographic.{slice_cmp}
 use Rattle.std.specs.Ordering.{nat_cmp}
@@ -7,6 +7,7 @@ use denote.Ref.{Bor}
 use Rattle.std.specs.List.{AllByRecursion, list_any, position_or_len}
 use Rattle.std.specs.Option.{option_map_or}
 use Rattle.oc_neutral.specs.Omf.Family.{omf_aligns}
+use Rattle.oc_neutral.specs.Omf.Kinds.{omf_class}
 use Rattle.oc_neutral.specs.declared.section.Section.{Section}
 use Rattle.oc_omf.specs.declared.structures.Segment as read
 use Rattle.oc_omf_file.specs.Canonical.{attributes_of}
@@ -75,9 +76,10 @@ pub record IsIndexed (names : Names) (text : List ℕ) : Type 0 where
   pub there : value_at names.places text ≡ Some place
   pub small : place + 1 < 32768
 
--- the alignment of a section is one that segments can have
-abbrev pub IsAligned : Section → Type 0
-IsAligned s = list_any (nat_eq s.align) omf_aligns ≡ true
+-- the alignment of a section is one that segments can have, and so is its kind, which has a class
+pub record IsSegment (s : Section) : Type 0 where
+  pub align : list_any (nat_eq s.align) omf_aligns ≡ true
+  pub class : is_some (omf_class s.kind) ≡ true
 
 -- the segment of one of the sections
 abbrev pub segment_in : List Section → Section → read.Segment

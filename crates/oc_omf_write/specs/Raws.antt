@@ -4,7 +4,12 @@ use Rattle.oc_neutral.specs.declared.section.Section.{Section}
 use Rattle.oc_neutral.specs.declared.symbol.Symbol.{Symbol}
 use Rattle.oc_neutral.specs.Objects.{Object}
 use Rattle.oc_plans.specs.Numbered.{Numbering, all_with_numbers}
-use Rattle.oc_omf_file.specs.Fixups.{field_number}
+use Rattle.oc_base.specs.declared.format.Format.TheVariants.{Omf}
+use Rattle.oc_neutral.specs.declared.reloc.Reloc.{Reloc}
+use Rattle.oc_neutral.specs.Rows.{shift_of}
+use Rattle.oc_target.specs.Meets.{HoldsAddend}
+use Rattle.oc_omf_file.specs.Fixups.{field_number, written_reloc}
+use Rattle.oc_omf_write.specs.Written.{HasRow}
 
 -- the number in the field of a relocation of an object, wherever it lies
 abbrev pub addend_in : Object → Numbering
@@ -15,6 +20,13 @@ pub record IsNumbering (symbols : List Symbol) (number_of : Numbering) : Type 0 
   pub object : Object
   pub symbols_of : object.symbols ≡ symbols
   pub same : number_of ≡ addend_in object
+
+-- a relocation of an object with these symbols can be written: OMF has a row for it, and by this row its field holds the addend that is written
+pub record CanWrite (symbols : List Symbol) (r : Reloc) : Type 0 where
+  pub object : Object
+  pub symbols_of : object.symbols ≡ symbols
+  pub has : HasRow r.form r.hint
+  pub holds : HoldsAddend Omf (written_reloc object r) (shift_of has.row)
 
 -- the sections of an object with the numbers of its relocations
 abbrev pub sections_in : Object → List Section

@@ -2,6 +2,7 @@
 use Rattle.std.specs.Prelude.{◌≡◌, ℕ, ◌+◌, ◌^◌, ◌<◌, ◌≤◌, List, [], ◌∷◌, length, map, flat_map, codes, slice_get, slice_range, Some}
 use Rattle.std.specs.List.{AllByRecursion}
 use Rattle.std.specs.Option.{option_map_or}
+use Rattle.oc_linking.specs.declared.terms.Binding.TheVariants.{Common}
 use Rattle.oc_neutral.specs.declared.section.Section.{Section}
 use Rattle.oc_neutral.specs.declared.symbol.Symbol.{Symbol}
 use Rattle.oc_neutral.specs.KeySymbols.{global_place}
@@ -15,7 +16,7 @@ use Rattle.oc_omf_write.specs.declared.entries.Entry.TheVariants as entry
 use Rattle.oc_omf_write.specs.declared.fixups.Fixup.{Fixup}
 use Rattle.oc_omf_write.specs.declared.tables.Tables.{Tables}
 use Rattle.oc_omf_write.specs.Entries.{type_of}
-use Rattle.oc_omf_write.specs.Names.{text_by, IsNameOf, AreShort, IsRange}
+use Rattle.oc_omf_write.specs.Names.{text_by, IsNameOf, IsSegment, AreShort, IsRange}
 use Rattle.oc_omf_write.specs.Pieces.{fixups_at, AreInOrder}
 use Rattle.oc_omf_write.specs.Written.{between, fixup_bytes_of, IsSmallFixup}
 
@@ -56,15 +57,24 @@ pub record IsSmallSegment (s : read.Segment) : Type 0 where
   pub class : s.class < 32768
   pub overlay : s.overlay < 32768
 
--- a symbol of that kind, whose numbers fit
+-- a symbol whose name fits
 abbrev pub HasShortName : Symbol → Type 0
 HasShortName s = length s.name ≤ 255
 
-abbrev pub IsSmallCommunal : Symbol → Type 0
-IsSmallCommunal s = (length s.name ≤ 255) × (size_by s.binding < 2 ^ 32)
+-- a communal whose numbers fit
+pub record IsSmallCommunal (s : Symbol) : Type 0 where
+  pub name : length s.name ≤ 255
+  pub size : ℕ
+  pub align : ℕ
+  pub is : s.binding ≡ Common size align
+  pub small : size < 2 ^ 32
 
-abbrev pub IsSmallPublic : Symbol → Type 0
-IsSmallPublic s = (length s.name ≤ 255) × ((x : Place) → global_place s.binding ≡ Some x → x.0 + 1 < 32768)
+-- a symbol at a place, whose numbers fit
+pub record IsSmallPublic (s : Symbol) : Type 0 where
+  pub name : length s.name ≤ 255
+  pub place : Place
+  pub is : global_place s.binding ≡ Some place
+  pub small : place.0 + 1 < 32768
 
 -- bytes of a section
 abbrev pub IsPieceOf : ℕ → ℕ → ℕ → Section → Type 0
@@ -90,8 +100,9 @@ CanPut t (entry.Fixups k from to) =
     (k < length t.fixups.items) × (from ≤ to) × AllByRecursion (IsSmallFixup from) (between from to (fixups_at (fixups_of t) k)) × (length (between from to (fixups_at (fixups_of t) k)) ≤ 256)
 CanPut t entry.End = Unit {0}
 
--- the names are short and those of sections, and the fixups are in order
+-- each section can be a segment, the names are short and those of sections, and the fixups are in order
 pub record AreSound (t : Tables) : Type 0 where
+  pub segments : AllByRecursion IsSegment t.sections.items
   pub named : AllByRecursion (IsNameOf (length t.sections.items)) t.names.items
   pub short : AreShort (texts_of t)
   pub order : (k : ℕ) → k < length t.fixups.items → AreInOrder (fixups_at (fixups_of t) k)

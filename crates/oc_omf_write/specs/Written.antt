@@ -1,8 +1,11 @@
 -- Fixups of sections as they are written (TIS OMF 1.1, "FIXUPP: Fixup Record").
-use Rattle.std.specs.Prelude.{ℕ, ◌+◌, ◌-◌, ◌<◌, ◌≤◌, ◌&&◌, nat_eq, nat_le, nat_lt, if◌then◌else◌, List, length, map, filter, slice_index_or, Option, ℤ, pos}
+use Rattle.std.specs.Prelude.{◌≡◌, ℕ, ◌+◌, ◌-◌, ◌<◌, ◌≤◌, ◌&&◌, nat_eq, nat_le, nat_lt, if◌then◌else◌, List, length, map, filter, slice_index_or, Option, Some, ℤ, pos}
 use Rattle.std.specs.List.{enumerate_from}
 use Rattle.std.specs.Option.{option_map_or}
+use Rattle.oc_base.specs.declared.format.Format.TheVariants.{Omf}
 use Rattle.oc_base.specs.declared.format.Word.TheVariants.{W32}
+use Rattle.oc_linking.specs.declared.terms.Hint.{Hint}
+use Rattle.oc_algebra.specs.declared.form.Form.{Form}
 use Rattle.oc_algebra.specs.Fields.{to_field_of}
 use Rattle.oc_chains.specs.declared.field.Field.{Field}
 use Rattle.oc_chains.specs.Lists.{list_of}
@@ -13,6 +16,7 @@ use Rattle.oc_neutral.specs.declared.reloc.Target.TheVariants as target
 use Rattle.oc_neutral.specs.Objects.{Object}
 use Rattle.oc_neutral.specs.Omf.Relocs.{ByFlat, ByTarget, BySelf, fixup_row}
 use Rattle.oc_neutral.specs.Rows.{Row, shift_of}
+use Rattle.oc_neutral.specs.Spelling.{written_row}
 use Rattle.oc_omf.specs.declared.structures.Method.{Method}
 use Rattle.oc_omf.specs.declared.constants.TheConstants.{METHOD_SEGMENT, METHOD_GROUP, METHOD_EXTERNAL, FRAME_OF_TARGET}
 use Rattle.oc_omf.specs.Bytes.{fixup_bytes}
@@ -39,6 +43,11 @@ abbrev pub between : ℕ → ℕ → List Fixup → List Fixup
 between from to fixups = filter (λ (f : Fixup). nat_le from f.at && nat_lt f.at to) fixups
 
 -- ... of relocations
+
+-- OMF has a row for a form
+pub record HasRow (form : Form) (hint : Hint) : Type 0 where
+  pub row : Row
+  pub written : written_row Omf form hint ≡ Some row
 
 -- the number of a row, that of an address where there is none
 abbrev pub number_in : Option Row → ℕ

@@ -128,7 +128,8 @@ fn frame_method(row: u16) -> Method
 
 // the fixup of a field, for symbols with these numbers
 fn fixup_of(neutral: &Neutral, numbers: &[u32], field: Field<Reloc>) -> Fixup
-    requires { written.HasIndex numbers.now (fixups.written_reloc neutral.now field.item).target }
+    requires row { written.HasRow field.item.form field.item.hint }
+    requires index { written.HasIndex numbers.now (fixups.written_reloc neutral.now field.item).target }
     ensures { result ≡ written.fixup_with numbers.now neutral.now field }
 {
     let written = written_reloc(neutral.symbols(), field.item);

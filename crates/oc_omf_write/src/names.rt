@@ -1,5 +1,5 @@
 //! The names of a file (TIS OMF 1.1, "LNAMES: List of Names Record"; our profile).
-ghost use Rattle.std.specs.Prelude.{◌≡◌, ℕ, ◌+◌, ◌^◌, ◌<◌, ◌≤◌, [], ◌∷◌, List, length, map, bytes_eq, slice_get, Some, IfOk, IfSome, OnOk};
+ghost use Rattle.std.specs.Prelude.{◌≡◌, ℕ, ◌+◌, ◌^◌, ◌<◌, ◌≤◌, [], ◌∷◌, List, length, map, bytes_eq, slice_get, is_some, true, Some, IfOk, IfSome, OnOk};
 ghost use Rattle.std.specs.List.{AllByRecursion};
 ghost use Rattle.std.specs.Map.{update};
 ghost use Rattle.std.specs.Option.{unwrap_or};
@@ -28,8 +28,9 @@ pub(crate) enum Name {
     Class(u32),
 }
 
-/// The class that a kind is written with, the empty name where it is not written. Constant time.
+/// The class that a kind is written with. Constant time.
 pub(crate) fn class_of(kind: Kind) -> &'static [u8]
+    requires { is_some (omf_class kind) ≡ true }
     ensures { result.now ≡ unwrap_or (omf_class kind) [] }
 {
     match kind {
@@ -37,13 +38,14 @@ pub(crate) fn class_of(kind: Kind) -> &'static [u8]
         Kind::ReadOnly => b"CONST",
         Kind::Data => b"DATA",
         Kind::Zero => b"BSS",
-        Kind::Init | Kind::Fini | Kind::Debug | Kind::Exception | Kind::Note => b"",
+        Kind::Init | Kind::Fini | Kind::Debug | Kind::Exception | Kind::Note => unreachable!(),
     }
 }
 
 /// The text of a name of these sections. Constant time.
 pub(crate) fn text_of(sections: &[Section], name: Name) -> &[u8]
-    requires { texts.IsNameOf (length sections.now) name }
+    requires segments { AllByRecursion texts.IsSegment sections.now }
+    requires named { texts.IsNameOf (length sections.now) name }
     ensures { result.now ≡ texts.text_by sections.now name }
 {
     match name {
@@ -118,6 +120,7 @@ impl<'a> Names<'a> {
 
     // adds the name and the class of the section at a position
     fn add_section(&mut self, k: u32, section: &'a Section) -> Result<(), NoMemory>
+        requires { texts.IsSegment section.now }
         ensures { OnOk result ((sections : List Held) → slice_get sections k ≡ Some section.now
             → texts.AreUpto sections k self.old → texts.AreUpto sections (k + 1) self.new) }
     {
@@ -130,7 +133,8 @@ impl<'a> Names<'a> {
     /// `NoMemory` where memory ran out. Linear in the sections and their names, but for looking up
     /// each name among those before it.
     pub(crate) fn of(alloc: Global, sections: &'a [Section]) -> Result<Names<'a>, NoMemory>
-        requires { length sections.now < 2 ^ 32 }
+        requires few { length sections.now < 2 ^ 32 }
+        requires segments { AllByRecursion texts.IsSegment sections.now }
         ensures { IfOk result (texts.AreNames sections.now (texts.names_for sections.now)) }
     {
         let mut names = Names::new(alloc);
@@ -146,10 +150,7 @@ impl<'a> Names<'a> {
         requires { texts.IsIndexed self.now text.now }
         ensures { (place : ℕ) → texts.value_at self.now.places text.now ≡ Some place → result ≡ place + 1 }
     {
-        match place_of(&self.places, text) {
-            Some(place) => (place + 1) as u16,
-            None => 0,
-        }
+        (place_of(&self.places, text).unwrap() + 1) as u16
     }
 
     /// The names, in order. Constant time.
@@ -168,6 +169,7 @@ pub(crate) fn add_names(
     names: &[Name],
 ) -> Result<(), NoMemory>
     requires few { length names.now < 2 ^ 32 }
+    requires segments { AllByRecursion texts.IsSegment sections.now }
     requires named { AllByRecursion (texts.IsNameOf (length sections.now)) names.now }
     requires short { texts.AreShort (map (texts.text_by sections.now) names.now) }
     ensures { OnOk result (texts.AreAdded (map (texts.text_by sections.now) names.now) entries.old.items entries.new.items) }

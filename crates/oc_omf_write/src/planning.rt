@@ -3,6 +3,7 @@ ghost use Rattle.std.specs.Prelude.{◌≡◌, ◌^◌, ◌<◌, ◌++◌, IfOk,
 ghost use Rattle.std.specs.List.{range_with_len};
 ghost use Rattle.oc_base.specs.declared.format.Format.TheVariants.{Omf};
 ghost use Rattle.oc_shelf.specs.Writing.Parts.{file_of};
+ghost use Rattle.oc_target.specs.Fitted.{IsFitted};
 ghost use Rattle.oc_omf_file.specs.Canonical.{omf_file};
 ghost use Rattle.oc_omf_write.specs.declared.entries.Entry.TheVariants as entry;
 ghost use Rattle.oc_omf_write.specs.Made.{IsMadeWith};
@@ -30,6 +31,7 @@ use std::alloc::Global;
 
 // the sections of an object, with the numbers in their fields, and its symbols
 fn parts_of(neutral: Neutral) -> (Vec<Section>, Vec<Symbol>)
+    requires { IsFitted Omf neutral }
     ensures sections { result.0.items ≡ sections_in neutral }
     ensures symbols { result.1.items ≡ neutral.symbols }
 {

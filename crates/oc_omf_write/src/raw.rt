@@ -11,11 +11,11 @@ pub(crate) struct Addends<'a> {
 }
 
 impl FieldNumbers for Addends<'_> {
-    ghost use Rattle.oc_omf_write.specs.Raws.{IsNumbering};
+    ghost use Rattle.oc_omf_write.specs.Raws.{CanWrite, IsNumbering};
 
     ghost tells = { λ x. IsNumbering x.symbols.now };
 
-    ghost leads = { λ x position r. Unit {0} };
+    ghost knows = { λ x section at r. CanWrite x.symbols.now r };
 
     fn number(&self, _position: u32, _at: u32, reloc: Reloc) -> u64 {
         field_number(self.symbols, reloc)

@@ -5,7 +5,7 @@ ghost use Rattle.oc_neutral.specs.Omf.Family.{omf_aligns};
 ghost use Rattle.oc_neutral.specs.declared.section.Section.{Section as Held};
 ghost use Rattle.oc_omf_file.specs.Canonical.{code_by};
 ghost use Rattle.oc_omf_file.specs.Names as classes;
-ghost use Rattle.oc_omf_write.specs.Names.{AreNames, IsAligned, IsIndexed, names_for, segment_in};
+ghost use Rattle.oc_omf_write.specs.Names.{AreNames, IsIndexed, IsSegment, names_for, segment_in};
 
 use crate::names::{Names, class_of};
 use oc_base::NoMemory;
@@ -33,7 +33,7 @@ fn code_by(align: u32) -> u8
 fn segment_of(names: &Names<'_>, section: &Section) -> Segment
     requires name { IsIndexed names.now section.now.name }
     requires class { IsIndexed names.now (classes.class_of section.now) }
-    requires align { IsAligned section.now }
+    requires segment { IsSegment section.now }
     ensures { (sections : List Held) → AreNames sections (names_for sections) names.now → result ≡ segment_in sections section.now }
 {
     Segment {
@@ -55,7 +55,7 @@ pub(crate) fn segments_of(
 ) -> Result<Vec<Segment>, NoMemory>
     requires few { length (names_for sections.now) < 2 ^ 15 - 1 }
     requires names { AreNames sections.now (names_for sections.now) names.now }
-    requires aligns { AllByRecursion IsAligned sections.now }
+    requires segments { AllByRecursion IsSegment sections.now }
     ensures { IfOk result (λ segments. segments.items ≡ map (segment_in sections.now) sections.now) }
 {
     let mut segments = Vec::with_capacity(alloc, sections.len())?;

@@ -59,6 +59,7 @@ fn bytes_between(bytes: &[u8], from: u32, to: u32) -> &[u8]
 
 // puts these names of sections
 fn put_names(out: &mut Contents, sections: &[Section], names: &[Name])
+    requires segments { AllByRecursion texts.IsSegment sections.now }
     requires named { AllByRecursion (texts.IsNameOf (length sections.now)) names.now }
     requires short { texts.AreShort (map (texts.text_by sections.now) names.now) }
     requires room { length out.old + names_size (map (texts.text_by sections.now) names.now) ≤ ROOM }
@@ -90,23 +91,15 @@ fn put_fixups(out: &mut Contents, from: u32, fixups: &[Fixup])
     }
 }
 
-// the size of a communal; what is no communal has no size, and 0 stands for it
-fn size_by(binding: Binding) -> u64
-    ensures { result ≡ size_by binding }
-{
-    match binding {
-        Binding::Common { size, .. } => size,
-        Binding::Local(_) | Binding::Global(_) | Binding::Undefined | Binding::Weak(_) => 0,
-    }
-}
-
 // puts a communal
 fn put_common(out: &mut Contents, symbol: &Symbol)
     requires small { tables.IsSmallCommunal symbol.now }
     requires room { length out.old + 263 ≤ ROOM }
     ensures { out.new ≡ out.old ++ communal_bytes symbol.now.name (size_by symbol.now.binding) }
 {
-    let size = size_by(symbol.binding);
+    let Binding::Common { size, .. } = symbol.binding else {
+        unreachable!();
+    };
     put_communal(out, symbol.name.as_slice(), size as u32);
 }
 
@@ -116,13 +109,12 @@ fn put_symbol(out: &mut Contents, symbol: &Symbol)
     requires room { length out.old + 265 ≤ ROOM }
     ensures { out.new ≡ out.old ++ tables.public_by symbol.now }
 {
-    if let Some((section, offset)) = global_place(symbol.binding) {
-        let base = PublicBase {
-            group: 1,
-            segment: (section + 1) as u16,
-        };
-        put_public(out, base, symbol.name.as_slice(), offset);
-    }
+    let (section, offset) = global_place(symbol.binding).unwrap();
+    let base = PublicBase {
+        group: 1,
+        segment: (section + 1) as u16,
+    };
+    put_public(out, base, symbol.name.as_slice(), offset);
 }
 
 impl Tables {

@@ -1,5 +1,5 @@
 -- The fields lie in the bytes of their sections.
-use Rattle.std.proofs.Common.{◌≡◌, length, map, refl, sym, ◌∙◌, ap, subst, arith}
+use Rattle.std.proofs.Common.{map, refl, sym, ◌∙◌, ap, subst}
 use Rattle.std.specs.List.{enumerate_from}
 use Rattle.oc_chains.specs.Lists.{Lists, list_of}
 use Rattle.oc_neutral.specs.declared.reloc.Reloc.{Reloc}
@@ -7,26 +7,24 @@ use Rattle.oc_neutral.specs.declared.section.Section.{Section}
 use Rattle.oc_neutral.specs.Objects.{Object}
 use Rattle.oc_plans.specs.Numbered.{AreAll}
 use Rattle.oc_plans.proofs.FieldBytes.{parts_numbered, parts_within}
+use Rattle.oc_macho_file.proofs.CodedLaws.{for_mach}
 use Rattle.oc_macho_write.specs.declared.forms.FieldContext.{FieldContext}
 use Rattle.oc_macho_write.specs.Relocations.{CanTell, number_at}
 use Rattle.oc_macho_write.proofs.PlannedLemmas.{raws_are}
-use Rattle.oc_macho_write.proofs.SceneLemmas.{told}
+use Rattle.oc_macho_write.proofs.SceneLemmas.{all_told}
 use Rattle.oc_macho_write.proofs.planning.sections_of.Goals as goal
 
 pub with_numbers-requires-clause-there : goal.with_numbers-requires-clause-there
 with_numbers-requires-clause-there c = λ k low.
     let n : Object = c.args.neutral in
     let x : FieldContext = record { word = c.args.word; addresses = c.args.addresses; symbols = c.deref.result } in
-    let same : c.into_parts-groups.result.3.lists ≡ n.relocs = c.into_parts-groups.ensures.relocs in
-    let many = c.is_object.ensures.built.fields.counted in
-    let long = ap length same in
-    subst (λ (ls : Lists Reloc). AreAll (CanTell x k) (list_of ls k)) (sym same)
-    (told c.args.word n x c.is_object.ensures (record { word = refl; addresses = c.requires.addresses; symbols = c.deref.ensures.value ∙ c.into_parts-groups.ensures.symbols }) k (omega (arith, low, many, long)))
+    subst (λ (ls : Lists Reloc). AreAll (CanTell x k) (list_of ls k)) (sym c.into_parts-groups.ensures.relocs)
+    (all_told n x (for_mach c.args.word n c.requires.fitted) (record { word = refl; addresses = c.requires.addresses; symbols = c.deref.ensures.value ∙ c.into_parts-groups.ensures.symbols }) k)
 
 pub with_numbers-requires-clause-within : goal.with_numbers-requires-clause-within
 with_numbers-requires-clause-within c =
     let parts = c.into_parts-groups in
-    parts_within c.args.neutral c.is_object.ensures parts.result.1.items parts.result.3.lists parts.ensures.sections parts.ensures.relocs
+    parts_within c.args.neutral c.requires.fitted.object parts.result.1.items parts.result.3.lists parts.ensures.sections parts.ensures.relocs
 
 pub returns : goal.returns
 returns c =

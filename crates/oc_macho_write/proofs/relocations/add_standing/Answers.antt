@@ -38,6 +38,9 @@ overflow_cast-behind c =
     let low = (pair_takes y.reloc.form x.0.row c.in-Pair.behind (its_row w y x.0 x.1).spelled (spelled_pair w y x.0 x.1 c.in-Pair.number c.in-Pair.behind c.in-Pair.is).0).1 in
     omega (arith, low)
 
+pub pair_of-requires-clause-ends : goal.pair_of-requires-clause-ends
+pair_of-requires-clause-ends c = λ short. c.requires.there.ends short c.in-Pair.number c.in-Pair.behind c.in-Pair.is
+
 pub returns-in_ok-push-in-One : goal.returns-in_ok-push-in-One
 returns-in_ok-push-in-One c = λ n is context numbered written.
     let w = c.args.context.word in

@@ -8,13 +8,13 @@ use Rattle.oc_neutral.specs.Objects.{Object}
 use Rattle.oc_omf_file.specs.Outputs.{symbol_outputs}
 use Rattle.oc_omf_file.proofs.CodedLaws.{for_omf, few_names}
 use Rattle.oc_omf_write.specs.Entries.{entry_for}
-use Rattle.oc_omf_write.specs.Names.{AreNames, IsAligned, IsNameOf, names_for, segment_in, text_by}
+use Rattle.oc_omf_write.specs.Names.{AreNames, IsNameOf, IsSegment, names_for, segment_in, text_by}
 use Rattle.oc_omf_write.specs.Numbers.{AreNumbers, HasPlace}
 use Rattle.oc_omf_write.specs.Raws.{sections_in}
 use Rattle.oc_omf_write.specs.Written.{fixups_in}
 use Rattle.oc_omf_write.proofs.NumberLemmas.{are_numbers}
 use Rattle.oc_omf_write.proofs.PlannedLemmas.{names_same}
-use Rattle.oc_omf_write.proofs.SegmentLemmas.{are_aligned}
+use Rattle.oc_omf_write.proofs.SegmentLemmas.{are_segments}
 use Rattle.oc_omf_write.proofs.ReadyLemmas.{all_places, few_entries, are_made, sections_in_counted}
 use Rattle.oc_omf_write.proofs.planning.tables_of.Goals as goal
 
@@ -42,14 +42,20 @@ all_fixups-requires-clause-numbers c =
     (are_numbers n c.in_ok-numbers.numbers.items c.symbol_count.result c.deref.result.now c.symbol_count.ensures (c.deref.ensures.value ∙ c.in_ok-entries.ensures)
     c.in_ok-numbers.ensures.counted c.in_ok-numbers.ensures.each)
 
-pub of-requires : goal.of-requires
-of-requires c =
+pub of-requires-clause-few : goal.of-requires-clause-few
+of-requires-clause-few c =
     let fit = subst (λ f. IsFitted f c.args.fitted) c.requires c.is_fitted.ensures in
     let is = for_omf c.args.fitted fit in
     let low = is.meets.few in
     let long = ap length (c.deref-3.ensures.value ∙ c.parts_of-sections.ensures.sections ∙ ap sections_in c.into_neutral.ensures) in
     let all = sections_in_counted c.args.fitted in
     omega (arith, low, long, all)
+
+pub of-requires-clause-segments : goal.of-requires-clause-segments
+of-requires-clause-segments c =
+    let fit = subst (λ f. IsFitted f c.args.fitted) c.requires c.is_fitted.ensures in
+    let same = c.deref-3.ensures.value ∙ c.parts_of-sections.ensures.sections ∙ ap sections_in c.into_neutral.ensures in
+    subst (AllByRecursion IsSegment) (sym same) (are_segments c.args.fitted (for_omf c.args.fitted fit))
 
 pub segments_of-requires-clause-few : goal.segments_of-requires-clause-few
 segments_of-requires-clause-few c =
@@ -58,11 +64,11 @@ segments_of-requires-clause-few c =
     let all = ap length (ap names_for (c.deref-4.ensures.value ∙ c.parts_of-sections.ensures.sections ∙ ap sections_in c.into_neutral.ensures) ∙ names_same c.args.fitted) in
     omega (arith, low, all)
 
-pub segments_of-requires-clause-aligns : goal.segments_of-requires-clause-aligns
-segments_of-requires-clause-aligns c =
+pub segments_of-requires-clause-segments : goal.segments_of-requires-clause-segments
+segments_of-requires-clause-segments c =
     let fit = subst (λ f. IsFitted f c.args.fitted) c.requires c.is_fitted.ensures in
     let same = c.deref-4.ensures.value ∙ c.parts_of-sections.ensures.sections ∙ ap sections_in c.into_neutral.ensures in
-    subst (AllByRecursion IsAligned) (sym same) (are_aligned c.args.fitted (for_omf c.args.fitted fit))
+    subst (AllByRecursion IsSegment) (sym same) (are_segments c.args.fitted (for_omf c.args.fitted fit))
 
 pub returns : goal.returns
 returns c =

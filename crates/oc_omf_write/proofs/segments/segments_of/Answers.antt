@@ -2,7 +2,7 @@
 use Rattle.std.proofs.Common.{Some, sym, ◌∙◌, ap}
 use Rattle.std.proofs.lemmas.Option.{slice_get-get_or}
 use Rattle.oc_neutral.proofs.Positions.{each_at}
-use Rattle.oc_omf_write.specs.Names.{IsAligned}
+use Rattle.oc_omf_write.specs.Names.{IsSegment}
 use Rattle.oc_omf_write.proofs.SegmentLemmas.{name_indexed, class_indexed}
 use Rattle.oc_omf_write.proofs.segments.segments_of.Goals as goal
 
@@ -13,12 +13,12 @@ segment_of-requires-clause-name c =
     let s = c.section-item.result in
     name_indexed sections c.args.names.now c.requires.names c.requires.few k s (slice_get-get_or sections k s c.loop-section-test.true ∙ ap Some (sym c.section-item.is))
 
-pub segment_of-requires-clause-align : goal.segment_of-requires-clause-align
-segment_of-requires-clause-align c =
+pub segment_of-requires-clause-segment : goal.segment_of-requires-clause-segment
+segment_of-requires-clause-segment c =
     let sections = c.args.sections.now in
     let k = c.loop-section.section-index in
     let s = c.section-item.result in
-    each_at IsAligned sections k s c.requires.aligns (slice_get-get_or sections k s c.loop-section-test.true ∙ ap Some (sym c.section-item.is))
+    each_at IsSegment sections k s c.requires.segments (slice_get-get_or sections k s c.loop-section-test.true ∙ ap Some (sym c.section-item.is))
 
 pub segment_of-requires-clause-class : goal.segment_of-requires-clause-class
 segment_of-requires-clause-class c =

@@ -11,6 +11,9 @@ returns-in-One c = λ n is context written.
     same ∙ c.distance.ensures
     ∙ alone_32 n c.args.standing.now is written c.in-One.field-0 c.taken_address.result c.entry_target_address.result c.in-One.is (c.taken_address.ensures.address W32 n context) (c.entry_target_address.ensures.address W32 n context)
 
+pub end_address-requires-clause-place : goal.end_address-requires-clause-place
+end_address-requires-clause-place c = c.requires.there.ends c.requires.word c.in-Pair.field-0 c.in-Pair.field-1 c.in-Pair.is
+
 pub returns-in-Pair : goal.returns-in-Pair
 returns-in-Pair c = λ n is context written.
     let same : to_z w64 (of_z w64 c.distance-in-Pair.result) ≡ c.distance-in-Pair.result = search rules in
