@@ -63,7 +63,7 @@ module _ (n : Object) (is : IsForOmf n) where
   -- it can be written: its field of four bytes holds every addend
   can_write : (symbols : List Symbol) → n.symbols ≡ symbols → (k at : ℕ) (r : Reloc) → reloc_at n k at ≡ Some r → CanWrite symbols r
   can_write symbols of k at r there =
-      let shift = shift_of (meets n is k at r there).row in
+      let shift = shift_of (has_row k at r there).row in
       let w : Reloc = written_reloc n r in
       let four : w.form.width ≡ Four = ap (λ f. f.width) (form_kept r (section_place omf_manner n r)) ∙ (omf_reloc n is k at r there).width in
       record {

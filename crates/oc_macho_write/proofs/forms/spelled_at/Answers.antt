@@ -5,8 +5,8 @@ use Rattle.oc_target.specs.Lookup.{answer_of}
 use Rattle.oc_macho_write.proofs.FormLemmas.{told, has_answer}
 use Rattle.oc_macho_write.proofs.forms.spelled_at.Goals as goal
 
-pub unwrap-requires : goal.unwrap-requires
-unwrap-requires c =
+pub unwrap-spelling-requires : goal.unwrap-spelling-requires
+unwrap-spelling-requires c =
     let r = c.args.reloc in
     subst (λ x. IsOk x) (sym (c.lookup.ensures ∙ ap (λ f. answer_of (spelling_of f r.form r.hint)) c.format_of.ensures)) (has_answer c.args.word c.args.section c.args.at r c.requires)
 

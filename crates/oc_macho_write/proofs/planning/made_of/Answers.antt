@@ -28,8 +28,8 @@ heads_of-requires-clause-made c = record {
   places = c.in_ok-places.ensures c.args.word (c.deref-4.ensures.value ∙ c.in_ok-layout.ensures.begins);
 }
 
-pub sections_of-requires-clause-fitted : goal.sections_of-requires-clause-fitted
-sections_of-requires-clause-fitted c =
+pub sections_of-sections-requires-clause-fitted : goal.sections_of-sections-requires-clause-fitted
+sections_of-sections-requires-clause-fitted c =
     subst (λ (m : Object). IsFitted (mach_format c.args.word) m) (sym c.into_neutral.ensures) (subst (λ f. IsFitted f c.args.fitted) c.requires c.is_fitted.ensures)
 
 pub returns-clause-made : goal.returns-clause-made

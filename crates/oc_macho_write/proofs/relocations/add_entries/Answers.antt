@@ -1,5 +1,4 @@
 -- The relocation stands.
-use Rattle.std.proofs.Common.{sym, ◌∙◌, ap}
 use Rattle.oc_macho_write.proofs.FormLemmas.{stands_for}
 use Rattle.oc_macho_write.proofs.relocations.add_entries.Goals as goal
 

@@ -1,5 +1,5 @@
 -- By the row, whose number tells the shift.
-use Rattle.std.proofs.Common.{ℕ, sym, ◌∙◌, ap, subst}
+use Rattle.std.proofs.Common.{sym, ◌∙◌, ap, subst}
 use Rattle.std.specs.Prelude.{ℤ}
 use Rattle.oc_base.specs.declared.format.Format.TheVariants.{Omf}
 use Rattle.oc_neutral.specs.declared.reloc.Reloc.{Reloc}
