@@ -1,27 +1,14 @@
 //! Sections that are not kept are dropped, and Locals with them.
 ghost use Rattle.std.specs.Prelude.{◌≡◌, Ok, IfErr, IfOk};
 ghost use Rattle.std.specs.List.{list_all};
-ghost use Rattle.oc_linking.specs.Keeping.{keeps};
 ghost use Rattle.oc_drop.specs.Refusals.{IsStepRefusal};
 ghost use Rattle.oc_drop.specs.Dropping as dropping;
 
 use crate::fault::unless;
 use crate::judging::{references_fault, symbols_fault};
 use oc_base::{NoMemory, Stop};
-use oc_neutral::{Keep, Kind, Neutral, Section};
+use oc_neutral::{Keep, Neutral, Section};
 use std::alloc::Global;
-
-// whether a kind is kept
-fn is_kept(keep: Keep, kind: Kind) -> bool
-    ensures { result ≡ keeps keep kind }
-{
-    match kind {
-        Kind::Debug => keep.debug,
-        Kind::Exception => keep.exceptions,
-        Kind::Note => keep.notes,
-        _ => true,
-    }
-}
 
 // of each section, whether it stays; `NoMemory` where memory ran out
 fn sections_stay(alloc: Global, keep: Keep, sections: &[Section]) -> Result<Vec<bool>, NoMemory>
@@ -29,7 +16,7 @@ fn sections_stay(alloc: Global, keep: Keep, sections: &[Section]) -> Result<Vec<
 {
     let mut stay = Vec::with_capacity(alloc, sections.len())?;
     for section in sections {
-        stay.push(is_kept(keep, section.kind))?;
+        stay.push(keep.keeps(section.kind))?;
     }
     Ok(stay)
 }
