@@ -12,10 +12,12 @@ pub mod Homes
 pub mod Keyed
 pub mod Lookup
 pub mod MachMeets
+pub mod Marks
 pub mod Meets
 pub mod OmfMeets
 pub mod Places
 pub mod Sorting
+pub mod Strings
 pub mod Tables
 pub mod TargetLaws
 pub mod Targets

@@ -1,14 +1,16 @@
 //! Which groups have their key symbol in the object, and which sections have it in them.
-ghost use Rattle.std.specs.Prelude.{◌≡◌, ℕ, ◌<◌, ◌&&◌, ◌||◌, not, IfOk, length, nat_eq, false, slice_index_or};
+ghost use Rattle.std.specs.Prelude.{◌≡◌, ℕ, ◌&&◌, not, IfOk, length, nat_eq, false, slice_index_or};
 ghost use Rattle.std.specs.List.{list_any};
 ghost use Rattle.std.specs.Option.{option_map_or};
 ghost use Rattle.oc_linking.specs.Parts as parts;
+ghost use Rattle.oc_neutral.specs.KeySymbols.{is_key_at};
 ghost use Rattle.oc_neutral.specs.KeySymbols as keys;
 ghost use Rattle.oc_neutral.specs.Faces as faces;
 ghost use Rattle.oc_neutral.specs.KindRules as rules;
 ghost use Rattle.oc_target.specs.Cut.{is_cut_key};
 ghost use Rattle.oc_target.specs.Found.{held};
 ghost use Rattle.oc_target.specs.Keyed as places;
+ghost use Rattle.oc_target.specs.Marks.{AreMarkedAlso, AreMarkedBelow};
 
 use crate::locals::is_local;
 use oc_base::NoMemory;
@@ -83,7 +85,7 @@ pub fn is_unkeyed(neutral: &Neutral, symbol: &Symbol) -> bool
 #[tactic(auto, using(crate::proofs::KeyPlaces::key_at_place))]
 pub fn key_place(neutral: &Neutral, symbol: &Symbol) -> Option<u32>
     ensures place { result ≡ places.key_place neutral.now symbol.now }
-    ensures test { (k : ℕ) → option_map_or (nat_eq k) result false ≡ keys.is_key_at neutral.now k symbol.now }
+    ensures test { (k : ℕ) → option_map_or (nat_eq k) result false ≡ is_key_at neutral.now k symbol.now }
 {
     let (section, _) = global_place(symbol.binding)?;
     if is_key_in(neutral, section, symbol.name.as_slice()) {
@@ -95,7 +97,7 @@ pub fn key_place(neutral: &Neutral, symbol: &Symbol) -> Option<u32>
 
 /// Marks the one at a position, where it exists. Constant time, no memory.
 pub(crate) fn mark(marked: &mut Vec<bool>, group: Option<u32>)
-    ensures marked { (g : ℕ) → g < length marked.old.items → slice_index_or marked.new.items g false ≡ (slice_index_or marked.old.items g false || option_map_or (nat_eq g) group false) }
+    ensures marked { AreMarkedAlso (λ g. option_map_or (nat_eq g) group false) marked.old.items marked.new.items }
     ensures counted { length marked.new.items ≡ length marked.old.items }
 {
     let Some(group) = group else {
@@ -121,7 +123,7 @@ pub fn keyed_groups(alloc: Global, neutral: &Neutral) -> Result<Vec<bool>, NoMem
 /// For each section whether the key symbol of its group lies in it. `NoMemory` where memory ran out.
 /// Time is linear in the symbols and their names.
 pub fn keyed_sections(alloc: Global, neutral: &Neutral) -> Result<Vec<bool>, NoMemory>
-    ensures { IfOk result (λ keyed. (k : ℕ) → k < length neutral.now.sections → slice_index_or keyed.items k false ≡ list_any (keys.is_key_at neutral.now k) neutral.now.symbols) }
+    ensures { IfOk result (λ keyed. AreMarkedBelow (length neutral.now.sections) (λ k. list_any (is_key_at neutral.now k) neutral.now.symbols) keyed.items) }
 {
     let mut keyed = vec![in alloc; false; neutral.section_count() as usize]?;
     for k in 0..neutral.symbol_count() {

@@ -1,10 +1,12 @@
 //! The symbols that mac64 needs for sections.
-ghost use Rattle.std.specs.Prelude.{◌≡◌, ℕ, ◌<◌, ◌&&◌, ◌||◌, not, IfOk, false, length, nat_eq, slice_index_or};
+ghost use Rattle.std.specs.Prelude.{◌≡◌, ℕ, ◌<◌, ◌&&◌, not, IfOk, false, length, nat_eq};
 ghost use Rattle.std.specs.Option.{option_map_or};
 ghost use Rattle.oc_chains.specs.Lists.{list_of};
+ghost use Rattle.oc_neutral.specs.Mach.SectionSymbols.{any_names, names_section, needs_section_symbol};
 ghost use Rattle.oc_neutral.specs.Mach.SectionSymbols as section_symbols;
 ghost use Rattle.oc_neutral.specs.Mach.SelfReferences as references;
 ghost use Rattle.oc_neutral.specs.Normal.{takes_section};
+ghost use Rattle.oc_target.specs.Marks.{AreMarkedAlso, AreMarkedBelow};
 
 use crate::keys::{is_marked, mark};
 use oc_base::NoMemory;
@@ -51,7 +53,7 @@ fn own_section(section: u32, form: Form) -> Option<u32>
 
 // marks the sections that a relocation of a section names
 fn mark_named(needed: &mut Vec<bool>, section: u32, reloc: Reloc)
-    ensures marked { (k : ℕ) → k < length needed.old.items → slice_index_or needed.new.items k false ≡ (slice_index_or needed.old.items k false || section_symbols.names_section k section reloc) }
+    ensures marked { AreMarkedAlso (λ k. names_section k section reloc) needed.old.items needed.new.items }
     ensures counted { length needed.new.items ≡ length needed.old.items }
 {
     mark(needed, target_section(reloc.target));
@@ -61,7 +63,7 @@ fn mark_named(needed: &mut Vec<bool>, section: u32, reloc: Reloc)
 
 // the same, but for one that is stored as a constant
 fn mark_needed(needed: &mut Vec<bool>, section: u32, reloc: Reloc)
-    ensures marked { (k : ℕ) → k < length needed.old.items → slice_index_or needed.new.items k false ≡ (slice_index_or needed.old.items k false || (not (references.is_self_reference section reloc) && section_symbols.names_section k section reloc)) }
+    ensures marked { AreMarkedAlso (λ k. not (references.is_self_reference section reloc) && names_section k section reloc) needed.old.items needed.new.items }
     ensures counted { length needed.new.items ≡ length needed.old.items }
 {
     if is_self_reference(section, reloc) {
@@ -73,7 +75,7 @@ fn mark_needed(needed: &mut Vec<bool>, section: u32, reloc: Reloc)
 // marks the sections that the relocations of a section name
 fn mark_section(needed: &mut Vec<bool>, neutral: &Neutral, section: u32)
     requires { section < length neutral.now.sections }
-    ensures marked { (k : ℕ) → k < length needed.old.items → slice_index_or needed.new.items k false ≡ (slice_index_or needed.old.items k false || section_symbols.any_names k section (list_of neutral.now.relocs section)) }
+    ensures marked { AreMarkedAlso (λ k. any_names k section (list_of neutral.now.relocs section)) needed.old.items needed.new.items }
     ensures counted { length needed.new.items ≡ length needed.old.items }
 {
     for field in neutral.relocs(section) {
@@ -85,7 +87,7 @@ fn mark_section(needed: &mut Vec<bool>, neutral: &Neutral, section: u32)
 /// out. Time is linear in the sections and relocations.
 pub fn needed_sections(alloc: Global, neutral: &Neutral) -> Result<Vec<bool>, NoMemory>
     ensures counted { IfOk result (λ needed. length needed.items ≡ length neutral.now.sections) }
-    ensures each { IfOk result (λ needed. (k : ℕ) → k < length neutral.now.sections → slice_index_or needed.items k false ≡ section_symbols.needs_section_symbol neutral.now k) }
+    ensures each { IfOk result (λ needed. AreMarkedBelow (length neutral.now.sections) (needs_section_symbol neutral.now) needed.items) }
 {
     neutral.is_object();
     let mut needed = vec![in alloc; false; neutral.section_count() as usize]?;

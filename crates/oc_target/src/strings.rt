@@ -1,9 +1,8 @@
 //! The names that are given to the string table of a COFF output (PE/COFF, "COFF String Table"; our
 //! profile): for the table that is written, and for where the names of sections would lie in it.
-ghost use Rattle.std.specs.Prelude.{◌≡◌, ◌<◌, ◌&&◌, ◌++◌, not, [], ◌∷◌, IfOk, OnOk, length, filter, flat_map, if◌then◌else◌, List, ℕ, false, slice_index_or};
-ghost use Rattle.std.specs.List.{list_any, range_with_len};
+ghost use Rattle.std.specs.Prelude.{◌≡◌, ◌++◌, [], ◌∷◌, IfOk, OnOk, filter, flat_map, if◌then◌else◌, List, ℕ};
+ghost use Rattle.std.specs.List.{list_any};
 ghost use Rattle.std.specs.Option.{option_and_then};
-ghost use Rattle.oc_linking.specs.Parts as parts;
 ghost use Rattle.oc_shows.specs.SymbolLines.{is_weak_with};
 ghost use Rattle.oc_strings.specs.Tables.{texts};
 ghost use Rattle.oc_neutral.specs.declared.symbol.Symbol.{Symbol as Named};
@@ -11,9 +10,9 @@ ghost use Rattle.oc_neutral.specs.Coff.Strings as strings;
 ghost use Rattle.oc_neutral.specs.Families.{family_of};
 ghost use Rattle.oc_neutral.specs.Faces as faces;
 ghost use Rattle.oc_neutral.specs.KeySymbols as keys;
-ghost use Rattle.oc_neutral.specs.WrittenSymbols as written;
 ghost use Rattle.oc_target.specs.Found.{held};
 ghost use Rattle.oc_target.specs.Places.{HasPlace, HavePlaces};
+ghost use Rattle.oc_target.specs.Strings.{all_key_strings, local_strings, other_strings};
 
 use crate::keys::{group_at, is_marked, is_unkeyed, key_of, keyed_sections};
 use crate::locals::is_written_local;
@@ -173,7 +172,7 @@ fn give_keys<'a>(
     given: &mut Vec<&'a [u8]>,
     neutral: &'a Neutral,
 ) -> Result<(), NoMemory>
-    ensures { OnOk result (texts given.new.items ≡ texts given.old.items ++ flat_map (strings.key_strings neutral.now) (range_with_len 0 (length neutral.now.sections))) }
+    ensures { OnOk result (texts given.new.items ≡ texts given.old.items ++ all_key_strings neutral.now) }
 {
     let keyed = keyed_sections(alloc, neutral)?;
     for k in 0..neutral.section_count() {
@@ -189,7 +188,7 @@ fn give_locals<'a>(
     target: Format,
     neutral: &'a Neutral,
 ) -> Result<(), NoMemory>
-    ensures { OnOk result (texts given.new.items ≡ texts given.old.items ++ filter strings.is_long (strings.names_where (λ (s : Named). parts.is_local s.binding && written.is_written target s) neutral.now)) }
+    ensures { OnOk result (texts given.new.items ≡ texts given.old.items ++ local_strings target neutral.now) }
 {
     for k in 0..neutral.symbol_count() {
         let symbol = neutral.symbol(k);
@@ -211,7 +210,7 @@ fn give_all<'a>(given: &mut Vec<&'a [u8]>, names: &'a [Bytes]) -> Result<(), NoM
 
 // gives the long names of the symbols that are not Local, but for key symbols
 fn give_others<'a>(given: &mut Vec<&'a [u8]>, neutral: &'a Neutral) -> Result<(), NoMemory>
-    ensures { OnOk result (texts given.new.items ≡ texts given.old.items ++ filter strings.is_long (strings.names_where (λ (s : Named). not (parts.is_local s.binding) && not (keys.is_key neutral.now s)) neutral.now)) }
+    ensures { OnOk result (texts given.new.items ≡ texts given.old.items ++ other_strings neutral.now) }
 {
     for k in 0..neutral.symbol_count() {
         let symbol = neutral.symbol(k);
