@@ -1,14 +1,13 @@
 //! What a target can express of symbols.
-ghost use Rattle.std.specs.Prelude.{◌≡◌, false, length, slice_get};
+ghost use Rattle.std.specs.Prelude.{◌≡◌, false, slice_get};
 ghost use Rattle.std.specs.Option.{option_map, option_map_or};
 ghost use Rattle.oc_base.specs.Faults.{fault_at};
 ghost use Rattle.oc_linking.specs.FirstFault.{first_broken};
-ghost use Rattle.oc_linking.specs.Numbers.{first_upto};
 ghost use Rattle.oc_neutral.specs.Bindings as bindings;
 ghost use Rattle.oc_neutral.specs.Families.{family_of};
-ghost use Rattle.oc_neutral.specs.TargetSections.{each_of};
 ghost use Rattle.oc_neutral.specs.TargetSymbols as conditions;
 ghost use Rattle.oc_neutral.specs.Tests as tests;
+ghost use Rattle.oc_express.specs.Firsts.{symbols_first};
 
 use crate::sections::is_too_long;
 use oc_base::{Code, Fault, Format, Phase, Spot};
@@ -188,7 +187,7 @@ fn symbol_spot(symbol: &Symbol) -> Spot
 /// The first fault of the symbols of an object in a target, in the order of the list. Time is linear in
 /// the symbols and their names; no memory.
 pub(crate) fn symbols_fault(target: Format, neutral: &Neutral) -> Option<Fault>
-    ensures { result ≡ first_upto (λ i. first_broken (each_of (conditions.symbol_conditions target neutral.now) neutral.now.symbols i)) (length neutral.now.symbols) }
+    ensures { result ≡ symbols_first target neutral.now }
 {
     for k in 0..neutral.symbol_count() {
         let symbol = neutral.symbol(k);
