@@ -1,7 +1,7 @@
 -- The order of names by their bytes, read from the last one on: a name comes right before the names that it ends.
 use Rattle.std.specs.Prelude.{◌≡◌, ℕ, ◌+◌, ◌-◌, ◌<◌, ◌≤◌, Bool, ◌&&◌, nat_lt, if◌then◌else◌, true, false, List, [], Option, Some, None, length, map, reverse, fold, take, drop, slice_get, slice_index, slice_index_or}
 use Rattle.std.specs.Ordering.{nat_cmp, is_lt}
-use Rattle.std.specs.Option.{option_map}
+use Rattle.std.specs.Option.{option_map, option_or}
 use Rattle.std.specs.Cmp.Lexicographic.{slice_cmp}
 use Rattle.oc_base.specs.Strings.{ends, with_top, place_from}
 use Rattle.oc_strings.specs.Tables.{capped}
@@ -67,6 +67,12 @@ AreNextTails names tails = (k : ℕ) (d : Option ℕ) → k < length tails → I
 -- where a name lies in a text that begins at a place, if it ends the text
 abbrev pub place_in : ℕ → List ℕ → List ℕ → Option ℕ
 place_in at text name = if ends name text then Some (capped (at + (length text - length name))) else None
+
+-- each name has its old offset, or else its place in the text that begins at a place and is the name at k, if it ends that text
+abbrev pub AreTailsPlaced : List Entry → ℕ → ℕ → List (Option ℕ) → List (Option ℕ) → Type 0
+AreTailsPlaced entries at k old new =
+    (i : ℕ) (d : Option ℕ) → i < length entries
+    → slice_index_or new i d ≡ option_or (slice_index_or old i d) (place_in at (name_at (names_of entries) k) (name_at (names_of entries) i))
 
 -- the layout of the first names: their tops, and where each of the names of the order lies in them
 pub record IsLaidOut (head : ℕ) (names order : List (List ℕ)) (used : ℕ) (tops : List (List ℕ)) (offsets : List (Option ℕ)) : Type 0 where

@@ -1,7 +1,6 @@
 //! Which of the names in ascending order end which.
-ghost use Rattle.std.specs.Prelude.{◌≡◌, ℕ, ◌<◌, Option, IfOk, length, not, slice_index_or};
-ghost use Rattle.std.specs.Option.{option_or};
-ghost use Rattle.oc_strings.specs.Order.{names_of, name_at, StrictlyAscends, IsNextTail, AreNextTails, ends_next, place_in};
+ghost use Rattle.std.specs.Prelude.{◌≡◌, ◌<◌, IfOk, length, not};
+ghost use Rattle.oc_strings.specs.Order.{names_of, StrictlyAscends, IsNextTail, AreNextTails, AreTailsPlaced, ends_next};
 
 use crate::order::{Entry, is_tail};
 use oc_base::NoMemory;
@@ -65,7 +64,7 @@ pub(crate) fn place_tails(
     requires whole { length tails.now ≡ length entries.now }
     requires room { length offsets.old ≡ length entries.now }
     requires within { k < length entries.now }
-    ensures { (i : ℕ) (d : Option ℕ) → i < length entries.now → slice_index_or offsets.new i d ≡ option_or (slice_index_or offsets.old i d) (place_in at (name_at (names_of entries.now) k) (name_at (names_of entries.now) i)) }
+    ensures { AreTailsPlaced entries.now at k offsets.old offsets.new }
 {
     let text = entries[k].name;
     let mut current = Some(k);
