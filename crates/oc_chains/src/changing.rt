@@ -1,7 +1,7 @@
 //! The items of a list are changed in place.
-ghost use Rattle.std.specs.Prelude.{◌≡◌, ◌<◌, ◌≤◌, ℕ, length, slice_get, slice_set, Some};
+ghost use Rattle.std.specs.Prelude.{◌≡◌, ◌<◌, ◌≤◌, ℕ, length, slice_get, Some};
 ghost use Rattle.oc_chains.specs.declared.entry.Entry.{Entry as EntryOf};
-ghost use Rattle.oc_chains.specs.Changed.{AreOf, AreRenewed, with_item};
+ghost use Rattle.oc_chains.specs.Changed.{AreOf, AreRenewed, IsChangedAt};
 ghost use Rattle.oc_chains.specs.Linked.{occurs};
 ghost use Rattle.oc_chains.specs.Links.{fields, IsList, nodes};
 
@@ -16,7 +16,7 @@ fn change_entry<T: Copy, F: Fn(T) -> T>(
     requires there { index < length entries.old }
     requires callable { (e : EntryOf T) → slice_get entries.old index ≡ Some e → F.pre change.now e.field.item }
     ensures next { (e : EntryOf T) → slice_get entries.old index ≡ Some e → result ≡ e.next }
-    ensures entries { (e : EntryOf T) → slice_get entries.old index ≡ Some e → (item : T) × F.post change.now e.field.item item × (entries.new ≡ slice_set entries.old index (with_item e item)) }
+    ensures entries { IsChangedAt (F.post change.now) index entries.old entries.new }
 {
     let entry = entries[index as usize];
     entries[index as usize].field.item = change(entry.field.item);
