@@ -1,5 +1,5 @@
 -- The structures of all classes as bytes (gABI, "ELF Header", "Section Header", "Symbol Table" and "Relocation").
-use Rattle.std.specs.Prelude.{ℕ, ◌+◌, ◌*◌, ◌%◌, ◌^◌, Bool, not, ◌&&◌, nat_lt, if◌then◌else◌, List, [], ◌∷◌}
+use Rattle.std.specs.Prelude.{ℕ, ◌+◌, ◌*◌, ◌%◌, ◌^◌, Bool, not, ◌&&◌, nat_lt, if◌then◌else◌, List, [], ◌∷◌, ◌++◌}
 use Rattle.oc_base.specs.Numbers.{bytes_of_number}
 use Rattle.oc_shelf.specs.Writing.Packed.{packed}
 use Rattle.oc_elf.specs.declared.class.ElfClass.{ElfClass}
@@ -23,22 +23,38 @@ abbrev pub ei_class_of : Word → ℕ
 ei_class_of W32 = ELFCLASS32
 ei_class_of W64 = ELFCLASS64
 
--- the numbers of a file header, each after its width: `\x7fELF` first; no entry point, no program headers and no flags
+-- the numbers of an identification, each after its width: `\x7fELF` first, and nine unused bytes last
+abbrev pub ident_numbers : Word → Ehdr → List (ℕ × ℕ)
+ident_numbers word h = (1, 0x7F) ∷ (1, 0x45) ∷ (1, 0x4C) ∷ (1, 0x46) ∷ (1, ei_class_of word) ∷ (1, h.ei_data) ∷ (1, h.ei_version) ∷ (9, 0) ∷ []
+
+-- those of what a file is, and of where its section headers begin; it has no entry point and no program headers
+abbrev pub kind_numbers : Word → Ehdr → List (ℕ × ℕ)
+kind_numbers word h =
+    (2, h.e_type) ∷ (2, h.e_machine) ∷ (4, h.e_version) ∷ (word_bytes word, 0) ∷ (word_bytes word, 0) ∷ (word_bytes word, h.e_shoff) ∷ []
+
+-- those of the sizes and counts of headers; there are no flags and no program headers
+abbrev pub count_numbers : Ehdr → List (ℕ × ℕ)
+count_numbers h = (4, 0) ∷ (2, h.e_ehsize) ∷ (2, 0) ∷ (2, 0) ∷ (2, h.e_shentsize) ∷ (2, h.e_shnum) ∷ (2, h.e_shstrndx) ∷ []
+
+-- the numbers of a file header
 abbrev pub ehdr_numbers : Word → Ehdr → List (ℕ × ℕ)
-ehdr_numbers word h =
-    (1, 0x7F) ∷ (1, 0x45) ∷ (1, 0x4C) ∷ (1, 0x46) ∷ (1, ei_class_of word) ∷ (1, h.ei_data) ∷ (1, h.ei_version) ∷ (9, 0)
-    ∷ (2, h.e_type) ∷ (2, h.e_machine) ∷ (4, h.e_version) ∷ (word_bytes word, 0) ∷ (word_bytes word, 0) ∷ (word_bytes word, h.e_shoff)
-    ∷ (4, 0) ∷ (2, h.e_ehsize) ∷ (2, 0) ∷ (2, 0) ∷ (2, h.e_shentsize) ∷ (2, h.e_shnum) ∷ (2, h.e_shstrndx) ∷ []
+ehdr_numbers word h = ident_numbers word h ++ kind_numbers word h ++ count_numbers h
 
 -- its bytes
 unfoldable pub ehdr_bytes : Word → Ehdr → List ℕ
 ehdr_bytes word h = packed (ehdr_numbers word h)
 
--- the numbers of a section header; its address is 0
+-- the numbers of a section header down to its offset; its address is 0
+abbrev pub front_numbers : Word → Shdr → List (ℕ × ℕ)
+front_numbers word s = (4, s.sh_name) ∷ (4, s.sh_type) ∷ (word_bytes word, s.sh_flags) ∷ (word_bytes word, 0) ∷ (word_bytes word, s.sh_offset) ∷ []
+
+-- those from its size on
+abbrev pub back_numbers : Word → Shdr → List (ℕ × ℕ)
+back_numbers word s = (word_bytes word, s.sh_size) ∷ (4, s.sh_link) ∷ (4, s.sh_info) ∷ (word_bytes word, s.sh_addralign) ∷ (word_bytes word, s.sh_entsize) ∷ []
+
+-- the numbers of a section header
 abbrev pub shdr_numbers : Word → Shdr → List (ℕ × ℕ)
-shdr_numbers word s =
-    (4, s.sh_name) ∷ (4, s.sh_type) ∷ (word_bytes word, s.sh_flags) ∷ (word_bytes word, 0) ∷ (word_bytes word, s.sh_offset) ∷ (word_bytes word, s.sh_size)
-    ∷ (4, s.sh_link) ∷ (4, s.sh_info) ∷ (word_bytes word, s.sh_addralign) ∷ (word_bytes word, s.sh_entsize) ∷ []
+shdr_numbers word s = front_numbers word s ++ back_numbers word s
 
 -- its bytes
 unfoldable pub shdr_bytes : Word → Shdr → List ℕ

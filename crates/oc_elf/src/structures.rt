@@ -100,7 +100,7 @@ fn put_magic(out: &mut Packed)
 // puts the identification of a file
 fn put_ident(out: &mut Packed, word: Word, ehdr: &Ehdr)
     requires { length out.old + 16 ≤ ROW }
-    ensures bytes { out.new ≡ out.old ++ packed ((1, 0x7F) ∷ (1, 0x45) ∷ (1, 0x4C) ∷ (1, 0x46) ∷ (1, structures.ei_class_of word) ∷ (1, ehdr.now.ei_data) ∷ (1, ehdr.now.ei_version) ∷ (9, 0) ∷ []) }
+    ensures bytes { out.new ≡ out.old ++ packed (structures.ident_numbers word ehdr.now) }
     ensures long { length out.new ≡ length out.old + 16 }
 {
     put_magic(out);
@@ -113,7 +113,7 @@ fn put_ident(out: &mut Packed, word: Word, ehdr: &Ehdr)
 // puts what a file is, and where its section headers begin; it has no entry point and no program headers
 fn put_kind(out: &mut Packed, word: Word, ehdr: &Ehdr)
     requires { length out.old + 8 + 3 * structures.word_bytes word ≤ ROW }
-    ensures bytes { out.new ≡ out.old ++ packed ((2, ehdr.now.e_type) ∷ (2, ehdr.now.e_machine) ∷ (4, ehdr.now.e_version) ∷ (structures.word_bytes word, 0) ∷ (structures.word_bytes word, 0) ∷ (structures.word_bytes word, ehdr.now.e_shoff) ∷ []) }
+    ensures bytes { out.new ≡ out.old ++ packed (structures.kind_numbers word ehdr.now) }
     ensures long { length out.new ≡ length out.old + 8 + 3 * structures.word_bytes word }
 {
     out.put_u16(ehdr.e_type);
@@ -127,7 +127,7 @@ fn put_kind(out: &mut Packed, word: Word, ehdr: &Ehdr)
 // puts the sizes and counts of headers; there are no flags and no program headers
 fn put_counts(out: &mut Packed, ehdr: &Ehdr)
     requires { length out.old + 16 ≤ ROW }
-    ensures { out.new ≡ out.old ++ packed ((4, 0) ∷ (2, ehdr.now.e_ehsize) ∷ (2, 0) ∷ (2, 0) ∷ (2, ehdr.now.e_shentsize) ∷ (2, ehdr.now.e_shnum) ∷ (2, ehdr.now.e_shstrndx) ∷ []) }
+    ensures { out.new ≡ out.old ++ packed (structures.count_numbers ehdr.now) }
 {
     out.put_u32(0);
     out.put_u16(ehdr.e_ehsize);
@@ -153,7 +153,7 @@ pub fn pack_ehdr(word: Word, ehdr: &Ehdr) -> Packed
 // puts the name, the type, the flags, the address, which is 0, and the offset of a section
 fn put_section(out: &mut Packed, word: Word, shdr: &Shdr)
     requires { length out.old + 8 + 3 * structures.word_bytes word ≤ ROW }
-    ensures bytes { out.new ≡ out.old ++ packed ((4, shdr.now.sh_name) ∷ (4, shdr.now.sh_type) ∷ (structures.word_bytes word, shdr.now.sh_flags) ∷ (structures.word_bytes word, 0) ∷ (structures.word_bytes word, shdr.now.sh_offset) ∷ []) }
+    ensures bytes { out.new ≡ out.old ++ packed (structures.front_numbers word shdr.now) }
     ensures long { length out.new ≡ length out.old + 8 + 3 * structures.word_bytes word }
 {
     out.put_u32(shdr.sh_name);
@@ -166,7 +166,7 @@ fn put_section(out: &mut Packed, word: Word, shdr: &Shdr)
 // puts the size of a section and the rest of its header
 fn put_rest(out: &mut Packed, word: Word, shdr: &Shdr)
     requires { length out.old + 8 + 3 * structures.word_bytes word ≤ ROW }
-    ensures { out.new ≡ out.old ++ packed ((structures.word_bytes word, shdr.now.sh_size) ∷ (4, shdr.now.sh_link) ∷ (4, shdr.now.sh_info) ∷ (structures.word_bytes word, shdr.now.sh_addralign) ∷ (structures.word_bytes word, shdr.now.sh_entsize) ∷ []) }
+    ensures { out.new ≡ out.old ++ packed (structures.back_numbers word shdr.now) }
 {
     put_word(out, word, shdr.sh_size);
     out.put_u32(shdr.sh_link);
@@ -221,7 +221,7 @@ pub fn pack_index(sym: &Sym) -> Packed
 
 // a symbol table entry of ELF32, with its section number
 fn pack_sym32(sym: &Sym, index: u16) -> Packed
-    ensures { result ≡ packed ((4, sym.now.st_name) ∷ (4, sym.now.st_value) ∷ (4, sym.now.st_size) ∷ (1, sym.now.st_info) ∷ (1, sym.now.st_other) ∷ (2, index) ∷ []) }
+    ensures { result ≡ packed (structures.sym_row Word.W32 sym.now index) }
 {
     let mut out = Packed::new();
     out.put_u32(sym.st_name);
@@ -235,7 +235,7 @@ fn pack_sym32(sym: &Sym, index: u16) -> Packed
 
 // a symbol table entry of ELF64, with its section number
 fn pack_sym64(sym: &Sym, index: u16) -> Packed
-    ensures { result ≡ packed ((4, sym.now.st_name) ∷ (1, sym.now.st_info) ∷ (1, sym.now.st_other) ∷ (2, index) ∷ (8, sym.now.st_value) ∷ (8, sym.now.st_size) ∷ []) }
+    ensures { result ≡ packed (structures.sym_row Word.W64 sym.now index) }
 {
     let mut out = Packed::new();
     out.put_u32(sym.st_name);
