@@ -66,10 +66,17 @@ dysymtab_front d = packed (
     (4, LC_DYSYMTAB) ∷ (4, DYSYMTAB_COMMAND_SIZE) ∷ (4, 0) ∷ (4, d.nlocalsym) ∷ (4, d.nlocalsym) ∷ (4, d.nextdefsym)
     ∷ (4, d.nlocalsym + d.nextdefsym) ∷ (4, d.nundefsym) ∷ [])
 
--- the numbers of a section header after its names; two reserved words follow the flags, and in 64 bits a third
+-- the numbers that say where a section lies, its alignment, and where its entries begin
+abbrev pub place_numbers : Word → SectionHeader → List (ℕ × ℕ)
+place_numbers w h = (address_size w, h.addr) ∷ (address_size w, h.size) ∷ (4, h.offset) ∷ (4, h.align) ∷ (4, h.reloff) ∷ []
+
+-- how many entries there are, and flags; two reserved words follow them, and in 64 bits a third
+abbrev pub flag_numbers : Word → SectionHeader → List (ℕ × ℕ)
+flag_numbers w h = (4, h.nreloc) ∷ (4, h.flags) ∷ (4, 0) ∷ (4, 0) ∷ reserved w
+
+-- the numbers of a section header after its names
 abbrev pub section_numbers : Word → SectionHeader → List (ℕ × ℕ)
-section_numbers w h =
-    (address_size w, h.addr) ∷ (address_size w, h.size) ∷ (4, h.offset) ∷ (4, h.align) ∷ (4, h.reloff) ∷ (4, h.nreloc) ∷ (4, h.flags) ∷ (4, 0) ∷ (4, 0) ∷ reserved w
+section_numbers w h = place_numbers w h ++ flag_numbers w h
 
 -- its bytes
 unfoldable pub section_bytes : Word → SectionHeader → List ℕ

@@ -4,11 +4,17 @@ use Rattle.oc_base.specs.declared.format.Word.{Word}
 use Rattle.oc_linking.specs.Numbers.{or_else}
 use Rattle.oc_macho.specs.declared.constants.TheConstants.{LC_SYMTAB}
 use Rattle.oc_macho.specs.declared.commands.Commands.{Commands}
+use Rattle.oc_macho.specs.declared.load_command.LoadCommand.{LoadCommand}
+use Rattle.oc_macho.specs.LoadCommand.{load_command_at}
 use Rattle.oc_macho.specs.SegmentCommand.{segment_number}
 use Rattle.oc_macho.specs.Tables.{command_place, first_command}
-use Rattle.oc_macho.specs.HeaderFaults.{any_bad, commands_end, count_upto}
+use Rattle.oc_macho.specs.HeaderFaults.{any_bad, commands_end, count_upto, has_bad_commands, is_bad}
 
--- none
+-- the command at a place is this one, which breaks no rule and lies before that end
+abbrev pub IsGoodCommand : Word → List ℕ → ℕ → ℕ → LoadCommand → Type 0
+IsGoodCommand w file end at c = (is_bad w file at ≡ false) × (c ≡ load_command_at file at) × (at + c.cmdsize ≤ end)
+
+-- no commands
 abbrev pub no_commands : Commands
 no_commands = record { segments = 0; segment = None; symtabs = 0; symtab = None }
 
@@ -33,7 +39,11 @@ pub record AreCommands (w : Word) (file : List ℕ) (n : ℕ) (c : Commands) : T
   pub symtabs : c.symtabs ≡ count_upto w file LC_SYMTAB n
   pub symtab : c.symtab ≡ first_command w file LC_SYMTAB n
 
--- and the next one begins here
+-- these n are all commands, and break no rule
+abbrev pub AreGoodCommands : Word → List ℕ → ℕ → Commands → Type 0
+AreGoodCommands w file n c = (has_bad_commands w file ≡ false) × AreCommands w file n c
+
+-- the first n break no rule, and the next one begins here
 pub record IsWalking (w : Word) (file : List ℕ) (n at : ℕ) (c : Commands) : Type 0 where
   pub are : AreCommands w file n c
   pub place : at ≡ command_place w file n

@@ -1,5 +1,5 @@
 //! The load commands, walked once.
-ghost use Rattle.std.specs.Prelude.{◌≡◌, ◌+◌, ◌<◌, ◌≤◌, if◌then◌else◌, length, nat_lt, Some, None, true, false, MatchOption};
+ghost use Rattle.std.specs.Prelude.{◌≡◌, ◌+◌, ◌<◌, ◌≤◌, if◌then◌else◌, length, nat_lt, Some, None, true, MatchOption};
 ghost use Rattle.oc_linking.specs.Numbers.{or_else};
 ghost use Rattle.oc_macho.specs.HeaderFaults as rules;
 ghost use Rattle.oc_macho.specs.LoadCommand as command;
@@ -93,7 +93,7 @@ fn is_short(word: Word, file: &[u8], at: u64, c: LoadCommand) -> bool
 fn read_command(word: Word, file: &[u8], end: u64, at: u64) -> Option<LoadCommand>
     requires end { end ≡ rules.commands_end word file.now }
     requires inside { end ≤ length file.now }
-    ensures { MatchOption result (rules.is_bad word file.now at ≡ true) (λ c. (rules.is_bad word file.now at ≡ false) × (c ≡ command.load_command_at file.now at) × (at + c.cmdsize ≤ end)) }
+    ensures { MatchOption result (rules.is_bad word file.now at ≡ true) (walked.IsGoodCommand word file.now end at) }
 {
     if is_misplaced(word, file, end, at) {
         return None;

@@ -1,5 +1,5 @@
 //! The stage of the header: what it says, and what the commands place.
-ghost use Rattle.std.specs.Prelude.{◌≡◌, ◌+◌, ◌≤◌, ℕ, false, true, length, Some, None, MatchOption, IfErr, IfOk, OnOk};
+ghost use Rattle.std.specs.Prelude.{◌≡◌, ◌+◌, ◌≤◌, ℕ, true, length, Some, None, MatchOption, IfErr, IfOk, OnOk};
 ghost use Rattle.std.specs.Option.{option_map, option_map_or};
 ghost use Rattle.oc_base.specs.declared.limits.TheConstants.{MOST_INPUT};
 ghost use Rattle.oc_linking.specs.FirstFault.{first_broken, stage_fault};
@@ -40,7 +40,7 @@ fn header_fault(place: u64, code: Code) -> Fault
 fn good_commands(word: Word, file: &[u8], h: MachHeader) -> Option<Commands>
     requires header { h ≡ header.mach_header_of file.now }
     requires inside { rules.commands_end word file.now ≤ length file.now }
-    ensures { MatchOption result (rules.has_bad_commands word file.now ≡ true) (λ c. (rules.has_bad_commands word file.now ≡ false) × walked.AreCommands word file.now h.ncmds c) }
+    ensures { MatchOption result (rules.has_bad_commands word file.now ≡ true) (walked.AreGoodCommands word file.now h.ncmds) }
 {
     if u64::from(h.sizeofcmds) < LOAD_COMMAND_SIZE as u64 * u64::from(h.ncmds) {
         return None;

@@ -1,6 +1,6 @@
 //! Mach-O structures as bytes (Mach-O reference, "mach_header", "segment_command", "section",
 //! "symtab_command", "dysymtab_command", "nlist" and "relocation_info").
-ghost use Rattle.std.specs.Prelude.{◌≡◌, ◌+◌, ◌*◌, ◌^◌, ◌≤◌, ◌<◌, ◌++◌, [], ◌∷◌, length};
+ghost use Rattle.std.specs.Prelude.{◌≡◌, ◌+◌, ◌*◌, ◌^◌, ◌≤◌, ◌<◌, ◌++◌, length};
 ghost use Rattle.oc_base.specs.Numbers.{bytes_of_number};
 ghost use Rattle.oc_shelf.specs.Writing.Packed.{packed};
 ghost use Rattle.oc_shelf.specs.declared.writing.rows.TheConstants.{ROW};
@@ -133,7 +133,7 @@ pub fn pack_section_names(header: &SectionHeader) -> Packed
 // puts where a section lies in memory and in the file, its alignment, and where its entries begin
 fn put_places(out: &mut Packed, word: Word, header: &SectionHeader)
     requires { length out.old + 12 + 2 * address_size word ≤ ROW }
-    ensures bytes { out.new ≡ out.old ++ packed ((address_size word, header.now.addr) ∷ (address_size word, header.now.size) ∷ (4, header.now.offset) ∷ (4, header.now.align) ∷ (4, header.now.reloff) ∷ []) }
+    ensures bytes { out.new ≡ out.old ++ packed (structures.place_numbers word header.now) }
     ensures long { length out.new ≡ length out.old + 12 + 2 * address_size word }
 {
     put_word(out, word, header.addr);
@@ -146,7 +146,7 @@ fn put_places(out: &mut Packed, word: Word, header: &SectionHeader)
 // puts how many entries there are, flags, and reserved words
 fn put_flags(out: &mut Packed, word: Word, header: &SectionHeader)
     requires { length out.old + 20 ≤ ROW }
-    ensures { out.new ≡ out.old ++ packed ((4, header.now.nreloc) ∷ (4, header.now.flags) ∷ (4, 0) ∷ (4, 0) ∷ structures.reserved word) }
+    ensures { out.new ≡ out.old ++ packed (structures.flag_numbers word header.now) }
 {
     out.put_u32(header.nreloc);
     out.put_u32(header.flags);
