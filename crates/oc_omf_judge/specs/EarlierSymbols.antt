@@ -11,6 +11,7 @@ use Rattle.oc_linking.specs.FirstFault.{Condition, first_broken, stage_fault}
 use Rattle.oc_omf_judge.specs.declared.earlier.External.{External as Mentioned}
 use Rattle.oc_omf_judge.specs.declared.earlier.EarlierSymbols.{EarlierSymbols}
 use Rattle.oc_omf.specs.declared.structures.Communal.{Communal}
+use Rattle.oc_omf.specs.declared.topics.Topic.{Topic}
 use Rattle.oc_omf.specs.Cursor.{Read, each_read}
 use Rattle.oc_omf.specs.Structures.{Group, Public, External, communal_read, external_read}
 use Rattle.oc_omf.specs.Entries.{Entry, all_read, in_file}
@@ -18,6 +19,7 @@ use Rattle.oc_omf.specs.Tables.{Tables}
 use Rattle.oc_omf.specs.Sections.{size_at}
 use Rattle.oc_omf.specs.Symbols.{Mention, external_mention, public_mention, same_symbol}
 use Rattle.oc_omf.specs.SymbolFaults.{code_of, communal_conditions, is_empty, is_other_length, is_undefined, same_public, symbol_fault, symbol_stage}
+use Rattle.oc_omf.specs.Topics.{said_on}
 use Rattle.oc_omf_judge.specs.Defined.{and_entry}
 use Rattle.oc_omf_judge.specs.Held.{Held, value_at}
 
@@ -143,3 +145,11 @@ IsEntrySeen known old index e new =
 abbrev pub IsEntryStopped : Held → EarlierSymbols → ℕ → Entry → Stop → Type 0
 IsEntryStopped known old index e s =
     (all t : Tables) → AreNamed true all.publics known → AreEarlierSymbols t old → IsStop (stage_fault (symbol_stage (record { index = index; before = t; all = all; entry = e }))) s
+
+-- an entry on that topic, with these contents, has no fault, and is recorded, wherever it is and whatever names are known
+abbrev pub IsSeenAnywhere : EarlierSymbols → Topic → Bool → List ℕ → EarlierSymbols → Type 0
+IsSeenAnywhere old topic wide contents new = (known : Held) (index place : ℕ) → IsEntrySeen known old index (said_on topic place wide contents) new
+
+-- it has a fault, which is reported
+abbrev pub IsStoppedAnywhere : EarlierSymbols → Topic → Bool → List ℕ → Stop → Type 0
+IsStoppedAnywhere old topic wide contents s = (known : Held) (index place : ℕ) → IsEntryStopped known old index (said_on topic place wide contents) s

@@ -1,10 +1,9 @@
 //! Judging symbols, entry by entry.
-ghost use Rattle.std.specs.Prelude.{◌≡◌, ◌+◌, ◌++◌, ◌∷◌, [], ◌≤◌, ℕ, Bool, List, length, true, None, IfErr, IfOk, OnOk};
+ghost use Rattle.std.specs.Prelude.{◌≡◌, ◌+◌, ◌≤◌, Bool, length, None, IfErr, IfOk, OnOk};
 ghost use Rattle.oc_base.specs.declared.limits.TheConstants.{MOST_INPUT};
 ghost use Rattle.oc_base.specs.Stops.{IsStop};
 ghost use Rattle.oc_linking.specs.FirstFault.{first_fault};
 ghost use Rattle.oc_omf.specs.Entries.{entries_in};
-ghost use Rattle.oc_omf_judge.specs.Held.{Held};
 ghost use Rattle.oc_omf_judge.specs.EarlierSymbols as specs;
 ghost use Rattle.oc_omf.specs.SymbolFaults.{symbol_stages};
 ghost use Rattle.oc_omf.specs.Tables.{tables_of};
@@ -23,8 +22,8 @@ use std::collections::BTreeMap;
 
 // records the segment in the contents of an entry, if one is read
 fn see_segment(seen: &mut EarlierSymbols<'_>, wide: bool, contents: &View<'_>) -> Result<(), Stop>
-    ensures taken { OnOk result ((known : Held) (index place : ℕ) → specs.IsEntrySeen known seen.old index (said_on topic.Segment place wide contents.now) seen.new) }
-    ensures stop { IfErr result (λ s. (known : Held) (index place : ℕ) → specs.IsEntryStopped known seen.old index (said_on topic.Segment place wide contents.now) s) }
+    ensures taken { OnOk result (specs.IsSeenAnywhere seen.old topic.Segment wide contents.now seen.new) }
+    ensures stop { IfErr result (specs.IsStoppedAnywhere seen.old topic.Segment wide contents.now) }
 {
     match read_segment(contents, wide) {
         Ok((segment, _at)) => {
@@ -37,8 +36,8 @@ fn see_segment(seen: &mut EarlierSymbols<'_>, wide: bool, contents: &View<'_>) -
 
 // records the group in the contents of an entry, if one is read
 fn see_group(seen: &mut EarlierSymbols<'_>, contents: &View<'_>) -> Result<(), Stop>
-    ensures taken { OnOk result ((known : Held) (index place : ℕ) (wide : Bool) → specs.IsEntrySeen known seen.old index (said_on topic.Group place wide contents.now) seen.new) }
-    ensures stop { IfErr result (λ s. (known : Held) (index place : ℕ) (wide : Bool) → specs.IsEntryStopped known seen.old index (said_on topic.Group place wide contents.now) s) }
+    ensures taken { OnOk result ((wide : Bool) → specs.IsSeenAnywhere seen.old topic.Group wide contents.now seen.new) }
+    ensures stop { IfErr result (λ s. (wide : Bool) → specs.IsStoppedAnywhere seen.old topic.Group wide contents.now s) }
 {
     match read_index(contents, 0) {
         Ok((name, _at)) => {

@@ -1,5 +1,5 @@
 -- What an entry is about decides what is judged.
-use Rattle.std.proofs.Common.{ℕ, Bool, refl, sym, subst}
+use Rattle.std.proofs.Common.{Bool, refl, sym, subst}
 use Rattle.std.proofs.lemmas.Result.{IfErr-weaker, on_ok_weaker}
 use Rattle.oc_omf.specs.declared.topics.Topic.{Topic}
 use Rattle.oc_omf.specs.declared.topics.Topic.TheVariants as topic
@@ -8,7 +8,7 @@ use Rattle.oc_omf.specs.Entries.{in_file}
 use Rattle.oc_omf.specs.Structures.{communal_read, external_read}
 use Rattle.oc_omf.specs.Topics.{said_on}
 use Rattle.oc_omf_judge.specs.Held.{Held}
-use Rattle.oc_omf_judge.specs.EarlierSymbols.{AreExternalsStopped, IsEntrySeen, IsEntryStopped}
+use Rattle.oc_omf_judge.specs.EarlierSymbols.{AreExternalsStopped, IsEntrySeen, IsEntryStopped, IsStoppedAnywhere}
 use Rattle.oc_omf_judge.proofs.SeenEntry.{communals_seen, communals_stop, externals_seen, externals_stop, nothing_seen}
 use Rattle.oc_omf_judge.proofs.symbol_loop.see_entry.Goals as goal
 
@@ -18,19 +18,19 @@ returns-in-Segment-clause-taken c =
 
 pub returns-in-Segment-clause-stop : goal.returns-in-Segment-clause-stop
 returns-in-Segment-clause-stop c =
-    IfErr-weaker c.see_segment.result (λ s. (known : Held) (index place : ℕ) → IsEntryStopped known c.args.seen.now index (said_on topic.Segment place c.args.wide c.args.contents.now) s)
+    IfErr-weaker c.see_segment.result (IsStoppedAnywhere c.args.seen.now topic.Segment c.args.wide c.args.contents.now)
     (λ s. IsEntryStopped c.args.known.now c.args.seen.now c.args.spot.index (said_on c.args.topic c.args.spot.place c.args.wide c.args.contents.now) s)
     (λ s stopped. subst (λ (a : Topic). IsEntryStopped c.args.known.now c.args.seen.now c.args.spot.index (said_on a c.args.spot.place c.args.wide c.args.contents.now) s) (sym c.in-Segment.is) (stopped c.args.known.now c.args.spot.index c.args.spot.place)) c.see_segment.ensures.stop
 
 pub returns-in-Group-clause-taken : goal.returns-in-Group-clause-taken
 returns-in-Group-clause-taken c =
-    on_ok_weaker c.see_group.result (λ seen. subst (λ (a : Topic). IsEntrySeen c.args.known.now c.args.seen.now c.args.spot.index (said_on a c.args.spot.place c.args.wide c.args.contents.now) c.see_group.new.seen) (sym c.in-Group.is) (seen c.args.known.now c.args.spot.index c.args.spot.place c.args.wide)) c.see_group.ensures.taken
+    on_ok_weaker c.see_group.result (λ seen. subst (λ (a : Topic). IsEntrySeen c.args.known.now c.args.seen.now c.args.spot.index (said_on a c.args.spot.place c.args.wide c.args.contents.now) c.see_group.new.seen) (sym c.in-Group.is) (seen c.args.wide c.args.known.now c.args.spot.index c.args.spot.place)) c.see_group.ensures.taken
 
 pub returns-in-Group-clause-stop : goal.returns-in-Group-clause-stop
 returns-in-Group-clause-stop c =
-    IfErr-weaker c.see_group.result (λ s. (known : Held) (index place : ℕ) (wide : Bool) → IsEntryStopped known c.args.seen.now index (said_on topic.Group place wide c.args.contents.now) s)
+    IfErr-weaker c.see_group.result (λ s. (wide : Bool) → IsStoppedAnywhere c.args.seen.now topic.Group wide c.args.contents.now s)
     (λ s. IsEntryStopped c.args.known.now c.args.seen.now c.args.spot.index (said_on c.args.topic c.args.spot.place c.args.wide c.args.contents.now) s)
-    (λ s stopped. subst (λ (a : Topic). IsEntryStopped c.args.known.now c.args.seen.now c.args.spot.index (said_on a c.args.spot.place c.args.wide c.args.contents.now) s) (sym c.in-Group.is) (stopped c.args.known.now c.args.spot.index c.args.spot.place c.args.wide)) c.see_group.ensures.stop
+    (λ s stopped. subst (λ (a : Topic). IsEntryStopped c.args.known.now c.args.seen.now c.args.spot.index (said_on a c.args.spot.place c.args.wide c.args.contents.now) s) (sym c.in-Group.is) (stopped c.args.wide c.args.known.now c.args.spot.index c.args.spot.place)) c.see_group.ensures.stop
 
 pub returns-in-Publics-clause-taken : goal.returns-in-Publics-clause-taken
 returns-in-Publics-clause-taken c =
