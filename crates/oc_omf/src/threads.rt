@@ -1,6 +1,6 @@
 //! The threads that are in force.
 ghost use Rattle.std.specs.Prelude.{◌≡◌, ◌<◌, []};
-ghost use Rattle.oc_omf.specs.Known.{AreInForce, IsThreadTaken, told};
+ghost use Rattle.oc_omf.specs.Known.{AreInForce, IsThreadTaken, thread_in};
 
 use crate::structures::{Method, Thread};
 
@@ -27,7 +27,7 @@ impl Threads {
 
     /// The thread of that number for frames, or else for targets, if there is one. Constant time.
     pub fn get(&self, frame: bool, number: u8) -> Option<Method>
-        ensures { result ≡ told self.now frame number }
+        ensures { result ≡ thread_in self.now frame number }
     {
         let threads = if frame { &self.frames } else { &self.targets };
         match threads.get(usize::from(number)) {

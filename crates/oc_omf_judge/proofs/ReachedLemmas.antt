@@ -28,7 +28,7 @@ use Rattle.oc_omf.specs.Sections.{blocks_in}
 use Rattle.oc_omf.specs.Symbols.{agree}
 use Rattle.oc_omf.specs.Fixups.{Fixed, PlacedSubrecord, copies_for, fixed_in, fixed_of, is_inside, last_of, meet, method_of, thread_by}
 use Rattle.oc_omf.specs.Fields.{aim_of}
-use Rattle.oc_omf.specs.Known.{AreInForce, told}
+use Rattle.oc_omf.specs.Known.{AreInForce, thread_in}
 use Rattle.oc_omf.specs.Targets.{meaning_of}
 use Rattle.oc_omf.specs.RelocationFaults.{fixup_conditions, is_datum_there, relocation_conditions}
 use Rattle.oc_omf.specs.RelocationFaults as faults
@@ -50,7 +50,7 @@ use Rattle.oc_omf_judge.proofs.StartLemmas.{begins_among, free_meets, met_meets,
 
 -- ... what indexes name
 
-method_is : (earlier : List PlacedSubrecord) (threads : Threads) (frame : Bool) (d : Datum) → AreInForce earlier threads → method_by threads frame d ≡ method_of earlier frame d
+pub method_is : (earlier : List PlacedSubrecord) (threads : Threads) (frame : Bool) (d : Datum) → AreInForce earlier threads → method_by threads frame d ≡ method_of earlier frame d
 method_is earlier threads frame (datum.Explicit x) are = refl
 method_is earlier threads frame (datum.Thread number) are = are frame number
 
@@ -77,13 +77,13 @@ module _ (w : Whole) (before : Tables) (earlier : List PlacedSubrecord) (old : R
 
   -- it is in force
   pub thread_taken : (x : Thread) (new : Reached) → new.counts ≡ old.counts → last_in new ≡ last_in old → new.starts ≡ old.starts
-      → ((frame : Bool) (number : ℕ) → told new.threads frame number ≡ cond (agree frame x.frame && nat_eq x.number number) (Some x.method) (told old.threads frame number))
+      → ((frame : Bool) (number : ℕ) → thread_in new.threads frame number ≡ cond (agree frame x.frame && nat_eq x.number number) (Some x.method) (thread_in old.threads frame number))
       → IsReached w before (earlier ++ placed_at before at (Ok (subrecord.Thread x)) ∷ []) new
   thread_taken x new c l s taken = record {
     counts_are = subst (AreCounts before) (sym c) is.counts_are;
     last_is = is.last_is ∙ sym l;
     threads_are = λ frame number.
-        taken frame number ∙ by (agree frame x.frame && nat_eq x.number number) (told old.threads frame number)
+        taken frame number ∙ by (agree frame x.frame && nat_eq x.number number) (thread_in old.threads frame number)
         ∙ ap (or_else (thread_by frame number (Ok (subrecord.Thread x)))) (is.threads_are frame number)
         ∙ sym (thread_more earlier (placed_at before at (Ok (subrecord.Thread x))) frame number);
     starts_are = subst (λ fixed. AreStarts w fixed new.starts) (sym (fixed_more earlier (placed_at before at (Ok (subrecord.Thread x)))) ∙ refl) (subst (λ (s : Starts). AreStarts w (fixed_in earlier ++ []) s) (sym s) (subst (λ fixed. AreStarts w fixed old.starts) (sym (right (fixed_in earlier))) is.starts_are));
@@ -233,7 +233,7 @@ module _ (w : Whole) (before : Tables) (earlier : List PlacedSubrecord) (old : R
         free_meets w (fixed_in earlier) old.starts is.starts_are x d.0 ps d.1 (copies_are ∙ some) (low_field low) judged (λ met. taken.free (subst (λ (b : ℕ). IsMet old.starts b ps) (sym d.2) met))
 
     threads_stay : (threads : Threads) → threads ≡ old.threads → AreInForce (earlier ++ part ∷ []) threads
-    threads_stay threads e = λ frame number. ap (λ (t : Threads). told t frame number) e ∙ is.threads_are frame number ∙ sym (thread_more earlier part frame number)
+    threads_stay threads e = λ frame number. ap (λ (t : Threads). thread_in t frame number) e ∙ is.threads_are frame number ∙ sym (thread_more earlier part frame number)
 
     pub fixup_taken : ((d : Lying) → last_in old ≡ Some d → IsLow d) → (ps : List ℕ) → copies_in (last_in old) f.offset ≡ Some ps → is_judged w x ≡ true → (new : Reached) → AreFieldsTaken old ps new → IsReached w before (earlier ++ part ∷ []) new
     fixup_taken low ps some judged new taken = record {

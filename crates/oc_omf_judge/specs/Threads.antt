@@ -6,12 +6,12 @@ use Rattle.oc_omf.specs.declared.structures.Method.{Method}
 use Rattle.oc_omf.specs.declared.structures.Subrecord.{Subrecord}
 use Rattle.oc_omf.specs.declared.structures.Subrecord.TheVariants as subrecord
 use Rattle.oc_omf.specs.declared.threads.Threads.{Threads}
-use Rattle.oc_omf.specs.Known.{told}
+use Rattle.oc_omf.specs.Known.{thread_in}
 
 -- the method of a frame, or of a target
 abbrev pub method_by : Threads → Bool → Datum → Option Method
 method_by threads frame (datum.Explicit method) = Some method
-method_by threads frame (datum.Thread number) = told threads frame number
+method_by threads frame (datum.Thread number) = thread_in threads frame number
 
 -- a thread has one of four numbers
 abbrev pub HasNumber : Subrecord → Type 0

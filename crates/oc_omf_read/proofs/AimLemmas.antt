@@ -34,7 +34,7 @@ use Rattle.oc_omf_read.specs.declared.mentioned.Mentions.{Mentions}
 use Rattle.oc_omf_read.specs.Aims.{external_aim, is_kept, symbol_named}
 use Rattle.oc_omf_read.specs.Bindings.{binding_seen, place_binding}
 use Rattle.oc_omf_read.specs.Declarations.{Declaration, of_external, of_public, declarations_by, declarations_in}
-use Rattle.oc_omf_read.specs.Mentioned.{HasDeclarations, ModuleSymbol, external_number, mention_of, seen_in, seen_of, symbols_told}
+use Rattle.oc_omf_read.specs.Mentioned.{HasDeclarations, ModuleSymbol, external_number, mention_of, mentioned_symbols, seen_in, seen_of}
 use Rattle.oc_omf_judge.specs.Defined.{IsDefined}
 use Rattle.oc_omf_read.specs.Sections.{kind_in}
 use Rattle.oc_omf_read.proofs.BindingLemmas.{binding_is, mentions_are}
@@ -42,7 +42,7 @@ use Rattle.oc_omf_read.proofs.ContentLemmas.{indexed_is, known_kind}
 use Rattle.oc_omf_read.proofs.GivenFields.{number_stands}
 use Rattle.oc_omf_read.proofs.HearLemmas.{symbol_at}
 use Rattle.oc_omf_judge.proofs.MentionLemmas.{same_self}
-use Rattle.oc_omf_read.proofs.MentionLemmas.{any_told}
+use Rattle.oc_omf_read.proofs.MentionLemmas.{any_mentioned}
 use Rattle.oc_omf_read.proofs.StartLemmas.{symbol_number}
 
 -- ... numbers of externals
@@ -102,7 +102,7 @@ named_seen number s = by s.place s.length
 
 module _ (es : List Entry) where
   abbrev ms : List Mention
-  ms = symbols_told (declarations_in es)
+  ms = mentioned_symbols (declarations_in es)
 
   abbrev ss : List parts.Symbol
   ss = symbols_in es
@@ -125,7 +125,7 @@ module _ (es : List Entry) where
   mentioned : (j : ℕ) (y : External) → slice_get (tables_of es).externals j ≡ Some y → list_any (same_symbol (external_mention y)) ms ≡ true
   unfolding tables_of declarations_in
   mentioned j y here =
-      any_told (external_mention y) (declarations_in es)
+      any_mentioned (external_mention y) (declarations_in es)
       ∙ each_flat_map (λ (y : External). list_any (same_symbol (external_mention y)) (map mention_of (declarations_in es)) ≡ true) (λ (e : Entry). all_read e.externals) es
       (λ i e at_i k z at_k.
       let at = member_second (map of_public (all_read e.publics)) (map of_external (all_read e.externals)) k (of_external z) (member_map of_external (all_read e.externals) k z at_k) in

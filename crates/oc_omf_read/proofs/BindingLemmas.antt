@@ -16,7 +16,7 @@ use Rattle.oc_omf.specs.Tables.{tables_of}
 use Rattle.oc_omf_read.specs.declared.declarations.DeclarationKind.TheVariants as what
 use Rattle.oc_omf_read.specs.Bindings.{binding_seen, place_binding}
 use Rattle.oc_omf_read.specs.Declarations.{Declaration, of_communal, of_external, of_public, declarations_by, declarations_in}
-use Rattle.oc_omf_read.specs.Mentioned.{length_by, length_in, length_said, mention_of, place_by, place_in, place_said, seen_in, symbols_told}
+use Rattle.oc_omf_read.specs.Mentioned.{length_by, length_in, length_said, mention_of, mentioned_symbols, place_by, place_in, place_said, seen_in}
 use Rattle.oc_omf_judge.proofs.MentionLemmas.{same_is}
 
 -- ... mentions
@@ -29,8 +29,8 @@ map_externals : (ys : List External) → map mention_of (map of_external ys) ≡
 map_externals [] = refl
 map_externals (y ∷ ys) = ap (λ (ms : List Mention). external_mention y ∷ ms) (map_externals ys)
 
-entry_told : (e : Entry) → map mention_of (declarations_by e) ≡ entry_mentions e
-entry_told e =
+entry_mentioned : (e : Entry) → map mention_of (declarations_by e) ≡ entry_mentions e
+entry_mentioned e =
     map-append mention_of (map of_public (all_read e.publics)) (map of_external (all_read e.externals))
     ∙ ap (λ (ms : List Mention). ms ++ map mention_of (map of_external (all_read e.externals))) (map_publics (all_read e.publics))
     ∙ ap (λ (ms : List Mention). map public_mention (all_read e.publics) ++ ms) (map_externals (all_read e.externals))
@@ -38,9 +38,9 @@ entry_told e =
 all_mentions : (es : List Entry) → map mention_of (flat_map declarations_by es) ≡ flat_map entry_mentions es
 all_mentions [] = refl
 all_mentions (e ∷ es) =
-    map-append mention_of (declarations_by e) (flat_map declarations_by es) ∙ ap (λ (ms : List Mention). ms ++ map mention_of (flat_map declarations_by es)) (entry_told e) ∙ ap (λ (ms : List Mention). entry_mentions e ++ ms) (all_mentions es)
+    map-append mention_of (declarations_by e) (flat_map declarations_by es) ∙ ap (λ (ms : List Mention). ms ++ map mention_of (flat_map declarations_by es)) (entry_mentioned e) ∙ ap (λ (ms : List Mention). entry_mentions e ++ ms) (all_mentions es)
 
-pub mentions_are : (es : List Entry) → mentions_in es ≡ symbols_told (declarations_in es)
+pub mentions_are : (es : List Entry) → mentions_in es ≡ mentioned_symbols (declarations_in es)
 unfolding mentions_in declarations_in
 mentions_are es = ap (λ (ms : List Mention). fold with_new [] ms) (sym (all_mentions es))
 
@@ -94,8 +94,8 @@ place_externals x (y ∷ ys) = by (same_symbol x (external_mention y)) y.communa
     by true None = refl
     by true (Some c) = refl
 
-place_told : (x : Mention) (e : Entry) → place_in x (declarations_by e) ≡ option_map place_of (find (is_public x) (all_read e.publics))
-place_told x e =
+place_is : (x : Mention) (e : Entry) → place_in x (declarations_by e) ≡ option_map place_of (find (is_public x) (all_read e.publics))
+place_is x e =
     place_append x (map of_public (all_read e.publics)) (map of_external (all_read e.externals))
     ∙ ap (or_else (place_in x (map of_public (all_read e.publics)))) (place_externals x (all_read e.externals)) ∙ last (place_in x (map of_public (all_read e.publics))) ∙ place_publics x (all_read e.publics)
   where
@@ -106,7 +106,7 @@ place_told x e =
 place_all : (x : Mention) (es : List Entry) → place_in x (flat_map declarations_by es) ≡ option_map place_of (find (is_public x) (flat_map (λ (e : Entry). all_read e.publics) es))
 place_all x [] = refl
 place_all x (e ∷ es) =
-    place_append x (declarations_by e) (flat_map declarations_by es) ∙ ap (λ (o : Option (ℕ × ℕ)). or_else o (place_in x (flat_map declarations_by es))) (place_told x e)
+    place_append x (declarations_by e) (flat_map declarations_by es) ∙ ap (λ (o : Option (ℕ × ℕ)). or_else o (place_in x (flat_map declarations_by es))) (place_is x e)
     ∙ ap (or_else (option_map place_of (find (is_public x) (all_read e.publics)))) (place_all x es)
     ∙ sym (map_or_else place_of (find (is_public x) (all_read e.publics)) (find (is_public x) (flat_map (λ (e : Entry). all_read e.publics) es)))
     ∙ sym (ap (option_map place_of) (find_append (is_public x) (all_read e.publics) (flat_map (λ (e : Entry). all_read e.publics) es)))
@@ -160,15 +160,15 @@ found_some x (z ∷ zs) y e = by (same_symbol x (external_mention z)) z.communal
     by false None is e rest = rest e
     by false (Some c) is e rest = rest e
 
-length_told : (x : Mention) (e : Entry) → length_in x (declarations_by e) ≡ option_and_then size_of (find (is_communal x) (all_read e.externals))
-length_told x e =
+length_is : (x : Mention) (e : Entry) → length_in x (declarations_by e) ≡ option_and_then size_of (find (is_communal x) (all_read e.externals))
+length_is x e =
     length_append x (map of_public (all_read e.publics)) (map of_external (all_read e.externals))
     ∙ ap (λ (o : Option ℕ). or_else o (length_in x (map of_external (all_read e.externals)))) (length_publics x (all_read e.publics)) ∙ length_externals x (all_read e.externals)
 
 length_all : (x : Mention) (es : List Entry) → length_in x (flat_map declarations_by es) ≡ option_and_then size_of (find (is_communal x) (flat_map (λ (e : Entry). all_read e.externals) es))
 length_all x [] = refl
 length_all x (e ∷ es) =
-    length_append x (declarations_by e) (flat_map declarations_by es) ∙ ap (λ (o : Option ℕ). or_else o (length_in x (flat_map declarations_by es))) (length_told x e)
+    length_append x (declarations_by e) (flat_map declarations_by es) ∙ ap (λ (o : Option ℕ). or_else o (length_in x (flat_map declarations_by es))) (length_is x e)
     ∙ ap (or_else (option_and_then size_of (find (is_communal x) (all_read e.externals)))) (length_all x es)
     ∙ sym (and_then_or_else size_of (find (is_communal x) (all_read e.externals)) (find (is_communal x) (flat_map (λ (e : Entry). all_read e.externals) es)) (found_some x (all_read e.externals)))
     ∙ sym (ap (option_and_then size_of) (find_append (is_communal x) (all_read e.externals) (flat_map (λ (e : Entry). all_read e.externals) es)))

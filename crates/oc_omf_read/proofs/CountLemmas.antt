@@ -97,6 +97,6 @@ places_few (suc n) file at low = elim (next_place file at) as (λ o. next_place 
       omega (arith, one, long, inside.0, is, rest, sum)
 ] refl
 
-pub few_told : (file : List ℕ) → length (declarations_in (entries_in file)) ≤ length file
+pub few_declarations : (file : List ℕ) → length (declarations_in (entries_in file)) ≤ length file
 unfolding declarations_in entries_in places_in
-few_told file = let few = places_few (length file + 1) file 0 (omega arith) in omega (arith, few)
+few_declarations file = let few = places_few (length file + 1) file 0 (omega arith) in omega (arith, few)

@@ -20,8 +20,8 @@ use Rattle.oc_omf_read.proofs.ClassLemmas.{publics_by, read_in_file}
 use Rattle.oc_omf_read.proofs.DefinedLemmas.{entries_counted, said_by_class}
 
 -- one mention more, and those that are left
-pub told_more : {X : Type 0} (f : X → Declaration) (old new : List DeclarationRef) (h : DeclarationRef) (x : X) (left : List X) → new ≡ old ++ h ∷ [] → declaration_of h ≡ f x → all_declarations new ++ map f left ≡ all_declarations old ++ map f (x ∷ left)
-told_more f old new h x left grown is =
+pub declarations_more : {X : Type 0} (f : X → Declaration) (old new : List DeclarationRef) (h : DeclarationRef) (x : X) (left : List X) → new ≡ old ++ h ∷ [] → declaration_of h ≡ f x → all_declarations new ++ map f left ≡ all_declarations old ++ map f (x ∷ left)
+declarations_more f old new h x left grown is =
     ap (λ (hs : List DeclarationRef). all_declarations hs ++ map f left) grown ∙ ap (λ (ts : List Declaration). ts ++ map f left) (map-append declaration_of old (h ∷ []))
     ∙ append_assoc (all_declarations old) (declaration_of h ∷ []) (map f left) ∙ ap (λ (t : Declaration). all_declarations old ++ t ∷ map f left) is
 
@@ -50,9 +50,9 @@ local_externals_are r is = ap declarations_by (said_by_class r class.LocalExtern
 pub communals_are : (r : Record) → class_of r.kind ≡ class.Communals → declarations_by (said r) ≡ map of_external (all_read (each_read communal_read r.contents 0))
 communals_are r is = ap declarations_by (said_by_class r class.Communals is) ∙ ap (map of_external) (read_in_file r.place (each_read communal_read r.contents 0))
 
-pub nothing_told : (r : Record) (k : EntryClass)
+pub no_declarations : (r : Record) (k : EntryClass)
     → (k ≡ class.Names) ⊎ ((k ≡ class.Segment) ⊎ ((k ≡ class.Group) ⊎ ((k ≡ class.Plain) ⊎ ((k ≡ class.Iterated) ⊎ ((k ≡ class.Fixups) ⊎ (k ≡ class.Nothing)))))) → class_of r.kind ≡ k → declarations_by (said r) ≡ []
-nothing_told r k h is = elim h [
+no_declarations r k h is = elim h [
   | inl e ↦ ap declarations_by (said_by_class r class.Names (is ∙ e))
   | inr h ↦ elim h [
     | inl e ↦ ap declarations_by (said_by_class r class.Segment (is ∙ e))
@@ -71,17 +71,17 @@ nothing_told r k h is = elim h [
 
 -- ... all entries
 
-abbrev pub told_upto : List ℕ → ℕ → List Declaration
-told_upto file i = declarations_in (take i (entries_in file))
+abbrev pub declarations_upto : List ℕ → ℕ → List Declaration
+declarations_upto file i = declarations_in (take i (entries_in file))
 
-pub told_step : (file : List ℕ) (i : ℕ) (e : Entry) → slice_get (entries_in file) i ≡ Some e → told_upto file (i + 1) ≡ told_upto file i ++ declarations_by e
+pub declarations_step : (file : List ℕ) (i : ℕ) (e : Entry) → slice_get (entries_in file) i ≡ Some e → declarations_upto file (i + 1) ≡ declarations_upto file i ++ declarations_by e
 unfolding declarations_in
-told_step file i e here =
+declarations_step file i e here =
     ap (flat_map declarations_by) (take_here (entries_in file) i e here) ∙ flat_map-append declarations_by (take i (entries_in file)) (e ∷ []) ∙ ap (λ (xs : List Declaration). flat_map declarations_by (take i (entries_in file)) ++ xs) (append-nil (declarations_by e))
 
-pub told_none : (file : List ℕ) → [] ≡ told_upto file 0
+pub declarations_none : (file : List ℕ) → [] ≡ declarations_upto file 0
 unfolding declarations_in
-told_none file = refl
+declarations_none file = refl
 
-pub told_end : (file : List ℕ) (i : ℕ) → i ≡ length (places_in file) → told_upto file i ≡ declarations_in (entries_in file)
-told_end file i all_of = ap (λ (n : ℕ). declarations_in (take n (entries_in file))) (all_of ∙ sym (entries_counted file)) ∙ ap declarations_in (take-length (entries_in file))
+pub declarations_end : (file : List ℕ) (i : ℕ) → i ≡ length (places_in file) → declarations_upto file i ≡ declarations_in (entries_in file)
+declarations_end file i all_of = ap (λ (n : ℕ). declarations_in (take n (entries_in file))) (all_of ∙ sym (entries_counted file)) ∙ ap declarations_in (take-length (entries_in file))

@@ -12,8 +12,6 @@ use Rattle.oc_linking.specs.FirstFault.{stage_fault}
 use Rattle.oc_omf_records.specs.Blocks.{size_of}
 use Rattle.oc_omf_records.specs.declared.records.Entry.{Entry as Record}
 use Rattle.oc_omf.specs.declared.cut.Cut.{Cut}
-use Rattle.oc_omf.specs.declared.structures.Datum.{Datum}
-use Rattle.oc_omf.specs.declared.structures.Datum.TheVariants as datum
 use Rattle.oc_omf.specs.declared.structures.Fixup.{Fixup}
 use Rattle.oc_omf.specs.declared.structures.Subrecord.{Subrecord}
 use Rattle.oc_omf.specs.declared.structures.Subrecord.TheVariants as subrecord
@@ -24,7 +22,7 @@ use Rattle.oc_omf.specs.Entries.{Entry, all_read, entries_in, in_file, is_wide}
 use Rattle.oc_omf.specs.Fields.{fixups_in}
 use Rattle.oc_omf.specs.SectionFaults.{section_stage}
 use Rattle.oc_omf.specs.Fixups.{Fixed, PlacedSubrecord, fixed_from, fixed_in, fixed_of, last_of, method_of, subrecords_by, subrecords_upto, thread_after}
-use Rattle.oc_omf.specs.Known.{AreInForce, told}
+use Rattle.oc_omf.specs.Known.{AreInForce, thread_in}
 use Rattle.oc_omf.specs.Sections.{blocks_in}
 use Rattle.oc_omf.specs.Structures as structures
 use Rattle.oc_omf.specs.Structures.{subrecord_read}
@@ -33,6 +31,8 @@ use Rattle.oc_omf.specs.Tables as all
 use Rattle.oc_omf.specs.Tables.{tables_of}
 use Rattle.oc_omf.specs.Targets.{Meaning}
 use Rattle.oc_omf.proofs.EachLemmas.{each_behind, each_cut, each_end, each_from, each_more}
+use Rattle.oc_omf_judge.specs.Threads.{method_by}
+use Rattle.oc_omf_judge.proofs.ReachedLemmas.{method_is}
 use Rattle.oc_omf_judge.proofs.StateLaws.{tables_more, thread_more}
 use Rattle.oc_omf_read.specs.declared.class.EntryClass.{EntryClass}
 use Rattle.oc_omf_read.specs.declared.class.EntryClass.TheVariants as class
@@ -40,7 +40,7 @@ use Rattle.oc_omf_read.specs.declared.fields.Behind.{Behind}
 use Rattle.oc_omf_read.specs.declared.fields.FixupField.{FixupField}
 use Rattle.oc_omf_read.specs.declared.fixes.FixupContext.{FixupContext}
 use Rattle.oc_omf_read.specs.declared.pieces.Piece.{Piece}
-use Rattle.oc_omf_read.specs.Aims.{meaning_seen, method_told}
+use Rattle.oc_omf_read.specs.Aims.{meaning_seen}
 use Rattle.oc_omf_read.specs.Classes.{class_of}
 use Rattle.oc_omf_read.specs.Defined.{said}
 use Rattle.oc_omf_read.specs.Fields.{AreLow, HasData, HasFields, IsLast, fields_behind, fields_by, fields_for, fields_of, held}
@@ -53,22 +53,18 @@ use Rattle.oc_omf.specs.declared.constants.TheConstants.{ENTRY_HEAD}
 
 -- ... one fixup
 
-told_is : (earlier : List PlacedSubrecord) (threads : Threads) → AreInForce earlier threads → (frame : Bool) (d : Datum) → method_told threads frame d ≡ method_of earlier frame d
-told_is earlier threads are frame (datum.Explicit method) = refl
-told_is earlier threads are frame (datum.Thread number) = are frame number
-
 module _ (m : Meaning) (keep : Keep) where
   -- a fixup's fields are those behind what is held
   pub fields_same : (earlier : List PlacedSubrecord) (before : all.Tables) (b : Behind) (f : Fixup) → AreInForce earlier b.threads → IsLast (held b) (last_of before.pieces) → fields_behind m keep b f ≡ fields_for m keep (fixed_of earlier before f)
   fields_same earlier before b f are last = by (held b) (last_of before.pieces) last
     where
       by : (p : Option Piece) (o : Option structures.Piece) → IsLast p o
-          → option_map_or (λ (p : Piece). fields_by m keep p.segment p.offset (row_in p.data) f (method_told b.threads true f.frame) (method_told b.threads false f.target)) p []
+          → option_map_or (λ (p : Piece). fields_by m keep p.segment p.offset (row_in p.data) f (method_by b.threads true f.frame) (method_by b.threads false f.target)) p []
           ≡ option_map_or (λ (d : structures.Piece). fields_by m keep d.segment d.offset (blocks_in d.blocks) f (method_of earlier true f.frame) (method_of earlier false f.target)) o []
       by None o is = ap (λ o. option_map_or (λ (d : structures.Piece). fields_by m keep d.segment d.offset (blocks_in d.blocks) f (method_of earlier true f.frame) (method_of earlier false f.target)) o []) (sym is)
       by (Some p) o is =
           let d = is.0 in
-          rw (is.1, told_is earlier b.threads are true f.frame, told_is earlier b.threads are false f.target, is.2.segment, is.2.offset, is.2.row) refl
+          rw (is.1, method_is earlier b.threads true f.frame are, method_is earlier b.threads false f.target are, is.2.segment, is.2.offset, is.2.row) refl
 
   pub fields_more : (xs ys : List Fixed) → fields_of m keep (xs ++ ys) ≡ fields_of m keep xs ++ fields_of m keep ys
   unfolding fields_of
@@ -104,13 +100,13 @@ force_cut : (earlier : List PlacedSubrecord) (index at : ℕ) (before : all.Tabl
 force_cut earlier index at before c threads are frame number = are frame number ∙ sym (thread_more earlier (record { index = index; at = at; part = Err c; before = before }) frame number)
 
 force_thread : (earlier : List PlacedSubrecord) (index at : ℕ) (before : all.Tables) (t : Thread) (old new : Threads) → AreInForce earlier old
-    → ((frame : Bool) (number : ℕ) → told new frame number ≡ cond (agree frame t.frame && nat_eq t.number number) (Some t.method) (told old frame number))
+    → ((frame : Bool) (number : ℕ) → thread_in new frame number ≡ cond (agree frame t.frame && nat_eq t.number number) (Some t.method) (thread_in old frame number))
     → AreInForce (earlier ++ record { index = index; at = at; part = Ok (subrecord.Thread t); before = before } ∷ []) new
 force_thread earlier index at before t old new are taken frame number =
     taken frame number ∙ by (agree frame t.frame && nat_eq t.number number)
     ∙ sym (thread_more earlier (record { index = index; at = at; part = Ok (subrecord.Thread t); before = before }) frame number)
   where
-    by : (b : Bool) → cond b (Some t.method) (told old frame number) ≡ or_else (cond b (Some t.method) None) (thread_after earlier frame number)
+    by : (b : Bool) → cond b (Some t.method) (thread_in old frame number) ≡ or_else (cond b (Some t.method) None) (thread_after earlier frame number)
     by true = refl
     by false = are frame number
 
@@ -163,7 +159,7 @@ module _ (s : FixupContext) (i : ℕ) (r : Record) where
     next_all x rest is = append_assoc w.done (part at x ∷ []) (placed_in es i r.place rest) ∙ ap (λ (xs : List (Read Subrecord)). w.done ++ placed_in es i r.place xs) (sym is) ∙ w.all
 
     pub walk_thread : (t : Thread) (after : ℕ) (new : Behind) → at < length b → subrecord_read wide b at ≡ Ok (subrecord.Thread t, after)
-        → ((frame : Bool) (number : ℕ) → told new.threads frame number ≡ cond (agree frame t.frame && nat_eq t.number number) (Some t.method) (told now.threads frame number)) → held new ≡ held now
+        → ((frame : Bool) (number : ℕ) → thread_in new.threads frame number ≡ cond (agree frame t.frame && nat_eq t.number number) (Some t.method) (thread_in now.threads frame number)) → held new ≡ held now
         → IsWalking s i r wide after fields old new
     walk_thread t after new low is taken piece =
         let x : Result Subrecord Cut = Ok (subrecord.Thread t) in

@@ -13,9 +13,9 @@ use Rattle.oc_omf_read.specs.declared.mentioned.Mentioned.{Mentioned}
 use Rattle.oc_omf_read.specs.declared.mentioned.Mentions.{Mentions}
 use Rattle.oc_omf_read.specs.declared.declarations.DeclarationRef.{DeclarationRef}
 use Rattle.oc_omf_read.specs.Declarations.{Declaration, all_declarations, declaration_of}
-use Rattle.oc_omf_read.specs.Mentioned.{AreNumbered, HasDeclarations, ModuleSymbol, blank, external_number, external_said, mention_of, number_among, number_held, held, seen_in, seen_more, seen_of, symbol_of, symbols_told}
+use Rattle.oc_omf_read.specs.Mentioned.{AreNumbered, HasDeclarations, ModuleSymbol, blank, external_number, external_said, held, mention_of, mentioned_symbols, number_among, number_held, seen_in, seen_more, seen_of, symbol_of}
 use Rattle.oc_omf_judge.proofs.MentionLemmas.{same_is, same_self}
-use Rattle.oc_omf_read.proofs.MentionLemmas.{AreApart, Unlike, among_push, any_told, externals_keep, number_low, seen_set, seen_with, symbols_apart, symbols_push}
+use Rattle.oc_omf_read.proofs.MentionLemmas.{AreApart, Unlike, among_push, any_mentioned, externals_keep, number_low, seen_set, seen_with, symbols_apart, symbols_push}
 
 -- ... what is held
 
@@ -52,28 +52,28 @@ module _ (ts : List Declaration) (t : Declaration) (old mid new : Mentions) (k :
     (numbered : AreNumbered mid) (number : number_among (held mid) (mention_of t) ≡ Some k)
     (symbols : map seen_of mid.symbols.items ≡ cond (list_any (same_symbol (mention_of t)) (held old)) (map seen_of old.symbols.items) (map seen_of old.symbols.items ++ blank (mention_of t) ∷ [])) where
   -- what is held with the symbol of the mention
-  pub mid_seen : map seen_of mid.symbols.items ≡ map (seen_in ts) (with_new (symbols_told ts) (mention_of t))
+  pub mid_seen : map seen_of mid.symbols.items ≡ map (seen_in ts) (with_new (mentioned_symbols ts) (mention_of t))
   mid_seen = seen_with ts (mention_of t) (map seen_of mid.symbols.items)
       (symbols
-      ∙ ap (λ (hs : List Mention). cond (list_any (same_symbol (mention_of t)) hs) (map seen_of old.symbols.items) (map seen_of old.symbols.items ++ blank (mention_of t) ∷ [])) (held_is old ts (symbols_told ts) before.symbols)
-      ∙ ap (λ (ss : List ModuleSymbol). cond (list_any (same_symbol (mention_of t)) (symbols_told ts)) ss (ss ++ blank (mention_of t) ∷ [])) before.symbols)
+      ∙ ap (λ (hs : List Mention). cond (list_any (same_symbol (mention_of t)) hs) (map seen_of old.symbols.items) (map seen_of old.symbols.items ++ blank (mention_of t) ∷ [])) (held_is old ts (mentioned_symbols ts) before.symbols)
+      ∙ ap (λ (ss : List ModuleSymbol). cond (list_any (same_symbol (mention_of t)) (mentioned_symbols ts)) ss (ss ++ blank (mention_of t) ∷ [])) before.symbols)
 
-  pub mid_held : held mid ≡ with_new (symbols_told ts) (mention_of t)
-  mid_held = held_is mid ts (with_new (symbols_told ts) (mention_of t)) mid_seen
+  pub mid_held : held mid ≡ with_new (mentioned_symbols ts) (mention_of t)
+  mid_held = held_is mid ts (with_new (mentioned_symbols ts) (mention_of t)) mid_seen
 
-  pub number_is : (list_any (same_symbol (mention_of t)) (with_new (symbols_told ts) (mention_of t)) ≡ true) × (number_of (with_new (symbols_told ts) (mention_of t)) (mention_of t) ≡ k)
-  number_is = among_some (with_new (symbols_told ts) (mention_of t)) (mention_of t) k (ap (λ (hs : List Mention). number_among hs (mention_of t)) (sym mid_held) ∙ number)
+  pub number_is : (list_any (same_symbol (mention_of t)) (with_new (mentioned_symbols ts) (mention_of t)) ≡ true) × (number_of (with_new (mentioned_symbols ts) (mention_of t)) (mention_of t) ≡ k)
+  number_is = among_some (with_new (mentioned_symbols ts) (mention_of t)) (mention_of t) k (ap (λ (hs : List Mention). number_among hs (mention_of t)) (sym mid_held) ∙ number)
 
-  externals_before : filter_map (external_number (symbols_told (ts ++ t ∷ []))) ts ≡ filter_map (external_number (symbols_told ts)) ts
+  externals_before : filter_map (external_number (mentioned_symbols (ts ++ t ∷ []))) ts ≡ filter_map (external_number (mentioned_symbols ts)) ts
   externals_before =
-      ap (λ (ms : List Mention). filter_map (external_number ms) ts) (symbols_push ts t) ∙ externals_keep (symbols_told ts) (mention_of t) ts (λ u e. any_told (mention_of u) ts ∙ e)
+      ap (λ (ms : List Mention). filter_map (external_number ms) ts) (symbols_push ts t) ∙ externals_keep (mentioned_symbols ts) (mention_of t) ts (λ u e. any_mentioned (mention_of u) ts ∙ e)
 
-  external_last : external_number (symbols_told (ts ++ t ∷ [])) t ≡ external_said k t.says
+  external_last : external_number (mentioned_symbols (ts ++ t ∷ [])) t ≡ external_said k t.says
   external_last = ap (λ (ms : List Mention). external_number ms t) (symbols_push ts t) ∙ ap (λ (n : ℕ). external_said n t.says) number_is.1
 
-  pub externals_with : filter_map (external_number (symbols_told (ts ++ t ∷ []))) (ts ++ t ∷ []) ≡ old.externals.items ++ cons_option (external_said k t.says) []
+  pub externals_with : filter_map (external_number (mentioned_symbols (ts ++ t ∷ []))) (ts ++ t ∷ []) ≡ old.externals.items ++ cons_option (external_said k t.says) []
   externals_with =
-      filter_map-append (external_number (symbols_told (ts ++ t ∷ []))) ts (t ∷ []) ∙ ap (λ (ns : List ℕ). ns ++ filter_map (external_number (symbols_told (ts ++ t ∷ []))) (t ∷ [])) (externals_before ∙ sym before.externals)
+      filter_map-append (external_number (mentioned_symbols (ts ++ t ∷ []))) ts (t ∷ []) ∙ ap (λ (ns : List ℕ). ns ++ filter_map (external_number (mentioned_symbols (ts ++ t ∷ []))) (t ∷ [])) (externals_before ∙ sym before.externals)
       ∙ ap (λ (o : Option ℕ). old.externals.items ++ cons_option o []) external_last
 
 -- ... a mention is heard
@@ -87,18 +87,18 @@ symbols_few ms (x ∷ xs) = let more = symbols_few (with_new ms x) xs in let one
     by false = let sum = length-append ms (x ∷ []) in omega (arith, sum)
 
 -- there are no more symbols than mentions
-pub few_symbols : (ts : List Declaration) → length (symbols_told ts) ≤ length ts
+pub few_symbols : (ts : List Declaration) → length (mentioned_symbols ts) ≤ length ts
 few_symbols ts = let few = symbols_few [] (map mention_of ts) in let same = length-map ts mention_of in omega (arith, few, same)
 
 pub few_held : (ts : List Declaration) (m : Mentions) → HasDeclarations ts m → length m.symbols.items ≤ length ts
 few_held ts m has =
-    let long = ap length (held_is m ts (symbols_told ts) has.symbols) in
+    let long = ap length (held_is m ts (mentioned_symbols ts) has.symbols) in
     let same = length_held m in
     let few = few_symbols ts in
     omega (arith, long, same, few)
 
-pub told_take : (declarations : List DeclarationRef) (i : ℕ) (h : DeclarationRef) → slice_get declarations i ≡ Some h → all_declarations (take (i + 1) declarations) ≡ all_declarations (take i declarations) ++ declaration_of h ∷ []
-told_take declarations i h here = ap all_declarations (take_here declarations i h here) ∙ map-append declaration_of (take i declarations) (h ∷ [])
+pub declarations_take : (declarations : List DeclarationRef) (i : ℕ) (h : DeclarationRef) → slice_get declarations i ≡ Some h → all_declarations (take (i + 1) declarations) ≡ all_declarations (take i declarations) ++ declaration_of h ∷ []
+declarations_take declarations i h here = ap all_declarations (take_here declarations i h here) ∙ map-append declaration_of (take i declarations) (h ∷ [])
 
 map_set : {X Y : Type 0} (f : X → Y) (xs : List X) (k : ℕ) (x : X) → map f (set xs k x) ≡ set (map f xs) k (f x)
 map_set f [] k x = refl
@@ -133,31 +133,31 @@ heard_more ts t old mid new k was is before numbered number symbols there said_i
     x : Mention
     x = mention_of t
 
-    mid_seen_is : map seen_of mid.symbols.items ≡ map (seen_in ts) (with_new (symbols_told ts) (mention_of t))
+    mid_seen_is : map seen_of mid.symbols.items ≡ map (seen_in ts) (with_new (mentioned_symbols ts) (mention_of t))
     mid_seen_is = mid_seen ts t old mid mid k before numbered number symbols
 
-    mid_held_is : held mid ≡ with_new (symbols_told ts) (mention_of t)
+    mid_held_is : held mid ≡ with_new (mentioned_symbols ts) (mention_of t)
     mid_held_is = mid_held ts t old mid mid k before numbered number symbols
 
-    is_number : (list_any (same_symbol (mention_of t)) (with_new (symbols_told ts) (mention_of t)) ≡ true) × (number_of (with_new (symbols_told ts) (mention_of t)) (mention_of t) ≡ k)
+    is_number : (list_any (same_symbol (mention_of t)) (with_new (mentioned_symbols ts) (mention_of t)) ≡ true) × (number_of (with_new (mentioned_symbols ts) (mention_of t)) (mention_of t) ≡ k)
     is_number = number_is ts t old mid mid k before numbered number symbols
 
     seen_was : seen_of was ≡ seen_in ts (mention_of t)
-    seen_was = map_at seen_of mid.symbols.items k was (seen_in ts (mention_of t)) (map (seen_in ts) (with_new (symbols_told ts) (mention_of t))) there mid_seen_is
-        (slice_get-map (seen_in ts) (with_new (symbols_told ts) (mention_of t)) k
-        ∙ ap (option_map (seen_in ts)) (ap (slice_get (with_new (symbols_told ts) (mention_of t))) (sym is_number.1) ∙ symbol_at (with_new (symbols_told ts) (mention_of t)) (mention_of t) is_number.0))
+    seen_was = map_at seen_of mid.symbols.items k was (seen_in ts (mention_of t)) (map (seen_in ts) (with_new (mentioned_symbols ts) (mention_of t))) there mid_seen_is
+        (slice_get-map (seen_in ts) (with_new (mentioned_symbols ts) (mention_of t)) k
+        ∙ ap (option_map (seen_in ts)) (ap (slice_get (with_new (mentioned_symbols ts) (mention_of t))) (sym is_number.1) ∙ symbol_at (with_new (mentioned_symbols ts) (mention_of t)) (mention_of t) is_number.0))
 
-    seen_is : map seen_of new.symbols.items ≡ map (seen_in (ts ++ t ∷ [])) (symbols_told (ts ++ t ∷ []))
+    seen_is : map seen_of new.symbols.items ≡ map (seen_in (ts ++ t ∷ [])) (mentioned_symbols (ts ++ t ∷ []))
     seen_is =
         ap (map seen_of) set_is ∙ map_set seen_of mid.symbols.items k is
         ∙ ap (λ (ss : List ModuleSymbol). set ss k (seen_of is)) mid_seen_is
-        ∙ ap (λ (s : ModuleSymbol). set (map (seen_in ts) (with_new (symbols_told ts) (mention_of t))) k s) (said_is ∙ ap (seen_more t.says) seen_was)
-        ∙ ap (λ (n : ℕ). set (map (seen_in ts) (with_new (symbols_told ts) (mention_of t))) n (seen_more t.says (seen_in ts (mention_of t)))) (sym is_number.1)
-        ∙ seen_set ts t (with_new (symbols_told ts) (mention_of t)) (subst AreApart (symbols_push ts t) (symbols_apart (ts ++ t ∷ []))) is_number.0
+        ∙ ap (λ (s : ModuleSymbol). set (map (seen_in ts) (with_new (mentioned_symbols ts) (mention_of t))) k s) (said_is ∙ ap (seen_more t.says) seen_was)
+        ∙ ap (λ (n : ℕ). set (map (seen_in ts) (with_new (mentioned_symbols ts) (mention_of t))) n (seen_more t.says (seen_in ts (mention_of t)))) (sym is_number.1)
+        ∙ seen_set ts t (with_new (mentioned_symbols ts) (mention_of t)) (subst AreApart (symbols_push ts t) (symbols_apart (ts ++ t ∷ []))) is_number.0
         ∙ ap (map (seen_in (ts ++ t ∷ []))) (sym (symbols_push ts t))
 
-    new_held : held new ≡ with_new (symbols_told ts) (mention_of t)
-    new_held = held_is new (ts ++ t ∷ []) (symbols_told (ts ++ t ∷ [])) seen_is ∙ symbols_push ts t
+    new_held : held new ≡ with_new (mentioned_symbols ts) (mention_of t)
+    new_held = held_is new (ts ++ t ∷ []) (mentioned_symbols (ts ++ t ∷ [])) seen_is ∙ symbols_push ts t
 
 -- a number that is held is one of a symbol
 pub number_inside : (m : Mentions) (x : Mention) (k : ℕ) → number_among (held m) x ≡ Some k → k < length m.symbols.items
@@ -186,5 +186,5 @@ heard_next declarations i d low old mid new k was is before numbered number symb
     let t : Declaration = declaration_of (get_or declarations i d) in
     let inside : k < length mid.symbols.items = number_inside mid (mention_of t) k number in
     let there : slice_get mid.symbols.items k ≡ Some was = slice_get-get_or mid.symbols.items k was inside ∙ ap (λ (m : Mentioned). Some m) (sym was_is) in
-    subst (λ (ts : List Declaration). HasDeclarations ts new) (sym (told_take declarations i (get_or declarations i d) (slice_get-get_or declarations i d low)))
+    subst (λ (ts : List Declaration). HasDeclarations ts new) (sym (declarations_take declarations i (get_or declarations i d) (slice_get-get_or declarations i d low)))
     (heard_more (all_declarations (take i declarations)) t old mid new k was is before numbered number symbols there said_is set_is maps externals)

@@ -19,11 +19,11 @@ use Rattle.oc_omf.specs.SymbolFaults as faults
 use Rattle.oc_omf.specs.SymbolFaults.{base_conditions, communal_conditions, external_conditions, externals_before, is_empty, is_other_length, is_undefined, symbol_fault, public_conditions, symbol_stage, symbol_stages, symbol_table, read_conditions}
 use Rattle.oc_omf.specs.Tables.{tables_of}
 use Rattle.oc_omf_read.specs.Declarations.{Declaration, of_external, of_public, declarations_by, declarations_in}
-use Rattle.oc_omf_read.specs.Mentioned.{mention_of, place_by, place_in, place_said, symbols_told}
+use Rattle.oc_omf_read.specs.Mentioned.{mention_of, mentioned_symbols, place_by, place_in, place_said}
 use Rattle.oc_omf_read.proofs.BindingLemmas.{places_are}
 use Rattle.oc_omf_read.proofs.ContentLemmas.{all_append, all_flat}
 use Rattle.oc_omf_judge.proofs.MentionLemmas.{same_is, same_self}
-use Rattle.oc_omf_read.proofs.MentionLemmas.{any_told}
+use Rattle.oc_omf_read.proofs.MentionLemmas.{any_mentioned}
 use Rattle.oc_omf.proofs.EntryLemmas.{numbered_at}
 use Rattle.oc_neutral.proofs.Positions.{each_at}
 
@@ -168,7 +168,7 @@ module _ (es : List Entry) (clean : first_fault (symbol_stages es) ≡ None) whe
       or_true false = refl
 
   -- each symbol of the module alone has a place
-  pub local_placed : (k : ℕ) (x : Mention) → slice_get (symbols_told (declarations_in es)) k ≡ Some x → x.local ≡ true → is_some (place_in x (declarations_in es)) ≡ true
+  pub local_placed : (k : ℕ) (x : Mention) → slice_get (mentioned_symbols (declarations_in es)) k ≡ Some x → x.local ≡ true → is_some (place_in x (declarations_in es)) ≡ true
   local_placed k x here local =
-      let m = any_there x (declarations_in es) (sym (any_told x (declarations_in es)) ∙ any_at (symbols_told (declarations_in es)) k x here) in
+      let m = any_there x (declarations_in es) (sym (any_mentioned x (declarations_in es)) ∙ any_at (mentioned_symbols (declarations_in es)) k x here) in
       subst (λ (z : Mention). is_some (place_in z (declarations_in es)) ≡ true) m.3 (told_placed m.0 m.1 m.2 (ap (λ (z : Mention). z.local) m.3 ∙ local))

@@ -10,7 +10,7 @@ use Rattle.oc_linking.specs.Numbers.{or_else}
 use Rattle.oc_omf.specs.Symbols.{Mention, number_of, same_symbol, with_new}
 use Rattle.oc_omf_read.specs.Declarations.{Declaration}
 use Rattle.oc_omf_judge.proofs.MentionLemmas.{same_is, same_self}
-use Rattle.oc_omf_read.specs.Mentioned.{ModuleSymbol, blank, external_number, external_said, length_by, length_in, length_said, mention_of, number_among, place_by, place_in, place_said, seen_in, seen_more, symbols_told}
+use Rattle.oc_omf_read.specs.Mentioned.{ModuleSymbol, blank, external_number, external_said, length_by, length_in, length_said, mention_of, mentioned_symbols, number_among, place_by, place_in, place_said, seen_in, seen_more}
 
 -- ... some symbols
 
@@ -45,8 +45,8 @@ any_new x y ms = by (list_any (same_symbol y) ms) refl
         among true f = (ap (λ (z : Mention). list_any (same_symbol z) ms) (same_is x y f) ∙ e) ∙ sym (or_true (list_any (same_symbol x) ms))
 
 -- the symbols are those that are mentioned
-pub any_told : (x : Mention) (ts : List Declaration) → list_any (same_symbol x) (symbols_told ts) ≡ list_any (same_symbol x) (map mention_of ts)
-any_told x ts = by [] (map mention_of ts)
+pub any_mentioned : (x : Mention) (ts : List Declaration) → list_any (same_symbol x) (mentioned_symbols ts) ≡ list_any (same_symbol x) (map mention_of ts)
+any_mentioned x ts = by [] (map mention_of ts)
   where
     by : (init ms : List Mention) → list_any (same_symbol x) (fold with_new init ms) ≡ (list_any (same_symbol x) init || list_any (same_symbol x) ms)
     by init [] = sym (or_false (list_any (same_symbol x) init))
@@ -56,7 +56,7 @@ any_told x ts = by [] (map mention_of ts)
         over true b c = refl
         over false b c = refl
 
-pub symbols_push : (ts : List Declaration) (t : Declaration) → symbols_told (ts ++ t ∷ []) ≡ with_new (symbols_told ts) (mention_of t)
+pub symbols_push : (ts : List Declaration) (t : Declaration) → mentioned_symbols (ts ++ t ∷ []) ≡ with_new (mentioned_symbols ts) (mention_of t)
 symbols_push ts t = ap (fold with_new []) (map-append mention_of ts (t ∷ [])) ∙ fold-append with_new [] (map mention_of ts) (mention_of t ∷ [])
 
 -- ... each once
@@ -82,7 +82,7 @@ apart_new ms y apart = by (list_any (same_symbol y) ms) refl
     by true e = apart
     by false e = apart_push ms y apart e
 
-pub symbols_apart : (ts : List Declaration) → AreApart (symbols_told ts)
+pub symbols_apart : (ts : List Declaration) → AreApart (mentioned_symbols ts)
 symbols_apart ts = by [] (map mention_of ts) tt
   where
     by : (init ms : List Mention) → AreApart init → AreApart (fold with_new init ms)
@@ -166,20 +166,20 @@ length_none x (t ∷ ts) new =
     let both = unlike_or (same_symbol x (mention_of t)) (list_any (same_symbol x) (map mention_of ts)) new in
     ap (λ b. or_else (cond b (length_said t.says) None) (length_in x ts)) both.0 ∙ length_none x ts both.1
 
-seen_none : (ts : List Declaration) (x : Mention) → Unlike x (symbols_told ts) → seen_in ts x ≡ blank x
+seen_none : (ts : List Declaration) (x : Mention) → Unlike x (mentioned_symbols ts) → seen_in ts x ≡ blank x
 seen_none ts x new =
-    let new_told : Unlike x (map mention_of ts) = sym (any_told x ts) ∙ new in
+    let new_told : Unlike x (map mention_of ts) = sym (any_mentioned x ts) ∙ new in
     ap (λ (o : Option (ℕ × ℕ)). record { local = x.local; name = x.name; place = o; length = length_in x ts }) (place_none x ts new_told)
     ∙ ap (λ (o : Option ℕ). record { local = x.local; name = x.name; place = None; length = o }) (length_none x ts new_told)
 
 -- what is seen of the symbols, with the next one, where that is new
-pub seen_with : (ts : List Declaration) (y : Mention) (seen : List ModuleSymbol) → seen ≡ cond (list_any (same_symbol y) (symbols_told ts)) (map (seen_in ts) (symbols_told ts)) (map (seen_in ts) (symbols_told ts) ++ blank y ∷ [])
-    → seen ≡ map (seen_in ts) (with_new (symbols_told ts) y)
-seen_with ts y seen is = is ∙ by (list_any (same_symbol y) (symbols_told ts)) refl
+pub seen_with : (ts : List Declaration) (y : Mention) (seen : List ModuleSymbol) → seen ≡ cond (list_any (same_symbol y) (mentioned_symbols ts)) (map (seen_in ts) (mentioned_symbols ts)) (map (seen_in ts) (mentioned_symbols ts) ++ blank y ∷ [])
+    → seen ≡ map (seen_in ts) (with_new (mentioned_symbols ts) y)
+seen_with ts y seen is = is ∙ by (list_any (same_symbol y) (mentioned_symbols ts)) refl
   where
-    by : (b : Bool) → list_any (same_symbol y) (symbols_told ts) ≡ b → cond b (map (seen_in ts) (symbols_told ts)) (map (seen_in ts) (symbols_told ts) ++ blank y ∷ []) ≡ map (seen_in ts) (cond b (symbols_told ts) (symbols_told ts ++ y ∷ []))
+    by : (b : Bool) → list_any (same_symbol y) (mentioned_symbols ts) ≡ b → cond b (map (seen_in ts) (mentioned_symbols ts)) (map (seen_in ts) (mentioned_symbols ts) ++ blank y ∷ []) ≡ map (seen_in ts) (cond b (mentioned_symbols ts) (mentioned_symbols ts ++ y ∷ []))
     by true e = refl
-    by false e = ap (λ (s : ModuleSymbol). map (seen_in ts) (symbols_told ts) ++ s ∷ []) (sym (seen_none ts y e)) ∙ sym (map-append (seen_in ts) (symbols_told ts) (y ∷ []))
+    by false e = ap (λ (s : ModuleSymbol). map (seen_in ts) (mentioned_symbols ts) ++ s ∷ []) (sym (seen_none ts y e)) ∙ sym (map-append (seen_in ts) (mentioned_symbols ts) (y ∷ []))
 
 -- ... one mention more
 

@@ -33,7 +33,7 @@ use Rattle.oc_omf_read.specs.Fixing.{added_by, framed_as}
 use Rattle.oc_omf_read.specs.Given.{given_at}
 use Rattle.oc_omf_read.specs.Declarations.{declarations_in}
 use Rattle.oc_omf_read.proofs.ContentLemmas.{indexed_is}
-use Rattle.oc_omf_read.proofs.CountLemmas.{few_told}
+use Rattle.oc_omf_read.proofs.CountLemmas.{few_declarations}
 use Rattle.oc_omf_read.proofs.HearLemmas.{few_symbols}
 use Rattle.oc_omf_read.proofs.SymbolLemmas.{as_many as as_many_symbols}
 use Rattle.oc_omf_read.proofs.FixLemmas.{field_number, reloc_as}
@@ -59,7 +59,7 @@ long_enough entries vectors are s g there stored = are.sizes s g there ∙ ap (�
 pub few_symbols_in : (file : List ℕ) → IsModule file → first_fault (symbol_stages (entries_in file)) ≡ None → length (symbols_in (entries_in file)) ≤ 4294967295
 few_symbols_in file head symbols =
     let many = as_many_symbols (entries_in file) symbols in
-    let told = few_told file in
+    let told = few_declarations file in
     let few = few_symbols (declarations_in (entries_in file)) in
     let small = head.small in
     omega (arith, many, told, few, small)

@@ -33,7 +33,7 @@ use Rattle.oc_omf_read.specs.declared.mentioned.Mentions.{Mentions}
 use Rattle.oc_omf_read.specs.Bindings.{binding_seen, place_binding, symbol_seen}
 use Rattle.oc_omf_read.specs.Built.{symboled}
 use Rattle.oc_omf_read.specs.Declarations.{declarations_in}
-use Rattle.oc_omf_read.specs.Mentioned.{HasDeclarations, ModuleSymbol, seen_in, seen_of, symbols_told}
+use Rattle.oc_omf_read.specs.Mentioned.{HasDeclarations, ModuleSymbol, mentioned_symbols, seen_in, seen_of}
 use Rattle.oc_omf_read.proofs.BindingLemmas.{binding_is, mentions_are}
 use Rattle.oc_omf_read.proofs.LocalLemmas.{local_placed}
 use Rattle.oc_omf_judge.proofs.MentionLemmas.{same_self}
@@ -84,7 +84,7 @@ apart_at (m ∷ ms) (suc j) (suc k) x y apart low at_j at_k same = apart_at ms j
 
 module _ (es : List Entry) (clean : first_fault (symbol_stages es) ≡ None) where
   abbrev ms : List Mention
-  ms = symbols_told (declarations_in es)
+  ms = mentioned_symbols (declarations_in es)
 
   abbrev ss : List parts.Symbol
   ss = symbols_in es

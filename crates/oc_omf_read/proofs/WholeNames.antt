@@ -185,8 +185,8 @@ entry_bytes r bytes = by (class_of r.kind) refl
     by class.Nothing is = nothing class.Nothing is (ap declarations_by (said_by_class r class.Nothing is))
 
 -- each mention of a module
-pub told_bytes : (file : List ℕ) → AreBytes file → AllByRecursion IsOfBytes (declarations_in (entries_in file))
+pub declarations_bytes : (file : List ℕ) → AreBytes file → AllByRecursion IsOfBytes (declarations_in (entries_in file))
 unfolding declarations_in
-told_bytes file bytes = all_flat IsOfBytes declarations_by (entries_in file) (λ i e here.
+declarations_bytes file bytes = all_flat IsOfBytes declarations_by (entries_in file) (λ i e here.
     let m = said_here file i e here in
     subst (λ (x : Entry). AllByRecursion IsOfBytes (declarations_by x)) (sym m.is) (entry_bytes (entry_of file m.at) (range_bytes file (m.at + 3) (end_of_entry file m.at - 1) bytes)))

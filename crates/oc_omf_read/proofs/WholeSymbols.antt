@@ -43,7 +43,7 @@ use Rattle.oc_omf_read.specs.Built.{started}
 use Rattle.oc_omf_read.specs.Classes.{class_of}
 use Rattle.oc_omf_read.specs.Defined.{said}
 use Rattle.oc_omf_read.specs.Declarations.{Declaration, of_external, of_public, declarations_by, declarations_in}
-use Rattle.oc_omf_read.specs.Mentioned.{length_in, length_said, mention_of, place_in, place_said, seen_in, symbols_told}
+use Rattle.oc_omf_read.specs.Mentioned.{length_in, length_said, mention_of, mentioned_symbols, place_in, place_said, seen_in}
 use Rattle.oc_omf_read.proofs.BuildLemmas.{section_at, segment_there}
 use Rattle.oc_omf_read.proofs.ClassLemmas.{publics_by, read_in_file}
 use Rattle.oc_omf_read.proofs.ContentLemmas.{all_append, all_flat, segments_front, size_before}
@@ -51,8 +51,8 @@ use Rattle.oc_omf_read.proofs.DefinedLemmas.{said_by_class, tables_upto}
 use Rattle.oc_omf_read.proofs.LocalLemmas.{all_lists, any_at, any_there, behind, stage_clean}
 use Rattle.oc_omf_read.proofs.SumLemmas.{said_here}
 use Rattle.oc_omf_read.proofs.SymbolLemmas.{symbol_here, symbol_is, as_many}
-use Rattle.oc_omf_read.proofs.WholeNames.{IsOfBytes, all_has, told_bytes}
-use Rattle.oc_omf_read.proofs.MentionLemmas.{any_told}
+use Rattle.oc_omf_read.proofs.WholeNames.{IsOfBytes, all_has, declarations_bytes}
+use Rattle.oc_omf_read.proofs.MentionLemmas.{any_mentioned}
 
 -- ... alignments
 
@@ -326,7 +326,7 @@ module _ (file : List ℕ) (bytes : AreBytes file) (sections : stage_fault (sect
       by (Some q) n e f = let m = place_from x (declarations_in es) q e in placed x.local q ((each_at IsWhole (declarations_in es) m.0 m.1 told_whole m.2).lies q m.3)
       by None (Some size) e f =
           let m = length_from x (declarations_in es) size f in
-          ((each_at IsOfBytes (declarations_in es) m.0 m.1 (told_bytes file bytes) m.2).length size m.3, natural_aligns size)
+          ((each_at IsOfBytes (declarations_in es) m.0 m.1 (declarations_bytes file bytes) m.2).length size m.3, natural_aligns size)
       by None None e f = tt
 
   mention_there : (xs : List Mention) (k : ℕ) → k < length xs → (x : Mention) × (slice_get xs k ≡ Some x)
@@ -334,11 +334,11 @@ module _ (file : List ℕ) (bytes : AreBytes file) (sections : stage_fault (sect
   mention_there (x ∷ xs) zero low = (x, refl)
   mention_there (x ∷ xs) (suc k) low = mention_there xs k (omega (arith, low))
 
-  seen_whole : (k : ℕ) (x : Mention) → slice_get (symbols_told (declarations_in es)) k ≡ Some x → k < 4294967296 → IsSymbol object (symbol_seen k (seen_in (declarations_in es) x))
+  seen_whole : (k : ℕ) (x : Mention) → slice_get (mentioned_symbols (declarations_in es)) k ≡ Some x → k < 4294967296 → IsSymbol object (symbol_seen k (seen_in (declarations_in es) x))
   seen_whole k x here few =
-      let m = any_there es symbols x (declarations_in es) (sym (any_told x (declarations_in es)) ∙ any_at es symbols (symbols_told (declarations_in es)) k x here) in
+      let m = any_there es symbols x (declarations_in es) (sym (any_mentioned x (declarations_in es)) ∙ any_at es symbols (mentioned_symbols (declarations_in es)) k x here) in
       let whole = each_at IsWhole (declarations_in es) m.0 m.1 told_whole m.2 in
-      let named = each_at IsOfBytes (declarations_in es) m.0 m.1 (told_bytes file bytes) m.2 in
+      let named = each_at IsOfBytes (declarations_in es) m.0 m.1 (declarations_bytes file bytes) m.2 in
       let name : m.1.name ≡ x.name = ap (λ (y : Mention). y.name) m.3 in
       record {
         named = subst (λ (n : List ℕ). n ≢ []) name whole.full;
@@ -353,7 +353,7 @@ module _ (file : List ℕ) (bytes : AreBytes file) (sections : stage_fault (sect
   symbol_whole few k s here =
       let low = slice_get_within (symbols_in es) k s here in
       let many = as_many es symbols in
-      let x = mention_there (symbols_told (declarations_in es)) k (omega (arith, low, many)) in
+      let x = mention_there (mentioned_symbols (declarations_in es)) k (omega (arith, low, many)) in
       let is : symbol_of t (k, x.0) ≡ s = same_Some (symbol_of t (k, x.0)) s (sym (symbol_here es symbols k x.0 x.1) ∙ here) in
       subst (λ (y : parts.Symbol). IsSymbol object (computed_symbol (symbols_in es) y)) is
       (subst (IsSymbol object) (sym (symbol_is es symbols k x.0)) (seen_whole k x.0 x.1 (omega (arith, low, few))))

@@ -10,14 +10,11 @@ use Rattle.oc_shows.specs.Computed.{position_of}
 use Rattle.oc_neutral.specs.declared.reloc.Target.{Target}
 use Rattle.oc_neutral.specs.declared.reloc.Target.TheVariants as target
 use Rattle.oc_omf.specs.declared.constants.TheConstants.{OFFSET_32}
-use Rattle.oc_omf.specs.declared.structures.Datum.{Datum}
-use Rattle.oc_omf.specs.declared.structures.Datum.TheVariants as datum
 use Rattle.oc_omf.specs.declared.structures.Fixup.{Fixup}
 use Rattle.oc_omf.specs.declared.structures.Method.{Method}
 use Rattle.oc_omf.specs.declared.structures.Segment.{Segment}
 use Rattle.oc_omf.specs.declared.threads.Threads.{Threads}
 use Rattle.oc_omf.specs.Entries.{entries_in}
-use Rattle.oc_omf.specs.Known.{told}
 use Rattle.oc_omf.specs.Sections.{segment_kind}
 use Rattle.oc_omf.specs.Tables.{Tables, indexed, tables_of}
 use Rattle.oc_omf.specs.Targets.{Meaning, external_at, is_flat, meaning_of, same_named, target_of}
@@ -32,6 +29,7 @@ use Rattle.oc_omf_read.specs.Given.{against}
 use Rattle.oc_omf_read.specs.Declarations.{declarations_in}
 use Rattle.oc_omf_read.specs.Mentioned.{HasDeclarations, ModuleSymbol}
 use Rattle.oc_omf_judge.specs.Defined.{IsDefined}
+use Rattle.oc_omf_judge.specs.Threads.{method_by}
 
 -- what is known is what the module gives
 pub record Sees (s : FixupContext) : Type 0 where
@@ -64,17 +62,12 @@ symbol_named s number = option_map_or (λ (place : ℕ × ℕ). if s.local then 
 abbrev pub aim_as : Aim → Target × rules.Named
 aim_as a = (a.target, named_as a.named)
 
--- the method of a frame or a target, its own or that of a thread that is held
-abbrev pub method_told : Threads → Bool → Datum → Option Method
-method_told threads frame (datum.Explicit method) = Some method
-method_told threads frame (datum.Thread number) = told threads frame number
+-- the method of the frame of a fixup, and that of its target, by the threads that are held
+abbrev pub method_of_frame : Threads → Fixup → Option Method
+method_of_frame threads f = method_by threads true f.frame
 
--- the methods of the frame and the target of a fixup
-abbrev pub frame_told : Threads → Fixup → Option Method
-frame_told threads f = method_told threads true f.frame
-
-abbrev pub target_told : Threads → Fixup → Option Method
-target_told threads f = method_told threads false f.target
+abbrev pub method_of_target : Threads → Fixup → Option Method
+method_of_target threads f = method_by threads false f.target
 
 -- ... frames
 
@@ -104,14 +97,18 @@ fix_to m segment f frame aim = option_map (λ (framed : FixupFrame). record { fr
 abbrev pub fix_by : Meaning → ℕ → Fixup → Option Method → Option Method → Option Fix
 fix_by m segment f frame target = option_and_then (fix_to m segment f frame) (option_and_then (aim_by m) target)
 
+-- the same, with the frame and the target by the threads that are held
+abbrev pub fix_by_threads : Meaning → Threads → ℕ → Fixup → Option Fix
+fix_by_threads m threads segment f = fix_by m segment f (method_of_frame threads f) (method_of_target threads f)
+
 -- the segment of an index exists, and is kept
 abbrev pub is_kept : Tables → Keep → ℕ → Bool
 is_kept t keep segment = option_map_or (λ (s : Segment). keeps keep (segment_kind t segment s)) (indexed t.segments segment) false
 
--- the same of one that is kept, where the fixup is of the location type that we have
+-- what a fixup of data of a segment that is kept does, with that frame and that target, where it is of the location type that we have
 unfoldable pub fix_for : Meaning → Keep → ℕ → Fixup → Option Method → Option Method → Option Fix
 fix_for m keep segment f frame target = if nat_eq f.location OFFSET_32 && is_kept m.tables keep segment then fix_by m segment f frame target else None
 
--- the same, by the threads that are held
-abbrev pub fix_told : Meaning → Keep → Threads → ℕ → Fixup → Option Fix
-fix_told m keep threads segment f = fix_for m keep segment f (frame_told threads f) (target_told threads f)
+-- the same, with the frame and the target by the threads that are held
+abbrev pub fix_for_threads : Meaning → Keep → Threads → ℕ → Fixup → Option Fix
+fix_for_threads m keep threads segment f = fix_for m keep segment f (method_of_frame threads f) (method_of_target threads f)

@@ -21,7 +21,7 @@ use Rattle.oc_omf_read.specs.declared.fix.Fix.{Fix}
 use Rattle.oc_omf_read.specs.declared.fixes.FixupContext.{FixupContext}
 use Rattle.oc_omf_read.specs.declared.pieces.Piece.{Piece}
 use Rattle.oc_omf_read.specs.declared.searched.Searched.{Searched}
-use Rattle.oc_omf_read.specs.Aims.{fix_for, fix_told, frame_told, meaning_seen, target_told}
+use Rattle.oc_omf_read.specs.Aims.{fix_for, fix_for_threads, meaning_seen, method_of_frame, method_of_target}
 use Rattle.oc_omf_read.specs.Given.{given_at}
 use Rattle.oc_omf_read.specs.Pieces.{ArePieces, IsPiece, row_in}
 
@@ -57,12 +57,12 @@ held b = option_map (λ (s : Searched). s.piece) b.piece
 
 -- what a fixup after what is held does
 abbrev pub fix_behind : Meaning → Keep → Behind → Fixup → Option Fix
-fix_behind m keep b f = option_and_then (λ (p : Piece). fix_told m keep b.threads p.segment f) (held b)
+fix_behind m keep b f = option_and_then (λ (p : Piece). fix_for_threads m keep b.threads p.segment f) (held b)
 
 -- the fields of a fixup after what is held
 abbrev pub fields_behind : Meaning → Keep → Behind → Fixup → List FixupField
 fields_behind m keep b f =
-    option_map_or (λ (p : Piece). fields_by m keep p.segment p.offset (row_in p.data) f (frame_told b.threads f) (target_told b.threads f)) (held b) []
+    option_map_or (λ (p : Piece). fields_by m keep p.segment p.offset (row_in p.data) f (method_of_frame b.threads f) (method_of_target b.threads f)) (held b) []
 
 -- data lie in a section that is small enough
 abbrev pub IsLow : Piece → Type 0

@@ -18,8 +18,8 @@ abbrev pub mention_of : Declaration → Mention
 mention_of t = record { local = t.local; name = t.name }
 
 -- the symbols that are mentioned, once each, in the order of first mention
-abbrev pub symbols_told : List Declaration → List Mention
-symbols_told ts = fold with_new [] (map mention_of ts)
+abbrev pub mentioned_symbols : List Declaration → List Mention
+mentioned_symbols ts = fold with_new [] (map mention_of ts)
 
 -- where a mention defines a symbol, by the index of the segment and the offset; and where the first of some mentions does
 abbrev pub place_said : DeclarationKind → Option (ℕ × ℕ)
@@ -111,6 +111,6 @@ external_number symbols t = external_said (number_of symbols (mention_of t)) t.s
 
 -- what is held of some mentions
 pub record HasDeclarations (ts : List Declaration) (m : Mentions) : Type 0 where
-  pub symbols : all_seen m ≡ map (seen_in ts) (symbols_told ts)
+  pub symbols : all_seen m ≡ map (seen_in ts) (mentioned_symbols ts)
   pub numbered : AreNumbered m
-  pub externals : m.externals.items ≡ filter_map (external_number (symbols_told ts)) ts
+  pub externals : m.externals.items ≡ filter_map (external_number (mentioned_symbols ts)) ts

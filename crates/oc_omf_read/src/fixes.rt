@@ -2,6 +2,7 @@
 ghost use Rattle.std.specs.Prelude.{◌≡◌, true, false};
 ghost use Rattle.std.specs.Option.{option_and_then, option_map};
 ghost use Rattle.oc_omf.specs.Targets as targets;
+ghost use Rattle.oc_omf_judge.specs.Threads.{method_by};
 ghost use Rattle.oc_omf_read.specs.Aims as aims;
 ghost use Rattle.oc_omf_read.specs.Mentioned.{seen_of};
 
@@ -45,7 +46,7 @@ pub struct FixupContext<'s, 'f> {
 
 // the method of a frame or a target, its own or its thread's
 fn method_of(threads: &Threads, frame: bool, datum: Datum) -> Option<Method>
-    ensures { result ≡ aims.method_told threads.now frame datum }
+    ensures { result ≡ method_by threads.now frame datum }
 {
     match datum {
         Datum::Explicit(method) => Some(method),
@@ -164,7 +165,7 @@ fn framed_of(
     target: Named,
 ) -> Option<FixupFrame>
     requires { aims.Sees context.now }
-    ensures { result ≡ aims.framed_of (aims.meaning_seen context.now) segment fixup.now (aims.frame_told threads.now fixup.now) (aims.named_as target) }
+    ensures { result ≡ aims.framed_of (aims.meaning_seen context.now) segment fixup.now (aims.method_of_frame threads.now fixup.now) (aims.named_as target) }
 {
     if !fixup.segment_relative {
         return Some(FixupFrame::Own);
@@ -178,7 +179,7 @@ fn framed_of(
 // what the target of a fixup is
 fn target_of(context: &FixupContext, threads: &Threads, fixup: &Fixup) -> Option<Aim>
     requires { aims.Sees context.now }
-    ensures { option_map aims.aim_as result ≡ option_and_then (aims.aim_by (aims.meaning_seen context.now)) (aims.target_told threads.now fixup.now) }
+    ensures { option_map aims.aim_as result ≡ option_and_then (aims.aim_by (aims.meaning_seen context.now)) (aims.method_of_target threads.now fixup.now) }
 {
     match method_of(threads, false, fixup.target) {
         Some(method) => aim_of(context, method),
@@ -195,7 +196,7 @@ fn fix_to(
     aim: Aim,
 ) -> Option<Fix>
     requires { aims.Sees context.now }
-    ensures { result ≡ aims.fix_to (aims.meaning_seen context.now) segment fixup.now (aims.frame_told threads.now fixup.now) (aims.aim_as aim) }
+    ensures { result ≡ aims.fix_to (aims.meaning_seen context.now) segment fixup.now (aims.method_of_frame threads.now fixup.now) (aims.aim_as aim) }
 {
     match framed_of(context, threads, segment, fixup, aim.named) {
         Some(framed) => Some(Fix {
@@ -210,7 +211,7 @@ fn fix_to(
 // what a fixup of data of a segment does
 fn fix_by(context: &FixupContext, threads: &Threads, segment: u16, fixup: &Fixup) -> Option<Fix>
     requires { aims.Sees context.now }
-    ensures { result ≡ aims.fix_by (aims.meaning_seen context.now) segment fixup.now (aims.frame_told threads.now fixup.now) (aims.target_told threads.now fixup.now) }
+    ensures { result ≡ aims.fix_by_threads (aims.meaning_seen context.now) threads.now segment fixup.now }
 {
     match target_of(context, threads, fixup) {
         Some(aim) => fix_to(context, threads, segment, fixup, aim),
@@ -243,7 +244,7 @@ pub(crate) fn fix_of(
     fixup: &Fixup,
 ) -> Option<Fix>
     requires { aims.Sees context.now }
-    ensures { result ≡ aims.fix_told (aims.meaning_seen context.now) context.now.keep threads.now segment fixup.now }
+    ensures { result ≡ aims.fix_for_threads (aims.meaning_seen context.now) context.now.keep threads.now segment fixup.now }
 {
     if fixup.location == OFFSET_32 && is_kept(context, segment) {
         return fix_by(context, threads, segment, fixup);

@@ -8,7 +8,7 @@ use Rattle.oc_omf.specs.Entries.{entries_in}
 use Rattle.oc_omf_read.specs.declared.mentioned.Mentioned.{Mentioned}
 use Rattle.oc_omf_read.specs.Built.{symboled}
 use Rattle.oc_omf_read.specs.Declarations.{declarations_in}
-use Rattle.oc_omf_read.proofs.CountLemmas.{few_told}
+use Rattle.oc_omf_read.proofs.CountLemmas.{few_declarations}
 use Rattle.oc_omf_read.proofs.HearLemmas.{few_held}
 use Rattle.oc_omf_read.proofs.SymbolLemmas.{symbol_ready, symbols_room}
 use Rattle.oc_omf_read.proofs.built_symbols.add_symbol.Goals as goal
@@ -16,7 +16,7 @@ use Rattle.oc_omf_read.proofs.built_symbols.add_symbol.Goals as goal
 pub overflow_cast-k : goal.overflow_cast-k
 overflow_cast-k c =
     let held = few_held (declarations_in (entries_in c.args.omf.now)) c.args.mentions.now c.requires.declarations in
-    let told = few_told c.args.omf.now in
+    let told = few_declarations c.args.omf.now in
     let small = c.is_module.ensures.small in
     let low = c.requires.there in
     omega (arith, held, told, small, low)
@@ -24,7 +24,7 @@ overflow_cast-k c =
 pub add_new_symbol-requires-clause-room : goal.add_new_symbol-requires-clause-room
 add_new_symbol-requires-clause-room c =
     let held = few_held (declarations_in (entries_in c.args.omf.now)) c.args.mentions.now c.requires.declarations in
-    let told = few_told c.args.omf.now in
+    let told = few_declarations c.args.omf.now in
     let small = c.is_module.ensures.small in
     let low = c.requires.there in
     let long = ap (λ (d : Draft). length d.object.symbols) c.requires.before in

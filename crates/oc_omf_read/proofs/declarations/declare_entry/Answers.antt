@@ -2,7 +2,7 @@
 use Rattle.std.proofs.Common.{◌++◌, false, true, List, sym, ◌∙◌, ap, append-nil}
 use Rattle.std.proofs.lemmas.Result.{on_ok_weaker}
 use Rattle.oc_omf_read.specs.Declarations.{Declaration, all_declarations, public_declarations}
-use Rattle.oc_omf_read.proofs.DeclarationLemmas.{communals_are, externals_are, local_externals_are, local_publics_are, nothing_told, publics_are}
+use Rattle.oc_omf_read.proofs.DeclarationLemmas.{communals_are, externals_are, local_externals_are, local_publics_are, no_declarations, publics_are}
 use Rattle.oc_omf_read.proofs.declarations.declare_entry.Goals as goal
 
 pub returns-in-Publics : goal.returns-in-Publics
@@ -28,4 +28,4 @@ returns-in-Communals c = on_ok_weaker c.declare_communals.result (λ h. h ∙ ap
 
 pub returns-in-Names : goal.returns-in-Names
 returns-in-Names c =
-    sym (append-nil (all_declarations c.args.declarations.now.items)) ∙ ap (λ (ts : List Declaration). all_declarations c.args.declarations.now.items ++ ts) (sym (nothing_told c.args.entry.now c.class_of.result c.in-Names.is (sym c.class_of.ensures)))
+    sym (append-nil (all_declarations c.args.declarations.now.items)) ∙ ap (λ (ts : List Declaration). all_declarations c.args.declarations.now.items ++ ts) (sym (no_declarations c.args.entry.now c.class_of.result c.in-Names.is (sym c.class_of.ensures)))

@@ -5,7 +5,7 @@ use Rattle.oc_omf.specs.Structures.{external_read}
 use Rattle.oc_omf.proofs.EachLemmas.{each_begin, each_end, each_from, each_more}
 use Rattle.oc_omf_read.specs.Declarations.{all_declarations, of_external}
 use Rattle.oc_omf_read.proofs.GoesLemmas.{external_goes}
-use Rattle.oc_omf_read.proofs.DeclarationLemmas.{told_more}
+use Rattle.oc_omf_read.proofs.DeclarationLemmas.{declarations_more}
 use Rattle.oc_omf_read.proofs.declarations.declare_externals.Goals as goal
 
 pub loop-at-smaller-in-Ok : goal.loop-at-smaller-in-Ok
@@ -19,7 +19,7 @@ loop-at-preserved-in-Ok c =
     let b = c.args.contents.now in
     let low : c.loop-at.at < length b = omega arith in
     let more = each_more (external_read c.args.local) b (external_goes c.args.local b) c.loop-at.at low _ c.in-Ok.after (c.in-Ok.ensures c.args.local) in
-    told_more of_external c.loop-at.declarations.items c.push.new.self.items _ (record { local = c.args.local; name = c.in-Ok.name.now; communal = None }) (all_read (each_from (external_read c.args.local) b c.in-Ok.after)) c.in_ok-push-in-Ok.ensures.items refl
+    declarations_more of_external c.loop-at.declarations.items c.push.new.self.items _ (record { local = c.args.local; name = c.in-Ok.name.now; communal = None }) (all_read (each_from (external_read c.args.local) b c.in-Ok.after)) c.in_ok-push-in-Ok.ensures.items refl
     ∙ ap (λ xs. all_declarations c.loop-at.declarations.items ++ map of_external (all_read xs)) (sym more) ∙ c.loop-at.invariant
 
 pub returns : goal.returns

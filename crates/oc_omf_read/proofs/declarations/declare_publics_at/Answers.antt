@@ -5,7 +5,7 @@ use Rattle.oc_omf.specs.Structures.{public_read}
 use Rattle.oc_omf.proofs.EachLemmas.{each_behind, each_end, each_from, each_more}
 use Rattle.oc_omf_read.specs.Declarations.{all_declarations, of_public}
 use Rattle.oc_omf_read.proofs.GoesLemmas.{public_goes}
-use Rattle.oc_omf_read.proofs.DeclarationLemmas.{told_more}
+use Rattle.oc_omf_read.proofs.DeclarationLemmas.{declarations_more}
 use Rattle.oc_omf_read.proofs.declarations.declare_publics_at.Goals as goal
 
 pub loop-at-smaller-in-Ok : goal.loop-at-smaller-in-Ok
@@ -19,7 +19,7 @@ loop-at-preserved-in-Ok c =
     let b = c.args.contents.now in
     let low : c.loop-at.at < length b = omega arith in
     let more = each_more (public_read c.args.wide c.args.local c.args.segment) b (public_goes c.args.wide c.args.local c.args.segment b) c.loop-at.at low _ c.in-Ok.after (c.in-Ok.ensures c.args.local c.args.segment) in
-    told_more of_public c.loop-at.declarations.items c.push.new.self.items _ _ (all_read (each_from (public_read c.args.wide c.args.local c.args.segment) b c.in-Ok.after)) c.in_ok-push-in-Ok.ensures.items refl
+    declarations_more of_public c.loop-at.declarations.items c.push.new.self.items _ _ (all_read (each_from (public_read c.args.wide c.args.local c.args.segment) b c.in-Ok.after)) c.in_ok-push-in-Ok.ensures.items refl
     ∙ ap (λ xs. all_declarations c.loop-at.declarations.items ++ map of_public (all_read xs)) (sym more) ∙ c.loop-at.invariant
 
 pub returns : goal.returns

@@ -9,14 +9,14 @@ use Rattle.oc_omf.specs.Rules.{omf_dialect}
 use Rattle.oc_omf.specs.Tables.{tables_of}
 use Rattle.oc_omf_read.specs.Contents.{AreStored}
 use Rattle.oc_omf_read.specs.Declarations.{declaration_of}
-use Rattle.oc_omf_read.proofs.CountLemmas.{few_told}
+use Rattle.oc_omf_read.proofs.CountLemmas.{few_declarations}
 use Rattle.oc_omf_read.proofs.StartLemmas.{is_started}
 use Rattle.oc_omf_read.proofs.WholeFile.{read_complete, read_readable, read_shows}
 use Rattle.oc_omf_read.proofs.reader.object_of.Goals as goal
 
 pub mentions_of-requires : goal.mentions_of-requires
 mentions_of-requires c =
-    let told = few_told c.args.omf.now in
+    let told = few_declarations c.args.omf.now in
     let same = ap length (sym c.in_ok-declarations.ensures) ∙ length-map c.in_ok-declarations.declarations.items declaration_of in
     let value = ap length c.as_slice.ensures.value in
     let small = c.is_module.ensures.small in
