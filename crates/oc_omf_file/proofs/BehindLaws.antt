@@ -112,8 +112,8 @@ pub record IsDataAt (n : Object) (front : List Output) (k : ℕ) (s : Section) (
   pub earlier : (i : ℕ) (o : Output) → slice_get front i ≡ Some o → EndsBy k from o
 
 -- all that is defined
-abbrev pub told : Object → Tables
-told n = record {
+abbrev pub made_tables : Object → Tables
+made_tables n = record {
   names = names_of n;
   segments = all_segments n;
   groups = flat;
@@ -132,7 +132,7 @@ Behind n front (output.Communal k s) = IsSymbolAt n front (output.Communal k s)
 Behind n front (output.Public k s) = IsSymbolAt n front (output.Public k s)
 Behind n front (output.Data k s from to) = IsDataAt n front k s from to
 Behind n front (output.Fixups k s from to) = (before : List Output) × (front ≡ before ++ output.Data k s from to ∷ []) × IsDataAt n before k s from to
-Behind n front output.End = given n front ≡ told n
+Behind n front output.End = given n front ≡ made_tables n
 
 -- ... steps
 

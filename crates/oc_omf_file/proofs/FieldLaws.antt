@@ -43,9 +43,9 @@ use Rattle.oc_omf.specs.Targets.{target_of}
 use Rattle.oc_omf.specs.Fields.{row_of, aim_of, field_of, field_by, relocates}
 use Rattle.oc_omf_file.specs.Fixups.{written_reloc, row_by, number_or, number_by, field_number, field_patch, field_patches, raw_of, target_method}
 use Rattle.oc_omf_file.proofs.ListLemmas.{find_fails, find_there}
-use Rattle.oc_omf_file.proofs.BehindLaws.{told}
+use Rattle.oc_omf_file.proofs.BehindLaws.{made_tables}
 use Rattle.oc_omf_file.proofs.CodedLaws.{IsForOmf, omf_reloc, meets, framed, row_is, row_takes, width_is, inside, apart_patches}
-use Rattle.oc_omf_file.proofs.SectionLaws.{made_contents, has_bytes, contents_told, size_told}
+use Rattle.oc_omf_file.proofs.SectionLaws.{made_contents, has_bytes, contents_made, size_made}
 use Rattle.oc_omf_file.proofs.SeenLaws.{shown}
 use Rattle.oc_omf_file.proofs.FixedLaws.{entries, IsFixed, has_field as field_is, reloc_of, fixups_are, fixup_there}
 use Rattle.oc_omf_file.proofs.TargetLaws.{meant, row_read, IsAimed}
@@ -199,7 +199,7 @@ module _ (n : Object) (is : IsForOmf n) where
         let rows_same : fixup_row (framed n is g.k g.x.at g.x.item own) ≡ fixup_row (framed n is k at r there)
         = same_Some _ _ (sym (row_is n is g.k g.x.at g.x.item own) ∙ ap row_by item ∙ row_is n is k at r there) in
         let row : row_of (meant n) f aim.aim ≡ Some (fixup_row (framed n is k at r there)) = row_read n is (length (entries n is)) f g aim.aim ∙ ap (λ (z : Row). Some z) rows_same in
-        let contents : contents_of (told n) (k + 1) (size_at (told n) (k + 1)) ≡ made_contents n (k, s) = ap (contents_of (told n) (k + 1)) (size_told n is (told n) refl k s here) ∙ contents_told n is k s here in
+        let contents : contents_of (made_tables n) (k + 1) (size_at (made_tables n) (k + 1)) ≡ made_contents n (k, s) = ap (contents_of (made_tables n) (k + 1)) (size_made n is (made_tables n) refl k s here) ∙ contents_made n is k s here in
         let z : Row = fixup_row (framed n is k at r there) in
         ap (option_and_then (field_by (meant n) k at)) y.4
         ∙ ap (option_and_then (λ t. option_map (field_of (meant n) k at f t) (row_of (meant n) f t))) aimed

@@ -80,8 +80,8 @@ fold-has xs (z ∷ ys) (suc k) y here = fold-has (with_name xs z) ys k y here
 -- ... the index of a name
 
 -- a name of a table has its index there
-pub name_told : (n : Object) (t : Tables) (name : List ℕ) → t.names ≡ names_of n → list_any (bytes_eq name) (names_of n) ≡ true → name_at t (name_index n name) ≡ name
-name_told n t name names among =
+pub name_made : (n : Object) (t : Tables) (name : List ℕ) → t.names ≡ names_of n → list_any (bytes_eq name) (names_of n) ≡ true → name_at t (name_index n name) ≡ name
+name_made n t name names among =
     let place = position_or_len (bytes_eq name) (names_of n) in
     let some : nat_eq (place + 1) 0 ≡ false = grind (arith, nat_tests) in
     let back : place + 1 - 1 ≡ place = omega arith in

@@ -14,7 +14,7 @@ use Rattle.oc_omf_file.specs.Outputs as output
 use Rattle.oc_omf_file.specs.Canonical.{segment_of}
 use Rattle.oc_omf_file.proofs.GivenLaws.{names_by, segments_by, groups_by, publics_by, externals_by, pieces_by, mentions_by, given}
 use Rattle.oc_omf_file.proofs.NameLaws.{filled_names, filled_small, IsShort}
-use Rattle.oc_omf_file.proofs.BehindLaws.{AllBehind, all_append, behind_at, flat, Defines, all_segments, IsReady, OfSymbol, EndsBy, told, Behind, more, still, symbols_are, symbol_silent, symbol_ends, names_walk, segments_walk, symbols_walk, HasApart, sections_walk}
+use Rattle.oc_omf_file.proofs.BehindLaws.{AllBehind, all_append, behind_at, flat, Defines, all_segments, IsReady, OfSymbol, EndsBy, made_tables, Behind, more, still, symbols_are, symbol_silent, symbol_ends, names_walk, segments_walk, symbols_walk, HasApart, sections_walk}
 
 module _ (n : Object) (short : (k : ℕ) (name : List ℕ) → slice_get (names_of n) k ≡ Some name → IsShort name) (apart : (j : ℕ) (s : Section) → slice_get n.sections j ≡ Some s → HasApart n j s) where
   -- the outputs up to the names, the segments, the group, the symbols, and the data
@@ -128,7 +128,7 @@ module _ (n : Object) (short : (k : ℕ) (name : List ℕ) → slice_get (names_
       one k s x false (suc zero) o h = subst (λ p. g p ≡ []) (same_Some (output.Fixups k s x.0 x.1) o h) (none k s x.0 x.1).1
       one k s x false (suc (suc i)) o h = absurd (none-some o h)
 
-  filled_tables : given n filled ≡ told n
+  filled_tables : given n filled ≡ made_tables n
   filled_tables =
       let pieces : List Output = flat_map (data_outputs n) (enumerate_from 0 n.sections) in
       let r = named_ready in
@@ -142,8 +142,8 @@ module _ (n : Object) (short : (k : ℕ) (name : List ℕ) → slice_get (names_
       ) refl
 
   -- all tables
-  pub outputs_told : given n (outputs_of n) ≡ told n
-  outputs_told = ap (given n) outputs_cut ∙ last filled ∙ filled_tables
+  pub tables_given : given n (outputs_of n) ≡ made_tables n
+  tables_given = ap (given n) outputs_cut ∙ last filled ∙ filled_tables
     where
       last : (os : List Output) → given n (os ++ output.End ∷ []) ≡ given n os
       last os =
@@ -157,8 +157,8 @@ module _ (n : Object) (short : (k : ℕ) (name : List ℕ) → slice_get (names_
           ) refl
 
   -- what is mentioned
-  pub mentions_told : flat_map mentions_by (outputs_of n) ≡ flat_map mentions_by (symbol_outputs n)
-  mentions_told =
+  pub mentions_by_symbols : flat_map mentions_by (outputs_of n) ≡ flat_map mentions_by (symbol_outputs n)
+  mentions_by_symbols =
       let pieces : List Output = flat_map (data_outputs n) (enumerate_from 0 n.sections) in
       ap (flat_map mentions_by) outputs_cut
       ∙ still mentions_by filled (output.End ∷ []) refl

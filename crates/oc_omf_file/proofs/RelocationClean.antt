@@ -35,7 +35,7 @@ use Rattle.oc_omf_file.proofs.ListLemmas.{of_take, member_take}
 use Rattle.oc_omf_file.proofs.FixupLaws.{frame_by}
 use Rattle.oc_omf_file.proofs.MadeLaw.{is_row_of}
 use Rattle.oc_omf_file.proofs.GivenLaws.{segments_by, groups_by, externals_by, given}
-use Rattle.oc_omf_file.proofs.BehindLaws.{EndsBy, told, flat}
+use Rattle.oc_omf_file.proofs.BehindLaws.{EndsBy, made_tables, flat}
 use Rattle.oc_omf_file.proofs.CodedLaws.{IsForOmf, apart_by}
 use Rattle.oc_omf_file.proofs.FixedLaws.{entries, IsPlacedField, placed_is, placed_upto_is, plain_is, IsFixed, fixed_is, bounds, has_field, reloc_of}
 use Rattle.oc_omf_file.proofs.PlacedLaws.{IsPlain, fixed_by, fixed_plain, of_fixed}
@@ -187,9 +187,9 @@ module _ (n : Object) (is : IsForOmf n) where
       let o : Output = output.Data g.k g.s g.from g.to in
       let tables : y.before ≡ given n (g.before ++ o ∷ []) = f.1.before ∙ ap (λ q. given n (take q (outputs_of n))) (sym r.index) ∙ ap (given n) g.front in
       let ready = g.data_at.ready in
-      let segments : y.before.segments ≡ (told n).segments = ap (λ (t : Tables). t.segments) tables ∙ past_data (segments_by n) g.before o refl ∙ ready.segments_are in
+      let segments : y.before.segments ≡ (made_tables n).segments = ap (λ (t : Tables). t.segments) tables ∙ past_data (segments_by n) g.before o refl ∙ ready.segments_are in
       let groups : y.before.groups ≡ flat = ap (λ (t : Tables). t.groups) tables ∙ past_data groups_by g.before o refl ∙ ready.groups_are in
-      let externals : y.before.externals ≡ (told n).externals = ap (λ (t : Tables). t.externals) tables ∙ past_data externals_by g.before o refl ∙ ready.externals_are in
+      let externals : y.before.externals ≡ (made_tables n).externals = ap (λ (t : Tables). t.externals) tables ∙ past_data externals_by g.before o refl ∙ ready.externals_are in
       let item : Reloc = f.1.x.item in
       let same_item : g.x.item ≡ item = ap (λ (z : Field Reloc). z.item) r.x in
       let reloc : reloc_at n g.k g.x.at ≡ Some item = reloc_of n is (i + 1) own g ∙ ap (λ (z : Reloc). Some z) same_item in

@@ -36,10 +36,10 @@ use Rattle.oc_omf_file.proofs.MadeLaw.{made, made_public}
 use Rattle.oc_omf_file.proofs.GivenLaws.{window_piece, names_by, pieces_by, given, tables_before, entry_made}
 use Rattle.oc_omf_file.proofs.NameLaws.{name_within, section_named, section_classed, names_begin}
 use Rattle.oc_omf_file.proofs.PieceLaws.{length-window}
-use Rattle.oc_omf_file.proofs.BehindLaws.{Behind, EndsBy, IsSegmentAt, IsDataAt, told}
+use Rattle.oc_omf_file.proofs.BehindLaws.{Behind, EndsBy, IsSegmentAt, IsDataAt, made_tables}
 use Rattle.oc_omf_file.proofs.CodedLaws.{IsForOmf, size_low}
 use Rattle.oc_omf_file.proofs.SmallLaws.{behind, length-raw, segment_there}
-use Rattle.oc_omf_file.proofs.SectionLaws.{IsFramed, frame_is, has_bytes, kind_told, size_told}
+use Rattle.oc_omf_file.proofs.SectionLaws.{IsFramed, frame_is, has_bytes, kind_made, size_made}
 use Rattle.oc_omf_file.proofs.FixedLaws.{entries}
 
 -- ... names
@@ -165,7 +165,7 @@ module _ (n : Object) (is : IsForOmf n) where
       let low = slice_get_within n.sections k s d.section in
       let many : length (given n front).segments ≡ length n.sections = ap length d.ready.segments_are ∙ length-map n.sections (segment_of n) in
       let indexed : is_indexed (given n front).segments (k + 1) ≡ true = grind (arith, nat_tests) in
-      let size = size_told n is (given n front) d.ready.segments_are k s d.section in
+      let size = size_made n is (given n front) d.ready.segments_are k s d.section in
       let raw = length-raw n k s in
       let some = d.some in
       let inside = d.inside in
@@ -210,18 +210,18 @@ module _ (n : Object) (is : IsForOmf n) where
                   absurd (omega (arith, some, past, at, low, short))
 
   -- the end
-  end_clean : (front : List Output) (x : ℕ × ℕ) → given n front ≡ told n → nat_lt 67108864 (all_bytes (given n front)) ≡ false
+  end_clean : (front : List Output) (x : ℕ × ℕ) → given n front ≡ made_tables n → nat_lt 67108864 (all_bytes (given n front)) ≡ false
   unfolding all_bytes
   end_clean front x same =
-      let sum : sum_by (bytes_size (told n)) (enumerate_from 1 (map (segment_of n) n.sections)) ≡ stored_sum n.sections
-      = bytes_from n (told n) 1 n.sections (λ j s h. let e : j + 1 ≡ 1 + j = omega arith in subst (λ i. bytes_size (told n) (i, segment_of n s) ≡ stored_size s) e (one j s h)) in
+      let sum : sum_by (bytes_size (made_tables n)) (enumerate_from 1 (map (segment_of n) n.sections)) ≡ stored_sum n.sections
+      = bytes_from n (made_tables n) 1 n.sections (λ j s h. let e : j + 1 ≡ 1 + j = omega arith in subst (λ i. bytes_size (made_tables n) (i, segment_of n s) ≡ stored_size s) e (one j s h)) in
       let most = is.meets.bounds.stored in
       let low : nat_lt 67108864 (stored_sum n.sections) ≡ false = grind (arith, nat_tests) in
       ap (λ t. nat_lt 67108864 (sum_by (bytes_size t) (enumerate_from 1 t.segments))) same ∙ ap (nat_lt 67108864) sum ∙ low
     where
-      one : (k : ℕ) (s : Section) → slice_get n.sections k ≡ Some s → bytes_size (told n) (k + 1, segment_of n s) ≡ stored_size s
+      one : (k : ℕ) (s : Section) → slice_get n.sections k ≡ Some s → bytes_size (made_tables n) (k + 1, segment_of n s) ≡ stored_size s
       one k s here =
-          ap (λ kind. if same_kind kind Zero then 0 else segment_size (segment_of n s)) (kind_told n is k s here)
+          ap (λ kind. if same_kind kind Zero then 0 else segment_size (segment_of n s)) (kind_made n is k s here)
           ∙ ap (λ b. if b then 0 else segment_size (segment_of n s)) (zero_kind s.kind)
           ∙ ap (λ m. if is_zero s.kind then 0 else m) (frame_is n is k s here).size
 

@@ -33,10 +33,10 @@ use Rattle.oc_omf_file.specs.Fixups.{raw_of}
 use Rattle.oc_omf_file.specs.Canonical.{segment_of, omf_file}
 use Rattle.oc_omf_file.proofs.MadeLaw.{entries_made}
 use Rattle.oc_omf_file.proofs.GivenLaws.{window_piece, pieces_by, tables_made}
-use Rattle.oc_omf_file.proofs.NameLaws.{name_told, section_named, section_classed}
+use Rattle.oc_omf_file.proofs.NameLaws.{name_made, section_named, section_classed}
 use Rattle.oc_omf_file.proofs.PieceLaws.{Follow, pieces_follow, pieces_are}
-use Rattle.oc_omf_file.proofs.BehindLaws.{told}
-use Rattle.oc_omf_file.proofs.OutputLaws.{outputs_told}
+use Rattle.oc_omf_file.proofs.BehindLaws.{made_tables}
+use Rattle.oc_omf_file.proofs.OutputLaws.{tables_given}
 use Rattle.oc_omf_file.proofs.CodedLaws.{IsForOmf, section_is, short_names, fields_apart}
 use Rattle.oc_omf_file.proofs.SmallLaws.{length-raw, all_small}
 
@@ -119,8 +119,8 @@ segment_pieces n a (suc k) (t ∷ ss) s h =
     ∙ rw (filter_other (a + suc k) a (raw_of n a t) (pieces_of n a t) apart)
     (subst (λ j. filter (λ (d : Piece). nat_eq d.segment (j + 1)) (all_pieces n (a + 1) ss) ≡ map (window_piece j (raw_of n j s)) (pieces_of n j s)) there (segment_pieces n (a + 1) k ss s h))
 
-pub pieces_told : (n : Object) (k : ℕ) (s : Section) → slice_get n.sections k ≡ Some s → read.pieces_of (told n) (k + 1) ≡ map (window_piece k (raw_of n k s)) (pieces_of n k s)
-pieces_told n k s here =
+pub pieces_made : (n : Object) (k : ℕ) (s : Section) → slice_get n.sections k ≡ Some s → read.pieces_of (made_tables n) (k + 1) ≡ map (window_piece k (raw_of n k s)) (pieces_of n k s)
+pieces_made n k s here =
     let front : 0 + k ≡ k = omega arith in
     subst (λ j. filter (λ (d : Piece). nat_eq d.segment (j + 1)) (all_pieces n 0 n.sections) ≡ map (window_piece j (raw_of n j s)) (pieces_of n j s)) front (segment_pieces n 0 k n.sections s here)
 
@@ -165,10 +165,10 @@ module _ (n : Object) (is : IsForOmf n) where
   pub has_bytes : (k : ℕ) (s : Section) → slice_get n.sections k ≡ Some s → HasItsBytes s
   has_bytes k s here = each_at HasItsBytes n.sections k s is.object.built.bytes here
 
-  pub contents_told : (k : ℕ) (s : Section) → slice_get n.sections k ≡ Some s → contents_of (told n) (k + 1) s.size ≡ made_contents n (k, s)
+  pub contents_made : (k : ℕ) (s : Section) → slice_get n.sections k ≡ Some s → contents_of (made_tables n) (k + 1) s.size ≡ made_contents n (k, s)
   unfolding contents_of pieces_of
-  contents_told k s here =
-      ap (fold laid_over (replicate s.size 0)) (pieces_told n k s here)
+  contents_made k s here =
+      ap (fold laid_over (replicate s.size 0)) (pieces_made n k s here)
       ∙ by (is_zero s.kind) (has_bytes k s here)
     where
       by : (b : Bool) → length s.bytes ≡ cond b 0 s.size → fold laid_over (replicate s.size 0) (map (window_piece k (raw_of n k s)) (pieces_of n k s)) ≡ cond b (replicate s.size 0) (raw_of n k s)
@@ -181,31 +181,31 @@ module _ (n : Object) (is : IsForOmf n) where
           (omega (arith, e, long))
 
   -- a Zero section is covered nowhere
-  pub zero_bare : (k : ℕ) (s : Section) → slice_get n.sections k ≡ Some s → s.kind ≡ Zero → is_covered (told n) (k + 1) ≡ false
+  pub zero_bare : (k : ℕ) (s : Section) → slice_get n.sections k ≡ Some s → s.kind ≡ Zero → is_covered (made_tables n) (k + 1) ≡ false
   zero_bare k s here e =
       let none : length s.bytes ≡ 0 = has_bytes k s here ∙ ap (λ kind. cond (is_zero kind) 0 s.size) e in
-      ap (list_any (λ d. nat_lt 0 (piece_size d))) (pieces_told n k s here ∙ ap (map (window_piece k (raw_of n k s))) (no_pieces n k s none))
+      ap (list_any (λ d. nat_lt 0 (piece_size d))) (pieces_made n k s here ∙ ap (map (window_piece k (raw_of n k s))) (no_pieces n k s none))
 
   -- a table with these names and pieces gives a segment its section's kind
-  pub kind_told : (k : ℕ) (s : Section) → slice_get n.sections k ≡ Some s → segment_kind (told n) (k + 1) (segment_of n s) ≡ s.kind
-  kind_told k s here =
+  pub kind_made : (k : ℕ) (s : Section) → slice_get n.sections k ≡ Some s → segment_kind (made_tables n) (k + 1) (segment_of n s) ≡ s.kind
+  kind_made k s here =
       let m : OmfSection s = section_is n is k s here in
       let class : class_of s ≡ m.class = ap (λ o. unwrap_or o []) m.classed in
-      ap (λ c. omf_kind c (is_covered (told n) (k + 1))) (name_told n (told n) (class_of s) refl (section_classed n k s here) ∙ class)
-      ∙ m.kind (is_covered (told n) (k + 1)) (zero_bare k s here)
+      ap (λ c. omf_kind c (is_covered (made_tables n) (k + 1))) (name_made n (made_tables n) (class_of s) refl (section_classed n k s here) ∙ class)
+      ∙ m.kind (is_covered (made_tables n) (k + 1)) (zero_bare k s here)
 
-  pub section_told : (k : ℕ) (s : Section) → slice_get n.sections k ≡ Some s → section_of (told n) (k + 1, segment_of n s) ≡ made_section n (k, s)
-  section_told k s here =
+  pub section_made : (k : ℕ) (s : Section) → slice_get n.sections k ≡ Some s → section_of (made_tables n) (k + 1, segment_of n s) ≡ made_section n (k, s)
+  section_made k s here =
       let m : OmfSection s = section_is n is k s here in
       let f = frame_is k s here in
-      let contents : contents_of (told n) (k + 1) (segment_size (segment_of n s)) ≡ made_contents n (k, s) = ap (contents_of (told n) (k + 1)) f.size ∙ contents_told k s here in
+      let contents : contents_of (made_tables n) (k + 1) (segment_size (segment_of n s)) ≡ made_contents n (k, s) = ap (contents_of (made_tables n) (k + 1)) f.size ∙ contents_made k s here in
       let number : k + 1 ≡ 1 + k = omega arith in
       let made : List ℕ → Kind → ℕ → ℕ → List ℕ → ℕ → parts.Section
       = λ name kind align size contents number. record { name = name; kind = kind; align = align; size = size; contents = contents; tag = omf_tag; number = number; group = None } in
-      let t : Tables = told n in
-      let name : name_at t (segment_of n s).name ≡ s.name = name_told n t s.name refl (section_named n k s here) in
+      let t : Tables = made_tables n in
+      let name : name_at t (segment_of n s).name ≡ s.name = name_made n t s.name refl (section_named n k s here) in
       ap (λ x. made x (segment_kind t (k + 1) (segment_of n s)) (align_of (segment_of n s)) (segment_size (segment_of n s)) (contents_of t (k + 1) (segment_size (segment_of n s))) (k + 1)) name
-      ∙ ap (λ x. made s.name x (align_of (segment_of n s)) (segment_size (segment_of n s)) (contents_of t (k + 1) (segment_size (segment_of n s))) (k + 1)) (kind_told k s here)
+      ∙ ap (λ x. made s.name x (align_of (segment_of n s)) (segment_size (segment_of n s)) (contents_of t (k + 1) (segment_size (segment_of n s))) (k + 1)) (kind_made k s here)
       ∙ ap (λ x. made s.name s.kind x (segment_size (segment_of n s)) (contents_of t (k + 1) (segment_size (segment_of n s))) (k + 1)) f.align
       ∙ ap (λ x. made s.name s.kind s.align x (contents_of t (k + 1) (segment_size (segment_of n s))) (k + 1)) f.size
       ∙ ap (λ x. made s.name s.kind s.align s.size x (k + 1)) contents
@@ -216,19 +216,19 @@ module _ (n : Object) (is : IsForOmf n) where
   abbrev pub made_sections : List (parts.Section)
   made_sections = map (made_section n) (enumerate_from 0 n.sections)
 
-  pub sections_told : sections_in (told n) ≡ made_sections
+  pub sections_made : sections_in (made_tables n) ≡ made_sections
   unfolding sections_in
-  sections_told =
-      sections_from n (told n) 0 n.sections
-      (λ j s h. let e : j ≡ 0 + j = omega arith in subst (λ i. section_of (told n) (i + 1, segment_of n s) ≡ made_section n (i, s)) e (section_told j s h))
+  sections_made =
+      sections_from n (made_tables n) 0 n.sections
+      (λ j s h. let e : j ≡ 0 + j = omega arith in subst (λ i. section_of (made_tables n) (i + 1, segment_of n s) ≡ made_section n (i, s)) e (section_made j s h))
 
   -- what the file defines
-  pub tables_read : tables_of (entries_in (omf_file n)) ≡ told n
-  tables_read = ap tables_of (entries_made n (all_small n is)) ∙ tables_made n 0 (outputs_of n) ∙ outputs_told n (short_names n is) (fields_apart n is)
+  pub tables_read : tables_of (entries_in (omf_file n)) ≡ made_tables n
+  tables_read = ap tables_of (entries_made n (all_small n is)) ∙ tables_made n 0 (outputs_of n) ∙ tables_given n (short_names n is) (fields_apart n is)
 
   -- the size of a segment
-  pub size_told : (t : Tables) → t.segments ≡ map (segment_of n) n.sections → (k : ℕ) (s : Section) → slice_get n.sections k ≡ Some s → size_at t (k + 1) ≡ s.size
-  size_told t segments k s here =
+  pub size_made : (t : Tables) → t.segments ≡ map (segment_of n) n.sections → (k : ℕ) (s : Section) → slice_get n.sections k ≡ Some s → size_at t (k + 1) ≡ s.size
+  size_made t segments k s here =
       let some : nat_eq (k + 1) 0 ≡ false = grind (arith, nat_tests) in
       let back : k + 1 - 1 ≡ k = omega arith in
       ap (λ xs. option_map_or segment_size (indexed xs (k + 1)) 0) segments

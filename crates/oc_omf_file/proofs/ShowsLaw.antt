@@ -32,7 +32,7 @@ use Rattle.oc_omf_file.proofs.MadeLaw.{entries_made}
 use Rattle.oc_omf_file.proofs.CodedLaws.{IsForOmf, framed, none_past}
 use Rattle.oc_omf_file.proofs.AimLaws.{aimed}
 use Rattle.oc_omf_file.proofs.SmallLaws.{length-raw, all_small}
-use Rattle.oc_omf_file.proofs.SectionLaws.{made_contents, made_section, has_bytes, sections_told, tables_read}
+use Rattle.oc_omf_file.proofs.SectionLaws.{made_contents, made_section, has_bytes, sections_made, tables_read}
 use Rattle.oc_omf_file.proofs.SeenLaws.{shown, again, syms, manner_is, are_shown, seen_there, position_is}
 use Rattle.oc_omf_file.proofs.SymbolLaws.{mentions_read, symbols_read}
 use Rattle.oc_omf_file.proofs.FixedLaws.{entries}
@@ -98,7 +98,7 @@ module _ (n : Object) (is : IsForOmf n) where
   file_made = record {
     word = refl;
     manner = manner_is n is.format;
-    sections = ap sections_in (tables_read n is) ∙ sections_told n is;
+    sections = ap sections_in (tables_read n is) ∙ sections_made n is;
     frames = λ k s here. refl;
     contents = contents_have;
     symbols = symbols_read n is;

@@ -31,13 +31,13 @@ use Rattle.oc_omf_file.specs.Canonical.{segment_of, size_by}
 use Rattle.oc_omf_file.proofs.SaidLaws.{communal_form}
 use Rattle.oc_omf_file.proofs.MadeLaw.{made, made_public}
 use Rattle.oc_omf_file.proofs.GivenLaws.{mention_of, publics_by, externals_by, public_of as publics_at, given, tables_made, tables_before, entry_made}
-use Rattle.oc_omf_file.proofs.BehindLaws.{Behind, IsSymbolAt, told}
-use Rattle.oc_omf_file.proofs.OutputLaws.{outputs_told}
+use Rattle.oc_omf_file.proofs.BehindLaws.{Behind, IsSymbolAt, made_tables}
+use Rattle.oc_omf_file.proofs.OutputLaws.{tables_given}
 use Rattle.oc_omf_file.proofs.CodedLaws.{IsForOmf, short_names, fields_apart}
 use Rattle.oc_omf_file.proofs.LineLaws.{name_by}
 use Rattle.oc_omf_file.proofs.AimLaws.{symbol_is}
 use Rattle.oc_omf_file.proofs.SmallLaws.{behind}
-use Rattle.oc_omf_file.proofs.SectionLaws.{size_told}
+use Rattle.oc_omf_file.proofs.SectionLaws.{size_made}
 use Rattle.oc_omf_file.proofs.SymbolLaws.{mentioned, differ}
 use Rattle.oc_omf_file.proofs.FixedLaws.{entries}
 
@@ -134,7 +134,7 @@ module _ (n : Object) (is : IsForOmf n) where
 
   -- an entry with what is defined before it
   abbrev of : ℕ → List Output → Entry → EntryContext
-  of i front e = record { index = i; before = given n front; all = told n; entry = e }
+  of i front e = record { index = i; before = given n front; all = made_tables n; entry = e }
 
   external_clean : (i place : ℕ) (front : List Output) (k : ℕ) (s : Symbol) → IsSymbolAt n front (output.External k s)
       → AllByRecursion Unbroken (symbol_table (of i front (made n place (output.External k s))))
@@ -162,7 +162,7 @@ module _ (n : Object) (is : IsForOmf n) where
       let low = slice_get_within n.sections a held.0 held.1 in
       let groups : length (given n front).groups ≡ 1 = ap length b.defines.groups_are in
       let many : length (given n front).segments ≡ length n.sections = ap length b.defines.segments_are ∙ length-map n.sections (segment_of n) in
-      let size = size_told n is (given n front) b.defines.segments_are a held.0 held.1 in
+      let size = size_made n is (given n front) b.defines.segments_are a held.0 held.1 in
       let within = held.2 in
       let group : nat_lt (length (given n front).groups) 1 ≡ false = grind (arith, nat_tests) in
       let segment : nat_lt (length (given n front).segments) (a + 1) ≡ false = grind (arith, nat_tests) in
@@ -186,14 +186,14 @@ module _ (n : Object) (is : IsForOmf n) where
   entry_clean i place front (output.Fixups k s from to) b = tt
   entry_clean i place front output.End b = tt
 
-  pub tables_are : tables_of (entries n is) ≡ told n
-  tables_are = tables_made n 0 (outputs_of n) ∙ outputs_told n (short_names n is) (fields_apart n is)
+  pub tables_are : tables_of (entries n is) ≡ made_tables n
+  tables_are = tables_made n 0 (outputs_of n) ∙ tables_given n (short_names n is) (fields_apart n is)
 
   stage_clean : (i : ℕ) (e : Entry) → slice_get (entries n is) i ≡ Some e → IsUnbroken (symbol_stage (entry_context (entries n is) (i, e)))
   stage_clean i e here j low =
       let o = entry_made n 0 i (outputs_of n) e here in
       let same : of i (take i (outputs_of n)) (made n o.1 o.0) ≡ entry_context (entries n is) (i, e)
-      = ap (λ t. record { index = i; before = t; all = told n; entry = made n o.1 o.0 }) (sym (tables_before n i (outputs_of n)))
+      = ap (λ t. record { index = i; before = t; all = made_tables n; entry = made n o.1 o.0 }) (sym (tables_before n i (outputs_of n)))
       ∙ ap (λ t. record { index = i; before = tables_of (take i (entries n is)); all = t; entry = made n o.1 o.0 }) (sym tables_are)
       ∙ ap (λ (y : Entry). record { index = i; before = tables_of (take i (entries n is)); all = tables_of (entries n is); entry = y }) o.3 in
       unbroken_at (symbol_table (entry_context (entries n is) (i, e))) j

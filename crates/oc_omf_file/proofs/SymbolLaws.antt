@@ -30,8 +30,8 @@ use Rattle.oc_omf_file.proofs.ListLemmas.{find_fails, find_only, of_take}
 use Rattle.oc_omf_file.proofs.SaidLaws.{near_communal}
 use Rattle.oc_omf_file.proofs.MadeLaw.{entries_made}
 use Rattle.oc_omf_file.proofs.GivenLaws.{mention_of, mentions_by, publics_by, externals_by, public_of as publics_at, mentions_made}
-use Rattle.oc_omf_file.proofs.BehindLaws.{OfSymbol, symbols_are, told}
-use Rattle.oc_omf_file.proofs.OutputLaws.{mentions_told}
+use Rattle.oc_omf_file.proofs.BehindLaws.{OfSymbol, symbols_are, made_tables}
+use Rattle.oc_omf_file.proofs.OutputLaws.{mentions_by_symbols}
 use Rattle.oc_omf_file.proofs.CodedLaws.{IsForOmf, short_names, fields_apart}
 use Rattle.oc_omf_file.proofs.LineLaws.{key_of, name_by, listed_at, names_once}
 use Rattle.oc_omf_file.proofs.SmallLaws.{all_small}
@@ -65,7 +65,7 @@ module _ (n : Object) (is : IsForOmf n) where
   outs = symbol_outputs n
 
   abbrev t : Tables
-  t = told n
+  t = made_tables n
 
   -- two outputs with one name are one
   pub one_name : (i j : ℕ) (o p : Output) → slice_get outs i ≡ Some o → slice_get outs j ≡ Some p → same_symbol (mentioned o) (mentioned p) ≡ true → (i ≡ j) × (o ≡ p)
@@ -96,7 +96,7 @@ module _ (n : Object) (is : IsForOmf n) where
   unfolding mentions_in
   mentions_read =
       ap (λ es. fold with_new [] (flat_map entry_mentions es)) (entries_made n (all_small n is))
-      ∙ ap (fold with_new []) (mentions_made n 0 (outputs_of n) ∙ mentions_told n (short_names n is) (fields_apart n is) ∙ mentions_mapped outs (λ i o h. (listed_at n is i o h).mentions))
+      ∙ ap (fold with_new []) (mentions_made n 0 (outputs_of n) ∙ mentions_by_symbols n (short_names n is) (fields_apart n is) ∙ mentions_mapped outs (λ i o h. (listed_at n is i o h).mentions))
       ∙ mentions_are
 
   -- the number of a mention
@@ -320,9 +320,9 @@ module _ (n : Object) (is : IsForOmf n) where
       (symbols_from (at + 1) os (λ i p h. let e : at + 1 + i ≡ at + suc i = omega arith in ap (slice_get outs) e ∙ are (suc i) p h))
       ∙ ap (λ x. map (shown_symbol (syms n)) (cons_option x (filter_map (seen_one omf_manner n) (shown_outputs (at + 1) os)))) (sym own)
 
-  pub symbols_told : map (symbol_of t) (enumerate_from 0 (map mentioned outs)) ≡ shown_symbols (again n)
+  pub symbols_made : map (symbol_of t) (enumerate_from 0 (map mentioned outs)) ≡ shown_symbols (again n)
   unfolding seen_symbols
-  symbols_told =
+  symbols_made =
       symbols_from 0 outs (λ i o h. let e : 0 + i ≡ i = omega arith in ap (slice_get outs) e ∙ h)
       ∙ ap (λ xs. map (shown_symbol (syms n)) (filter_map (seen_one omf_manner n) xs)) (sym (shown_are n))
 
@@ -331,4 +331,4 @@ module _ (n : Object) (is : IsForOmf n) where
   symbols_read =
       ap (λ ms. map (symbol_of (tables_of (entries_in (omf_file n)))) (enumerate_from 0 ms)) mentions_read
       ∙ ap (λ u. map (symbol_of u) (enumerate_from 0 (map mentioned outs))) (tables_read n is)
-      ∙ symbols_told
+      ∙ symbols_made

@@ -40,17 +40,17 @@ use Rattle.oc_omf_file.proofs.FixupLaws.{frame_by}
 use Rattle.oc_omf_file.proofs.MadeLaw.{is_row_of}
 use Rattle.oc_omf_file.proofs.GivenLaws.{externals_by}
 use Rattle.oc_omf_file.proofs.NameLaws.{names_begin}
-use Rattle.oc_omf_file.proofs.BehindLaws.{told}
+use Rattle.oc_omf_file.proofs.BehindLaws.{made_tables}
 use Rattle.oc_omf_file.proofs.CodedLaws.{IsForOmf, framed, row_is}
 use Rattle.oc_omf_file.proofs.LineLaws.{key_of, number_is, indexed_there, symbol_there}
 use Rattle.oc_omf_file.proofs.AimLaws.{aimed}
 use Rattle.oc_omf_file.proofs.SeenLaws.{shown, again, syms}
-use Rattle.oc_omf_file.proofs.SymbolLaws.{mentioned, mention_number, symbol_read, symbols_told}
+use Rattle.oc_omf_file.proofs.SymbolLaws.{mentioned, mention_number, symbol_read, symbols_made}
 use Rattle.oc_omf_file.proofs.FixedLaws.{IsFixed, reloc_of}
 
 -- what indexes mean in the file
 abbrev pub meant : Object → Meaning
-meant n = record { tables = told n; mentions = map mentioned (symbol_outputs n); symbols = shown_symbols (again n) }
+meant n = record { tables = made_tables n; mentions = map mentioned (symbol_outputs n); symbols = shown_symbols (again n) }
 
 -- an external is no Local
 pub is_outer : (b : Binding) → is_external b ≡ true → is_local b ≡ false
@@ -160,12 +160,12 @@ module _ (n : Object) (is : IsForOmf n) where
       let at : slice_get n.symbols (key_of m.out) ≡ Some s = ap (slice_get n.symbols) m.key ∙ here in
       let e : 0 + m.index ≡ m.index = omega arith in
       let mention = member_map mentioned (symbol_outputs n) m.index m.out m.there in
-      let found : numbered (shown_symbols (again n)) m.index ≡ Some (symbol_of (told n) (m.index, mentioned m.out))
-      = ap (λ xs. numbered xs m.index) (sym (symbols_told n is)) ∙ ap (numbered (map (symbol_of (told n)) (enumerate_from 0 (map mentioned (symbol_outputs n))))) (sym e)
-      ∙ numbered_at (told n) 0 (map mentioned (symbol_outputs n)) m.index (mentioned m.out) mention ∙ ap (λ i. Some (symbol_of (told n) (i, mentioned m.out))) e in
-      let symbol : symbol_of (told n) (m.index, mentioned m.out) ≡ shown_symbol (syms n) (seen_symbol omf_manner n (shown n) m.index s) = symbol_read n is m.index m.out s m.there at in
+      let found : numbered (shown_symbols (again n)) m.index ≡ Some (symbol_of (made_tables n) (m.index, mentioned m.out))
+      = ap (λ xs. numbered xs m.index) (sym (symbols_made n is)) ∙ ap (numbered (map (symbol_of (made_tables n)) (enumerate_from 0 (map mentioned (symbol_outputs n))))) (sym e)
+      ∙ numbered_at (made_tables n) 0 (map mentioned (symbol_outputs n)) m.index (mentioned m.out) mention ∙ ap (λ i. Some (symbol_of (made_tables n) (i, mentioned m.out))) e in
+      let symbol : symbol_of (made_tables n) (m.index, mentioned m.out) ≡ shown_symbol (syms n) (seen_symbol omf_manner n (shown n) m.index s) = symbol_read n is m.index m.out s m.there at in
       ap (λ o. option_and_then symbol_target (option_and_then (λ x. numbered (shown_symbols (again n)) (number_of (map mentioned (symbol_outputs n)) (external_mention x))) o))
-      (indexed_at (told n).externals (symbol_number n k) ∙ ap (slice_get (told n).externals) m.number ∙ externals_at (told n).externals refl m.index m.out m.here m.one)
+      (indexed_at (made_tables n).externals (symbol_number n k) ∙ ap (slice_get (made_tables n).externals) m.number ∙ externals_at (made_tables n).externals refl m.index m.out m.here m.one)
       ∙ ap (λ y. option_and_then symbol_target (numbered (shown_symbols (again n)) (number_of (map mentioned (symbol_outputs n)) y))) m.one.mention
       ∙ ap (λ j. option_and_then symbol_target (numbered (shown_symbols (again n)) j)) (mention_number n is m.index m.out m.there)
       ∙ ap (option_and_then symbol_target) found
@@ -205,7 +205,7 @@ module _ (n : Object) (is : IsForOmf n) where
   pub record IsAimed (r : Reloc) : Type 0 where
     pub aim : Target
     pub is_aim : target_of (meant n) (target_method n (written_reloc n r).target) ≡ Some aim
-    pub there : (method : Method) → method ≡ target_method n (written_reloc n r).target → (t : Tables) → t.segments ≡ (told n).segments → t.externals ≡ (told n).externals → is_there t method ≡ true
+    pub there : (method : Method) → method ≡ target_method n (written_reloc n r).target → (t : Tables) → t.segments ≡ (made_tables n).segments → t.externals ≡ (made_tables n).externals → is_there t method ≡ true
 
   pub aim_read : (k at : ℕ) (r : Reloc) → reloc_at n k at ≡ Some r → IsAimed r
   aim_read k at r there = elim (aimed n is k at r there) [
