@@ -16,7 +16,7 @@ ghost use Rattle.oc_neutral.specs.Omf.Family as omf;
 ghost use Rattle.oc_neutral.specs.TargetSections as conditions;
 ghost use Rattle.oc_neutral.specs.Tests as tests;
 ghost use Rattle.oc_target.specs.Far.{lies_far};
-ghost use Rattle.oc_express.specs.Marked.{AreCut, AreKeyed};
+ghost use Rattle.oc_target.specs.Marks.{AreCut, AreKeyed};
 
 use oc_base::{Bytes, Code, Fault, Format, Phase, Spot};
 use oc_neutral::{Kind, Neutral, Section, coff, elf};

@@ -7,10 +7,9 @@ ghost use Rattle.oc_neutral.specs.KeySymbols.{is_key_at};
 ghost use Rattle.oc_neutral.specs.KeySymbols as keys;
 ghost use Rattle.oc_neutral.specs.Faces as faces;
 ghost use Rattle.oc_neutral.specs.KindRules as rules;
-ghost use Rattle.oc_target.specs.Cut.{is_cut_key};
 ghost use Rattle.oc_target.specs.Found.{held};
 ghost use Rattle.oc_target.specs.Keyed as places;
-ghost use Rattle.oc_target.specs.Marks.{AreMarkedAlso, AreMarkedBelow};
+ghost use Rattle.oc_target.specs.Marks.{AreCut, AreKeyed, AreMarkedAlso, AreMarkedBelow};
 
 use crate::locals::is_local;
 use oc_base::NoMemory;
@@ -111,7 +110,7 @@ pub(crate) fn mark(marked: &mut Vec<bool>, group: Option<u32>)
 /// For each group whether it has its key symbol: a Global with a place in a member, whose name is the
 /// key. `NoMemory` where memory ran out. Time is linear in the symbols and their names.
 pub fn keyed_groups(alloc: Global, neutral: &Neutral) -> Result<Vec<bool>, NoMemory>
-    ensures { IfOk result (λ keyed. (g : ℕ) → slice_index_or keyed.items g false ≡ keys.has_key_symbol neutral.now g) }
+    ensures { IfOk result (λ keyed. AreKeyed neutral.now keyed.items) }
 {
     let mut keyed = vec![in alloc; false; neutral.group_count() as usize]?;
     for k in 0..neutral.symbol_count() {
@@ -135,7 +134,7 @@ pub fn keyed_sections(alloc: Global, neutral: &Neutral) -> Result<Vec<bool>, NoM
 /// For each group whether its key has a NUL. `NoMemory` where memory ran out. Time is linear in the
 /// keys.
 pub fn cut_keys(alloc: Global, neutral: &Neutral) -> Result<Vec<bool>, NoMemory>
-    ensures { IfOk result (λ cut. (g : ℕ) → slice_index_or cut.items g false ≡ is_cut_key neutral.now g) }
+    ensures { IfOk result (λ cut. AreCut neutral.now cut.items) }
 {
     let mut cut = Vec::new(alloc);
     for k in 0..neutral.group_count() {
