@@ -10,6 +10,7 @@ pub mod Places
 pub mod Plans
 pub mod Relocations
 pub mod Strings
+pub mod Symbols
 pub mod Values
 pub mod Words
 pub mod Writing

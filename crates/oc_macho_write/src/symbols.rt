@@ -1,5 +1,5 @@
 //! The entries of the symbol table (Mach-O reference, "nlist").
-ghost use Rattle.std.specs.Prelude.{◌≡◌, ◌+◌, ◌<◌, ℕ, length, map, Some, IsSome, IfOk};
+ghost use Rattle.std.specs.Prelude.{◌≡◌, ◌+◌, ◌<◌, length, map, Some, IsSome, IfOk};
 ghost use Rattle.oc_base.specs.declared.format.Word.{Word};
 ghost use Rattle.std.specs.List.{Contains};
 ghost use Rattle.oc_neutral.specs.Invariants.{IsBinding};
@@ -10,6 +10,7 @@ ghost use Rattle.oc_macho_file.specs.Lines as mach_lines;
 ghost use Rattle.oc_macho_file.specs.Symbols as symbols;
 ghost use Rattle.oc_macho_write.specs.Lines.{AreLines, IsNamed, line_in};
 ghost use Rattle.oc_macho_write.specs.Strings.{AreNamedIn, table_with};
+ghost use Rattle.oc_macho_write.specs.Symbols.{IsOwnEntry};
 ghost use Rattle.oc_macho_write.specs.Values.{AreAddresses};
 
 use crate::lines::Line;
@@ -31,7 +32,7 @@ fn own_nlist(
 ) -> Result<Nlist, NoMemory>
     requires addresses { (n : Object) × (AreAddresses n addresses.now) × (section < length n.sections) }
     requires named { Contains names.now.names (section_symbol_name (section + 1)) }
-    ensures { IfOk result (λ nlist. (w : Word) (n : Object) → AreAddresses n addresses.now → names.now ≡ table_with (layout.line_names w n) → nlist ≡ symbols.own_entry w n section) }
+    ensures { IfOk result (IsOwnEntry names.now addresses.now section) }
 {
     let name = section_symbol_name(alloc, u64::from(section) + 1)?;
     let stood = values::at_place(addresses, section, 0);
