@@ -23,7 +23,7 @@ use Rattle.oc_neutral.specs.declared.reloc.Target.TheVariants as target
 use Rattle.oc_neutral.specs.Mach.Kinds.{is_zerofill_tag}
 use Rattle.oc_neutral.specs.Mach.Relocs.{MachRow, length_of, mach_entries, entry_among}
 use Rattle.oc_target.specs.MachMeets.{MachReloc}
-use Rattle.oc_target.specs.Meets.{MeetsReloc}
+use Rattle.oc_target.specs.Meets.{HoldsAddend, MeetsReloc}
 use Rattle.oc_neutral.specs.Objects.{Object, reloc_at, reloc_among}
 use Rattle.oc_neutral.specs.Rows.{Row, TakesPlace, TakesSection, same_taken}
 use Rattle.oc_neutral.proofs.Mapped.{from_mapped}
@@ -39,7 +39,7 @@ use Rattle.oc_macho.specs.MachHeader.{mach_format}
 use Rattle.oc_macho.specs.Entries.{can_refer, row_for, is_first, item_at}
 use Rattle.oc_macho_file.specs.Addresses.{address_of}
 use Rattle.oc_macho_file.specs.Lines.{Line, own_number}
-use Rattle.oc_macho_file.specs.Bodies.{WrittenReloc, taken_section, end_section_address, written_reloc_at, reference_to, plain_entry, scattered_entry, pair_entries, standing_entries, entries_at, entries_of, field_patch, field_patches}
+use Rattle.oc_macho_file.specs.Bodies.{WrittenReloc, taken_section, end_section_address, written_reloc_at, reference_to, plain_entry, scattered_entry, pair_entries, standing_entries, entries_at, entries_of, field_shift, field_patch, field_patches}
 use Rattle.oc_macho_file.proofs.CodedLaws.{IsForMach, word_back, stored_all}
 use Rattle.oc_macho_file.proofs.ItemLaws.{Written, Alone, Pair, written_entries, item_of, IsTold, begin_of, item_there, item_only, item_inside}
 use Rattle.oc_macho_file.proofs.RowLaws.{IsMachRow, IsAloneRow, IsPairRow, IsKnown, KnownAlone, KnownPair, known_entry}
@@ -160,6 +160,14 @@ module _ (w : Word) (n : Object) (is : IsForMach w n) where
 
     pub row_is : {X : Type 0} (f : Row → X) → f entry.row ≡ f row
     row_is f = ap f mach_reloc.row
+
+    -- its field holds the addend: in i386 each does, and in x86-64 the target asks for it
+    pub addend_held : HoldsAddend (mach_format w) r (field_shift w n standing)
+    addend_held = by w refl
+      where
+        by : (v : Word) → w ≡ v → HoldsAddend (mach_format w) r (field_shift w n standing)
+        by W32 e = mach_reloc.holds (field_shift w n standing) (ap mach_format e)
+        by W64 e = subst (HoldsAddend (mach_format w) r) (sym (ap (λ v. field_shift v n standing) e)) (mach_reloc.held (ap mach_format e))
 
     among : entry_among (mach_entries w) row.number entry.pcrel (length_of row.width) ≡ Some entry
     among = ap (λ v. entry_among (mach_entries v) row.number entry.pcrel (length_of row.width)) (sym (word_back w)) ∙ mach_reloc.found

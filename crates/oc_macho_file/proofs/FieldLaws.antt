@@ -1,5 +1,5 @@
 -- The fields of a canonical file: what numbers stand in them, and which entries they are read by.
-use Rattle.std.proofs.Common.{◌≡◌, ℕ, ◌%◌, ◌≤◌, cond, ℤ, List, length, replicate, Option, Some, None, Ok, refl, sym, ◌∙◌, ap, subst, arith}
+use Rattle.std.proofs.Common.{◌≡◌, ℕ, ◌%◌, ◌≤◌, cond, ℤ, List, length, replicate, Option, Some, None, Ok, refl, sym, ◌∙◌, ap, arith}
 use Rattle.std.specs.Prelude.{◌+ℤ◌, slice_get}
 use Rattle.std.specs.Option.{option_map, option_map_or, option_and_then}
 use Rattle.oc_base.specs.declared.format.Word.{Word}
@@ -29,7 +29,7 @@ use Rattle.oc_macho_file.specs.Bodies.{WrittenReloc, taken_section, end_section_
 use Rattle.oc_macho_file.proofs.TableLaws.{made_table, made_sections, made_tables}
 use Rattle.oc_macho_file.proofs.CodedLaws.{IsForMach, word_back}
 use Rattle.oc_macho_file.proofs.ItemLaws.{item_of}
-use Rattle.oc_macho_file.proofs.EntryLaws.{written_pair, written_by, written_standing, mach_reloc, meets, row, entry, row_is, standing, standing_is, first_row, inside, is_stored, apart_patches, item_found, none_found}
+use Rattle.oc_macho_file.proofs.EntryLaws.{written_pair, written_by, written_standing, addend_held, meets, row, entry, row_is, standing, standing_is, first_row, inside, is_stored, apart_patches, item_found, none_found}
 use Rattle.oc_macho_file.proofs.SectionLaws.{made_contents, table_at, length-tables}
 use Rattle.std.proofs.lemmas.Option.{slice_get_past}
 use Rattle.oc_shows.proofs.FoundLaws.{holds_addend}
@@ -77,12 +77,9 @@ module _ (w : Word) (n : Object) (is : IsForMach w n) where
       abbrev shift : ℤ
       shift = field_shift w n x
 
-      holds : HoldsAddend (mach_format w) r shift
-      holds = by w refl
-        where
-          by : (v : Word) → w ≡ v → HoldsAddend (mach_format w) r shift
-          by W32 e = (mach_reloc w n is k at r there).holds shift (ap mach_format e)
-          by W64 e = subst (HoldsAddend (mach_format w) r) (sym (ap (λ v. field_shift v n x) e)) ((mach_reloc w n is k at r there).held (ap mach_format e))
+      -- it holds the addend
+      abbrev holds : HoldsAddend (mach_format w) r shift
+      holds = addend_held w n is k at r there
 
       written : to_field_of w r.form.width shift r.addend ≡ Ok holds.0
       written = ap (λ v. to_field_of v r.form.width shift r.addend) (sym (word_back w)) ∙ holds.1

@@ -92,13 +92,13 @@ eqb-sym : (i j : ℕ) → eqb i j ≡ false → eqb j i ≡ false
 eqb-sym i j e = ne_eqb j i (λ same. true≢false (sym (eq-eqb i j (sym same)) ∙ e))
 
 -- the place of a Global in a section
-place_in : (b : Binding) (end : ℕ) → global_section b ≡ Some end → (place : Place) × (global_place b ≡ Some place) × (place.0 ≡ end)
-place_in (Local v) end h = absurd (none-some end h)
-place_in (Global (value.Place k offset)) end h = ((k, offset), refl, same_Some k end h)
-place_in (Global (value.Absolute a)) end h = absurd (none-some end h)
-place_in Undefined end h = absurd (none-some end h)
-place_in (Common size align) end h = absurd (none-some end h)
-place_in (Weak f) end h = absurd (none-some end h)
+pub end_placed : (b : Binding) (end : ℕ) → global_section b ≡ Some end → (place : Place) × (global_place b ≡ Some place) × (place.0 ≡ end)
+end_placed (Local v) end h = absurd (none-some end h)
+end_placed (Global (value.Place k offset)) end h = ((k, offset), refl, same_Some k end h)
+end_placed (Global (value.Absolute a)) end h = absurd (none-some end h)
+end_placed Undefined end h = absurd (none-some end h)
+end_placed (Common size align) end h = absurd (none-some end h)
+end_placed (Weak f) end h = absurd (none-some end h)
 
 module _ (w : Word) (n : Object) (is : IsForMach w n) (symbols : (mach_dialect w).rules.symbols (mach_file w n) all ≡ shown_symbols (again w n)) where
   abbrev t : Tables
@@ -344,7 +344,7 @@ module _ (w : Word) (n : Object) (is : IsForMach w n) (symbols : (mach_dialect w
                 with_symbol : (o : Option Symbol) → slice_get n.symbols i ≡ o → option_and_then (λ (s : Symbol). global_section s.binding) (slice_get n.symbols i) ≡ Some end → IsGivenField w n is symbols k s here at r there
                 with_symbol None h e = absurd (none-some end (sym (ap (option_and_then (λ (s : Symbol). global_section s.binding)) h) ∙ e))
                 with_symbol (Some u) h e =
-                    let p = place_in u.binding end (sym (ap (option_and_then (λ (s : Symbol). global_section s.binding)) h) ∙ e) in
+                    let p = end_placed u.binding end (sym (ap (option_and_then (λ (s : Symbol). global_section s.binding)) h) ∙ e) in
                     let at_place : place_at n i ≡ Some p.0 = ap (option_and_then (λ (s : Symbol). global_place s.binding)) h ∙ p.1 in
                     let other : eqb p.0.0 j ≡ false = ap (λ e. eqb e j) p.2 ∙ differ (ap is_symbol to) in
                     let apart : takes_section p.0.0 r.form.less ≡ false = ap (takes_section p.0.0) l ∙ eqb-sym p.0.0 j other in

@@ -1,10 +1,9 @@
 -- What numbers are made of, where the object is one.
-use Rattle.std.proofs.Common.{◌≡◌, ℕ, ◌<◌, ◌^◌, true, true≢false, List, length, Option, Some, None, refl, sym, ◌∙◌, ap, subst, arith}
+use Rattle.std.proofs.Common.{◌≡◌, ℕ, ◌<◌, ◌^◌, true, true≢false, List, length, Option, Some, None, sym, ◌∙◌, ap, subst, arith}
 use Rattle.std.specs.Prelude.{IfSome, is_some, slice_get}
 use Rattle.std.specs.List.{AllByRecursion}
 use Rattle.std.specs.Option.{option_and_then}
 use Rattle.std.proofs.lemmas.Option.{none-some, slice_get_within}
-use Rattle.oc_base.specs.declared.format.Word.{Word}
 use Rattle.oc_base.specs.declared.format.Word.TheVariants.{W32, W64}
 use Rattle.oc_linking.specs.declared.terms.Less.{Less}
 use Rattle.oc_linking.specs.declared.terms.Less.TheVariants as less
@@ -24,19 +23,18 @@ use Rattle.oc_neutral.specs.Normal.{Place}
 use Rattle.oc_neutral.specs.Objects.{Object, reloc_at}
 use Rattle.oc_neutral.specs.TargetRelocations.{fixed_end, global_section}
 use Rattle.oc_neutral.proofs.Positions.{each_weaker}
-use Rattle.oc_target.specs.Meets.{HoldsAddend}
 use Rattle.oc_plans.specs.Numbered.{AreAll}
 use Rattle.oc_shelf.proofs.WritingLaws.MemberLemmas.{all_members}
 use Rattle.oc_macho.specs.MachHeader.{mach_format}
-use Rattle.oc_macho_file.specs.Bodies.{field_shift}
 use Rattle.oc_macho_file.specs.Lines.{numbered_lines}
 use Rattle.oc_macho_file.proofs.CodedLaws.{IsForMach}
-use Rattle.oc_macho_file.proofs.EntryLaws.{entry, field_there, known, mach_reloc, meets, row, row_is, standing, standing_is}
+use Rattle.oc_macho_file.proofs.EntryLaws.{addend_held, entry, field_there, known, mach_reloc, meets, row, row_is, standing, standing_is}
+use Rattle.oc_macho_file.proofs.PairLaws.{end_placed}
 use Rattle.oc_macho_file.proofs.PinLaws.{IsTakenSection, Another, Own, taken_is}
 use Rattle.oc_macho_file.proofs.RowLaws.{IsKnown, KnownAlone, KnownPair}
 use Rattle.oc_macho_write.specs.declared.forms.FieldContext.{FieldContext}
 use Rattle.oc_macho_write.specs.declared.numbers.Numbers.{Numbers}
-use Rattle.oc_macho_write.specs.Forms.{CanWrite, FieldHolds, HasPlace, IsLessThere, IsReady, IsFieldContext, IsThere}
+use Rattle.oc_macho_write.specs.Forms.{CanWrite, HasPlace, IsLessThere, IsReady, IsFieldContext, IsThere}
 use Rattle.oc_macho_write.specs.Numbers.{AreSized}
 use Rattle.oc_macho_write.specs.Relocations.{CanTell, HasNumbers}
 
@@ -82,17 +80,9 @@ module _ (n : Object) (x : FieldContext) (is : IsForMach x.word n) (context : Is
   end_there (target.Symbol k) end e =
       ap (λ (ss : List Symbol). is_some (option_and_then (λ (s : Symbol). global_place s.binding) (slice_get ss k))) context.symbols ∙ by (slice_get n.symbols k) e
     where
-      placed_so : (b : Binding) → global_section b ≡ Some end → is_some (global_place b) ≡ true
-      placed_so (Global (value.Place j offset)) h = refl
-      placed_so (Global (value.Absolute a)) h = absurd (none-some end h)
-      placed_so (Local v) h = absurd (none-some end h)
-      placed_so Undefined h = absurd (none-some end h)
-      placed_so (Common size align) h = absurd (none-some end h)
-      placed_so (Weak f) h = absurd (none-some end h)
-
       by : (o : Option Symbol) → option_and_then (λ (s : Symbol). global_section s.binding) o ≡ Some end → is_some (option_and_then (λ (s : Symbol). global_place s.binding) o) ≡ true
       by None h = absurd (none-some end h)
-      by (Some s) h = placed_so s.binding h
+      by (Some s) h = ap is_some (end_placed s.binding end h).1
 
   module _ (k at : ℕ) (r : Reloc) (there : reloc_at n k at ≡ Some r) where
     -- in i386 a pair is written of a difference, whose ends the target asks to lie in sections
@@ -116,18 +106,8 @@ module _ (n : Object) (x : FieldContext) (is : IsForMach x.word n) (context : Is
           ends = ends;
         }
 
-    -- its field holds the addend: in i386 each does, and in x86-64 the target asks for it
-    holds : FieldHolds x.word n (standing x.word n is k at r there)
-    holds = by x.word refl
-      where
-        by : (v : Word) → x.word ≡ v → FieldHolds x.word n (standing x.word n is k at r there)
-        by W32 e = (mach_reloc x.word n is k at r there).holds (field_shift x.word n (standing x.word n is k at r there)) (ap mach_format e)
-        by W64 e =
-            subst (HoldsAddend (mach_format x.word) r) (sym (ap (λ v. field_shift v n (standing x.word n is k at r there)) e))
-            ((mach_reloc x.word n is k at r there).held (ap mach_format e))
-
     tells : CanTell x k at r
-    tells = record { ready = scene_ready; can = can; object = n; context = context; holds = holds }
+    tells = record { ready = scene_ready; can = can; object = n; context = context; holds = addend_held x.word n is k at r there }
 
   -- the relocations of a section can be written
   pub all_can : (k : ℕ) → AreAll (CanWrite x k) (list_of n.relocs k)
