@@ -40,7 +40,7 @@ use Rattle.oc_omf_write.specs.Pieces.{FollowWithin, fixups_at}
 use Rattle.oc_omf_write.proofs.PieceLemmas.{few_between, follow_from}
 use Rattle.oc_omf_write.specs.Raws.{sections_in}
 use Rattle.oc_omf_write.specs.Tables.{fixups_of, public_by, contents_by, CanPut}
-use Rattle.oc_omf_write.specs.Written.{fixup_bytes_of, IsSmallFixup, fixup_with, HasIndex, fixups_in}
+use Rattle.oc_omf_write.specs.Written.{fixup_bytes_of, IsSmallFixup, fixup_with}
 use Rattle.oc_omf_write.specs.Written as written
 use Rattle.oc_omf_write.proofs.FixupLemmas.{has_index}
 use Rattle.oc_omf_write.proofs.PlannedLemmas.{names_same, section_is, between_fields, fixup_is, fixups_are, fixups_counted, fixups_there, method_is}

@@ -17,7 +17,7 @@ use Rattle.oc_neutral.specs.Rows.{Row}
 use Rattle.oc_shelf.proofs.WritingLaws.MemberLemmas.{member_enumerated, member_map}
 use Rattle.oc_omf_file.specs.Fixups.{raw_of, field_fixup, row_by, target_method, written_reloc}
 use Rattle.oc_omf_file.specs.Names.{class_of, with_name, names_of}
-use Rattle.oc_omf_file.specs.Outputs.{Output, outputs_of, piece_outputs, data_outputs, segment_output, symbol_outputs}
+use Rattle.oc_omf_file.specs.Outputs.{piece_outputs, data_outputs}
 use Rattle.oc_omf_file.specs.Outputs as output
 use Rattle.oc_omf_file.specs.Pieces.{fields_between, offsets_of, pieces_of, pieces_upto}
 use Rattle.oc_omf_file.proofs.SmallLaws.{length-raw}

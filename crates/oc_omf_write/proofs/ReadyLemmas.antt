@@ -14,7 +14,7 @@ use Rattle.oc_neutral.specs.Invariants.{HasItsBytes}
 use Rattle.oc_neutral.proofs.Positions.{each_at, there_at}
 use Rattle.oc_omf_file.specs.Fixups.{raw_of}
 use Rattle.oc_omf_file.specs.Names.{names_of, filled_from, names_size}
-use Rattle.oc_omf_file.specs.Outputs.{Output, symbol_outputs, indexed_outputs, external_output, communal_output, public_output}
+use Rattle.oc_omf_file.specs.Outputs.{Output, symbol_outputs, external_output, communal_output, public_output}
 use Rattle.oc_omf_file.specs.Outputs as output
 use Rattle.oc_omf_file.specs.Pieces.{pieces_upto, piece_end}
 use Rattle.oc_omf_file.proofs.BehindLaws.{OfSymbol, symbols_are}
