@@ -32,10 +32,10 @@ use Rattle.oc_neutral.specs.Faces.{shown_symbols}
 use Rattle.oc_neutral.specs.Normal.{Place, cancels, takes_section, at_section, moved_addend}
 use Rattle.oc_neutral.specs.Objects.{Object, reloc_at}
 use Rattle.oc_neutral.specs.Rows as rows
-use Rattle.oc_neutral.specs.Rows.{Row, Taken, TakesZero, TakesPlace, TakesGotBase, TakesImageBase, TakesHome, TakesSection, same_taken, taken_of, shift_of}
+use Rattle.oc_neutral.specs.Rows.{Taken, TakesZero, TakesPlace, TakesGotBase, TakesImageBase, TakesHome, TakesSection, same_taken, taken_of, shift_of}
 use Rattle.oc_shows.specs.Seen.{place_at, target_place, section_place, seen_target}
 use Rattle.oc_neutral.specs.Worth as worth
-use Rattle.oc_neutral.specs.Worth.{base_of, target_worth, residue_at}
+use Rattle.oc_neutral.specs.Worth.{base_of, target_worth}
 use Rattle.oc_macho.specs.MachHeader.{mach_format}
 use Rattle.oc_macho.specs.Tables.{SectionTable, Tables}
 use Rattle.oc_macho.specs.Sections as read

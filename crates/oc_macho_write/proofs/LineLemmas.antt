@@ -7,7 +7,7 @@ use Rattle.oc_base.specs.declared.format.Word.{Word}
 use Rattle.oc_shelf.proofs.WritingLaws.MemberLemmas.{of_map, member_map}
 use Rattle.oc_neutral.specs.Objects.{Object}
 use Rattle.oc_macho_file.specs.Lines as lines
-use Rattle.oc_macho_file.specs.Lines.{lines_of, inner_lines, own_lines, local_lines, defined_lines, undefined_lines, lines_where}
+use Rattle.oc_macho_file.specs.Lines.{lines_of, inner_lines, own_lines, local_lines, defined_lines, lines_where}
 use Rattle.oc_macho_write.specs.declared.lines.Line.{Line}
 use Rattle.oc_macho_write.specs.declared.lines.Outer.{Outer}
 use Rattle.oc_macho_write.specs.declared.lines.Outer.TheVariants.{Defined, Undefined, Common, Optional}

@@ -16,7 +16,7 @@ use Rattle.oc_macho.specs.declared.relocation_info.Reference.{Reference}
 use Rattle.oc_macho.specs.declared.relocation_info.Reference.TheVariants as reference
 use Rattle.oc_macho.specs.declared.relocation_info.RelocationInfo.{RelocationInfo}
 use Rattle.oc_macho_file.specs.Bodies as bodies
-use Rattle.oc_macho_file.specs.Bodies.{entries_at, entries_of, pair_entries, plain_entry, reference_to, written_reloc_at, standing_entries, taken_section}
+use Rattle.oc_macho_file.specs.Bodies.{entries_at, entries_of, pair_entries, plain_entry, reference_to, standing_entries, taken_section}
 use Rattle.oc_macho_file.specs.Lines.{Line, numbered_lines, own_number}
 use Rattle.oc_macho_write.specs.declared.forms.FieldContext.{FieldContext}
 use Rattle.oc_macho_write.specs.declared.forms.SpelledReloc.{SpelledReloc}

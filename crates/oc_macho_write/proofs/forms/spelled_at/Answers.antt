@@ -1,5 +1,5 @@
 -- The form that the format has is looked up.
-use Rattle.std.proofs.Common.{◌≡◌, IsOk, sym, ◌∙◌, ap, subst}
+use Rattle.std.proofs.Common.{IsOk, sym, ◌∙◌, ap, subst}
 use Rattle.oc_neutral.specs.Spelling.{spelling_of}
 use Rattle.oc_target.specs.Lookup.{answer_of}
 use Rattle.oc_macho_write.proofs.FormLemmas.{told, has_answer}
