@@ -33,3 +33,4 @@ pub use earlier::{EarlierSymbols, External};
 pub use front::{Front, judge_front};
 pub use judging::{Found, judged};
 pub use section_stage::segment_size;
+pub use threads::method_of;

@@ -25,7 +25,7 @@ pub(crate) fn relocation_fault(here: EntryPlace, code: Code) -> Fault
 
 /// The method of a frame, or else of a target: its own, or that of its thread, if that is in force.
 /// Constant time.
-pub(crate) fn method_of(threads: &Threads, frame: bool, datum: Datum) -> Option<Method>
+pub fn method_of(threads: &Threads, frame: bool, datum: Datum) -> Option<Method>
     ensures { result ≡ method_by threads.now frame datum }
 {
     match datum {

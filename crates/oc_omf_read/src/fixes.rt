@@ -2,7 +2,6 @@
 ghost use Rattle.std.specs.Prelude.{◌≡◌, true, false};
 ghost use Rattle.std.specs.Option.{option_and_then, option_map};
 ghost use Rattle.oc_omf.specs.Targets as targets;
-ghost use Rattle.oc_omf_judge.specs.Threads.{method_by};
 ghost use Rattle.oc_omf_read.specs.Aims as aims;
 ghost use Rattle.oc_omf_read.specs.Mentioned.{seen_of};
 
@@ -10,8 +9,8 @@ use crate::fix::{Fix, FixupFrame};
 use crate::known::{kind_in, name_in};
 use crate::mentioned::{Mentioned, Mentions};
 use oc_neutral::{Keep, Target};
-use oc_omf::{Datum, Fixup, Method, Module, OFFSET_32, Threads};
-use oc_omf_judge::Defined;
+use oc_omf::{Fixup, Method, Module, OFFSET_32, Threads};
+use oc_omf_judge::{Defined, method_of};
 
 /// What a frame or a target names: a symbol by its number, or a section by its position.
 #[derive(Clone, Copy, PartialEq, Eq)]
@@ -42,16 +41,6 @@ pub struct FixupContext<'s, 'f> {
     pub(crate) mentions: &'s Mentions<'f>,
     /// What is kept.
     pub(crate) keep: Keep,
-}
-
-// the method of a frame or a target, its own or its thread's
-fn method_of(threads: &Threads, frame: bool, datum: Datum) -> Option<Method>
-    ensures { result ≡ method_by threads.now frame datum }
-{
-    match datum {
-        Datum::Explicit(method) => Some(method),
-        Datum::Thread(number) => threads.get(frame, number),
-    }
 }
 
 // what a symbol of that number names
