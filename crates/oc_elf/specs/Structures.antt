@@ -45,16 +45,16 @@ unfoldable pub ehdr_bytes : Word → Ehdr → List ℕ
 ehdr_bytes word h = packed (ehdr_numbers word h)
 
 -- the numbers of a section header down to its offset; its address is 0
-abbrev pub front_numbers : Word → Shdr → List (ℕ × ℕ)
-front_numbers word s = (4, s.sh_name) ∷ (4, s.sh_type) ∷ (word_bytes word, s.sh_flags) ∷ (word_bytes word, 0) ∷ (word_bytes word, s.sh_offset) ∷ []
+abbrev pub leading_numbers : Word → Shdr → List (ℕ × ℕ)
+leading_numbers word s = (4, s.sh_name) ∷ (4, s.sh_type) ∷ (word_bytes word, s.sh_flags) ∷ (word_bytes word, 0) ∷ (word_bytes word, s.sh_offset) ∷ []
 
 -- those from its size on
-abbrev pub back_numbers : Word → Shdr → List (ℕ × ℕ)
-back_numbers word s = (word_bytes word, s.sh_size) ∷ (4, s.sh_link) ∷ (4, s.sh_info) ∷ (word_bytes word, s.sh_addralign) ∷ (word_bytes word, s.sh_entsize) ∷ []
+abbrev pub trailing_numbers : Word → Shdr → List (ℕ × ℕ)
+trailing_numbers word s = (word_bytes word, s.sh_size) ∷ (4, s.sh_link) ∷ (4, s.sh_info) ∷ (word_bytes word, s.sh_addralign) ∷ (word_bytes word, s.sh_entsize) ∷ []
 
 -- the numbers of a section header
 abbrev pub shdr_numbers : Word → Shdr → List (ℕ × ℕ)
-shdr_numbers word s = front_numbers word s ++ back_numbers word s
+shdr_numbers word s = leading_numbers word s ++ trailing_numbers word s
 
 -- its bytes
 unfoldable pub shdr_bytes : Word → Shdr → List ℕ

@@ -153,7 +153,7 @@ pub fn pack_ehdr(word: Word, ehdr: &Ehdr) -> Packed
 // puts the name, the type, the flags, the address, which is 0, and the offset of a section
 fn put_section(out: &mut Packed, word: Word, shdr: &Shdr)
     requires { length out.old + 8 + 3 * structures.word_bytes word ≤ ROW }
-    ensures bytes { out.new ≡ out.old ++ packed (structures.front_numbers word shdr.now) }
+    ensures bytes { out.new ≡ out.old ++ packed (structures.leading_numbers word shdr.now) }
     ensures long { length out.new ≡ length out.old + 8 + 3 * structures.word_bytes word }
 {
     out.put_u32(shdr.sh_name);
@@ -166,7 +166,7 @@ fn put_section(out: &mut Packed, word: Word, shdr: &Shdr)
 // puts the size of a section and the rest of its header
 fn put_rest(out: &mut Packed, word: Word, shdr: &Shdr)
     requires { length out.old + 8 + 3 * structures.word_bytes word ≤ ROW }
-    ensures { out.new ≡ out.old ++ packed (structures.back_numbers word shdr.now) }
+    ensures { out.new ≡ out.old ++ packed (structures.trailing_numbers word shdr.now) }
 {
     put_word(out, word, shdr.sh_size);
     out.put_u32(shdr.sh_link);
