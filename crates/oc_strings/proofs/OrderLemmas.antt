@@ -1,7 +1,7 @@
 -- Names in ascending order, and which of them end which.
 use Rattle.std.proofs.Common.{take, drop, ◌≡◌, ℕ, zero, suc, ◌+◌, ◌-◌, ◌<◌, ◌≤◌, true, false, List, [], ◌∷◌, ◌++◌, length, reverse, Ordering, refl, sym, ◌∙◌, ap, subst, arith, ⊎_elim}
 use Rattle.std.proofs.lemmas.List.{reverse-append, reverse-reverse, take-append-drop}
-use Rattle.std.proofs.lemmas.Bool.{both_ways, cases_lt, cases_order}
+use Rattle.std.proofs.lemmas.Bool.{both_ways, cases_lt, cases_order, false_from_ne_true}
 use Rattle.std.proofs.lemmas.Bool.Decides.{nat_tests}
 use Rattle.std.proofs.lemmas.Cmp.{nat_list_cmp_total, tied_itself, nat_cmp_total}
 use Rattle.std.specs.Ordering.{nat_cmp, is_lt, is_le, ordering_then, ordering_reverse}
@@ -9,7 +9,7 @@ use Rattle.std.specs.Cmp.Lexicographic.{slice_cmp}
 use Rattle.std.specs.declared.cmp.Ordering.TheVariants.{Less, Equal, Greater}
 use Rattle.oc_base.specs.Strings.{ends}
 use Rattle.oc_strings.specs.Order.{SharesEnd, is_before, StrictlyAscends, name_at}
-use Rattle.oc_strings.proofs.EndLemmas.{ends_split, ends_from}
+use Rattle.oc_strings.proofs.EndLemmas.{ends_split, ends_from, ends_whole}
 
 -- the order of lists of bytes
 abbrev pub order : List ℕ → List ℕ → Ordering
@@ -140,6 +140,16 @@ module _ (names : List (List ℕ)) (up : StrictlyAscends names) where
   earlier i j l lj =
       let far : i + (j - i - 1) + 1 ≡ j = omega arith in
       subst (λ (m : ℕ). is_before (name_at names i) (name_at names m) ≡ true) far (before_later i (j - i - 1) (omega arith))
+
+  -- a name ends no later one that is not longer
+  pub ends_longer : (i k : ℕ) → i < k → k < length names → length (name_at names k) ≤ length (name_at names i) → ends (name_at names i) (name_at names k) ≡ false
+  ends_longer i k l lk short =
+      false_from_ne_true (ends (name_at names i) (name_at names k)) (λ e.
+      let same : name_at names i ≡ name_at names k = ends_whole (name_at names i) (name_at names k) e short in
+      both_ways false refl
+      (sym (ap is_lt (tied_itself nat_list_cmp_total (reverse (name_at names i))))
+      ∙ ap (λ (n : List ℕ). is_lt (order (reverse (name_at names i)) (reverse n))) same
+      ∙ earlier i k l lk))
 
   -- a name stands at or before each that is not earlier
   at_or_before : (i j : ℕ) → i ≤ j → j < length names → is_le (order (reverse (name_at names i)) (reverse (name_at names j))) ≡ true

@@ -1,5 +1,5 @@
 -- Entries in ascending order, and the ranks of the given names.
-use Rattle.std.proofs.Common.{◌≡◌, ℕ, Bool, ◌+◌, ◌-◌, ◌^◌, ◌<◌, ◌≤◌, true, false, List, [], ◌∷◌, ◌++◌, length, get_or, set, Some, refl, sym, ◌∙◌, ap, subst, arith, ⊎_elim}
+use Rattle.std.proofs.Common.{◌≡◌, ℕ, ◌+◌, ◌-◌, ◌^◌, ◌<◌, ◌≤◌, true, false, List, [], ◌∷◌, ◌++◌, length, get_or, set, Some, refl, sym, ◌∙◌, ap, subst, arith, ⊎_elim}
 use Rattle.std.proofs.lemmas.List.{get_or-map, length-map, get_or_default, length-set, get_or-set_same, get_or-set_other, get_or_append_left, length_push, map_push, get_or_push}
 use Rattle.std.proofs.lemmas.List.Sorted.{All-permutation, Contains-permutation}
 use Rattle.std.proofs.lemmas.Option.{slice_get-get_or, slice_get_within, same_Some}
@@ -8,25 +8,19 @@ use Rattle.std.specs.List.{All, slice_get}
 use Rattle.std.specs.List.Sorted.{IsSortedBy, IsPermutation}
 use Rattle.std.specs.Ordering.{is_lt}
 use denote.Ref.{Bor}
-use Rattle.oc_base.specs.Strings.{ends}
 use Rattle.oc_strings.specs.declared.order.Entry.{Entry}
 use Rattle.oc_strings.specs.Tables.{texts}
 use Rattle.oc_strings.proofs.SliceLemmas.{text_at}
 use Rattle.oc_strings.specs.Keys.{back_number, entry_order, IsKeyed}
 use Rattle.oc_strings.proofs.OrderLemmas.{same_or_before}
 use Rattle.oc_strings.proofs.KeyLemmas.{entry_order_is}
-use Rattle.oc_strings.specs.Order.{is_before, Ascends, StrictlyAscends, names_of, name_at, EndsWithName, IsNumbered, IsOrder}
+use Rattle.oc_strings.specs.Order.{is_before, Ascends, StrictlyAscends, names_of, EndsWithName, IsNumbered, IsOrder}
 
 pub name_of_entry : (entries : List Entry) (k : ℕ) (d : List ℕ) (e : Entry) → k < length entries → get_or (names_of entries) k d ≡ (get_or entries k e).name.now
 name_of_entry entries k d e l = get_or-map (λ (x : Entry). x.name.now) entries k e d l
 
 pub count_of_names : (entries : List Entry) → length (names_of entries) ≡ length entries
 count_of_names entries = length-map entries (λ (x : Entry). x.name.now)
-
--- which name ends which, by their places
-pub ends_by_place : (entries : List Entry) (i j : ℕ) (e : Entry) (b : Bool) → i < length entries → j < length entries
-    → ends (get_or entries i e).name.now (get_or entries j e).name.now ≡ b → ends (name_at (names_of entries) i) (name_at (names_of entries) j) ≡ b
-ends_by_place entries i j e b li lj h = rw (name_of_entry entries i [] e li, name_of_entry entries j [] e lj) h
 
 -- what the sort says, of the names
 pub ascending : (entries : List Entry) → All IsKeyed entries → IsSortedBy (λ a b. is_lt (entry_order a b)) entries → Ascends (names_of entries)

@@ -22,17 +22,17 @@ use denote.Ref.{Bor}
 use Rattle.std.proofs.lemmas.Slice.Eq.{bytes_eq-Decides}
 use Rattle.oc_strings.specs.declared.repeats.SortKey.{SortKey}
 use Rattle.oc_strings.specs.declared.repeats.Repeat.{Repeat}
-use Rattle.oc_strings.specs.Repeats.{NameList, are_tied, bytes_at, entries_of, first_repeat, number_after, name_at, names_of, order, sooner}
+use Rattle.oc_strings.specs.Repeats.{NameList, are_tied, bytes_at, entries_of, first_repeat, number_of, name_at, names_of, order, sooner}
 use Rattle.oc_strings.proofs.RepeatLemmas.{IsRepeat, named_within, no_repeat, repeat_first}
 
 -- an entry has the number of the name at its position
 pub record IsEntry (names : NameList) (e : SortKey) : Type 0 where
   pub name : List ℕ
   pub here : name_at names e.at ≡ Some name
-  pub number : e.number ≡ number_after 0 name
+  pub number : e.number ≡ number_of name
 
 abbrev entry : ℕ → List ℕ → SortKey
-entry k name = record { number = number_after 0 name; at = k }
+entry k name = record { number = number_of name; at = k }
 
 -- entries at one position
 abbrev same_at : SortKey → SortKey → Bool

@@ -4,7 +4,9 @@ use Rattle.std.specs.Ordering.{nat_cmp, is_lt}
 use Rattle.std.specs.Option.{option_map, option_or}
 use Rattle.std.specs.Cmp.Lexicographic.{slice_cmp}
 use Rattle.oc_base.specs.Strings.{ends, with_top, place_from}
-use Rattle.oc_strings.specs.Tables.{capped}
+use denote.Ref.{Bor}
+use Rattle.oc_strings.specs.Tables.{capped, texts}
+use Rattle.oc_strings.specs.declared.layout.EntryLayout.{EntryLayout}
 use Rattle.oc_strings.specs.declared.order.Entry.{Entry}
 
 -- the name comes before the other one
@@ -79,3 +81,7 @@ pub record IsLaidOut (head : ℕ) (names order : List (List ℕ)) (used : ℕ) (
   pub tops_are : tops ≡ fold (with_top names) [] (take used names)
   pub whole : length offsets ≡ length order
   pub placed : (k : ℕ) (d : Option ℕ) → k < length order → slice_index_or offsets k d ≡ option_map capped (place_from head tops (name_at order k))
+
+-- all given names are laid out from the head on
+abbrev pub AreLaidOut : ℕ → List (Bor (List ℕ)) → List Entry → EntryLayout → Type 0
+AreLaidOut head names entries placed = IsLaidOut head (texts names) (names_of entries) (length names) (texts placed.tops.items) placed.offsets.items

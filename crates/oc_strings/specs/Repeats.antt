@@ -1,10 +1,11 @@
 -- Names that occur twice in a list (our profile).
-use Rattle.std.specs.Prelude.{ℕ, zero, suc, Bool, false, ◌&&◌, nat_eq, nat_le, bytes_eq, if◌then◌else◌, List, [], ◌∷◌, ◌++◌, ◌+◌, ◌*◌, ◌%◌, ◌^◌, length, map, slice_get, Option, Some, None}
+use Rattle.std.specs.Prelude.{ℕ, zero, suc, Bool, false, ◌&&◌, nat_eq, nat_le, bytes_eq, if◌then◌else◌, List, [], ◌∷◌, ◌++◌, ◌+◌, ◌*◌, ◌/◌, ◌%◌, ◌^◌, drop, length, map, slice_get, Option, Some, None}
 use Rattle.std.specs.Option.{option_and_then, option_copied, option_flatten, option_map, option_map_or, option_to_list, unwrap_or}
 use Rattle.std.specs.declared.cmp.Ordering.{Ordering}
 use Rattle.std.specs.Ordering.{nat_cmp, ordering_then}
 use Rattle.std.specs.Cmp.Lexicographic.{slice_cmp}
 use denote.Ref.{Bor}
+use Rattle.oc_base.specs.Numbers.{number_at}
 use Rattle.oc_linking.specs.declared.terms.Binding.{Binding}
 use Rattle.oc_linking.specs.Numbers.{first_upto}
 use Rattle.oc_linking.specs.Parts.{is_local}
@@ -40,10 +41,23 @@ first_repeat names = first_upto (repeat_at names) (length names)
 abbrev pub nonlocal_name : Binding → List ℕ → Option (List ℕ)
 nonlocal_name binding name = if is_local binding then None else Some name
 
--- a number of a name, of all its bytes: what is left of them follows a number
+-- what another number makes of a number, after it
+abbrev pub followed : ℕ → ℕ → ℕ
+followed n next = (n * SPREAD % 2 ^ 64 + next) % 2 ^ 64
+
+-- what bytes make of a number, one by one
 abbrev pub number_after : ℕ → List ℕ → ℕ
 number_after n [] = n
-number_after n (byte ∷ rest) = number_after ((n * SPREAD % 2 ^ 64 + byte) % 2 ^ 64) rest
+number_after n (byte ∷ rest) = number_after (followed n byte) rest
+
+-- what so many words of eight bytes make of a number, and then the bytes that are left
+abbrev pub number_after_words : ℕ → ℕ → List ℕ → ℕ
+number_after_words zero n bytes = number_after n bytes
+number_after_words (suc k) n bytes = number_after_words k (followed n (number_at bytes 0 8)) (drop 8 bytes)
+
+-- a number of a name, of all its bytes
+abbrev pub number_of : List ℕ → ℕ
+number_of name = number_after_words (length name / 8) 0 name
 
 -- the name at a position, and no bytes where there is none
 abbrev pub bytes_at : NameList → ℕ → List ℕ
@@ -52,7 +66,7 @@ bytes_at names k = unwrap_or (name_at names k) []
 -- an entry for each name among the first n positions
 abbrev pub entries_of : NameList → ℕ → List SortKey
 entries_of names zero = []
-entries_of names (suc n) = entries_of names n ++ option_to_list (option_map (λ name. record { number = number_after 0 name; at = n }) (name_at names n))
+entries_of names (suc n) = entries_of names n ++ option_to_list (option_map (λ name. record { number = number_of name; at = n }) (name_at names n))
 
 -- entries are sorted by their numbers, then by their names, then by their positions
 abbrev pub order : NameList → SortKey → SortKey → Ordering

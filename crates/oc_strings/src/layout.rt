@@ -2,7 +2,7 @@
 ghost use Rattle.std.specs.Prelude.{◌≡◌, ℕ, ◌<◌, List, ◌&&◌, All, IfOk, IsSome, is_none, not, length, map, slice_index_or};
 ghost use Rattle.oc_base.specs.Strings.{tops_of};
 ghost use Rattle.oc_strings.specs.Tables.{texts, offset_of};
-ghost use Rattle.oc_strings.specs.Order.{IsOrder, ends_next, names_of, IsLaidOut};
+ghost use Rattle.oc_strings.specs.Order.{IsOrder, StrictlyAscends, ends_next, names_of, AreLaidOut};
 
 use crate::order::{Entry, Order};
 use crate::tails::{is_top, next_tails, place_tails};
@@ -20,6 +20,7 @@ pub(crate) struct EntryLayout<'a> {
 
 /// Whether the name at `k` ends no other one, and has no place yet.
 fn is_new_top(entries: &[Entry], offsets: &[Option<u64>], k: usize) -> bool
+    requires ascends { StrictlyAscends (names_of entries.now) }
     requires within { k < length entries.now }
     requires room { length offsets.now ≡ length entries.now }
     ensures { result ≡ (is_none (slice_index_or offsets.now k None) && not (ends_next (names_of entries.now) k)) }
@@ -36,7 +37,7 @@ fn place<'a>(
     order: &Order<'a>,
 ) -> Result<EntryLayout<'a>, NoMemory>
     requires { IsOrder (texts names.now) order.now.entries.items order.now.ranks.items }
-    ensures { IfOk result (λ placed. IsLaidOut head (texts names.now) (names_of order.now.entries.items) (length names.now) (texts placed.tops.items) placed.offsets.items) }
+    ensures { IfOk result (AreLaidOut head names.now order.now.entries.items) }
 {
     let entries = order.entries.as_slice();
     let tails = next_tails(alloc, entries)?;

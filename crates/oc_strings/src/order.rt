@@ -23,7 +23,7 @@ pub(crate) struct Entry<'a> {
 const BLOCK: usize = 256;
 
 /// How many bytes a number has, by which they are compared at once after that.
-const WORD: usize = 8;
+pub(crate) const WORD: usize = 8;
 
 /// Byte `i` of a name, counted from the last one on; 0 where the name is shorter.
 fn byte_back(name: &[u8], i: usize) -> u8

@@ -3,7 +3,8 @@ ghost use Rattle.std.specs.Prelude.{◌≡◌, IfOk, length};
 ghost use Rattle.std.specs.List.Sorted.{IsPermutation, IsSorted};
 ghost use Rattle.oc_strings.specs.Repeats as repeats;
 
-use oc_base::NoMemory;
+use crate::order::WORD;
+use oc_base::{NoMemory, u64_in};
 use std::alloc::Global;
 use std::cmp::Ordering;
 
@@ -16,8 +17,8 @@ pub struct Repeat {
     pub later: usize,
 }
 
-/// An odd number, by which a name's number is multiplied before its next byte is added: names that differ
-/// in one byte alone get different numbers.
+/// An odd number, by which a name's number is multiplied before its next word or byte is added: names of one
+/// length that differ in one of these alone get different numbers.
 const SPREAD: u64 = 0x9e37_79b9_7f4a_7c15;
 
 /// What is sorted: a number of the name, and where the name lies.
@@ -27,15 +28,35 @@ struct SortKey {
     at: usize,
 }
 
-// a number of a name, of all its bytes
-fn number_of(name: &[u8]) -> u64
-    ensures { result ≡ repeats.number_after 0 name.now }
+// the number that another one makes of a number, after it
+fn followed(number: u64, next: u64) -> u64
+    ensures { result ≡ repeats.followed number next }
 {
-    let mut number = 0_u64;
-    for byte in name {
-        number = number.wrapping_mul(SPREAD).wrapping_add(u64::from(*byte));
+    number.wrapping_mul(SPREAD).wrapping_add(next)
+}
+
+// the number that these bytes make of a number, one by one
+fn number_after(number: u64, bytes: &[u8]) -> u64
+    ensures { result ≡ repeats.number_after number bytes.now }
+{
+    let mut number = number;
+    for byte in bytes {
+        number = followed(number, u64::from(*byte));
     }
     number
+}
+
+// a number of a name, of all its bytes: of eight at a time, and then of those that are left
+fn number_of(name: &[u8]) -> u64
+    ensures { result ≡ repeats.number_of name.now }
+{
+    let mut number = 0;
+    let mut rest = name;
+    while rest.len() >= WORD {
+        number = followed(number, u64_in(rest, 0));
+        rest = &rest[WORD..];
+    }
+    number_after(number, rest)
 }
 
 // the name at a position, and no bytes where there is none

@@ -1,20 +1,31 @@
 //! Which of the names in ascending order end which.
 ghost use Rattle.std.specs.Prelude.{◌≡◌, ◌<◌, IfOk, length, not};
-ghost use Rattle.oc_strings.specs.Order.{names_of, StrictlyAscends, IsNextTail, AreNextTails, AreTailsPlaced, ends_next};
+ghost use Rattle.oc_base.specs.Strings.{ends};
+ghost use Rattle.oc_strings.specs.Order.{names_of, name_at, StrictlyAscends, IsNextTail, AreNextTails, AreTailsPlaced, ends_next};
 
 use crate::order::{Entry, is_tail};
 use oc_base::NoMemory;
 use std::alloc::Global;
 
+/// Whether the name at `i` ends the later one at `k`. No two names are the same, so one that is not
+/// shorter ends none: its bytes are not looked at.
+fn ends_later(entries: &[Entry], i: usize, k: usize) -> bool
+    requires ascends { StrictlyAscends (names_of entries.now) }
+    requires before { i < k }
+    requires within { k < length entries.now }
+    ensures { result ≡ ends (name_at (names_of entries.now) i) (name_at (names_of entries.now) k) }
+{
+    let (name, later) = (entries[i].name, entries[k].name);
+    name.len() < later.len() && is_tail(name, later)
+}
+
 /// Whether the name with this place ends no other one. The names that it ends come right after it.
 pub(crate) fn is_top(entries: &[Entry], k: usize) -> bool
-    requires { k < length entries.now }
+    requires ascends { StrictlyAscends (names_of entries.now) }
+    requires within { k < length entries.now }
     ensures { result ≡ not (ends_next (names_of entries.now) k) }
 {
-    match entries.get(k + 1) {
-        Some(next) => !is_tail(entries[k].name, next.name),
-        None => true,
-    }
+    k + 1 >= entries.len() || !ends_later(entries, k, k + 1)
 }
 
 /// The longest earlier name that ends the first one whose tail is not known yet.
@@ -24,10 +35,9 @@ fn next_tail(entries: &[Entry], tails: &[Option<usize>]) -> Option<usize>
     requires within { length tails.now < length entries.now }
     ensures { IsNextTail (names_of entries.now) (length tails.now) result }
 {
-    let name = entries[tails.len()].name;
     let mut candidate = tails.len().checked_sub(1);
     while let Some(k) = candidate {
-        if is_tail(entries[k].name, name) {
+        if ends_later(entries, k, tails.len()) {
             return Some(k);
         }
         candidate = tails[k];

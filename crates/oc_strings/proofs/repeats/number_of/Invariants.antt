@@ -1,7 +1,10 @@
-use Rattle.std.proofs.Common.{◌≡◌, drop}
-use Rattle.oc_strings.specs.Repeats.{number_after}
+use Rattle.std.proofs.Common.{◌≡◌, ◌/◌, length}
+use Rattle.oc_strings.specs.Repeats.{number_of, number_after_words}
 use Rattle.oc_strings.proofs.repeats.number_of.Given as goal
 
--- the bytes that are left follow those of the number
-abbrev pub invariant-loop-byte : goal.invariant-loop-byte
-invariant-loop-byte l = number_after l.number (drop l.byte-index l.name) ≡ number_after 0 l.name
+-- the words and bytes that are left follow those of the number
+abbrev pub invariant-loop-rest : goal.invariant-loop-rest
+invariant-loop-rest l = number_after_words (length l.rest / 8) l.number l.rest ≡ number_of l.name
+
+abbrev pub decreases-loop-rest : goal.decreases-loop-rest
+decreases-loop-rest l = length l.rest
