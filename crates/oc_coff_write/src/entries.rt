@@ -172,7 +172,7 @@ fn reloc_count(neutral: &Neutral, position: u32) -> usize
     requires { position < length neutral.now.sections }
     ensures { result ≡ length (list_of neutral.now.relocs position) }
 {
-    neutral.relocs(position).count()
+    neutral.relocs(position).len()
 }
 
 // the auxiliary entry of the symbol of the section at a position

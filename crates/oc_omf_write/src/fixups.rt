@@ -155,7 +155,7 @@ pub(crate) fn fixups_of(
     requires there { section < length neutral.now.sections }
     ensures { IfOk result (λ fixups. fixups.items ≡ written.fixups_of numbers.now neutral.now section) }
 {
-    let mut fixups = Vec::with_capacity(alloc, neutral.relocs(section).count())?;
+    let mut fixups = Vec::with_capacity(alloc, neutral.relocs(section).len())?;
     for field in neutral.relocs(section) {
         fixups.push(fixup_of(neutral, numbers, field))?;
     }
