@@ -1,6 +1,6 @@
 -- One thread or fixup more, behind what a reader keeps.
 use Rattle.std.proofs.Common.{◌≡◌, ℕ, ◌+◌, ◌<◌, Bool, true, false, cond, List, [], ◌∷◌, ◌++◌, Option, None, Some, Ok, refl, sym, ◌∙◌, ap, subst, arith}
-use Rattle.std.specs.Prelude.{◌&&◌, ◌||◌, if◌then◌else◌, nat_eq, not, slice_get}
+use Rattle.std.specs.Prelude.{◌||◌, if◌then◌else◌, nat_eq, not, slice_get}
 use Rattle.std.specs.List.{list_any}
 use Rattle.std.specs.Option.{is_some, option_and_then, option_map, option_map_or, unwrap_or}
 use Rattle.std.proofs.lemmas.Option.{get_or_from_slice_get, none-some, slice_get_within}
@@ -18,21 +18,19 @@ use Rattle.oc_omf.specs.declared.constants.TheConstants.{OFFSET_32}
 use Rattle.oc_omf.specs.declared.structures.Datum.{Datum}
 use Rattle.oc_omf.specs.declared.structures.Datum.TheVariants as datum
 use Rattle.oc_omf.specs.declared.structures.Fixup.{Fixup}
-use Rattle.oc_omf.specs.declared.structures.Method.{Method}
 use Rattle.oc_omf.specs.declared.structures.Subrecord.TheVariants as subrecord
 use Rattle.oc_omf.specs.declared.structures.Thread.{Thread}
 use Rattle.oc_omf.specs.declared.threads.Threads.{Threads}
 use Rattle.oc_omf.specs.Structures.{Piece}
 use Rattle.oc_omf.specs.Tables.{Tables, is_there}
 use Rattle.oc_omf.specs.Sections.{blocks_in}
-use Rattle.oc_omf.specs.Symbols.{agree}
-use Rattle.oc_omf.specs.Fixups.{Fixed, PlacedSubrecord, copies_for, fixed_in, fixed_of, is_inside, last_of, meet, method_of, thread_by}
+use Rattle.oc_omf.specs.Fixups.{Fixed, PlacedSubrecord, copies_for, fixed_in, fixed_of, is_inside, last_of, meet, method_of}
 use Rattle.oc_omf.specs.Fields.{aim_of}
-use Rattle.oc_omf.specs.Known.{AreInForce, thread_in}
+use Rattle.oc_omf.specs.Known.{AreInForce, IsThreadTaken}
 use Rattle.oc_omf.specs.Targets.{meaning_of}
 use Rattle.oc_omf.specs.RelocationFaults.{fixup_conditions, is_datum_there, relocation_conditions}
 use Rattle.oc_omf.specs.RelocationFaults as faults
-use Rattle.oc_omf_judge.proofs.StateLaws.{thread_more}
+use Rattle.oc_omf_judge.proofs.StateLaws.{force_stays, force_thread}
 use Rattle.oc_omf_judge.specs.declared.reached.Reached.{Reached}
 use Rattle.oc_omf_judge.specs.declared.starts.Starts.{Starts}
 use Rattle.oc_omf_judge.specs.declared.whole.Whole.{Whole}
@@ -76,23 +74,15 @@ module _ (w : Whole) (before : Tables) (earlier : List PlacedSubrecord) (old : R
       by false = refl
 
   -- it is in force
-  pub thread_taken : (x : Thread) (new : Reached) → new.counts ≡ old.counts → last_in new ≡ last_in old → new.starts ≡ old.starts
-      → ((frame : Bool) (number : ℕ) → thread_in new.threads frame number ≡ cond (agree frame x.frame && nat_eq x.number number) (Some x.method) (thread_in old.threads frame number))
+  pub thread_taken : (x : Thread) (new : Reached) → new.counts ≡ old.counts → last_in new ≡ last_in old → new.starts ≡ old.starts → IsThreadTaken old.threads x new.threads
       → IsReached w before (earlier ++ placed_at before at (Ok (subrecord.Thread x)) ∷ []) new
   thread_taken x new c l s taken = record {
     counts_are = subst (AreCounts before) (sym c) is.counts_are;
     last_is = is.last_is ∙ sym l;
-    threads_are = λ frame number.
-        taken frame number ∙ by (agree frame x.frame && nat_eq x.number number) (thread_in old.threads frame number)
-        ∙ ap (or_else (thread_by frame number (Ok (subrecord.Thread x)))) (is.threads_are frame number)
-        ∙ sym (thread_more earlier (placed_at before at (Ok (subrecord.Thread x))) frame number);
+    threads_are = force_thread earlier (placed_at before at (Ok (subrecord.Thread x))) x old.threads new.threads refl is.threads_are taken;
     starts_are = subst (λ fixed. AreStarts w fixed new.starts) (sym (fixed_more earlier (placed_at before at (Ok (subrecord.Thread x)))) ∙ refl) (subst (λ (s : Starts). AreStarts w (fixed_in earlier ++ []) s) (sym s) (subst (λ fixed. AreStarts w fixed old.starts) (sym (right (fixed_in earlier))) is.starts_are));
   }
     where
-      by : (b : Bool) (o : Option Method) → cond b (Some x.method) o ≡ or_else (cond b (Some x.method) None) o
-      by true o = refl
-      by false o = refl
-
       right : (xs : List Fixed) → xs ++ [] ≡ xs
       right [] = refl
       right (y ∷ xs) = ap (λ ys. y ∷ ys) (right xs)
@@ -233,7 +223,7 @@ module _ (w : Whole) (before : Tables) (earlier : List PlacedSubrecord) (old : R
         free_meets w (fixed_in earlier) old.starts is.starts_are x d.0 ps d.1 (copies_are ∙ some) (low_field low) judged (λ met. taken.free (subst (λ (b : ℕ). IsMet old.starts b ps) (sym d.2) met))
 
     threads_stay : (threads : Threads) → threads ≡ old.threads → AreInForce (earlier ++ part ∷ []) threads
-    threads_stay threads e = λ frame number. ap (λ (t : Threads). thread_in t frame number) e ∙ is.threads_are frame number ∙ sym (thread_more earlier part frame number)
+    threads_stay threads e = subst (AreInForce (earlier ++ part ∷ [])) (sym e) (force_stays earlier part old.threads (λ frame number. refl) is.threads_are)
 
     pub fixup_taken : ((d : Lying) → last_in old ≡ Some d → IsLow d) → (ps : List ℕ) → copies_in (last_in old) f.offset ≡ Some ps → is_judged w x ≡ true → (new : Reached) → AreFieldsTaken old ps new → IsReached w before (earlier ++ part ∷ []) new
     fixup_taken low ps some judged new taken = record {

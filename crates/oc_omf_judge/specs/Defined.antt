@@ -14,7 +14,9 @@ use Rattle.oc_omf_records.specs.declared.faults.BlockFault.{BlockFault}
 use Rattle.oc_omf_records.specs.Blocks.{Blocks, size_of}
 use Rattle.oc_omf.specs.declared.structures.DataHead.{DataHead}
 use Rattle.oc_omf_judge.specs.declared.defined.Defined.{Defined}
+use Rattle.oc_omf_judge.specs.declared.section_stage.EntryPlace.{EntryPlace}
 use Rattle.oc_omf.specs.declared.structures.Segment.{Segment}
+use Rattle.oc_omf.specs.declared.topics.Topic.{Topic}
 use Rattle.oc_omf.specs.Cursor.{Reading}
 use Rattle.oc_omf.specs.Structures.{Group, Piece}
 use Rattle.oc_omf.specs.Entries.{Entry, entries_in, all_read}
@@ -22,6 +24,7 @@ use Rattle.oc_omf.specs.Tables.{Tables, tables_of}
 use Rattle.oc_omf.specs.Sections.{is_covered, piece_size, segment_kind, segment_size}
 use Rattle.oc_omf.specs.SectionFaults.{bytes_size, conditions_by, conditions_on, group_conditions, own_fault, piece_conditions, segment_conditions_by}
 use Rattle.oc_omf.specs.Known.{names_of}
+use Rattle.oc_omf.specs.Topics.{said_on}
 
 -- what the entries of a file before one define
 abbrev pub before_in : List ℕ → ℕ → Tables
@@ -75,6 +78,14 @@ IsTakenUp old x e new = (t : Tables) → IsDefined t old → (first_broken (cond
 -- an entry has a fault, which is reported
 abbrev pub IsStoppedAt : Defined → ℕ × ℕ → Entry → Stop → Type 0
 IsStoppedAt old x e s = (t : Tables) → IsDefined t old → IsStop (first_broken (conditions_on t x e)) s
+
+-- the entry there, on that topic and with these contents, has no fault, and is recorded after what is kept
+abbrev pub IsTakenOn : Defined → EntryPlace → Topic → Bool → List ℕ → Defined → Type 0
+IsTakenOn old spot topic wide contents new = IsTakenUp old (spot.index, spot.place) (said_on topic spot.place wide contents) new
+
+-- it has a fault, which is reported
+abbrev pub IsStoppedOn : Defined → EntryPlace → Topic → Bool → List ℕ → Stop → Type 0
+IsStoppedOn old spot topic wide contents s = IsStoppedAt old (spot.index, spot.place) (said_on topic spot.place wide contents) s
 
 -- what is read, if it is whole
 abbrev pub part_of : {X : Type 0} → Reading X → Option X

@@ -10,10 +10,12 @@ use Rattle.oc_linking.specs.Numbers.{or_else}
 use Rattle.oc_linking.specs.FirstFault.{Condition, first_broken, stage_fault}
 use Rattle.oc_omf_judge.specs.declared.earlier.External.{External as Mentioned}
 use Rattle.oc_omf_judge.specs.declared.earlier.EarlierSymbols.{EarlierSymbols}
+use Rattle.oc_omf_judge.specs.declared.section_stage.EntryPlace.{EntryPlace}
 use Rattle.oc_omf.specs.declared.structures.Communal.{Communal}
+use Rattle.oc_omf.specs.declared.symbols.Public as read
 use Rattle.oc_omf.specs.declared.topics.Topic.{Topic}
 use Rattle.oc_omf.specs.Cursor.{Read, each_read}
-use Rattle.oc_omf.specs.Structures.{Group, Public, External, communal_read, external_read}
+use Rattle.oc_omf.specs.Structures.{Group, Public, External, communal_read, external_read, public_read}
 use Rattle.oc_omf.specs.Entries.{Entry, all_read, in_file}
 use Rattle.oc_omf.specs.Tables.{Tables}
 use Rattle.oc_omf.specs.Sections.{size_at}
@@ -79,9 +81,9 @@ IsNameTaken old local name again new =
     (t : Tables) (p : Public) → AreEarlierSymbols t old → p.local ≡ local → p.name ≡ name
     → (again ≡ list_any (same_public p) t.publics) × AreEarlierSymbols (record t { publics = t.publics ++ p ∷ [] }) new
 
--- a definition, as it is read in an entry
-abbrev pub public_with : Bool → List ℕ → ℕ → ℕ → Public
-public_with local name segment offset = record { local = local; name = name; segment = segment; offset = offset }
+-- a definition of a segment, as it is read in an entry
+abbrev pub public_with : Bool → ℕ → read.Public → Public
+public_with local segment p = record { local = local; name = p.name.now; segment = segment; offset = p.offset }
 
 -- a definition after what is kept has no fault, and is recorded
 abbrev pub IsPublicTaken : EarlierSymbols → ℕ × ℕ → Public → EarlierSymbols → Type 0
@@ -129,6 +131,10 @@ AreExternalsTaken known old index reads new =
 abbrev pub AreExternalsStopped : Held → EarlierSymbols → ℕ → List (Read External) → Stop → Type 0
 AreExternalsStopped known old index reads s = (all t : Tables) → AreNamed true all.publics known → AreEarlierSymbols t old → IsStop (walked (external_behind all) index t.externals reads) s
 
+-- the definitions of a segment from there on in the contents of the entry at a place of the file
+abbrev pub definitions_at : ℕ → Bool → Bool → ℕ → List ℕ → ℕ → List (Read Public)
+definitions_at place wide local segment contents at = in_file place (each_read (public_read wide local segment) contents at)
+
 -- the externals in the contents of the entry at a place of the file, and the communals
 abbrev pub externals_at : ℕ → Bool → List ℕ → List (Read External)
 externals_at place local contents = in_file place (each_read (external_read local) contents 0)
@@ -145,6 +151,14 @@ IsEntrySeen known old index e new =
 abbrev pub IsEntryStopped : Held → EarlierSymbols → ℕ → Entry → Stop → Type 0
 IsEntryStopped known old index e s =
     (all t : Tables) → AreNamed true all.publics known → AreEarlierSymbols t old → IsStop (stage_fault (symbol_stage (record { index = index; before = t; all = all; entry = e }))) s
+
+-- the entry there, on that topic and with these contents, has no fault, and is recorded
+abbrev pub IsSeenThere : Held → EarlierSymbols → EntryPlace → Topic → Bool → List ℕ → EarlierSymbols → Type 0
+IsSeenThere known old spot topic wide contents new = IsEntrySeen known old spot.index (said_on topic spot.place wide contents) new
+
+-- it has a fault, which is reported
+abbrev pub IsStoppedThere : Held → EarlierSymbols → EntryPlace → Topic → Bool → List ℕ → Stop → Type 0
+IsStoppedThere known old spot topic wide contents s = IsEntryStopped known old spot.index (said_on topic spot.place wide contents) s
 
 -- an entry on that topic, with these contents, has no fault, and is recorded, wherever it is and whatever names are known
 abbrev pub IsSeenAnywhere : EarlierSymbols → Topic → Bool → List ℕ → EarlierSymbols → Type 0

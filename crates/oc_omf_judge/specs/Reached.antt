@@ -1,5 +1,5 @@
 -- What a reader has come to in a module when it judges fixups (our profile).
-use Rattle.std.specs.Prelude.{◌≡◌, ℕ, List, [], ◌∷◌, ◌++◌, map, Option, Some, None, Result}
+use Rattle.std.specs.Prelude.{◌≡◌, ℕ, Bool, List, [], ◌∷◌, ◌++◌, map, Option, Some, None, Result}
 use Rattle.std.specs.Option.{option_map, option_map_or}
 use Rattle.oc_base.specs.declared.code.Code.{Code}
 use Rattle.oc_base.specs.declared.fault.Phase.TheVariants as phase
@@ -10,13 +10,15 @@ use Rattle.oc_linking.specs.Numbers.{or_else}
 use Rattle.oc_linking.specs.FirstFault.{first_broken}
 use Rattle.oc_omf.specs.declared.cut.Cut.{Cut}
 use Rattle.oc_omf.specs.declared.structures.Subrecord.{Subrecord}
-use Rattle.oc_omf.specs.Cursor.{Read}
-use Rattle.oc_omf.specs.Structures.{External, Piece}
+use Rattle.oc_omf.specs.declared.topics.Topic.{Topic}
+use Rattle.oc_omf.specs.Cursor.{Read, each_read}
+use Rattle.oc_omf.specs.Structures.{External, Piece, subrecord_read}
 use Rattle.oc_omf.specs.Entries.{Entry, all_read, in_file, says_nothing}
 use Rattle.oc_omf.specs.Tables.{Tables}
 use Rattle.oc_omf.specs.Fixups.{PlacedSubrecord, fixed_in, last_of}
 use Rattle.oc_omf.specs.RelocationFaults.{relocation_conditions}
 use Rattle.oc_omf.specs.Known.{AreInForce}
+use Rattle.oc_omf.specs.Topics.{said_on}
 use Rattle.oc_omf_judge.specs.Defined.{IsSmall, and_entry}
 use Rattle.oc_omf_judge.specs.declared.reached.Reached.{Reached}
 use Rattle.oc_omf_judge.specs.declared.whole.Whole.{Whole}
@@ -80,6 +82,10 @@ judged_behind w earlier (x ∷ xs) = or_else (first_broken (relocation_condition
 abbrev pub placed_in : ℕ → Tables → List (Read Subrecord) → List PlacedSubrecord
 placed_in index before reads = map (λ (s : Read Subrecord). placed_at before (index, s.at) s.part) reads
 
+-- those in the contents of the entry at a place of the file
+abbrev pub subrecords_at : ℕ → Bool → List ℕ → List (Read Subrecord)
+subrecords_at place wide contents = in_file place (each_read (subrecord_read wide) contents 0)
+
 -- those of an entry have no fault, and are recorded
 abbrev pub ArePartsTaken : Whole → Reached → ℕ → List (Read Subrecord) → Reached → Type 0
 ArePartsTaken w old index reads new =
@@ -106,6 +112,10 @@ IsEntryTaken w old index e new =
 -- it has a fault, which is reported
 abbrev pub IsEntryStopped : Whole → Reached → ℕ → Entry → Stop → Type 0
 IsEntryStopped w old index e s = ArePartsStopped w old index e.subrecords s
+
+-- an entry on that topic, with these contents, has no fault, and is recorded, wherever it is and whatever the module is
+abbrev pub IsTakenAnywhere : Reached → Topic → Bool → List ℕ → Reached → Type 0
+IsTakenAnywhere old topic wide contents new = (w : Whole) (index place : ℕ) → IsEntryTaken w old index (said_on topic place wide contents) new
 
 -- the externals of an entry are recorded
 abbrev pub AreExternalsTaken : Whole → Reached → ℕ → ℕ → List (Read External) → Reached → Type 0

@@ -1,5 +1,5 @@
 //! What entries define, as far as a reader has come.
-ghost use Rattle.std.specs.Prelude.{◌≡◌, [], List};
+ghost use Rattle.std.specs.Prelude.{◌≡◌, []};
 ghost use Rattle.std.specs.Option.{unwrap_or};
 ghost use Rattle.oc_omf_judge.specs.Defined.{IsDefined};
 ghost use Rattle.oc_omf.specs.Known.{names_of};

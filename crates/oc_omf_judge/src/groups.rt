@@ -2,10 +2,9 @@
 ghost use Rattle.std.specs.Prelude.{◌≡◌, Bool, ◌||◌, not, nat_eq, nat_lt, OnOk, IfErr};
 ghost use Rattle.oc_omf.specs.declared.constants.TheConstants.{SEGMENT_INDEX};
 ghost use Rattle.oc_omf.specs.Cursor.{each_read};
-ghost use Rattle.oc_omf_judge.specs.Defined.{IsStoppedAt, IsTakenUp, group_fault_by};
+ghost use Rattle.oc_omf_judge.specs.Defined.{IsStoppedOn, IsTakenOn, group_fault_by};
 ghost use Rattle.oc_omf_judge.specs.Members.{members_in};
 ghost use Rattle.oc_omf.specs.Structures.{group_read, member_read};
-ghost use Rattle.oc_omf.specs.Topics.{said_on};
 ghost use Rattle.oc_omf.specs.declared.topics.Topic.TheVariants as topic;
 
 use crate::defined::Defined;
@@ -102,8 +101,8 @@ pub(crate) fn take_group(
     spot: EntryPlace,
     contents: &View<'_>,
 ) -> Result<(), Stop>
-    ensures taken { OnOk result ((wide : Bool) → IsTakenUp defined.old (spot.index, spot.place) (said_on topic.Group spot.place wide contents.now) defined.new) }
-    ensures stop { IfErr result (λ s. (wide : Bool) → IsStoppedAt defined.old (spot.index, spot.place) (said_on topic.Group spot.place wide contents.now) s) }
+    ensures taken { OnOk result ((wide : Bool) → IsTakenOn defined.old spot topic.Group wide contents.now defined.new) }
+    ensures stop { IfErr result (λ s. (wide : Bool) → IsStoppedOn defined.old spot topic.Group wide contents.now s) }
 {
     let names = defined.names.len() as u64;
     let segments = defined.segments.len() as u64;

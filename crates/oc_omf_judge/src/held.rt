@@ -1,5 +1,5 @@
 //! Names that came before, each with a number.
-ghost use Rattle.std.specs.Prelude.{◌≡◌, ℕ, List, bytes_eq, is_some, Some, IfOk, OnOk};
+ghost use Rattle.std.specs.Prelude.{◌≡◌, ℕ, List, bytes_eq, Some, IfOk, OnOk};
 ghost use Rattle.std.specs.Map.{update};
 ghost use Rattle.oc_omf_judge.specs.Held.{value_at};
 

@@ -1,5 +1,5 @@
 //! Judging a module: the first of its faults.
-ghost use Rattle.std.specs.Prelude.{◌≡◌, ◌≤◌, length, None, Some, IfErr, IfOk, OnOk};
+ghost use Rattle.std.specs.Prelude.{◌≡◌, ◌≤◌, length, None, IfErr, IfOk, OnOk};
 ghost use Rattle.oc_base.specs.declared.limits.TheConstants.{MOST_INPUT};
 ghost use Rattle.oc_base.specs.Stops.{IsStop};
 ghost use Rattle.oc_omf.specs.Entries.{entries_in};

@@ -3,11 +3,10 @@ ghost use Rattle.std.specs.Prelude.{◌≡◌, ◌++◌, Bool, OnOk, IfErr, None
 ghost use Rattle.oc_base.specs.Stops.{IsStop};
 ghost use Rattle.oc_linking.specs.FirstFault.{first_broken};
 ghost use Rattle.oc_omf.specs.Cursor.{each_read, name_read};
-ghost use Rattle.oc_omf_judge.specs.Defined.{IsStoppedAt, IsTakenUp};
+ghost use Rattle.oc_omf_judge.specs.Defined.{IsStoppedOn, IsTakenOn};
 ghost use Rattle.oc_omf.specs.Entries.{all_read};
 ghost use Rattle.oc_omf.specs.Known.{names_of};
 ghost use Rattle.oc_omf.specs.SectionFaults.{name_conditions};
-ghost use Rattle.oc_omf.specs.Topics.{said_on};
 ghost use Rattle.oc_omf.specs.declared.topics.Topic.TheVariants as topic;
 
 use crate::defined::Defined;
@@ -50,8 +49,8 @@ pub(crate) fn take_name_entry<'a>(
     spot: EntryPlace,
     contents: &View<'a>,
 ) -> Result<(), Stop>
-    ensures taken { OnOk result ((wide : Bool) → IsTakenUp defined.old (spot.index, spot.place) (said_on topic.Names spot.place wide contents.now) defined.new) }
-    ensures stop { IfErr result (λ s. (wide : Bool) → IsStoppedAt defined.old (spot.index, spot.place) (said_on topic.Names spot.place wide contents.now) s) }
+    ensures taken { OnOk result ((wide : Bool) → IsTakenOn defined.old spot topic.Names wide contents.now defined.new) }
+    ensures stop { IfErr result (λ s. (wide : Bool) → IsStoppedOn defined.old spot topic.Names wide contents.now s) }
 {
     match take_names(&mut defined.names, spot, contents) {
         Ok(()) => Ok(()),

@@ -1,9 +1,8 @@
 //! The data that entries have for segments.
-ghost use Rattle.std.specs.Prelude.{◌≡◌, ◌≤◌, ◌-◌, ◌^◌, true, Err, IfOk, OnOk, IfErr, length, drop, slice_set};
+ghost use Rattle.std.specs.Prelude.{◌≡◌, ◌≤◌, ◌-◌, ◌^◌, true, Err, OnOk, IfErr, length, slice_set};
 ghost use Rattle.oc_base.specs.declared.stop.Stop.TheVariants as stop;
 ghost use Rattle.oc_omf_records.specs.declared.faults.BlockFault.TheVariants as block;
 ghost use Rattle.oc_omf_judge.specs.Defined as specs;
-ghost use Rattle.oc_omf.specs.Topics.{said_on};
 ghost use Rattle.oc_omf.specs.declared.topics.Topic.TheVariants as topic;
 
 use crate::defined::{Defined, segment_at};
@@ -82,8 +81,8 @@ pub(crate) fn take_data(
     contents: &View<'_>,
 ) -> Result<(), Stop>
     requires { length defined.old.covered.items ≡ length defined.old.segments.items }
-    ensures taken { OnOk result (specs.IsTakenUp defined.old (spot.index, spot.place) (said_on (topic.Data iterated) spot.place wide contents.now) defined.new) }
-    ensures stop { IfErr result (specs.IsStoppedAt defined.old (spot.index, spot.place) (said_on (topic.Data iterated) spot.place wide contents.now)) }
+    ensures taken { OnOk result (specs.IsTakenOn defined.old spot (topic.Data iterated) wide contents.now defined.new) }
+    ensures stop { IfErr result (specs.IsStoppedOn defined.old spot (topic.Data iterated) wide contents.now) }
 {
     let Ok((head, at)) = read_head(contents, wide) else {
         return Err(Stop::Refused(own_fault(spot, Code::BadTable)));

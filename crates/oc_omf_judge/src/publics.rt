@@ -1,15 +1,11 @@
 //! Symbols at offsets of segments.
 ghost use Rattle.std.specs.Prelude.{◌≡◌, ◌+◌, ◌≤◌, length, OnOk, IfErr};
 ghost use Rattle.oc_base.specs.declared.limits.TheConstants.{MOST_INPUT};
-ghost use Rattle.oc_omf.specs.Cursor.{each_read};
-ghost use Rattle.oc_omf.specs.Entries.{in_file};
 ghost use Rattle.oc_omf_judge.specs.Held.{Held};
 ghost use Rattle.oc_omf_judge.specs.EarlierSymbols as specs;
-ghost use Rattle.oc_omf.specs.Structures.{public_read};
 ghost use Rattle.oc_omf.specs.SymbolFaults as rules;
 ghost use Rattle.oc_omf.specs.Sections.{size_at};
 ghost use Rattle.oc_omf.specs.Tables.{Tables};
-ghost use Rattle.oc_omf.specs.Topics.{said_on};
 ghost use Rattle.oc_omf.specs.declared.topics.Topic.TheVariants as topic;
 
 use crate::defined::segment_at;
@@ -56,8 +52,8 @@ fn take_public<'a>(
     segment: u16,
     public: Public<'a>,
 ) -> Result<(), Stop>
-    ensures taken { OnOk result (specs.IsPublicTaken seen.old (here.index, here.place) (specs.public_with local public.entry.name.now segment public.entry.offset) seen.new) }
-    ensures stop { IfErr result (specs.IsPublicStopped seen.old (here.index, here.place) (specs.public_with local public.entry.name.now segment public.entry.offset)) }
+    ensures taken { OnOk result (specs.IsPublicTaken seen.old (here.index, here.place) (specs.public_with local segment public.entry) seen.new) }
+    ensures stop { IfErr result (specs.IsPublicStopped seen.old (here.index, here.place) (specs.public_with local segment public.entry)) }
 {
     if u64::from(public.offset) > size_at(seen, segment) {
         return Err(Stop::Refused(symbol_fault(here, Code::SymbolPastEnd)));
@@ -83,8 +79,8 @@ fn take_publics<'a>(
     at: u64,
 ) -> Result<(), Stop>
     requires { spot.place + length contents.now ≤ MOST_INPUT }
-    ensures taken { OnOk result (specs.ArePublicsTaken seen.old spot.index (in_file spot.place (each_read (public_read wide local segment) contents.now at)) seen.new) }
-    ensures stop { IfErr result (specs.ArePublicsStopped seen.old spot.index (in_file spot.place (each_read (public_read wide local segment) contents.now at))) }
+    ensures taken { OnOk result (specs.ArePublicsTaken seen.old spot.index (specs.definitions_at spot.place wide local segment contents.now at) seen.new) }
+    ensures stop { IfErr result (specs.ArePublicsStopped seen.old spot.index (specs.definitions_at spot.place wide local segment contents.now at)) }
 {
     let mut at = at;
     while at < contents.len() {
@@ -112,8 +108,8 @@ pub(crate) fn take_public_entry<'a>(
     contents: &View<'a>,
 ) -> Result<(), Stop>
     requires { spot.place + length contents.now ≤ MOST_INPUT }
-    ensures taken { OnOk result ((known : Held) → specs.IsEntrySeen known seen.old spot.index (said_on (topic.Publics local) spot.place wide contents.now) seen.new) }
-    ensures stop { IfErr result (λ s. (known : Held) → specs.IsEntryStopped known seen.old spot.index (said_on (topic.Publics local) spot.place wide contents.now) s) }
+    ensures taken { OnOk result ((known : Held) → specs.IsSeenThere known seen.old spot (topic.Publics local) wide contents.now seen.new) }
+    ensures stop { IfErr result (λ s. (known : Held) → specs.IsStoppedThere known seen.old spot (topic.Publics local) wide contents.now s) }
 {
     let (base, at) = match read_base(contents) {
         Ok(read) => read,

@@ -5,9 +5,7 @@ ghost use Rattle.oc_base.specs.Stops.{IsStop};
 ghost use Rattle.oc_base.specs.declared.stop.Stop.TheVariants as stop;
 ghost use Rattle.oc_linking.specs.FirstFault.{first_fault};
 ghost use Rattle.oc_omf.specs.Cursor.{each_read};
-ghost use Rattle.oc_omf.specs.Entries.{in_file};
 ghost use Rattle.oc_omf.specs.RelocationFaults.{relocation_stages};
-ghost use Rattle.oc_omf.specs.Structures.{subrecord_read};
 ghost use Rattle.oc_omf.specs.Topics.{said_on};
 ghost use Rattle.oc_omf.specs.declared.topics.Topic.TheVariants as topic;
 ghost use Rattle.oc_omf_judge.specs.Counts.{external_by};
@@ -59,8 +57,8 @@ fn take_parts(
 ) -> Result<(), Stop>
     requires whole { IsWhole whole.now }
     requires small { spot.place + length contents.now ≤ MOST_INPUT }
-    ensures taken { OnOk result (specs.ArePartsTaken whole.now reached.old spot.index (in_file spot.place (each_read (subrecord_read wide) contents.now 0)) reached.new) }
-    ensures stop { IfErr result (specs.ArePartsStopped whole.now reached.old spot.index (in_file spot.place (each_read (subrecord_read wide) contents.now 0))) }
+    ensures taken { OnOk result (specs.ArePartsTaken whole.now reached.old spot.index (specs.subrecords_at spot.place wide contents.now) reached.new) }
+    ensures stop { IfErr result (specs.ArePartsStopped whole.now reached.old spot.index (specs.subrecords_at spot.place wide contents.now)) }
 {
     let mut at = 0;
     while at < contents.len() {
@@ -78,7 +76,7 @@ fn take_parts(
 
 // records the segment in the contents of an entry, if one is read
 fn see_segment(reached: &mut Reached<'_>, wide: bool, contents: &View<'_>)
-    ensures { (w : Whole) (index place : ℕ) → specs.IsEntryTaken w reached.old index (said_on topic.Segment place wide contents.now) reached.new }
+    ensures { specs.IsTakenAnywhere reached.old topic.Segment wide contents.now reached.new }
 {
     match read_segment(contents, wide) {
         Ok(_segment) => reached.counts.segments = one_more(reached.counts.segments),
@@ -89,7 +87,7 @@ fn see_segment(reached: &mut Reached<'_>, wide: bool, contents: &View<'_>)
 // records the group in the contents of an entry, if one is read
 #[tactic(auto, unfolding(oc_omf::specs::Structures::group_read))]
 fn see_group(reached: &mut Reached<'_>, contents: &View<'_>)
-    ensures { (w : Whole) (index place : ℕ) (wide : Bool) → specs.IsEntryTaken w reached.old index (said_on topic.Group place wide contents.now) reached.new }
+    ensures { (wide : Bool) → specs.IsTakenAnywhere reached.old topic.Group wide contents.now reached.new }
 {
     match read_index(contents, 0) {
         Ok(_name) => reached.counts.groups = one_more(reached.counts.groups),
@@ -114,8 +112,7 @@ fn see_data<'a>(
     iterated: bool,
     contents: &View<'a>,
 ) -> Result<(), Stop>
-    ensures taken { OnOk result ((w : Whole) (index place : ℕ)
-        → specs.IsEntryTaken w reached.old index (said_on (topic.Data iterated) place wide contents.now) reached.new) }
+    ensures taken { OnOk result (specs.IsTakenAnywhere reached.old (topic.Data iterated) wide contents.now reached.new) }
     ensures stop { IfErr result (λ s. s ≡ stop.NoMemory) }
 {
     match LastData::read(alloc, contents, wide, iterated) {

@@ -2,11 +2,10 @@
 ghost use Rattle.std.specs.Prelude.{◌≡◌, ◌<◌, ◌≤◌, ℕ, Bool, List, length, None, IfErr, IfOk, OnOk};
 ghost use Rattle.oc_base.specs.Stops.{IsStop};
 ghost use Rattle.oc_linking.specs.FirstFault.{first_broken, stage_fault};
-ghost use Rattle.oc_omf_judge.specs.Defined.{IsDefined, IsStoppedAt, IsTakenUp, bytes_in, kind_in};
+ghost use Rattle.oc_omf_judge.specs.Defined.{IsDefined, IsStoppedOn, IsTakenOn, bytes_in, kind_in};
 ghost use Rattle.oc_omf.specs.Entries.{entries_in};
 ghost use Rattle.oc_omf.specs.SectionFaults.{all_bytes, end_conditions, section_stage};
 ghost use Rattle.oc_omf.specs.Tables.{Tables, tables_of};
-ghost use Rattle.oc_omf.specs.Topics.{said_on};
 ghost use Rattle.oc_omf.specs.declared.topics.Topic.TheVariants as topic;
 
 use crate::defined::{Defined, name_at};
@@ -82,8 +81,8 @@ fn judge_others(defined: &Defined<'_>, spot: EntryPlace, ends: bool) -> Option<F
 // the same, for a loop: such an entry defines nothing, whatever its contents are
 fn take_others(defined: &mut Defined<'_>, spot: EntryPlace, ends: bool) -> Result<(), Stop>
     requires { length defined.old.covered.items ≡ length defined.old.segments.items }
-    ensures taken { OnOk result ((wide : Bool) (b : List ℕ) → IsTakenUp defined.old (spot.index, spot.place) (said_on (topic.Others ends) spot.place wide b) defined.new) }
-    ensures stop { IfErr result (λ s. (wide : Bool) (b : List ℕ) → IsStoppedAt defined.old (spot.index, spot.place) (said_on (topic.Others ends) spot.place wide b) s) }
+    ensures taken { OnOk result ((wide : Bool) (b : List ℕ) → IsTakenOn defined.old spot (topic.Others ends) wide b defined.new) }
+    ensures stop { IfErr result (λ s. (wide : Bool) (b : List ℕ) → IsStoppedOn defined.old spot (topic.Others ends) wide b s) }
 {
     match judge_others(defined, spot, ends) {
         Some(fault) => Err(Stop::Refused(fault)),
@@ -102,8 +101,8 @@ fn take_entry<'a>(
 ) -> Result<(), Stop>
     requires long { length defined.old.covered.items ≡ length defined.old.segments.items }
     requires few { defined.old.sizes ≤ 2147483648 }
-    ensures taken { OnOk result (IsTakenUp defined.old (spot.index, spot.place) (said_on topic spot.place wide contents.now) defined.new) }
-    ensures stop { IfErr result (IsStoppedAt defined.old (spot.index, spot.place) (said_on topic spot.place wide contents.now)) }
+    ensures taken { OnOk result (IsTakenOn defined.old spot topic wide contents.now defined.new) }
+    ensures stop { IfErr result (IsStoppedOn defined.old spot topic wide contents.now) }
 {
     match topic {
         Topic::Names => take_name_entry(defined, spot, contents),

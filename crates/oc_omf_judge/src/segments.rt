@@ -1,8 +1,7 @@
 //! The segments that entries define.
 ghost use Rattle.std.specs.Prelude.{◌≡◌, ◌≤◌, Some, None, IfOk, OnOk, IfErr};
-ghost use Rattle.oc_omf_judge.specs.Defined.{IsStoppedAt, IsTakenUp, part_of, segment_fault_by};
+ghost use Rattle.oc_omf_judge.specs.Defined.{IsStoppedOn, IsTakenOn, part_of, segment_fault_by};
 ghost use Rattle.oc_omf.specs.Structures.{segment_read};
-ghost use Rattle.oc_omf.specs.Topics.{said_on};
 ghost use Rattle.oc_omf.specs.declared.topics.Topic.TheVariants as topic;
 
 use crate::defined::Defined;
@@ -44,8 +43,8 @@ pub(crate) fn take_segment(
     contents: &View<'_>,
 ) -> Result<(), Stop>
     requires { defined.old.sizes ≤ 2147483648 }
-    ensures taken { OnOk result (IsTakenUp defined.old (spot.index, spot.place) (said_on topic.Segment spot.place wide contents.now) defined.new) }
-    ensures stop { IfErr result (IsStoppedAt defined.old (spot.index, spot.place) (said_on topic.Segment spot.place wide contents.now)) }
+    ensures taken { OnOk result (IsTakenOn defined.old spot topic.Segment wide contents.now defined.new) }
+    ensures stop { IfErr result (IsStoppedOn defined.old spot topic.Segment wide contents.now) }
 {
     let names = defined.names.len() as u64;
     let segment = match judge_segment(names, defined.sizes, spot, wide, contents) {

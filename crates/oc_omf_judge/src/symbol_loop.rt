@@ -7,7 +7,6 @@ ghost use Rattle.oc_omf.specs.Entries.{entries_in};
 ghost use Rattle.oc_omf_judge.specs.EarlierSymbols as specs;
 ghost use Rattle.oc_omf.specs.SymbolFaults.{symbol_stages};
 ghost use Rattle.oc_omf.specs.Tables.{tables_of};
-ghost use Rattle.oc_omf.specs.Topics.{said_on};
 ghost use Rattle.oc_omf.specs.declared.topics.Topic.TheVariants as topic;
 
 use crate::earlier::EarlierSymbols;
@@ -58,8 +57,8 @@ fn see_entry<'a>(
     contents: &View<'a>,
 ) -> Result<(), Stop>
     requires { spot.place + length contents.now ≤ MOST_INPUT }
-    ensures taken { OnOk result (specs.IsEntrySeen known.now seen.old spot.index (said_on topic spot.place wide contents.now) seen.new) }
-    ensures stop { IfErr result (specs.IsEntryStopped known.now seen.old spot.index (said_on topic spot.place wide contents.now)) }
+    ensures taken { OnOk result (specs.IsSeenThere known.now seen.old spot topic wide contents.now seen.new) }
+    ensures stop { IfErr result (specs.IsStoppedThere known.now seen.old spot topic wide contents.now) }
 {
     match topic {
         Topic::Segment => see_segment(seen, wide, contents),

@@ -25,7 +25,7 @@ pub loop-at-preserved : goal.loop-at-preserved
 loop-at-preserved c = λ publics are.
     let low : c.loop-at.at < length c.args.contents.now = omega arith in
     let w = c.loop-at.invariant publics are in
-    let p = public_with c.args.local c.in-Ok.public.name.now c.args.segment c.in-Ok.public.offset in
+    let p = public_with c.args.local c.args.segment c.in-Ok.public in
     walk_more (λ (ps : List Public) (h : Held). AreLocals ps h) (λ ps x p. []) 0 0 (public_read c.args.wide c.args.local c.args.segment) c.args.contents.now publics
     (public_goes c.args.wide c.args.local c.args.segment c.args.contents.now) c.args.at c.loop-at.at c.loop-at.locals w
     c.locate.new.locals 0 _ p c.in-Ok.after low (c.in-Ok.ensures c.args.local c.args.segment) refl refl refl (c.in_ok-locate-in-Ok.ensures w.0 p w.1 refl refl refl)

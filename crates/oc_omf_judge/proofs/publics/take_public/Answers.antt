@@ -9,7 +9,7 @@ use Rattle.oc_omf_judge.proofs.publics.take_public.Goals as goal
 pub returns-clause-taken : goal.returns-clause-taken
 returns-clause-taken c = λ t is.
     let size = c.size_at.ensures t is in
-    let p = public_with c.args.local c.args.public.name.now c.args.segment c.args.public.offset in
+    let p = public_with c.args.local c.args.segment c.args.public in
     let inside : nat_lt (size_at t c.args.segment) c.args.public.offset ≡ false = let low = c.if-from-size_at.false in let own = c.from.ensures in grind (arith, nat_tests) in
     let named : nat_eq (length c.args.public.name.now) 0 ≡ false = grind (arith, nat_tests, c.if-is_empty.ensures, c.if-is_empty.false) in
     let taken = c.in_ok-again.ensures t p is refl refl in

@@ -25,7 +25,7 @@ pub loop-at-preserved : goal.loop-at-preserved
 loop-at-preserved c = λ t is.
     let low : c.loop-at.at < length c.args.contents.now = omega arith in
     let w = c.loop-at.invariant t is in
-    let p = public_with c.args.local c.in-Ok.public.name.now c.args.segment c.in-Ok.public.offset in
+    let p = public_with c.args.local c.args.segment c.in-Ok.public in
     let taken = c.in-Ok-take_public.ensures.taken (record t { publics = w.0 }) w.1 in
     walk_more (λ (ps : List Public) (s : EarlierSymbols). AreEarlierSymbols (record t { publics = ps }) s) (public_behind t) c.args.spot.index c.args.spot.place (public_read c.args.wide c.args.local c.args.segment) c.args.contents.now
     t.publics (public_goes c.args.wide c.args.local c.args.segment c.args.contents.now) c.args.at c.loop-at.at c.loop-at.seen w
@@ -36,7 +36,7 @@ returns-in-Err-take_public-clause-stop c = λ t is.
     let b = c.args.contents.now in
     let low : c.loop-at.at < length b = omega arith in
     let w = c.loop-at.invariant t is in
-    let p = public_with c.args.local c.in-Ok.public.name.now c.args.segment c.in-Ok.public.offset in
+    let p = public_with c.args.local c.args.segment c.in-Ok.public in
     let read = public_read c.args.wide c.args.local c.args.segment in
     subst (λ rs. IsStop (walked (public_behind t) c.args.spot.index t.publics (in_file c.args.spot.place rs)) c.in-Err-take_public.stop) (sym (each_behind read b c.args.at (public_goes c.args.wide c.args.local c.args.segment b)))
     (walk_stop (λ (ps : List Public) (s : EarlierSymbols). AreEarlierSymbols (record t { publics = ps }) s) (public_behind t) c.args.spot.index c.args.spot.place read b

@@ -12,7 +12,7 @@ returns-in-Segment-clause-taken c =
 
 pub returns-in-Group-clause-taken : goal.returns-in-Group-clause-taken
 returns-in-Group-clause-taken c =
-    subst (λ (a : Topic). IsEntryTaken c.args.whole.now c.args.reached.now c.args.spot.index (said_on a c.args.spot.place c.args.wide c.args.contents.now) c.see_group.new.reached) (sym c.in-Group.is) (c.see_group.ensures c.args.whole.now c.args.spot.index c.args.spot.place c.args.wide)
+    subst (λ (a : Topic). IsEntryTaken c.args.whole.now c.args.reached.now c.args.spot.index (said_on a c.args.spot.place c.args.wide c.args.contents.now) c.see_group.new.reached) (sym c.in-Group.is) (c.see_group.ensures c.args.wide c.args.whole.now c.args.spot.index c.args.spot.place)
 
 pub returns-in-Externals-clause-taken : goal.returns-in-Externals-clause-taken
 returns-in-Externals-clause-taken c =
