@@ -1,6 +1,6 @@
 -- Fields, fixup by fixup and entry by entry.
-use Rattle.std.proofs.Common.{◌≡◌, ℕ, ◌+◌, ◌<◌, ◌≤◌, ◌⊎◌, inl, inr, Bool, true, false, cond, List, [], ◌∷◌, ◌++◌, length, map, take, Option, None, Some, Result, Ok, Err, refl, sym, ◌∙◌, ap, subst, arith, append-nil}
-use Rattle.std.specs.Prelude.{◌&&◌, nat_eq, slice_get}
+use Rattle.std.proofs.Common.{◌≡◌, ℕ, ◌+◌, ◌<◌, ◌≤◌, ◌⊎◌, inl, inr, Bool, true, false, List, [], ◌∷◌, ◌++◌, length, map, take, Option, None, Some, Result, Ok, Err, refl, sym, ◌∙◌, ap, subst, arith, append-nil}
+use Rattle.std.specs.Prelude.{slice_get}
 use Rattle.std.specs.List.{AllByRecursion}
 use Rattle.std.specs.Option.{option_map_or}
 use Rattle.std.proofs.lemmas.Bool.{true≢false}
@@ -21,19 +21,18 @@ use Rattle.oc_omf.specs.Cursor.{Read, each_read}
 use Rattle.oc_omf.specs.Entries.{Entry, all_read, entries_in, in_file, is_wide}
 use Rattle.oc_omf.specs.Fields.{fixups_in}
 use Rattle.oc_omf.specs.SectionFaults.{section_stage}
-use Rattle.oc_omf.specs.Fixups.{Fixed, PlacedSubrecord, fixed_from, fixed_in, fixed_of, last_of, method_of, subrecords_by, subrecords_upto, thread_after}
-use Rattle.oc_omf.specs.Known.{AreInForce, thread_in}
+use Rattle.oc_omf.specs.Fixups.{Fixed, PlacedSubrecord, fixed_from, fixed_in, fixed_of, last_of, method_of, subrecords_by, subrecords_upto}
+use Rattle.oc_omf.specs.Known.{AreInForce, IsThreadTaken}
 use Rattle.oc_omf.specs.Sections.{blocks_in}
 use Rattle.oc_omf.specs.Structures as structures
 use Rattle.oc_omf.specs.Structures.{subrecord_read}
-use Rattle.oc_omf.specs.Symbols.{agree}
 use Rattle.oc_omf.specs.Tables as all
 use Rattle.oc_omf.specs.Tables.{tables_of}
 use Rattle.oc_omf.specs.Targets.{Meaning}
 use Rattle.oc_omf.proofs.EachLemmas.{each_behind, each_cut, each_end, each_from, each_more}
 use Rattle.oc_omf_judge.specs.Threads.{method_by}
 use Rattle.oc_omf_judge.proofs.ReachedLemmas.{method_is}
-use Rattle.oc_omf_judge.proofs.StateLaws.{tables_more, thread_more}
+use Rattle.oc_omf_judge.proofs.StateLaws.{force_stays, force_thread, tables_more}
 use Rattle.oc_omf_read.specs.declared.class.EntryClass.{EntryClass}
 use Rattle.oc_omf_read.specs.declared.class.EntryClass.TheVariants as class
 use Rattle.oc_omf_read.specs.declared.fields.Behind.{Behind}
@@ -90,26 +89,6 @@ without_fixup : (earlier : List PlacedSubrecord) (x : PlacedSubrecord) → fixed
 unfolding fixed_in
 without_fixup earlier x none = fixed_behind [] earlier (x ∷ []) ∙ ap (λ (xs : List Fixed). fixed_from [] earlier ++ xs) none ∙ append-nil (fixed_from [] earlier)
 
--- a fixup changes no thread
-force_fixup : (earlier : List PlacedSubrecord) (index at : ℕ) (before : all.Tables) (f : Fixup) (threads : Threads) → AreInForce earlier threads
-    → AreInForce (earlier ++ record { index = index; at = at; part = Ok (subrecord.Fixup f); before = before } ∷ []) threads
-force_fixup earlier index at before f threads are frame number = are frame number ∙ sym (thread_more earlier (record { index = index; at = at; part = Ok (subrecord.Fixup f); before = before }) frame number)
-
-force_cut : (earlier : List PlacedSubrecord) (index at : ℕ) (before : all.Tables) (c : Cut) (threads : Threads) → AreInForce earlier threads
-    → AreInForce (earlier ++ record { index = index; at = at; part = Err c; before = before } ∷ []) threads
-force_cut earlier index at before c threads are frame number = are frame number ∙ sym (thread_more earlier (record { index = index; at = at; part = Err c; before = before }) frame number)
-
-force_thread : (earlier : List PlacedSubrecord) (index at : ℕ) (before : all.Tables) (t : Thread) (old new : Threads) → AreInForce earlier old
-    → ((frame : Bool) (number : ℕ) → thread_in new frame number ≡ cond (agree frame t.frame && nat_eq t.number number) (Some t.method) (thread_in old frame number))
-    → AreInForce (earlier ++ record { index = index; at = at; part = Ok (subrecord.Thread t); before = before } ∷ []) new
-force_thread earlier index at before t old new are taken frame number =
-    taken frame number ∙ by (agree frame t.frame && nat_eq t.number number)
-    ∙ sym (thread_more earlier (record { index = index; at = at; part = Ok (subrecord.Thread t); before = before }) frame number)
-  where
-    by : (b : Bool) → cond b (Some t.method) (thread_in old frame number) ≡ or_else (cond b (Some t.method) None) (thread_after earlier frame number)
-    by true = refl
-    by false = are frame number
-
 -- ... one entry
 
 -- threads and fixups of entry i, at a place
@@ -159,8 +138,7 @@ module _ (s : FixupContext) (i : ℕ) (r : Record) where
     next_all x rest is = append_assoc w.done (part at x ∷ []) (placed_in es i r.place rest) ∙ ap (λ (xs : List (Read Subrecord)). w.done ++ placed_in es i r.place xs) (sym is) ∙ w.all
 
     pub walk_thread : (t : Thread) (after : ℕ) (new : Behind) → at < length b → subrecord_read wide b at ≡ Ok (subrecord.Thread t, after)
-        → ((frame : Bool) (number : ℕ) → thread_in new.threads frame number ≡ cond (agree frame t.frame && nat_eq t.number number) (Some t.method) (thread_in now.threads frame number)) → held new ≡ held now
-        → IsWalking s i r wide after fields old new
+        → IsThreadTaken now.threads t new.threads → held new ≡ held now → IsWalking s i r wide after fields old new
     walk_thread t after new low is taken piece =
         let x : Result Subrecord Cut = Ok (subrecord.Thread t) in
         let here = sym (append_assoc earlier w.done (part at x ∷ [])) in
@@ -168,7 +146,7 @@ module _ (s : FixupContext) (i : ℕ) (r : Record) where
           done = w.done ++ part at x ∷ [];
           all = next_all x (each_from (subrecord_read wide) b after) (each_more (subrecord_read wide) b (subrecord_goes wide b) at low (subrecord.Thread t) after is);
           made = w.made ∙ ap (fields_of (meaning_seen s) s.keep) (sym (without_fixup (earlier ++ w.done) (part at x) refl)) ∙ ap (λ (xs : List PlacedSubrecord). fields_of (meaning_seen s) s.keep (fixed_in xs)) (sym here);
-          threads = subst (λ (xs : List PlacedSubrecord). AreInForce xs new.threads) (sym here) (force_thread (earlier ++ w.done) i _ (tables_of (take i es)) t now.threads new.threads w.threads taken);
+          threads = subst (λ (xs : List PlacedSubrecord). AreInForce xs new.threads) (sym here) (force_thread (earlier ++ w.done) (part at x) t now.threads new.threads refl w.threads taken);
           piece = piece ∙ w.piece;
           last = subst (λ (p : Option Piece). IsLast p (last_of (tables_of (take i es)).pieces)) (sym piece) w.last;
           low = subst AreLow (sym piece) w.low;
@@ -184,7 +162,7 @@ module _ (s : FixupContext) (i : ℕ) (r : Record) where
           all = next_all x (each_from (subrecord_read wide) b after) (each_more (subrecord_read wide) b (subrecord_goes wide b) at low (subrecord.Fixup f) after is);
           made = with_fixup (meaning_seen s) s.keep (earlier ++ w.done) i _ (tables_of (take i es)) now f fields new w.threads w.last w.made made
               ∙ ap (λ (xs : List PlacedSubrecord). fields_of (meaning_seen s) s.keep (fixed_in xs)) (sym here);
-          threads = subst (λ (ts : Threads). AreInForce (earlier ++ (w.done ++ part at x ∷ [])) ts) (sym threads) (subst (λ (xs : List PlacedSubrecord). AreInForce xs now.threads) (sym here) (force_fixup (earlier ++ w.done) i _ (tables_of (take i es)) f now.threads w.threads));
+          threads = subst (λ (ts : Threads). AreInForce (earlier ++ (w.done ++ part at x ∷ [])) ts) (sym threads) (subst (λ (xs : List PlacedSubrecord). AreInForce xs now.threads) (sym here) (force_stays (earlier ++ w.done) (part at x) now.threads (λ frame number. refl) w.threads));
           piece = piece ∙ w.piece;
           last = subst (λ (p : Option Piece). IsLast p (last_of (tables_of (take i es)).pieces)) (sym piece) w.last;
           low = subst AreLow (sym piece) w.low;
@@ -199,7 +177,7 @@ module _ (s : FixupContext) (i : ℕ) (r : Record) where
           all = ap (λ (xs : List (Read Subrecord)). (w.done ++ part at x ∷ []) ++ placed_in es i r.place xs) (each_end (subrecord_read wide) b after past)
               ∙ next_all x [] (each_cut (subrecord_read wide) b (subrecord_goes wide b) at low c is);
           made = w.made ∙ ap (fields_of (meaning_seen s) s.keep) (sym (without_fixup (earlier ++ w.done) (part at x) refl)) ∙ ap (λ (xs : List PlacedSubrecord). fields_of (meaning_seen s) s.keep (fixed_in xs)) (sym here);
-          threads = subst (λ (xs : List PlacedSubrecord). AreInForce xs now.threads) (sym here) (force_cut (earlier ++ w.done) i _ (tables_of (take i es)) c now.threads w.threads);
+          threads = subst (λ (xs : List PlacedSubrecord). AreInForce xs now.threads) (sym here) (force_stays (earlier ++ w.done) (part at x) now.threads (λ frame number. refl) w.threads);
           piece = w.piece;
           last = w.last;
           low = w.low;

@@ -1,5 +1,5 @@
 //! The declarations of symbols, one after the other.
-ghost use Rattle.std.specs.Prelude.{◌≡◌, ◌≤◌, length, false, IfOk, OnOk};
+ghost use Rattle.std.specs.Prelude.{◌≡◌, length, false, IfOk, OnOk};
 ghost use Rattle.oc_omf.specs.Cursor.{each_read};
 ghost use Rattle.oc_omf.specs.Entries.{entries_in};
 ghost use Rattle.oc_omf.specs.Structures.{communal_read, external_read, public_read};

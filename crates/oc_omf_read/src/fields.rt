@@ -1,14 +1,14 @@
 //! The fields of fixups: one for each copy of the content that is fixed up.
-ghost use Rattle.std.specs.Prelude.{◌≡◌, ◌+◌, ◌-◌, ◌<◌, ◌^◌, ◌++◌, [], ℕ, get_or, length, slice_get, None, Some, IfOk, OnOk};
+ghost use Rattle.std.specs.Prelude.{◌≡◌, ◌+◌, ◌-◌, ◌<◌, ◌^◌, ◌++◌, ℕ, get_or, length, slice_get, None, Some, IfOk, OnOk};
 ghost use Rattle.oc_linking.specs.FirstFault.{stage_fault};
 ghost use Rattle.oc_omf.specs.Entries.{all_read, entries_in, places_in};
 ghost use Rattle.oc_omf.specs.Fields.{fixups_in};
 ghost use Rattle.oc_omf.specs.SectionFaults.{section_stage};
 ghost use Rattle.oc_omf_read.specs.declared.class.EntryClass.TheVariants as class;
-ghost use Rattle.oc_omf_read.specs.Aims as aims;
+ghost use Rattle.oc_omf_read.specs.Aims.{Sees, meaning_seen};
 ghost use Rattle.oc_omf_read.specs.Classes as classes;
 ghost use Rattle.oc_omf_read.specs.Defined.{said};
-ghost use Rattle.oc_omf_read.specs.Fields as listed;
+ghost use Rattle.oc_omf_read.specs.Fields.{AreLow, HasData, HasFields, IsLow, fields_at, fields_behind, fields_in, fields_of, fix_behind, held};
 
 use crate::class::{EntryClass, class_of};
 use crate::fix::Fix;
@@ -49,7 +49,7 @@ fn add_copies(
     copies: &[u32],
 ) -> Result<(), NoMemory>
     requires { (k : ℕ) → k < length copies.now → offset + get_or copies.now k 0 < 2 ^ 32 }
-    ensures { OnOk result (fields.new.items ≡ fields.old.items ++ listed.fields_at section offset fix copies.now) }
+    ensures { OnOk result (fields.new.items ≡ fields.old.items ++ fields_at section offset fix copies.now) }
 {
     for k in 0..copies.len() {
         let at = offset + copies[k];
@@ -66,9 +66,9 @@ fn add_fields(
     fix: Fix,
     at: u16,
 ) -> Result<(), NoMemory>
-    requires { listed.IsLow searched.old.piece }
+    requires { IsLow searched.old.piece }
     ensures piece { OnOk result (searched.new.piece ≡ searched.old.piece) }
-    ensures fields { OnOk result (fields.new.items ≡ fields.old.items ++ listed.fields_in searched.old.piece fix at) }
+    ensures fields { OnOk result (fields.new.items ≡ fields.old.items ++ fields_in searched.old.piece fix at) }
 {
     let section = u32::from(searched.piece.segment).saturating_sub(1);
     let offset = searched.piece.offset;
@@ -78,8 +78,8 @@ fn add_fields(
 
 // what a fixup does
 fn fix_behind(context: &FixupContext, behind: &Behind, fixup: &Fixup) -> Option<Fix>
-    requires { aims.Sees context.now }
-    ensures { result ≡ listed.fix_behind (aims.meaning_seen context.now) context.now.keep behind.now fixup.now }
+    requires { Sees context.now }
+    ensures { result ≡ fix_behind (meaning_seen context.now) context.now.keep behind.now fixup.now }
 {
     match &behind.piece {
         Some(searched) => fix_of(context, &behind.threads, searched.piece.segment, fixup),
@@ -95,11 +95,11 @@ fn take_fixup(
     behind: &mut Behind,
     fixup: &Fixup,
 ) -> Result<(), NoMemory>
-    requires sees { aims.Sees context.now }
-    requires low { listed.AreLow (listed.held behind.old) }
+    requires sees { Sees context.now }
+    requires low { AreLow (held behind.old) }
     ensures threads { OnOk result (behind.new.threads ≡ behind.old.threads) }
-    ensures piece { OnOk result (listed.held behind.new ≡ listed.held behind.old) }
-    ensures fields { OnOk result (fields.new.items ≡ fields.old.items ++ listed.fields_behind (aims.meaning_seen context.now) context.now.keep behind.old fixup.now) }
+    ensures piece { OnOk result (held behind.new ≡ held behind.old) }
+    ensures fields { OnOk result (fields.new.items ≡ fields.old.items ++ fields_behind (meaning_seen context.now) context.now.keep behind.old fixup.now) }
 {
     match fix_behind(context, behind, fixup) {
         Some(fix) => match &mut behind.piece {
@@ -121,11 +121,11 @@ fn take_subrecords(
     behind: &mut Behind,
     entry: &Entry,
 ) -> Result<(), NoMemory>
-    requires sees { aims.Sees context.now }
+    requires sees { Sees context.now }
     requires class { classes.class_of entry.now.kind ≡ class.Fixups }
-    requires low { listed.AreLow (listed.held behind.old) }
+    requires low { AreLow (held behind.old) }
     ensures { OnOk result ((i : ℕ) → slice_get (entries_in context.now.omf.now) i ≡ Some (said entry.now)
-        → listed.HasFields context.now i fields.old.items behind.old → listed.HasFields context.now (i + 1) fields.new.items behind.new) }
+        → HasFields context.now i fields.old.items behind.old → HasFields context.now (i + 1) fields.new.items behind.new) }
 {
     let wide = is_wide(entry.kind);
     let mut at = 0;
@@ -147,7 +147,7 @@ fn take_subrecords(
 
 // records the data of an entry, if it has some
 fn take_data<'a>(alloc: Global, behind: &mut Behind<'a>, entry: &Entry<'a>) -> Result<(), NoMemory>
-    ensures { OnOk result (listed.HasData (all_read (said entry.now).pieces) behind.old behind.new) }
+    ensures { OnOk result (HasData (all_read (said entry.now).pieces) behind.old behind.new) }
 {
     match piece_of(alloc, entry)? {
         Some(piece) => {
@@ -166,11 +166,11 @@ fn take_entry<'f>(
     behind: &mut Behind<'f>,
     i: u32,
 ) -> Result<(), NoMemory>
-    requires sees { aims.Sees context.now }
+    requires sees { Sees context.now }
     requires clean { stage_fault (section_stage (entries_in context.now.omf.now)) ≡ None }
     requires there { i < length (places_in context.now.omf.now) }
-    requires before { listed.HasFields context.now i fields.old.items behind.old }
-    ensures { OnOk result (listed.HasFields context.now (i + 1) fields.new.items behind.new) }
+    requires before { HasFields context.now i fields.old.items behind.old }
+    ensures { OnOk result (HasFields context.now (i + 1) fields.new.items behind.new) }
 {
     let entry = context.omf.entry(i);
     match class_of(entry.kind) {
@@ -193,9 +193,9 @@ fn take_entry<'f>(
 /// out. Linear in the module and the fields; for each of at most 1,024 places in the data of an entry
 /// the blocks of iterated data are walked once more.
 pub(crate) fn fields_in(alloc: Global, context: &FixupContext) -> Result<Vec<FixupField>, NoMemory>
-    requires sees { aims.Sees context.now }
+    requires sees { Sees context.now }
     requires clean { stage_fault (section_stage (entries_in context.now.omf.now)) ≡ None }
-    ensures { IfOk result (λ fields. fields.items ≡ listed.fields_of (aims.meaning_seen context.now) context.now.keep (fixups_in (entries_in context.now.omf.now))) }
+    ensures { IfOk result (λ fields. fields.items ≡ fields_of (meaning_seen context.now) context.now.keep (fixups_in (entries_in context.now.omf.now))) }
 {
     let mut fields = Vec::new(alloc);
     let mut behind = Behind {

@@ -1,10 +1,11 @@
 //! The symbols of a module, by their mentions.
-ghost use Rattle.std.specs.Prelude.{◌≡◌, ◌+◌, ◌-◌, ◌<◌, ◌^◌, ◌++◌, [], ◌∷◌, map, take, set, length, true, false, bytes_eq, None, Some, if◌then◌else◌, ℕ, List, IfOk, OnOk};
+ghost use Rattle.std.specs.Prelude.{◌≡◌, ◌+◌, ◌-◌, ◌<◌, ◌^◌, ◌++◌, [], ◌∷◌, take, length, false, bytes_eq, None, Some, if◌then◌else◌, ℕ, List, IfOk, OnOk};
 ghost use Rattle.std.specs.List.{list_any};
 ghost use Rattle.std.specs.Map.{update};
 ghost use Rattle.oc_omf.specs.Symbols.{same_symbol};
 ghost use Rattle.oc_omf_read.specs.Declarations.{all_declarations};
 ghost use Rattle.oc_omf_read.specs.Mentioned as seen;
+ghost use Rattle.oc_omf_read.specs.Mentioned.{value_at};
 
 use crate::declarations::{DeclarationKind, DeclarationRef};
 use oc_base::NoMemory;
@@ -39,7 +40,7 @@ pub struct Mentions<'a> {
 
 // the number of a name
 fn number_in<'a>(numbers: &BTreeMap<&'a [u8], u32>, name: &'a [u8]) -> Option<u32>
-    ensures { result ≡ seen.value_at numbers.now name.now }
+    ensures { result ≡ value_at numbers.now name.now }
 {
     match numbers.get(&name) {
         Some(number) => Some(*number),
@@ -64,7 +65,7 @@ fn take_number<'a>(
     name: &'a [u8],
     number: u32,
 ) -> Result<(), NoMemory>
-    ensures { OnOk result ((other : List ℕ) → seen.value_at numbers.new other ≡ update bytes_eq (seen.value_at numbers.old) name.now (Some number) other) }
+    ensures { OnOk result ((other : List ℕ) → value_at numbers.new other ≡ update bytes_eq (value_at numbers.old) name.now (Some number) other) }
 {
     numbers.insert(name, number)?;
     Ok(())
