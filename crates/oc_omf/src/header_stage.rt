@@ -1,13 +1,14 @@
 //! The stage of entries, before their contents are looked at.
-ghost use Rattle.std.specs.Prelude.{◌≡◌, ℕ, ◌<◌, ◌≤◌, length, take, get_or, ◌||◌, OnOk, IfOk, IfErr, Some, None};
+ghost use Rattle.std.specs.Prelude.{◌≡◌, ℕ, ◌<◌, ◌≤◌, length, get_or, ◌||◌, OnOk, IfOk, IfErr, Some, None};
 ghost use Rattle.std.specs.Option.{option_map};
 ghost use Rattle.oc_base.specs.declared.limits.TheConstants.{MOST_INPUT};
 ghost use Rattle.oc_base.specs.Stops.{IsStop};
-ghost use Rattle.oc_linking.specs.FirstFault.{fault_of, first_broken, stage_fault};
+ghost use Rattle.oc_linking.specs.FirstFault.{first_broken, stage_fault};
 ghost use Rattle.oc_omf_records.specs.NextEntry.{entry_of};
 ghost use Rattle.oc_omf.specs.declared.constants.TheConstants.{THEADR};
 ghost use Rattle.oc_omf.specs.Entries.{is_kind, places_in};
 ghost use Rattle.oc_omf.specs.HeaderFaults as rules;
+ghost use Rattle.oc_omf.specs.HeaderFaults.{entry_conditions, entry_fault};
 
 use crate::constants::{
     COMDEF, COMENT, COMENT_LZEXT, COMENT_WKEXT, EXTDEF, FIXUPP, GRPDEF, LEDATA, LEXTDEF, LIDATA,
@@ -76,7 +77,7 @@ fn has_start(entry: &Entry<'_>) -> bool
 
 // the code for an entry, where `begun` is whether an earlier one is a header
 fn record_code(begun: bool, entry: &Entry<'_>) -> Option<Code>
-    ensures { (x : ℕ × ℕ) → first_broken (rules.record_conditions begun x entry.now) ≡ option_map (rules.entry_fault x) result }
+    ensures { (x : ℕ × ℕ) → first_broken (rules.record_conditions begun x entry.now) ≡ option_map (entry_fault x) result }
 {
     if is_cut(entry) {
         return Some(Code::BadTable);
@@ -90,9 +91,9 @@ fn record_code(begun: bool, entry: &Entry<'_>) -> Option<Code>
 
 // judges what lies at `at`, the place of an entry: gives its type, or the code of its fault
 fn judge_entry(file: &View<'_>, begun: bool, at: u32) -> Result<u8, Code>
-    ensures clean { OnOk result ((i : ℕ) → first_broken (rules.entry_conditions file.now begun (i, at)) ≡ None) }
+    ensures clean { OnOk result ((i : ℕ) → first_broken (entry_conditions file.now begun (i, at)) ≡ None) }
     ensures kind { IfOk result (λ kind. kind ≡ (entry_of file.now at).kind) }
-    ensures fault { IfErr result (λ code. (i : ℕ) → first_broken (rules.entry_conditions file.now begun (i, at)) ≡ Some (rules.entry_fault (i, at) code)) }
+    ensures fault { IfErr result (λ code. (i : ℕ) → first_broken (entry_conditions file.now begun (i, at)) ≡ Some (entry_fault (i, at) code)) }
 {
     let entry = match entry_at(file, u64::from(at)) {
         Err(RecordFault::Truncated) => return Err(Code::Short),
