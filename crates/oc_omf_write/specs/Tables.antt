@@ -32,6 +32,10 @@ fixups_of t = map (λ v. v.items) t.fixups.items
 abbrev pub public_by : Symbol → List ℕ
 public_by s = option_map_or (public_at s.name) (global_place s.binding) []
 
+-- what is put of bytes of the section at a position
+abbrev pub piece_bytes : ℕ → ℕ → ℕ → Section → List ℕ
+piece_bytes k from to s = data_bytes (k + 1) from (slice_range s.bytes from to)
+
 -- the contents of an entry
 abbrev pub contents_by : Tables → Entry → List ℕ
 contents_by t entry.Header = name_bytes (codes "objconv")
@@ -41,7 +45,7 @@ contents_by t entry.Group = index_bytes 2
 contents_by t (entry.External k) = option_map_or (λ (s : Symbol). external_bytes s.name) (slice_get t.symbols.items k) []
 contents_by t (entry.Communal k) = option_map_or (λ (s : Symbol). communal_bytes s.name (size_by s.binding)) (slice_get t.symbols.items k) []
 contents_by t (entry.Public k) = option_map_or public_by (slice_get t.symbols.items k) []
-contents_by t (entry.Data k from to) = option_map_or (λ (s : Section). data_bytes (k + 1) from (slice_range s.bytes from to)) (slice_get t.sections.items k) []
+contents_by t (entry.Data k from to) = option_map_or (piece_bytes k from to) (slice_get t.sections.items k) []
 contents_by t (entry.Fixups k from to) = flat_map (fixup_bytes_of from) (between from to (fixups_at (fixups_of t) k))
 contents_by t entry.End = 0 ∷ []
 

@@ -1,5 +1,5 @@
 //! The names of a file (TIS OMF 1.1, "LNAMES: List of Names Record"; our profile).
-ghost use Rattle.std.specs.Prelude.{◌≡◌, ℕ, ◌+◌, ◌^◌, ◌<◌, ◌≤◌, [], ◌∷◌, List, length, map, bytes_eq, slice_get, is_some, true, Some, IfOk, IfSome, OnOk};
+ghost use Rattle.std.specs.Prelude.{◌≡◌, ℕ, ◌+◌, ◌^◌, ◌<◌, [], List, length, map, bytes_eq, slice_get, is_some, true, Some, IfOk, OnOk};
 ghost use Rattle.std.specs.List.{AllByRecursion};
 ghost use Rattle.std.specs.Map.{update};
 ghost use Rattle.std.specs.Option.{unwrap_or};

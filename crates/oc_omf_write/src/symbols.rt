@@ -3,7 +3,7 @@ ghost use Rattle.std.specs.Prelude.{◌≡◌, ◌++◌, [], ◌∷◌, IfOk, On
 ghost use Rattle.std.specs.List.{enumerate_from};
 ghost use Rattle.std.specs.Option.{option_map, option_map_or};
 ghost use Rattle.oc_neutral.specs.declared.symbol.Symbol.{Symbol as Held};
-ghost use Rattle.oc_omf_file.specs.Outputs as outputs;
+ghost use Rattle.oc_omf_file.specs.Outputs.{communal_by, communal_output, external_by, external_output, public_by, public_output, symbol_outputs};
 ghost use Rattle.oc_omf_write.specs.Entries.{entry_for};
 
 use crate::entries::Entry;
@@ -13,7 +13,7 @@ use std::alloc::Global;
 
 // the entry of a symbol that is defined elsewhere
 fn external(k: u32, binding: Binding) -> Option<Entry>
-    ensures { (s : Held) → result ≡ option_map entry_for (outputs.external_by binding k s) }
+    ensures { (s : Held) → result ≡ option_map entry_for (external_by binding k s) }
 {
     match binding {
         Binding::Undefined => Some(Entry::External(k)),
@@ -23,7 +23,7 @@ fn external(k: u32, binding: Binding) -> Option<Entry>
 
 // that of a communal
 fn communal(k: u32, binding: Binding) -> Option<Entry>
-    ensures { (s : Held) → result ≡ option_map entry_for (outputs.communal_by binding k s) }
+    ensures { (s : Held) → result ≡ option_map entry_for (communal_by binding k s) }
 {
     match binding {
         Binding::Common { .. } => Some(Entry::Communal(k)),
@@ -33,7 +33,7 @@ fn communal(k: u32, binding: Binding) -> Option<Entry>
 
 // that of a symbol that is defined here, and seen from elsewhere
 fn public(k: u32, binding: Binding) -> Option<Entry>
-    ensures { (s : Held) → result ≡ option_map entry_for (outputs.public_by binding k s) }
+    ensures { (s : Held) → result ≡ option_map entry_for (public_by binding k s) }
 {
     match binding {
         Binding::Global(_) => Some(Entry::Public(k)),
@@ -53,7 +53,7 @@ fn give(entries: &mut Vec<Entry>, entry: Option<Entry>) -> Result<(), NoMemory>
 
 // adds the entries of externals
 fn add_externals(entries: &mut Vec<Entry>, neutral: &Neutral) -> Result<(), NoMemory>
-    ensures { OnOk result (entries.new.items ≡ entries.old.items ++ map entry_for (filter_map outputs.external_output (enumerate_from 0 neutral.now.symbols))) }
+    ensures { OnOk result (entries.new.items ≡ entries.old.items ++ map entry_for (filter_map external_output (enumerate_from 0 neutral.now.symbols))) }
 {
     for k in 0..neutral.symbol_count() {
         let entry = external(k, neutral.symbol(k).binding);
@@ -64,7 +64,7 @@ fn add_externals(entries: &mut Vec<Entry>, neutral: &Neutral) -> Result<(), NoMe
 
 // adds those of communals
 fn add_communals(entries: &mut Vec<Entry>, neutral: &Neutral) -> Result<(), NoMemory>
-    ensures { OnOk result (entries.new.items ≡ entries.old.items ++ map entry_for (filter_map outputs.communal_output (enumerate_from 0 neutral.now.symbols))) }
+    ensures { OnOk result (entries.new.items ≡ entries.old.items ++ map entry_for (filter_map communal_output (enumerate_from 0 neutral.now.symbols))) }
 {
     for k in 0..neutral.symbol_count() {
         let entry = communal(k, neutral.symbol(k).binding);
@@ -75,7 +75,7 @@ fn add_communals(entries: &mut Vec<Entry>, neutral: &Neutral) -> Result<(), NoMe
 
 // adds those of publics
 fn add_publics(entries: &mut Vec<Entry>, neutral: &Neutral) -> Result<(), NoMemory>
-    ensures { OnOk result (entries.new.items ≡ entries.old.items ++ map entry_for (filter_map outputs.public_output (enumerate_from 0 neutral.now.symbols))) }
+    ensures { OnOk result (entries.new.items ≡ entries.old.items ++ map entry_for (filter_map public_output (enumerate_from 0 neutral.now.symbols))) }
 {
     for k in 0..neutral.symbol_count() {
         let entry = public(k, neutral.symbol(k).binding);
@@ -87,7 +87,7 @@ fn add_publics(entries: &mut Vec<Entry>, neutral: &Neutral) -> Result<(), NoMemo
 /// The entries of the symbols of an object: the externals, the communals and the publics. `NoMemory`
 /// where memory ran out. Linear in the symbols.
 pub(crate) fn symbol_entries(alloc: Global, neutral: &Neutral) -> Result<Vec<Entry>, NoMemory>
-    ensures { IfOk result (λ entries. entries.items ≡ map entry_for (outputs.symbol_outputs neutral.now)) }
+    ensures { IfOk result (λ entries. entries.items ≡ map entry_for (symbol_outputs neutral.now)) }
 {
     let mut entries = Vec::new(alloc);
     add_externals(&mut entries, neutral)?;

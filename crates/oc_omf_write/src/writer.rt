@@ -1,5 +1,4 @@
 //! The writer of OMF.
-ghost use Rattle.std.specs.Prelude.{◌≡◌};
 ghost use Rattle.oc_omf_file.specs.Canonical.{omf_file};
 ghost use Rattle.oc_omf.specs.Rules.{omf_dialect};
 ghost use Rattle.oc_omf_write.specs.Writing.{writes_omf};
