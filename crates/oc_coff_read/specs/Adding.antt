@@ -1,6 +1,6 @@
 -- What is known while the relocations of a file without faults are added (our profile).
 use Rattle.oc_coff.specs.Files.{CoffFile, tables_in}
-use Rattle.std.specs.Prelude.{◌≡◌, ℕ, true, List, length, slice_get, Option, Some, None}
+use Rattle.std.specs.Prelude.{◌≡◌, ℕ, true, List, length, take, slice_get, Option, Some, None}
 use Rattle.oc_base.specs.declared.format.Word.{Word}
 use Rattle.oc_linking.specs.declared.terms.Keep.{Keep}
 use Rattle.oc_linking.specs.declared.terms.Kind.{Kind}
@@ -46,9 +46,9 @@ pub record IsPlace (file : CoffFile) (i p : ℕ) (kind : Kind) (table : Table) (
   pub bytes_are : table_is.of.stored ≡ true → contents ≡ table_is.of.section.contents
   pub long : table_is.of.stored ≡ true → length contents ≡ table_is.of.section.size
 
--- the relocations of the carried sections before position p are added, and those of some entries of the section there
-abbrev pub AreAdded : Word → CoffFile → Keep → ℕ → List PlacedEntry → Draft → Type 0
-AreAdded w file keep p entries d = HasAdded (started w file) d (given_with w (tables_in file) keep p entries)
+-- the relocations of the carried sections before position p are added, and those of the first j of these entries of the section there
+abbrev pub AreAddedUpto : Word → CoffFile → Keep → ℕ → ℕ → List PlacedEntry → Draft → Type 0
+AreAddedUpto w file keep p j entries d = HasAdded (started w file) d (given_with w (tables_in file) keep p (take j entries))
 
 -- the relocations of the carried sections before position p are added
 abbrev pub AreAddedBefore : Word → CoffFile → Keep → ℕ → Draft → Type 0

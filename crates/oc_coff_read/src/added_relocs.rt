@@ -10,6 +10,7 @@ ghost use Rattle.oc_coff.specs.Sections as sections;
 ghost use Rattle.oc_coff.specs.Tables as tables;
 ghost use Rattle.oc_coff.specs.Files as files;
 ghost use Rattle.oc_coff_read.specs.Adding as adding;
+ghost use Rattle.oc_coff_read.specs.Adding.{AreAddedUpto};
 ghost use Rattle.oc_coff_judge.specs.Led.{carried_at};
 ghost use Rattle.oc_coff_read.specs.Given as given;
 
@@ -76,8 +77,8 @@ fn add_entry(
     requires kept { keeps context.keep.now place.now.kind ≡ true }
     requires entries { IsPermutation (collected (given.placed_at context.coff.now place.now.table) place.now.table.count) entries.now }
     requires there { j < length entries.now }
-    requires before { adding.AreAdded context.word context.coff.now context.keep.now place.now.position (take j entries.now) builder.old }
-    ensures { OnOk result (adding.AreAdded context.entry.word context.entry.coff.now context.entry.keep.now place.now.position (take (j + 1) entries.now) builder.new) }
+    requires before { AreAddedUpto context.word context.coff.now context.keep.now place.now.position j entries.now builder.old }
+    ensures { OnOk result (AreAddedUpto context.entry.word context.entry.coff.now context.entry.keep.now place.now.position (j + 1) entries.now builder.new) }
 {
     let coff = context.coff;
     coff.is_headed();

@@ -11,7 +11,7 @@ ghost use Rattle.oc_coff.specs.Names as names;
 ghost use Rattle.oc_coff.specs.Sections as sections;
 ghost use Rattle.oc_coff.specs.SectionFaults.{section_stage};
 ghost use Rattle.oc_coff.specs.Tables as tables;
-ghost use Rattle.oc_coff.specs.Files as files;
+ghost use Rattle.oc_coff.specs.Files.{tables_in};
 ghost use Rattle.oc_coff_read.specs.Built as built;
 ghost use Rattle.oc_coff_judge.specs.Led as led;
 ghost use Rattle.oc_coff_judge.specs.Numbered.{AreOwners};
@@ -108,11 +108,11 @@ fn bytes_of(alloc: Global, coff: &Coff, h: &SectionHeader, kind: Kind) -> Result
 
 // the position of the group of section `i`
 fn group_of(coff: &Coff, owners: &Owners, begun: &Slots, i: u32) -> Option<u32>
-    requires owners { AreOwners (files.tables_in coff.now) owners.now.firsts.now owners.now.seconds.now }
-    requires begun { built.AreBegunGroups (files.tables_in coff.now) (built.keys_of (files.tables_in coff.now)) begun.now }
-    requires there { i < length (files.tables_in coff.now).sections }
-    requires carried { is_some (led.section_at (files.tables_in coff.now) i) ≡ true }
-    ensures { result ≡ option_map (λ key. position_or_len (bytes_eq key) (built.keys_of (files.tables_in coff.now))) (key_in (files.tables_in coff.now) (i + 1)) }
+    requires owners { AreOwners (tables_in coff.now) owners.now.firsts.now owners.now.seconds.now }
+    requires begun { built.AreBegunGroups (tables_in coff.now) (built.keys_of (tables_in coff.now)) begun.now }
+    requires there { i < length (tables_in coff.now).sections }
+    requires carried { is_some (led.section_at (tables_in coff.now) i) ≡ true }
+    ensures { result ≡ option_map (λ key. position_or_len (bytes_eq key) (built.keys_of (tables_in coff.now))) (key_in (tables_in coff.now) (i + 1)) }
 {
     match held_by(coff, owners, i) {
         Some((g, _)) => begun.get(g),
@@ -131,7 +131,7 @@ pub(crate) struct Memberships<'a> {
 
 // the name of a section, empty where it cannot be read
 fn name_of<'a>(coff: &'a Coff, h: &'a SectionHeader) -> &'a [u8]
-    ensures { result.now ≡ unwrap_or (names.section_name (files.tables_in coff.now).strings h.now.Name) [] }
+    ensures { result.now ≡ unwrap_or (names.section_name (tables_in coff.now).strings h.now.Name) [] }
 {
     match section_name(coff.strings(), &h.Name) {
         Some(name) => name,
@@ -149,13 +149,13 @@ fn section_of(
     h: &SectionHeader,
     kind: Kind,
 ) -> Result<Section, NoMemory>
-    requires owners { AreOwners (files.tables_in coff.now) known.now.owners.now.firsts.now known.now.owners.now.seconds.now }
-    requires begun { built.AreBegunGroups (files.tables_in coff.now) (built.keys_of (files.tables_in coff.now)) known.now.begun.now }
-    requires there { i < length (files.tables_in coff.now).sections }
-    requires carried { is_some (led.section_at (files.tables_in coff.now) i) ≡ true }
+    requires owners { AreOwners (tables_in coff.now) known.now.owners.now.firsts.now known.now.owners.now.seconds.now }
+    requires begun { built.AreBegunGroups (tables_in coff.now) (built.keys_of (tables_in coff.now)) known.now.begun.now }
+    requires there { i < length (tables_in coff.now).sections }
+    requires carried { is_some (led.section_at (tables_in coff.now) i) ≡ true }
     requires lies { sections.is_stored (Some kind) h.now ≡ true → h.now.PointerToRawData + h.now.SizeOfRawData ≤ length coff.now.bytes }
-    ensures { IfOk result (λ x. x ≡ stored_section (built.keys_of (files.tables_in coff.now))
-        (sections.section_of (files.tables_in coff.now) (i + 1) (tables.section_table coff.now.bytes h.now) kind)) }
+    ensures { IfOk result (λ x. x ≡ stored_section (built.keys_of (tables_in coff.now))
+        (sections.section_of (tables_in coff.now) (i + 1) (tables.section_table coff.now.bytes h.now) kind)) }
 {
     coff.has_few();
     Ok(Section {
@@ -179,12 +179,12 @@ fn add_section(
     builder: &mut Builder,
     i: u32,
 ) -> Result<(), NoMemory>
-    requires clean { stage_fault (section_stage coff.now.bytes (files.tables_in coff.now)) ≡ None }
-    requires owners { AreOwners (files.tables_in coff.now) known.now.owners.now.firsts.now known.now.owners.now.seconds.now }
-    requires begun { built.AreBegunGroups (files.tables_in coff.now) (built.keys_of (files.tables_in coff.now)) known.now.begun.now }
-    requires there { i < length (files.tables_in coff.now).sections }
-    requires before { builder.old ≡ built.sectioned word (files.tables_in coff.now) i }
-    ensures { OnOk result (builder.new ≡ built.sectioned word (files.tables_in coff.now) (i + 1)) }
+    requires clean { stage_fault (section_stage coff.now.bytes (tables_in coff.now)) ≡ None }
+    requires owners { AreOwners (tables_in coff.now) known.now.owners.now.firsts.now known.now.owners.now.seconds.now }
+    requires begun { built.AreBegunGroups (tables_in coff.now) (built.keys_of (tables_in coff.now)) known.now.begun.now }
+    requires there { i < length (tables_in coff.now).sections }
+    requires before { builder.old ≡ built.sectioned word (tables_in coff.now) i }
+    ensures { OnOk result (builder.new ≡ built.sectioned word (tables_in coff.now) (i + 1)) }
 {
     coff.has_few();
     let h = coff.section(i);
@@ -207,11 +207,11 @@ pub(crate) fn add_sections(
     known: &Memberships,
     builder: &mut Builder,
 ) -> Result<(), NoMemory>
-    requires clean { stage_fault (section_stage coff.now.bytes (files.tables_in coff.now)) ≡ None }
-    requires owners { AreOwners (files.tables_in coff.now) known.now.owners.now.firsts.now known.now.owners.now.seconds.now }
-    requires begun { built.AreBegunGroups (files.tables_in coff.now) (built.keys_of (files.tables_in coff.now)) known.now.begun.now }
-    requires before { builder.old ≡ built.sectioned word (files.tables_in coff.now) 0 }
-    ensures { OnOk result (builder.new ≡ built.sectioned word (files.tables_in coff.now) (length (files.tables_in coff.now).sections)) }
+    requires clean { stage_fault (section_stage coff.now.bytes (tables_in coff.now)) ≡ None }
+    requires owners { AreOwners (tables_in coff.now) known.now.owners.now.firsts.now known.now.owners.now.seconds.now }
+    requires begun { built.AreBegunGroups (tables_in coff.now) (built.keys_of (tables_in coff.now)) known.now.begun.now }
+    requires before { builder.old ≡ built.sectioned word (tables_in coff.now) 0 }
+    ensures { OnOk result (builder.new ≡ built.sectioned word (tables_in coff.now) (length (tables_in coff.now).sections)) }
 {
     for i in 0..coff.section_count() {
         add_section(alloc, word, coff, known, builder, i)?;
