@@ -3,7 +3,7 @@ ghost use Rattle.std.specs.Prelude.{◌≡◌, ◌<◌, length, None, IfOk, Matc
 ghost use Rattle.oc_shelf.specs.Reading.Slots.{AreSlots};
 ghost use Rattle.oc_coff.specs.Entries as entries;
 ghost use Rattle.oc_coff.specs.Symbols as symbols;
-ghost use Rattle.oc_coff.specs.Files as files;
+ghost use Rattle.oc_coff.specs.Files.{tables_in};
 ghost use Rattle.oc_coff_judge.specs.Found as found;
 ghost use Rattle.oc_coff_judge.specs.Numbered.{AreNumbers, entry_by};
 
@@ -47,9 +47,9 @@ impl Found {
 /// The entry of the symbol that the auxiliary entry of symbol `j` tags, by the entries that are
 /// symbols. Constant time.
 pub(crate) fn tagged_by(coff: &Coff, starts: &Slots, j: u32) -> Option<u32>
-    requires there { j < length (files.tables_in coff.now).entries }
-    requires starts { AreSlots (found.start_of (files.tables_in coff.now)) (length (files.tables_in coff.now).entries) starts.now }
-    ensures { MatchOption result (symbols.tagged_by (entries.entries_in (files.tables_in coff.now)) (entry_by coff.now j) ≡ None) (λ d. found.IsTagOf coff.now j d) }
+    requires there { j < length (tables_in coff.now).entries }
+    requires starts { AreSlots (found.start_of (tables_in coff.now)) (length (tables_in coff.now).entries) starts.now }
+    ensures { MatchOption result (symbols.tagged_by (entries.entries_in (tables_in coff.now)) (entry_by coff.now j) ≡ None) (found.IsTagOf coff.now j) }
 {
     coff.is_headed();
     match tag_of(coff, j) {
@@ -64,7 +64,7 @@ pub(crate) fn tagged_by(coff: &Coff, starts: &Slots, j: u32) -> Option<u32>
 // each entry that is a symbol
 fn starts_of(alloc: Global, coff: &Coff, numbers: &[u32]) -> Result<Slots, NoMemory>
     requires { AreNumbers coff.now numbers.now }
-    ensures { IfOk result (λ starts. AreSlots (found.start_of (files.tables_in coff.now)) (length (files.tables_in coff.now).entries) starts) }
+    ensures { IfOk result (λ starts. AreSlots (found.start_of (tables_in coff.now)) (length (tables_in coff.now).entries) starts) }
 {
     let count = coff.entry_count();
     let end = numbers.len();

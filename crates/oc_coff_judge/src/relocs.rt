@@ -8,6 +8,7 @@ ghost use Rattle.oc_coff.specs.Fields as fields;
 ghost use Rattle.oc_coff.specs.Files as files;
 ghost use Rattle.oc_coff_judge.specs.Aimed as aimed;
 ghost use Rattle.oc_coff_judge.specs.Relocs as rules;
+ghost use Rattle.oc_coff_judge.specs.Relocs.{own_conditions};
 
 use crate::aims::{AimKind, aim_at};
 use oc_base::{Code, Fault, Phase, Stop, Word};
@@ -144,7 +145,7 @@ fn passes_bytes(word: Word, table: &Table, r: &Relocation) -> bool
 #[tactic(auto, unfolding(crate::specs::Relocs::own_conditions))]
 fn own_fault(aims: &Aims, i: u32, table: &Table, place: u64, r: &Relocation) -> Option<Fault>
     requires low { i < 2 ^ 21 }
-    ensures { result ≡ first_broken (rules.own_conditions aims.now.word i table.now place r.now (slice_index_or aims.now.symbols.now r.now.SymbolTableIndex None)) }
+    ensures { result ≡ first_broken (own_conditions aims.now.word i table.now place r.now (slice_index_or aims.now.symbols.now r.now.SymbolTableIndex None)) }
 {
     if !has_row(aims.word, r) {
         return Some(reloc_fault(Code::RelocKind, i, place));

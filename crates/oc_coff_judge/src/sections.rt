@@ -6,7 +6,7 @@ ghost use Rattle.oc_coff.specs.Forms.{header_size};
 ghost use Rattle.oc_coff.specs.Sections as sections;
 ghost use Rattle.oc_coff.specs.SectionFaults as rules;
 ghost use Rattle.oc_coff.specs.Tables as tables;
-ghost use Rattle.oc_coff.specs.Files as files;
+ghost use Rattle.oc_coff.specs.Files.{tables_in};
 ghost use Rattle.oc_coff_judge.specs.Led as led;
 
 use oc_base::{Code, Fault, Phase, u32_in};
@@ -40,7 +40,7 @@ pub(crate) fn header_place(shape: Shape, i: u32) -> u64
 /// The kind of a section that is carried. Linear in its name.
 #[tactic(auto, unfolding(oc_coff::specs::Sections::kind_in))]
 pub fn kind_in(coff: &Coff, h: &SectionHeader) -> Option<Kind>
-    ensures { result ≡ sections.kind_in (files.tables_in coff.now).strings h.now }
+    ensures { result ≡ sections.kind_in (tables_in coff.now).strings h.now }
 {
     match section_name(coff.strings(), &h.Name) {
         Some(name) => kind_by(name, h.Characteristics),
@@ -50,8 +50,8 @@ pub fn kind_in(coff: &Coff, h: &SectionHeader) -> Option<Kind>
 
 /// Whether section `i`, counted from 0, is carried. Linear in its name.
 pub fn is_carried(coff: &Coff, i: u32) -> bool
-    requires { i < length (files.tables_in coff.now).sections }
-    ensures { result ≡ is_some (led.section_at (files.tables_in coff.now) i) }
+    requires { i < length (tables_in coff.now).sections }
+    ensures { result ≡ is_some (led.section_at (tables_in coff.now) i) }
 {
     kind_in(coff, &coff.section(i)).is_some()
 }
@@ -60,8 +60,8 @@ pub fn is_carried(coff: &Coff, i: u32) -> bool
 #[tactic(auto, unfolding(oc_coff::specs::Tables::tables_of))]
 pub(crate) fn raw_fault(coff: &Coff, i: u32, h: &SectionHeader, kind: Option<Kind>) -> Option<Fault>
     requires low { i < 2 ^ 21 }
-    requires kind { kind ≡ sections.kind_in (files.tables_in coff.now).strings h.now }
-    ensures { result ≡ first_broken (rules.raw_conditions coff.now.bytes (files.tables_in coff.now) (i + 1, tables.section_table coff.now.bytes h.now) h.now) }
+    requires kind { kind ≡ sections.kind_in (tables_in coff.now).strings h.now }
+    ensures { result ≡ first_broken (rules.raw_conditions coff.now.bytes (tables_in coff.now) (i + 1, tables.section_table coff.now.bytes h.now) h.now) }
 {
     let zeros = has(h.Characteristics, IMAGE_SCN_CNT_UNINITIALIZED_DATA);
     if !zeros && h.SizeOfRawData != 0 && h.PointerToRawData == 0 {
@@ -78,7 +78,7 @@ pub(crate) fn raw_fault(coff: &Coff, i: u32, h: &SectionHeader, kind: Option<Kin
 #[tactic(auto, unfolding(oc_coff::specs::Tables::tables_of))]
 pub(crate) fn table_fault(coff: &Coff, i: u32, h: &SectionHeader) -> Option<Fault>
     requires low { i < 2 ^ 21 }
-    ensures { result ≡ first_broken (rules.table_conditions coff.now.bytes (files.tables_in coff.now) (i + 1, tables.section_table coff.now.bytes h.now) h.now) }
+    ensures { result ≡ first_broken (rules.table_conditions coff.now.bytes (tables_in coff.now) (i + 1, tables.section_table coff.now.bytes h.now) h.now) }
 {
     let at = u64::from(h.PointerToRelocations);
     if !is_overflowed(h) {
