@@ -37,6 +37,10 @@ pub record IsWritten (w : Word) (x : SpelledReloc) (is : bodies.WrittenReloc) : 
   pub row : written_row (mach_format w) is.reloc.form is.reloc.hint ≡ Some is.row
   pub spelled : answer_of (Some (numbers_in is.row.number is.row.second)) ≡ Ok x.spelling
 
+-- this is what a function gives of the relocation as it is written, in each object that numbers are made of
+abbrev pub IsValueFor : {A : Type 0} → (Word → Object → bodies.WrittenReloc → A) → Word → FieldContext → SpelledReloc → A → Type 0
+IsValueFor value w x y this = (n : Object) (is : bodies.WrittenReloc) → IsFieldContext w n x → IsWritten w y is → this ≡ value w n is
+
 -- the format has the form of this relocation at an offset of the section at a position
 pub record HasForm (w : Word) (section at : ℕ) (r : Reloc) : Type 0 where
   pub written : bodies.WrittenReloc

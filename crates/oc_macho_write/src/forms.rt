@@ -9,9 +9,10 @@ ghost use Rattle.oc_neutral.specs.Rows.{TakesPlace, same_taken, taken_of};
 ghost use Rattle.oc_neutral.specs.Shifts.{entry_target_shift};
 ghost use Rattle.oc_macho_file.specs.Addresses.{address_of};
 ghost use Rattle.oc_macho_file.specs.Bodies as bodies;
+ghost use Rattle.oc_macho_file.specs.Bodies.{entry_target_of};
 ghost use Rattle.oc_macho_write.specs.Relocations.{CanTell, number_at};
 ghost use Rattle.oc_macho_write.specs.declared.forms.FieldContext.{FieldContext as Setting};
-ghost use Rattle.oc_macho_write.specs.Forms.{HasForm, HasPlace, IsFor, IsHeld, IsReady, IsFieldContext, IsStanding, IsThere, IsWritten};
+ghost use Rattle.oc_macho_write.specs.Forms.{HasForm, HasPlace, IsFor, IsHeld, IsReady, IsFieldContext, IsStanding, IsThere, IsValueFor, IsWritten};
 
 use crate::values::global_place;
 use oc_algebra::to_field;
@@ -172,7 +173,7 @@ impl FieldContext<'_> {
     fn entry_target_address(&self, target: Target) -> u64
         requires ready { IsReady self.now }
         requires there { IsThere self.now target }
-        ensures address { (w : Word) (n : Object) → IsFieldContext w n self.now → neg_ℤ (pos result) ≡ entry_target_shift (bodies.entry_target_of n target) }
+        ensures address { (w : Word) (n : Object) → IsFieldContext w n self.now → neg_ℤ (pos result) ≡ entry_target_shift (entry_target_of n target) }
         ensures low { result < 2 ^ 32 }
     {
         match target {
@@ -186,7 +187,7 @@ impl FieldContext<'_> {
         requires word { self.now.word ≡ W32 }
         requires ready { IsReady self.now }
         requires there { IsStanding self.now standing.now }
-        ensures { (n : Object) (is : bodies.WrittenReloc) → IsFieldContext W32 n self.now → IsWritten W32 standing.now is → result ≡ bodies.field_shift W32 n is }
+        ensures { IsValueFor bodies.field_shift W32 self.now standing.now result }
     {
         let target = standing.reloc.target;
         match standing.spelling {
@@ -209,7 +210,7 @@ impl FieldContext<'_> {
     fn field_shift(&self, standing: &SpelledReloc) -> i64
         requires ready { IsReady self.now }
         requires there { IsStanding self.now standing.now }
-        ensures { (w : Word) (n : Object) (is : bodies.WrittenReloc) → IsFieldContext w n self.now → IsWritten w standing.now is → result ≡ bodies.field_shift w n is }
+        ensures { (w : Word) → IsValueFor bodies.field_shift w self.now standing.now result }
     {
         match self.word {
             Word::W32 => self.shift32(standing),
@@ -222,7 +223,7 @@ impl FieldContext<'_> {
         requires ready { IsReady self.now }
         requires there { IsStanding self.now standing.now }
         requires held { IsHeld self.now standing.now }
-        ensures { (w : Word) (n : Object) (is : bodies.WrittenReloc) → IsFieldContext w n self.now → IsWritten w standing.now is → result ≡ bodies.field_number w n is }
+        ensures { (w : Word) → IsValueFor bodies.field_number w self.now standing.now result }
     {
         let shift = self.field_shift(standing);
         let reloc = standing.reloc;

@@ -3,6 +3,7 @@ ghost use Rattle.std.specs.Prelude.{◌≡◌, IfOk, length};
 ghost use Rattle.oc_base.specs.declared.format.Word.{Word};
 ghost use Rattle.oc_neutral.specs.Objects.{Object};
 ghost use Rattle.oc_macho_file.specs.Layout as layout;
+ghost use Rattle.oc_macho_file.specs.Layout.{parts_of};
 ghost use Rattle.oc_macho_write.specs.LaidParts.{begins_by};
 ghost use Rattle.oc_macho_write.specs.Parts.{AreParts};
 ghost use Rattle.oc_macho_write.specs.Places.{ArePlaces, CanGive, HasRoom, IsBlank, IsGiven, IsGivenIf};
@@ -72,7 +73,7 @@ impl Places {
     ) -> Result<Places, NoMemory>
         requires parts { AreParts neutral.now parts.now }
         requires counted { length begins.now ≡ length parts.now }
-        ensures { IfOk result (λ places. (w : Word) → begins.now ≡ begins_by w neutral.now (layout.parts_of neutral.now) → ArePlaces w neutral.now places) }
+        ensures { IfOk result (λ places. (w : Word) → begins.now ≡ begins_by w neutral.now (parts_of neutral.now) → ArePlaces w neutral.now places) }
     {
         let mut places = Places::new(alloc, neutral)?;
         for at in 0..parts.len() {

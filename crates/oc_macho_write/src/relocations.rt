@@ -8,6 +8,7 @@ ghost use Rattle.oc_neutral.specs.Mach.Relocs as relocs;
 ghost use Rattle.oc_neutral.specs.Objects.{Object};
 ghost use Rattle.oc_macho.specs.MachHeader.{mach_format};
 ghost use Rattle.oc_macho_file.specs.Bodies as bodies;
+ghost use Rattle.oc_macho_file.specs.Layout.{relocs_of};
 ghost use Rattle.oc_macho_file.specs.Lines.{numbered_lines};
 ghost use Rattle.oc_macho_write.specs.Forms.{CanWrite, HasPlace, IsFor, IsReady, IsFieldContext, IsStanding, IsWritten};
 ghost use Rattle.oc_macho_write.specs.Numbers.{IsNumbered};
@@ -158,7 +159,7 @@ fn entries_of(
     requires context { IsFieldContext context.word neutral.now context }
     requires numbers { IsNumbered context.word neutral.now numbers.now }
     requires there { section < length neutral.now.sections }
-    ensures { IfOk result (λ entries. entries.items ≡ bodies.entries_of context.entry.word neutral.now (numbered_lines context.entry.word neutral.now) section) }
+    ensures { IfOk result (λ entries. entries.items ≡ relocs_of context.entry.word neutral.now section) }
 {
     let mut entries = Vec::new(alloc);
     for field in neutral.relocs(section) {
