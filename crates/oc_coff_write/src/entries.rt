@@ -14,9 +14,10 @@ ghost use Rattle.oc_neutral.specs.Objects.{Object};
 ghost use Rattle.oc_neutral.specs.declared.section.Section.{Section as Held};
 ghost use Rattle.oc_shelf.specs.Writing.Parts.{Laid};
 ghost use Rattle.oc_coff_file.specs.Canonical as canonical;
+ghost use Rattle.oc_coff_file.specs.Canonical.{entry_rows, line_entry, tag_of};
 ghost use Rattle.oc_coff.specs.Values as values;
 ghost use Rattle.oc_coff_file.specs.Lines as coff_lines;
-ghost use Rattle.oc_coff_write.specs.Entries.{AreAdded, entry_bytes, IsMadeOf, rows_in};
+ghost use Rattle.oc_coff_write.specs.Entries.{AreAdded, entry_bytes, IsMadeOf, IsSectionAux, rows_in};
 ghost use Rattle.oc_coff_write.specs.Keys.{AreLeaders, key_position, leader_position};
 ghost use Rattle.oc_coff_write.specs.Lines.{line_in, AreLines, IsListed};
 ghost use Rattle.oc_coff_write.specs.Numbers.{IsNumbered, HasTag};
@@ -78,7 +79,7 @@ pub(crate) fn pack_entry(shape: Shape, entry: &Entry) -> Packed
 fn section_entry(names: &Table, near: usize, position: u32, section: &Section) -> SymbolEntry
     requires held { HoldsSymbolName names.now section.now.name }
     requires room { position + 1 < 2 ^ 31 }
-    ensures { (w : CoffForm) (n : Object) → names.now ≡ table_for w n → result ≡ canonical.line_entry w n (coff_lines.SectionLine position section.now) }
+    ensures { (w : CoffForm) (n : Object) → names.now ≡ table_for w n → result ≡ line_entry w n (coff_lines.SectionLine position section.now) }
 {
     SymbolEntry {
         Name: symbol_field(names, near, section.name.as_slice()),
@@ -94,7 +95,7 @@ fn section_entry(names: &Table, near: usize, position: u32, section: &Section) -
 fn symbol_entry(names: &Table, near: usize, symbol: &Symbol) -> SymbolEntry
     requires held { HoldsSymbolName names.now symbol.now.name }
     requires room { HasRoom (values.numbers_by symbol.now.binding) }
-    ensures { (w : CoffForm) (n : Object) (k : ℕ) → names.now ≡ table_for w n → result ≡ canonical.line_entry w n (coff_lines.OuterLine k symbol.now) }
+    ensures { (w : CoffForm) (n : Object) (k : ℕ) → names.now ≡ table_for w n → result ≡ line_entry w n (coff_lines.OuterLine k symbol.now) }
 {
     let numbers = of_binding(symbol.binding);
     SymbolEntry {
@@ -117,7 +118,7 @@ fn default_entry(
     requires held { Holds names.now (strings.default_name symbol.now.name) }
     requires room { HasRoom (values.default_numbers symbol.now.binding) }
     ensures { IfOk result (λ entry. (w : CoffForm) (n : Object) (k : ℕ) → names.now ≡ table_for w n
-        → entry ≡ canonical.line_entry w n (coff_lines.DefaultLine k symbol.now)) }
+        → entry ≡ line_entry w n (coff_lines.DefaultLine k symbol.now)) }
 {
     let name = default_name(alloc, symbol.name.as_slice())?;
     let numbers = of_default(symbol.binding);
@@ -180,7 +181,7 @@ fn section_aux(neutral: &Neutral, made: EntryInputs<'_>, position: u32) -> Secti
     requires there { position < length neutral.now.sections }
     requires few { length neutral.now.sections < 2 ^ 31 }
     requires made { IsMadeOf (form_for neutral.now.format) neutral.now made }
-    ensures { (s : Held) → slice_get neutral.now.sections position ≡ Some s → result ≡ canonical.section_aux (form_for neutral.now.format) neutral.now position s }
+    ensures { IsSectionAux neutral.now position result }
 {
     neutral.is_object();
     let section = neutral.section(position);
@@ -218,7 +219,7 @@ fn add_section(
 
 // the auxiliary entry of a weak external with this tag
 fn weak_aux(tag: u32) -> WeakAux
-    ensures { (lines : List (Laid coff_lines.Line)) (k : ℕ) (f : Fallback) → tag ≡ canonical.tag_of lines k f → result ≡ canonical.weak_aux lines k f }
+    ensures { (lines : List (Laid coff_lines.Line)) (k : ℕ) (f : Fallback) → tag ≡ tag_of lines k f → result ≡ canonical.weak_aux lines k f }
 {
     WeakAux {
         TagIndex: tag,
@@ -327,7 +328,7 @@ pub(crate) fn entries_of(
     requires fitted { IsFitted neutral.now.format neutral.now }
     requires made { IsMadeOf (form_for neutral.now.format) neutral.now made }
     requires lines { AreLines (form_for neutral.now.format) neutral.now lines.now }
-    ensures rows { IfOk result (λ entries. rows_in (form_for neutral.now.format) entries.items ≡ canonical.entry_rows (form_for neutral.now.format) neutral.now) }
+    ensures rows { IfOk result (λ entries. rows_in (form_for neutral.now.format) entries.items ≡ entry_rows (form_for neutral.now.format) neutral.now) }
     ensures count { IfOk result (λ entries. length entries.items ≡ coff_lines.entry_count (form_for neutral.now.format) neutral.now) }
 {
     neutral.is_object();
