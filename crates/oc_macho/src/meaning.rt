@@ -1,5 +1,5 @@
 //! What the types of relocation entries mean.
-ghost use Rattle.std.specs.Prelude.{◌≡◌, false, if◌then◌else◌, None, Some};
+ghost use Rattle.std.specs.Prelude.{◌≡◌};
 ghost use Rattle.oc_base.specs.declared.format.Word.TheVariants.{W32, W64};
 ghost use Rattle.oc_macho.specs.Meanings as meanings;
 
@@ -30,7 +30,7 @@ pub struct Meaning {
 
 // an address of that width, less something
 fn address(width: Width, check: Check, less: Less) -> Meaning
-    ensures { result ≡ record { form = record { base = Base.Address; less = less; width = width; check = check }; hint = Hint.Plain; behind = 0; by_move = false } }
+    ensures { result ≡ meanings.meaning_with (record { base = Base.Address; less = less; width = width; check = check }) Hint.Plain 0 }
 {
     Meaning {
         form: Form {
@@ -47,7 +47,7 @@ fn address(width: Width, check: Check, less: Less) -> Meaning
 
 // a distance of four bytes from their end
 fn distance(base: Base, hint: Hint) -> Meaning
-    ensures { result ≡ record { form = record { base = base; less = Less.Place; width = Width.Four; check = Check.Signed }; hint = hint; behind = 4; by_move = false } }
+    ensures { result ≡ meanings.meaning_with (record { base = base; less = Less.Place; width = Width.Four; check = Check.Signed }) hint 4 }
 {
     Meaning {
         form: Form {
