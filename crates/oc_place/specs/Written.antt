@@ -1,5 +1,5 @@
 -- What the lines of a placement note, or the first that is at fault (our profile).
-use Rattle.std.specs.Prelude.{ℕ, ◌+◌, ◌-◌, Bool, false, true, ◌&&◌, ◌||◌, nat_eq, nat_le, if◌then◌else◌, List, [], ◌∷◌, length, map, replicate, slice_set, get_or, Option, Some, None, is_some, Result, Ok, Err}
+use Rattle.std.specs.Prelude.{◌≡◌, ℕ, ◌+◌, ◌-◌, Bool, false, true, ◌&&◌, ◌||◌, nat_eq, nat_le, if◌then◌else◌, List, [], ◌∷◌, length, map, replicate, slice_set, get_or, Option, Some, None, is_some, Result, Ok, Err, MatchResult}
 use Rattle.std.specs.List.{slice_split}
 use Rattle.oc_base.specs.declared.format.Word.{Word}
 use Rattle.oc_linking.specs.Numbers.{modulus}
@@ -65,6 +65,10 @@ is_entry_large w (entry.Slot slot) = is_large w slot
 -- the position of number k, counted from 1, among so many
 abbrev pub position_in : ℕ → ℕ → Option ℕ
 position_in count k = if nat_le 1 k && nat_le k count then Some (k - 1) else None
+
+-- what a step gives are the new notes, or the code of a refusal
+abbrev pub IsOutcome : {A : Type 0} → Result Notes PlaceCode → Notes → Result A PlaceCode → Type 0
+IsOutcome step new result = MatchResult result (λ _. step ≡ Ok new) (λ code. step ≡ Err code)
 
 -- the image base is noted once
 abbrev pub with_image : Notes → ℕ → Result Notes PlaceCode

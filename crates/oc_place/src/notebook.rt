@@ -1,5 +1,5 @@
 //! What the lines of a placement note together.
-ghost use Rattle.std.specs.Prelude.{◌≡◌, ◌+◌, ◌-◌, ◌^◌, ◌<◌, ◌≤◌, get_or, length, None, Ok, Err, IfOk, IfSome, MatchResult};
+ghost use Rattle.std.specs.Prelude.{◌≡◌, ◌+◌, ◌-◌, ◌^◌, ◌<◌, ◌≤◌, get_or, length, None, IfOk, IfSome};
 ghost use Rattle.std.specs.Option.{unwrap_or};
 ghost use Rattle.oc_base.specs.Formats.{word_for};
 ghost use Rattle.oc_neutral.specs.Faces.{shown_symbols};
@@ -68,7 +68,7 @@ impl Notebook {
 
     // notes the image base
     fn add_image(&mut self, base: u64) -> Result<(), PlaceCode>
-        ensures noted { MatchResult result (λ _. lines.with_image self.old base ≡ Ok self.new) (λ code. lines.with_image self.old base ≡ Err code) }
+        ensures noted { lines.IsOutcome (lines.with_image self.old base) self.new result }
         ensures same { AreAsMany self.old self.new }
     {
         if self.image.is_some() {
@@ -80,7 +80,7 @@ impl Notebook {
 
     // notes the base of the GOT
     fn add_got(&mut self, base: u64) -> Result<(), PlaceCode>
-        ensures noted { MatchResult result (λ _. lines.with_got self.old base ≡ Ok self.new) (λ code. lines.with_got self.old base ≡ Err code) }
+        ensures noted { lines.IsOutcome (lines.with_got self.old base) self.new result }
         ensures same { AreAsMany self.old self.new }
     {
         if self.got.is_some() {
@@ -92,9 +92,7 @@ impl Notebook {
 
     // notes where the section of that number lies
     fn add_spot(&mut self, number: u64, spot: Spot) -> Result<(), PlaceCode>
-        ensures noted { MatchResult result
-            (λ _. lines.with_spot self.old spot (lines.position_in (length self.old.spots) number) ≡ Ok self.new)
-            (λ code. lines.with_spot self.old spot (lines.position_in (length self.old.spots) number) ≡ Err code) }
+        ensures noted { lines.IsOutcome (lines.with_spot self.old spot (lines.position_in (length self.old.spots) number)) self.new result }
         ensures same { AreAsMany self.old self.new }
     {
         let Some(k) = position_in(self.spots.len(), number) else {
@@ -109,9 +107,7 @@ impl Notebook {
 
     // notes that the group of that number is discarded
     fn add_drop(&mut self, number: u64) -> Result<(), PlaceCode>
-        ensures noted { MatchResult result
-            (λ _. lines.with_drop self.old (lines.position_in (length self.old.dropped) number) ≡ Ok self.new)
-            (λ code. lines.with_drop self.old (lines.position_in (length self.old.dropped) number) ≡ Err code) }
+        ensures noted { lines.IsOutcome (lines.with_drop self.old (lines.position_in (length self.old.dropped) number)) self.new result }
         ensures same { AreAsMany self.old self.new }
     {
         let Some(k) = position_in(self.dropped.len(), number) else {
@@ -127,7 +123,7 @@ impl Notebook {
     // notes what the outside gives the name of the symbol at a position
     fn add_outside(&mut self, given: Outside, at: Option<u32>) -> Result<(), PlaceCode>
         requires { IfSome at (λ k. k < length self.old.given) }
-        ensures noted { MatchResult result (λ _. lines.with_outside self.old given at ≡ Ok self.new) (λ code. lines.with_outside self.old given at ≡ Err code) }
+        ensures noted { lines.IsOutcome (lines.with_outside self.old given at) self.new result }
         ensures same { AreAsMany self.old self.new }
     {
         let Some(k) = at else {
@@ -154,9 +150,7 @@ impl Notebook {
     ) -> Result<(), PlaceCode>
         requires index { IsIndex (lines.names_of (shown_symbols object.now)) names.now }
         requires counted { length self.old.given ≡ length object.now.symbols }
-        ensures noted { MatchResult result
-            (λ _. lines.with_entry (footprint_of object.now) self.old entry name.now ≡ Ok self.new)
-            (λ code. lines.with_entry (footprint_of object.now) self.old entry name.now ≡ Err code) }
+        ensures noted { lines.IsOutcome (lines.with_entry (footprint_of object.now) self.old entry name.now) self.new result }
         ensures same { AreAsMany self.old self.new }
     {
         if entry.is_large(word_of(object.format())) {
