@@ -5,8 +5,7 @@ ghost use Rattle.std.specs.List.{AllByRecursion, filter_map, fold};
 ghost use Rattle.oc_base.specs.Stops.{IsStop};
 ghost use Rattle.oc_linking.specs.Fits.{bytes_of};
 ghost use Rattle.oc_chains.specs.declared.field.Field.{Field as FieldOf};
-ghost use Rattle.oc_neutral.specs.Objects.{Object};
-ghost use Rattle.oc_drop.specs.Steps.{first_field, first_in};
+ghost use Rattle.oc_drop.specs.Steps.{first_in};
 ghost use Rattle.oc_names.specs.Rebinding as rebinding;
 
 use crate::lists::add_list;
@@ -108,8 +107,8 @@ pub(crate) fn relocs_left(
     requires fields { rebinding.AreStorable sections.old relocs.now.lists }
     ensures relocs { IfOk result (λ left. left.lists ≡ rebinding.lists_left word symbols.now relocs.now.lists) }
     ensures sections { OnOk result (sections.new ≡ rebinding.sections_left word symbols.now relocs.now.lists sections.old) }
-    ensures clean { (n : Object) → n.sections ≡ sections.old → n.relocs ≡ relocs.now.lists → OnOk result (first_field (rebinding.unfit_fault word symbols.now) n ≡ None) }
-    ensures refused { (n : Object) → n.sections ≡ sections.old → n.relocs ≡ relocs.now.lists → IfErr result (IsStop (first_field (rebinding.unfit_fault word symbols.now) n)) }
+    ensures clean { rebinding.OfFirstUnfit word symbols.now sections.old relocs.now.lists (λ fault. OnOk result (fault ≡ None)) }
+    ensures refused { rebinding.OfFirstUnfit word symbols.now sections.old relocs.now.lists (λ fault. IfErr result (IsStop fault)) }
 {
     let mut out = Chains::new(alloc);
     for at in 0..relocs.section_count() {
