@@ -1,9 +1,7 @@
 -- Positions of what is carried, one entry after the other.
-use Rattle.std.proofs.Common.{◌≡◌, ℕ, ◌+◌, ◌/◌, ◌≤◌, Bool, true, false, cond, List, [], ◌∷◌, ◌++◌, length, Option, None, Some, refl, sym, ◌∙◌, ap, subst, arith, is_some, length-append}
-use Rattle.oc_shelf.specs.Reading.Collected.{collected, position_in, with_option}
+use Rattle.std.proofs.Common.{◌≡◌, ℕ, ◌/◌, ◌≤◌, Bool, true, false, cond, List, length, Option, None, Some, refl, sym, ap, arith, is_some}
+use Rattle.oc_shelf.specs.Reading.Collected.{collected, position_in}
 use Rattle.oc_shelf.specs.Reading.Slots.{AreSlots}
-use Rattle.oc_shelf.proofs.ReadingLaws.CollectedLemmas.{collected-more}
-use Rattle.oc_shelf.proofs.ReadingLaws.SlotLemmas.{slots_pushed}
 use Rattle.oc_elf.specs.Frames.{FileFrame, header_at}
 use Rattle.oc_elf.specs.Sections.{is_carried}
 use Rattle.oc_elf.specs.CarriedSections.{section_of, section_with}

@@ -19,7 +19,7 @@ use Rattle.oc_elf.specs.Sections.{is_type}
 use Rattle.oc_neutral.specs.Rows.{Row, same_base}
 use Rattle.oc_elf_judge.specs.Known.{AreTaken}
 use Rattle.oc_shelf.specs.Reading.Bitmaps.{has, is_between, room}
-use Rattle.oc_shelf.proofs.ReadingLaws.BitmapLemmas.{bytes_more, bytes_none, bytes_same}
+use Rattle.oc_shelf.proofs.ReadingLaws.BitmapLemmas.{bytes_more, bytes_same}
 use Rattle.oc_shelf.proofs.ReadingLaws.StageLemmas.{all_hold, first_broken-append, not_false, both_hold}
 use Rattle.oc_elf.specs.declared.class.ElfClass.{ElfClass}
 use Rattle.oc_elf.specs.declared.meaning.Meaning.{Meaning}

@@ -2,6 +2,7 @@
 ghost use Rattle.std.specs.Prelude.{◌≡◌, ◌+◌, ◌<◌, List, ℕ, length, bytes_eq, is_some, None, Some, IfOk, OnOk, MatchOption};
 ghost use Rattle.std.specs.Map.{update};
 ghost use Rattle.oc_strings.specs.Repeats as repeats;
+ghost use Rattle.oc_strings.specs.Repeats.{names_of};
 ghost use Rattle.oc_elf_judge.specs.Stood.{HaveStood, HaveStoodIf, value_at};
 
 use oc_base::NoMemory;
@@ -11,7 +12,7 @@ use std::collections::BTreeMap;
 /// The name at a position. Constant time.
 pub(crate) fn name_at<'a>(names: &[Option<&'a [u8]>], k: usize) -> Option<&'a [u8]>
     requires { k < length names.now }
-    ensures { MatchOption result (repeats.name_at (repeats.names_of names.now) k ≡ None) (λ name. repeats.name_at (repeats.names_of names.now) k ≡ Some name.now) }
+    ensures { MatchOption result (repeats.name_at (names_of names.now) k ≡ None) (λ name. repeats.name_at (names_of names.now) k ≡ Some name.now) }
 {
     match names[k] {
         Some(name) => Some(name),
@@ -35,9 +36,9 @@ fn stands_again<'a>(
     g: u32,
 ) -> Result<bool, NoMemory>
     requires there { g < length keys.now }
-    requires before { HaveStood (repeats.names_of keys.now) g stood.old }
-    ensures again { IfOk result (λ again. again ≡ is_some (repeats.repeat_at (repeats.names_of keys.now) g)) }
-    ensures taken { OnOk result (HaveStood (repeats.names_of keys.now) (g + 1) stood.new) }
+    requires before { HaveStood (names_of keys.now) g stood.old }
+    ensures again { IfOk result (λ again. again ≡ is_some (repeats.repeat_at (names_of keys.now) g)) }
+    ensures taken { OnOk result (HaveStood (names_of keys.now) (g + 1) stood.new) }
 {
     match name_at(keys, g as usize) {
         Some(key) => {
@@ -59,10 +60,10 @@ pub(crate) fn is_repeated<'a>(
     g: u32,
 ) -> Result<bool, NoMemory>
     requires there { g < length keys.now }
-    requires found { found ≡ repeats.first_repeat (repeats.names_of keys.now) }
-    requires before { HaveStoodIf found (repeats.names_of keys.now) g stood.old }
-    ensures again { IfOk result (λ again. again ≡ is_some (repeats.repeat_at (repeats.names_of keys.now) g)) }
-    ensures taken { OnOk result (HaveStoodIf found (repeats.names_of keys.now) (g + 1) stood.new) }
+    requires found { found ≡ repeats.first_repeat (names_of keys.now) }
+    requires before { HaveStoodIf found (names_of keys.now) g stood.old }
+    ensures again { IfOk result (λ again. again ≡ is_some (repeats.repeat_at (names_of keys.now) g)) }
+    ensures taken { OnOk result (HaveStoodIf found (names_of keys.now) (g + 1) stood.new) }
 {
     match found {
         None => Ok(false),

@@ -7,6 +7,7 @@ ghost use Rattle.oc_elf_judge.specs.Known.{IsSymtab};
 ghost use Rattle.oc_elf.specs.Sections as sections;
 ghost use Rattle.oc_elf.specs.SymbolRules as rules;
 ghost use Rattle.oc_elf.specs.Tables as tables;
+ghost use Rattle.oc_elf.specs.Tables.{entry_of, symbol_place};
 
 use crate::sections::is_power;
 use oc_base::{Code, Fault, Phase, u32_in};
@@ -30,7 +31,7 @@ pub fn symbol_count(frame: &Frame, table: &Shdr) -> u32
 pub(crate) fn symbol_place(frame: &Frame, table: &Shdr, k: u32) -> u64
     requires table { IsSymtab frame.now table.now }
     requires there { k < tables.symbol_count frame.now }
-    ensures { result ≡ tables.symbol_place frame.now k }
+    ensures { result ≡ symbol_place frame.now k }
 {
     table.sh_offset + sym_size(frame.word()) * u64::from(k)
 }
@@ -77,7 +78,7 @@ fn with_index(s: Sym, number: u32) -> Sym
 pub fn entry_of(frame: &Frame, table: &Shdr, k: u32) -> Sym
     requires table { IsSymtab frame.now table.now }
     requires there { k < tables.symbol_count frame.now }
-    ensures { result ≡ tables.entry_of frame.now k }
+    ensures { result ≡ entry_of frame.now k }
 {
     let place = symbol_place(frame, table, k);
     let s = sym_at(frame.word(), frame.file(), place as usize);
@@ -221,7 +222,7 @@ fn value_fault(frame: &Frame, table: &Shdr, k: u32, place: u64, s: &Sym) -> Opti
 pub(crate) fn entry_fault(frame: &Frame, table: &Shdr, k: u32) -> Option<Fault>
     requires table { IsSymtab frame.now table.now }
     requires there { k < tables.symbol_count frame.now }
-    ensures { result ≡ (if nat_eq k 0 then None else first_broken (rules.entry_conditions frame.now k (tables.symbol_place frame.now k) (tables.entry_of frame.now k))) }
+    ensures { result ≡ (if nat_eq k 0 then None else first_broken (rules.entry_conditions frame.now k (symbol_place frame.now k) (entry_of frame.now k))) }
 {
     if k == 0 {
         return None;
