@@ -1,7 +1,8 @@
 //! Which sections have names that lie too far in a string table (PE/COFF, "Section Table").
-ghost use Rattle.std.specs.Prelude.{◌≡◌, ℕ, [], IfOk, false, get_or, length, map, slice_get, slice_index_or};
+ghost use Rattle.std.specs.Prelude.{◌≡◌, IfOk, false, length, map, slice_get};
 ghost use Rattle.std.specs.Option.{option_and_then, option_map_or};
 ghost use Rattle.std.specs.List.{list_any};
+ghost use Rattle.oc_express.specs.NameMarks.{AreNamesMarked};
 ghost use Rattle.oc_neutral.specs.Coff.Family as coff;
 ghost use Rattle.oc_neutral.specs.Coff.Strings as strings;
 ghost use Rattle.oc_neutral.specs.Families.{family_of};
@@ -65,7 +66,7 @@ fn far_in_table(
     neutral: &Neutral,
     names: &[Bytes],
 ) -> Result<Vec<bool>, NoMemory>
-    ensures { IfOk result (λ far. (i : ℕ) → slice_index_or far.items i false ≡ lies_far_in (family_of target).writes_local names.now neutral.now (get_or names.now i [])) }
+    ensures { IfOk result (λ far. AreNamesMarked (lies_far_in (family_of target).writes_local names.now neutral.now) names.now far.items) }
 {
     if !is_any_tabled(names) {
         return Ok(Vec::new(alloc));
@@ -90,7 +91,7 @@ pub(crate) fn far_names(
     names: &[Bytes],
 ) -> Result<Vec<bool>, NoMemory>
     requires { names.now ≡ output_names target neutral.now }
-    ensures { IfOk result (λ far. (i : ℕ) → slice_index_or far.items i false ≡ lies_far target neutral.now (get_or names.now i [])) }
+    ensures { IfOk result (λ far. AreNamesMarked (lies_far target neutral.now) names.now far.items) }
 {
     match target {
         Format::Coff32 | Format::Coff64 | Format::BigCoff32 | Format::BigCoff64 => far_in_table(

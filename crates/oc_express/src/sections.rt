@@ -1,5 +1,5 @@
 //! What a target can express of sections.
-ghost use Rattle.std.specs.Prelude.{◌≡◌, ℕ, nat_lt, false, slice_index_or, get_or, length, List, [], count_by};
+ghost use Rattle.std.specs.Prelude.{◌≡◌, nat_lt, false, get_or, length, List, [], count_by};
 ghost use Rattle.std.specs.List.{range_with_len};
 ghost use Rattle.std.specs.Option.{option_map, option_map_or, option_and_then};
 ghost use Rattle.oc_base.specs.Faults.{fault_at};
@@ -14,9 +14,11 @@ ghost use Rattle.oc_neutral.specs.Families.{family_of};
 ghost use Rattle.oc_neutral.specs.KindRules as rules;
 ghost use Rattle.oc_neutral.specs.Omf.Family as omf;
 ghost use Rattle.oc_neutral.specs.TargetSections as conditions;
+ghost use Rattle.oc_neutral.specs.TargetSections.{section_conditions, section_spot};
 ghost use Rattle.oc_neutral.specs.Tests as tests;
 ghost use Rattle.oc_target.specs.Far.{lies_far};
 ghost use Rattle.oc_target.specs.Marks.{AreCut, AreKeyed};
+ghost use Rattle.oc_express.specs.NameMarks.{AreNamesMarked};
 
 use oc_base::{Bytes, Code, Fault, Format, Phase, Spot};
 use oc_neutral::{Kind, Neutral, Section, coff, elf};
@@ -149,7 +151,7 @@ fn code_of(
     requires far { far ≡ lies_far target neutral.now name.now }
     requires keyed { AreKeyed neutral.now keyed.now }
     requires cut { AreCut neutral.now cut.now }
-    ensures { option_map (fault_at (conditions.section_spot section.now)) result ≡ first_broken (conditions.section_conditions target neutral.now name.now section.now) }
+    ensures { option_map (fault_at (section_spot section.now)) result ≡ first_broken (section_conditions target neutral.now name.now section.now) }
 {
     let from = neutral.format();
     if is_debug_kept(target, from, section.kind) {
@@ -181,7 +183,7 @@ fn name_at(names: &[Bytes], at: usize) -> &[u8]
 
 // what a section breaks
 fn section_spot(section: &Section) -> Spot
-    ensures { result ≡ conditions.section_spot section.now }
+    ensures { result ≡ section_spot section.now }
 {
     Spot {
         phase: Phase::TargetSection,
@@ -204,7 +206,7 @@ pub(crate) fn sections_fault(
     cut: &[bool],
 ) -> Option<Fault>
     requires names { names.now ≡ output_names target neutral.now }
-    requires far { (i : ℕ) → slice_index_or far.now i false ≡ lies_far target neutral.now (get_or names.now i []) }
+    requires far { AreNamesMarked (lies_far target neutral.now) names.now far.now }
     requires keyed { AreKeyed neutral.now keyed.now }
     requires cut { AreCut neutral.now cut.now }
     ensures { result ≡ first_upto (λ i. first_broken (conditions.conditions_at target neutral.now i)) (length neutral.now.sections) }
