@@ -5,8 +5,7 @@ ghost use Rattle.oc_chains.specs.Fields.{FollowFrom};
 ghost use Rattle.oc_chains.specs.Lists.{list_of};
 ghost use Rattle.oc_neutral.specs.Constants.{EndsWithin, IsWide, LieWithin};
 ghost use Rattle.oc_neutral.specs.declared.reloc.Reloc.{Reloc as Entry};
-ghost use Rattle.oc_plans.specs.Numbered as numbered;
-ghost use Rattle.oc_plans.specs.Numbered.{AreAll, Numbering, all_with_numbers};
+ghost use Rattle.oc_plans.specs.Numbered.{AreAll, Numbering, all_with_numbers, with_numbers};
 
 use oc_chains::Walk;
 use oc_neutral::{Reloc, Relocs, Section};
@@ -38,7 +37,7 @@ fn write_numbers<N: FieldNumbers>(
     requires wide { AllByRecursion IsWide relocs }
     requires inside { AllByRecursion (EndsWithin (length section.old.bytes)) relocs }
     ensures long { length section.new.bytes ≡ length section.old.bytes }
-    ensures numbers { (number_of : Numbering) → N.tells numbers.now number_of → section.new ≡ numbered.with_numbers (number_of position) relocs.entry section.old }
+    ensures numbers { (number_of : Numbering) → N.tells numbers.now number_of → section.new ≡ with_numbers (number_of position) relocs.entry section.old }
 {
     for field in relocs {
         let number = numbers.number(position, field.at, field.item);
