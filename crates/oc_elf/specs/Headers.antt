@@ -67,13 +67,17 @@ header_conditions class size h zero =
     ∷ (is_extended class h, header_fault ExtendedNumbering 0)
     ∷ table_conditions class size h zero
 
+-- those on the header that a file has
+abbrev pub file_conditions : ElfClass → List ℕ → List Condition
+file_conditions class file = header_conditions class (length file) (ehdr_in (word_of class) file) (zero_in (word_of class) file)
+
 -- the condition on the header of the names of sections, where there are so many headers
 abbrev pub names_conditions : ℕ → Shdr → List Condition
 names_conditions count names = (not (nat_eq count 0) && not (nat_eq names.sh_type SHT_STRTAB), header_fault BadTable 0) ∷ []
 
 -- the stage of the file header: one structure with these conditions
 abbrev pub header_stage : ElfClass → List ℕ → Stage
-header_stage class file = record { count = 1; conditions = λ _. header_conditions class (length file) (ehdr_in (word_of class) file) (zero_in (word_of class) file) }
+header_stage class file = record { count = 1; conditions = λ _. file_conditions class file }
 
 -- that of the header that it names
 abbrev pub names_stage : ElfClass → List ℕ → Stage

@@ -216,7 +216,7 @@ fn numbers_of(class: ElfClass, file: &[u8], ehdr: &Ehdr) -> (u32, u32)
 
 // the file with its section headers, where the file header has no fault
 fn frame_of<'a>(alloc: Global, class: ElfClass, file: &'a [u8]) -> Result<Frame<'a>, NoMemory>
-    requires clean { first_broken (rules.header_conditions class (length file.now) (ehdr_in (word_of class) file.now) (frames.zero_in (word_of class) file.now)) ≡ None }
+    requires clean { first_broken (rules.file_conditions class file.now) ≡ None }
     requires small { length file.now ≤ MOST_INPUT }
     ensures { IfOk result (λ f. f ≡ frames.framed class file.now) }
 {

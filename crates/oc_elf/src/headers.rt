@@ -151,7 +151,7 @@ fn table_fault(class: ElfClass, file: &[u8], h: &Ehdr) -> Option<Fault>
 #[tactic(auto, unfolding(crate::specs::Headers::header_conditions))]
 pub(crate) fn header_fault(class: ElfClass, file: &[u8]) -> Option<Fault>
     requires { length file.now ≤ MOST_INPUT }
-    ensures { result ≡ first_broken (rules.header_conditions class (length file.now) (ehdr_in (word_of class) file.now) (frames.zero_in (word_of class) file.now)) }
+    ensures { result ≡ first_broken (rules.file_conditions class file.now) }
 {
     let word = class.word();
     let size = file.len() as u64;
