@@ -1,5 +1,5 @@
 -- Linking an object in a target is linking the object.
-use Rattle.std.proofs.Common.{◌≡◌, ℕ, ◌+◌, ◌^◌, ◌<◌, ◌≤◌, Bool, true, false, List, [], map, Some, refl, sym, ◌∙◌, ap, subst, arith}
+use Rattle.std.proofs.Common.{◌≡◌, ℕ, ◌+◌, ◌^◌, ◌<◌, ◌≤◌, Bool, true, false, List, map, Some, refl, sym, ◌∙◌, ap, subst, arith}
 use mathlib.Core.Path.{fun_ext}
 use Rattle.std.specs.Prelude.{not, ◌&&◌}
 use Rattle.std.proofs.lemmas.Bool.Decides.{nat_tests}
@@ -36,7 +36,7 @@ use Rattle.oc_neutral.specs.Stored.{is_stored}
 use Rattle.oc_shows.specs.Shows.{patches_of}
 use Rattle.oc_target.specs.Fitted.{IsFit, is_stored_at}
 use Rattle.oc_target.proofs.Refit.{refit, symbols-fitted, values-refit, exports-refit}
-use Rattle.oc_neutral.proofs.Standing.{HasItsWidth, ends_by, wide_in, wide}
+use Rattle.oc_neutral.proofs.Standing.{ends_by, wide}
 use Rattle.oc_neutral.proofs.Mapped.{from_mapped}
 
 -- both of two tests hold

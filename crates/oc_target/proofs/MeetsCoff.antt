@@ -14,7 +14,7 @@ use Rattle.oc_linking.specs.Numbers.{modulus}
 use Rattle.oc_neutral.specs.Tests.{is_cut, is_unnatural}
 use Rattle.oc_neutral.specs.Family.{IsCoff, Family}
 use Rattle.oc_neutral.specs.Powers.{natural_align}
-use Rattle.oc_neutral.specs.declared.coff.TheConstants.{IMAGE_SYM_SECTION_MAX, MOST_NAME_OFFSET}
+use Rattle.oc_neutral.specs.declared.coff.TheConstants.{MOST_NAME_OFFSET}
 use Rattle.oc_neutral.specs.declared.section.Section.{Section}
 use Rattle.oc_neutral.specs.declared.symbol.Symbol.{Symbol}
 use Rattle.oc_neutral.specs.declared.reloc.Reloc.{Reloc}

@@ -4,7 +4,7 @@ use Rattle.std.specs.Prelude.{◌⊎◌, slice_get, find}
 use Rattle.std.proofs.lemmas.Bool.{true≢false, and_parts}
 use Rattle.std.proofs.lemmas.Option.{none-some, same_Some}
 use Rattle.oc_base.specs.declared.format.Format.{Format}
-use Rattle.oc_base.specs.declared.format.Format.TheVariants.{Elf32, Elf64, Mac32, Mac64, BigElf32, BigElf64, BigCoff32, BigCoff64}
+use Rattle.oc_base.specs.declared.format.Format.TheVariants.{Elf32, Elf64, Mac32, Mac64, BigElf32, BigElf64}
 use Rattle.oc_linking.specs.declared.terms.Width.{Width}
 use Rattle.oc_linking.specs.declared.terms.Width.TheVariants.{One, Two, Four, Eight}
 use Rattle.oc_linking.specs.declared.terms.Check.{Check}

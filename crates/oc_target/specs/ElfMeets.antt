@@ -1,5 +1,5 @@
 -- What a writer of ELF uses of an object that is ready to be written (gABI, "Section Header" and "Symbol Table"; i386 and x86-64 psABI; our profile).
-use Rattle.std.specs.Prelude.{◌≡◌, ℕ, ◌-◌, ◌^◌, ◌<◌, ◌≤◌, true, false, length, slice_get, Some, None}
+use Rattle.std.specs.Prelude.{◌≡◌, ℕ, ◌^◌, ◌<◌, ◌≤◌, true, false, length, slice_get, Some, None}
 use Rattle.oc_base.specs.declared.format.Format.{Format}
 use Rattle.oc_base.specs.Formats.{word_for}
 use Rattle.oc_base.specs.declared.format.Word.TheVariants.{W32}

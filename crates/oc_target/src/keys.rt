@@ -3,7 +3,7 @@ ghost use Rattle.std.specs.Prelude.{◌≡◌, ℕ, ◌&&◌, not, IfOk, length,
 ghost use Rattle.std.specs.List.{list_any};
 ghost use Rattle.std.specs.Option.{option_map_or};
 ghost use Rattle.oc_linking.specs.Parts as parts;
-ghost use Rattle.oc_neutral.specs.KeySymbols.{is_key_at};
+ghost use Rattle.oc_neutral.specs.KeySymbols.{is_key_at, lies_in};
 ghost use Rattle.oc_neutral.specs.KeySymbols as keys;
 ghost use Rattle.oc_neutral.specs.Faces as faces;
 ghost use Rattle.oc_neutral.specs.KindRules as rules;
@@ -38,7 +38,7 @@ pub fn group_at(neutral: &Neutral, section: u32) -> Option<u32>
 
 // the group whose key symbol this is
 fn keyed_group(neutral: &Neutral, symbol: &Symbol) -> Option<u32>
-    ensures { (g : ℕ) → (keys.lies_in neutral.now g symbol.now && keys.is_key_name neutral.now symbol.now.name g) ≡ option_map_or (nat_eq g) result false }
+    ensures { (g : ℕ) → (lies_in neutral.now g symbol.now && keys.is_key_name neutral.now symbol.now.name g) ≡ option_map_or (nat_eq g) result false }
 {
     let (section, _) = global_place(symbol.binding)?;
     let group = group_at(neutral, section)?;

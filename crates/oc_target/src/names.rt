@@ -31,12 +31,12 @@ fn wanted_name<'a>(target: Format, relocated: bool, section: &'a Section) -> &'a
 }
 
 // what the section at a position is to be called
-fn wanted_at<'a>(target: Format, neutral: &'a Neutral, section: u32) -> &'a [u8]
-    requires { section < length neutral.now.sections }
-    ensures { (s : Shown) → slice_get neutral.now.sections section ≡ Some s → result.now ≡ homes.wanted_name target (is_relocated target neutral.now section) s }
+fn wanted_at<'a>(target: Format, neutral: &'a Neutral, at: u32) -> &'a [u8]
+    requires { at < length neutral.now.sections }
+    ensures { (s : Shown) → slice_get neutral.now.sections at ≡ Some s → result.now ≡ homes.wanted_name target (is_relocated target neutral.now at) s }
 {
-    let relocated = is_relocated(target, neutral, section);
-    wanted_name(target, relocated, neutral.section(section))
+    let relocated = is_relocated(target, neutral, at);
+    wanted_name(target, relocated, neutral.section(at))
 }
 
 // whether the name is one of the names
