@@ -1,6 +1,6 @@
 -- Bytes that are taken one after another are those of the entries so far.
 use Rattle.std.proofs.Common.{◌≡◌, ℕ, zero, suc, ◌+◌, ◌*◌, ◌/◌, ◌%◌, ◌^◌, ◌<◌, ◌≤◌, inl, inr, Bool, true, false, ◌&&◌, eqb, List, length, Option, Some, None, refl, sym, ◌∙◌, ap, subst, arith}
-use Rattle.std.specs.Prelude.{◌||◌, nat_lt, nat_le, slice_index_or, slice_set}
+use Rattle.std.specs.Prelude.{◌||◌, nat_lt, slice_index_or, slice_set}
 use Rattle.std.specs.Int.{bit_at, w64}
 use Rattle.std.specs.Int.Bits.{bit_or}
 use Rattle.std.specs.Option.{option_map_or}

@@ -3,7 +3,7 @@ use Rattle.std.proofs.Common.{◌≡◌, ℕ, zero, suc, ◌+◌, ◌-◌, ◌�
 use Rattle.std.proofs.lemmas.Bool.{cases_lt}
 use Rattle.std.proofs.lemmas.List.{take_at, take_all, drop-drop, drop_at, drop_all}
 use borrow.Rule.Slice.PartMut.{mid_of, put_mid}
-use Rattle.oc_shelf.specs.Writing.Parts.{Laid, behind}
+use Rattle.oc_shelf.specs.Writing.Parts.{Laid}
 use Rattle.oc_outside.specs.Windows.{IsFilled}
 
 -- the bytes of a file from one place to another, as far as it has them

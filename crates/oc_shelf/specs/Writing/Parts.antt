@@ -2,6 +2,7 @@
 use Rattle.std.specs.Prelude.{◌≡◌, ℕ, ◌+◌, ◌-◌, ◌%◌, ◌≤◌, Bool, List, [], ◌∷◌, ◌++◌, length, replicate, find, flat_map, map, slice_index_or}
 use Rattle.std.specs.List.{AllByRecursion}
 use Rattle.std.specs.Option.{option_map_or}
+use Rattle.oc_outside.specs.Windows.{IsFilled}
 use Rattle.oc_shelf.specs.declared.writing.layout.Layout.{Layout}
 
 -- the bytes xs lie in a file at a place
@@ -75,6 +76,11 @@ row_of rows k = slice_index_or rows k []
 -- each entry of a table has w bytes
 abbrev pub HaveSize : ℕ → List (List ℕ) → Type 0
 HaveSize w rows = AllByRecursion (λ row. length row ≡ w) rows
+
+-- where such bytes fill a buffer so far, more bytes after them fill it on; each buffer is with the number of its bytes that are filled
+abbrev pub IsFilledOn : (List ℕ → Type 0) → (List ℕ → List ℕ) → ℕ → ℕ × List ℕ → ℕ × List ℕ → Type 0
+IsFilledOn Are more from before after =
+    (xs old : List ℕ) → Are xs → IsFilled xs from old before.1 before.0 → IsFilled (xs ++ more xs) from old after.1 after.0
 
 -- ... files with a layout
 

@@ -1,7 +1,7 @@
 //! Windows of a file that is made of parts.
-ghost use Rattle.std.specs.Prelude.{◌≡◌, ℕ, ◌-◌, ◌<◌, ◌≤◌, List, [], ◌++◌, length, replicate, slice_index_or};
+ghost use Rattle.std.specs.Prelude.{◌≡◌, ℕ, ◌-◌, ◌<◌, ◌≤◌, List, [], length, replicate, slice_index_or};
 ghost use Rattle.oc_outside.specs.Windows.{IsFilled};
-ghost use Rattle.oc_shelf.specs.Writing.Parts.{IsPlaced, file_of, pieces_by};
+ghost use Rattle.oc_shelf.specs.Writing.Parts.{IsFilledOn, IsPlaced, file_of, pieces_by};
 
 use crate::writing::layout::Layout;
 use crate::writing::windows::zero_window;
@@ -44,7 +44,7 @@ fn count_upto(places: &[u64], from: u64) -> usize
 fn fill_gap(place: u64, from: u64, done: usize, out: &mut [u8]) -> usize
     requires room { done < length out.old }
     requires filled { done ≤ place - from }
-    ensures { (xs old : List ℕ) → length xs ≤ place → IsFilled xs from old out.old done → IsFilled (xs ++ replicate (place - length xs) 0) from old out.new result }
+    ensures { IsFilledOn (λ xs. length xs ≤ place) (λ xs. replicate (place - length xs) 0) from (done, out.old) (result, out.new) }
 {
     let zeros = place.saturating_sub(from + done as u64);
     done + zero_window(zeros, 0, &mut out[done..])
@@ -63,7 +63,7 @@ fn fill_part<P: Parts>(
     requires sound { P.sound parts.now }
     requires room { done ≤ length out.old }
     requires filled { done ≤ place - from }
-    ensures { (xs old : List ℕ) → length xs ≡ place → IsFilled xs from old out.old done → IsFilled (xs ++ slice_index_or (P.parts parts.now) k []) from old out.new result }
+    ensures { IsFilledOn (λ xs. length xs ≡ place) (λ _. slice_index_or (P.parts parts.now) k []) from (done, out.old) (result, out.new) }
 {
     let at = (from + done as u64).saturating_sub(place);
     done + parts.part_window(k, at, &mut out[done..])

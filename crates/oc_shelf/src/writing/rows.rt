@@ -1,6 +1,6 @@
 //! Windows of a table of entries of one size.
-ghost use Rattle.std.specs.Prelude.{◌≡◌, ℕ, ◌+◌, ◌*◌, ◌-◌, ◌^◌, ◌<◌, ◌≤◌, List, ◌++◌, length};
-ghost use Rattle.oc_shelf.specs.Writing.Parts.{table_of, row_of, HaveSize};
+ghost use Rattle.std.specs.Prelude.{◌≡◌, ℕ, ◌+◌, ◌*◌, ◌-◌, ◌^◌, ◌<◌, ◌≤◌, List, length};
+ghost use Rattle.oc_shelf.specs.Writing.Parts.{table_of, row_of, HaveSize, IsFilledOn};
 ghost use Rattle.oc_outside.specs.Windows.{IsFilled};
 
 use crate::writing::windows::copy_window;
@@ -45,7 +45,7 @@ fn fill_row<T: WritesRows>(
     requires near { size * k < 2 ^ 64 }
     requires room { done ≤ length out.old }
     requires filled { done ≤ size * k - from }
-    ensures { (xs old : List ℕ) → length xs ≡ size * k → IsFilled xs from old out.old done → IsFilled (xs ++ row_of (T.rows table.now) k) from old out.new result }
+    ensures { IsFilledOn (λ xs. length xs ≡ size * k) (λ _. row_of (T.rows table.now) k) from (done, out.old) (result, out.new) }
 {
     let begin = size as u64 * k as u64;
     let at = (from + done as u64).saturating_sub(begin);

@@ -1,5 +1,5 @@
 -- One byte more is taken at each turn.
-use Rattle.std.proofs.Common.{ℕ, ◌<◌, ◌≤◌, refl, sym, ◌∙◌, ap, arith}
+use Rattle.std.proofs.Common.{refl, sym, ◌∙◌, ap, arith}
 use Rattle.std.specs.Prelude.{◌||◌}
 use Rattle.oc_shelf.specs.Reading.Bitmaps.{has}
 use Rattle.oc_shelf.proofs.ReadingLaws.BitmapLemmas.{between_all, between_more, between_none}

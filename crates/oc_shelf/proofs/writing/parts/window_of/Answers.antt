@@ -1,5 +1,5 @@
 -- A part more fills the buffer further.
-use Rattle.std.proofs.Common.{◌≡◌, ℕ, ◌+◌, ◌-◌, ◌<◌, ◌≤◌, List, [], ◌++◌, length, take, replicate, get_or, subst, sym, ◌∙◌, ap, arith, rules}
+use Rattle.std.proofs.Common.{◌≡◌, ℕ, ◌-◌, ◌<◌, ◌≤◌, List, [], ◌++◌, length, take, replicate, get_or, subst, sym, ◌∙◌, ap, arith, rules}
 use Rattle.std.proofs.lemmas.List.{take_all}
 use Rattle.oc_outside.specs.Windows.{IsFilled}
 use Rattle.oc_shelf.specs.Writing.Parts.{Pieces, file_of, pieces_by}
