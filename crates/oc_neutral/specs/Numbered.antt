@@ -1,7 +1,13 @@
 -- Lists that are kept under numbers of their own (our profile): those of the sections that are left are some of all lists.
-use Rattle.std.specs.Prelude.{◌≡◌, ℕ, ◌+◌, ◌≤◌, Bool, true, false, List, [], ◌∷◌, length, map, slice_index_or, Option, Some, None}
+use Rattle.std.specs.Prelude.{◌≡◌, ℕ, ◌+◌, ◌≤◌, Bool, true, false, List, [], ◌∷◌, length, map, slice_index_or, Option, Some, None, Vec}
+use Rattle.std.specs.Global.{Global}
 use Rattle.std.specs.List.{range_with_len}
+use Rattle.std.specs.Option.{option_map}
 use Rattle.oc_chains.specs.Lists.{Lists, held_in, list_of}
+
+-- the numbers that the sections' lists have of their own, where they have
+abbrev pub own_numbers : Option (Vec ℕ Global) → Option (List ℕ)
+own_numbers of = option_map (λ v. v.items) of
 
 -- the numbers of the sections' lists, among so many: their positions, or others that are given
 abbrev pub numbers_by : Option (List ℕ) → ℕ → List ℕ

@@ -1,11 +1,10 @@
 //! The relocations of an object, by its sections.
 ghost use Rattle.std.specs.Prelude.{◌≡◌, ◌≢◌, ◌+◌, ◌-◌, ◌^◌, ◌<◌, ◌≤◌, ◌↔◌, [], ◌∷◌, ◌++◌, length, slice_set, IfOk, IfSome, if◌then◌else◌, Err, IsTrue, OnErr, OnOk, map};
-ghost use Rattle.std.specs.Option.{option_map};
 ghost use Rattle.oc_linking.specs.Keeping.{kept_of};
 ghost use Rattle.oc_chains.specs.Changed.{AllAreOf, AreAnswered};
 ghost use Rattle.oc_chains.specs.Fields.{FollowFrom};
 ghost use Rattle.oc_chains.specs.Lists.{held_in, is_taken, list_of, with_field};
-ghost use Rattle.oc_neutral.specs.Numbered.{AreNumbers, emptied, number_at, numbered, numbers_by};
+ghost use Rattle.oc_neutral.specs.Numbered.{AreNumbers, emptied, number_at, numbered, numbers_by, own_numbers};
 
 use crate::reloc::Reloc;
 use oc_base::NoMemory;
@@ -29,22 +28,21 @@ pub struct Relocs {
 
 impl Model for Relocs {
     ghost use Rattle.std.specs.Prelude.{length};
-    ghost use Rattle.std.specs.Option.{option_map};
     ghost use Rattle.oc_chains.specs.Lists.{Chained};
     ghost use Rattle.oc_neutral.specs.declared.reloc.Reloc.{Reloc};
-    ghost use Rattle.oc_neutral.specs.Numbered.{AreNumbers, numbered, numbers_by};
+    ghost use Rattle.oc_neutral.specs.Numbered.{AreNumbers, numbered, numbers_by, own_numbers};
 
     ghost Value = { Chained Reloc };
 
-    ghost view = { λ r. record { lists = numbered (option_map (λ v. v.items) r.of) r.chains.lists; spare = r.chains.spare } };
+    ghost view = { λ r. record { lists = numbered (own_numbers r.of) r.chains.lists; spare = r.chains.spare } };
 
-    ghost invariant = { λ r. AreNumbers (numbers_by (option_map (λ v. v.items) r.of) (length r.chains.lists)) r.chains.lists };
+    ghost invariant = { λ r. AreNumbers (numbers_by (own_numbers r.of) (length r.chains.lists)) r.chains.lists };
 }
 
 // the number of the list of the section at a position
 fn number_of(of: &Option<Vec<u32>>, section: u32) -> u32
-    requires { IfSome (option_map (λ v. v.items) of.now) (λ numbers. section < length numbers) }
-    ensures { result ≡ number_at (option_map (λ v. v.items) of.now) section }
+    requires { IfSome (own_numbers of.now) (λ numbers. section < length numbers) }
+    ensures { result ≡ number_at (own_numbers of.now) section }
 {
     match of {
         Some(numbers) => numbers[section as usize],
@@ -60,8 +58,8 @@ fn numbers_left(
     stay: &[bool],
 ) -> Result<Vec<u32>, NoMemory>
     requires all { count ≡ length stay.now }
-    requires counted { IfSome (option_map (λ v. v.items) of.now) (λ numbers. length stay.now ≡ length numbers) }
-    ensures { IfOk result (λ left. left.items ≡ kept_of stay.now (numbers_by (option_map (λ v. v.items) of.now) (length stay.now))) }
+    requires counted { IfSome (own_numbers of.now) (λ numbers. length stay.now ≡ length numbers) }
+    ensures { IfOk result (λ left. left.items ≡ kept_of stay.now (numbers_by (own_numbers of.now) (length stay.now))) }
 {
     let mut left = Vec::with_capacity(alloc, stay.len())?;
     for at in 0..count {
@@ -83,11 +81,11 @@ fn put_number(stays: bool, number: u32, left: &mut Vec<u32>) -> Result<(), NoMem
 // takes all fields from the sections that do not stay
 fn drop_others(of: &Option<Vec<u32>>, count: u32, stay: &[bool], chains: &mut Chains<Reloc>)
     requires all { count ≡ length stay.now }
-    requires numbers { AreNumbers (numbers_by (option_map (λ v. v.items) of.now) (length chains.old.lists)) chains.old.lists }
-    requires counted { length stay.now ≡ length (numbered (option_map (λ v. v.items) of.now) chains.old.lists) }
-    ensures numbers { AreNumbers (numbers_by (option_map (λ v. v.items) of.now) (length chains.new.lists)) chains.new.lists }
+    requires numbers { AreNumbers (numbers_by (own_numbers of.now) (length chains.old.lists)) chains.old.lists }
+    requires counted { length stay.now ≡ length (numbered (own_numbers of.now) chains.old.lists) }
+    ensures numbers { AreNumbers (numbers_by (own_numbers of.now) (length chains.new.lists)) chains.new.lists }
     ensures count { length chains.new.lists ≡ length chains.old.lists }
-    ensures lists { numbered (option_map (λ v. v.items) of.now) chains.new.lists ≡ emptied stay.now (numbered (option_map (λ v. v.items) of.now) chains.old.lists) }
+    ensures lists { numbered (own_numbers of.now) chains.new.lists ≡ emptied stay.now (numbered (own_numbers of.now) chains.old.lists) }
     ensures spare { chains.new.spare + held_in chains.new.lists ≡ chains.old.spare + held_in chains.old.lists }
 {
     for at in 0..count {
