@@ -14,7 +14,7 @@ ghost use Rattle.oc_elf_file.specs.Groups as groups;
 ghost use Rattle.oc_elf_file.specs.Headers as headers;
 ghost use Rattle.oc_elf_file.specs.Heads as elf_heads;
 ghost use Rattle.oc_elf_file.specs.Layout as layout;
-ghost use Rattle.oc_elf_file.specs.Lines as elf_lines;
+ghost use Rattle.oc_elf_file.specs.Lines.{numbered_lines, signature_number};
 ghost use Rattle.oc_elf_write.specs.Heads.{AreHeads, head_in, IsListed};
 ghost use Rattle.oc_elf_write.specs.LaidParts.{begins_by};
 ghost use Rattle.oc_elf_write.specs.Keys.{AreKeys};
@@ -270,7 +270,7 @@ fn signature_of(neutral: &Neutral, made: HeaderInputs<'_>, group: u32) -> u32
     requires keys { AreKeys neutral.now made.keys.now }
     requires numbers { IsNumbered neutral.now made.numbers.now }
     requires there { group < length neutral.now.groups }
-    ensures { (x : Keyed) → slice_get neutral.now.groups group ≡ Some x → result ≡ elf_lines.signature_number (elf_lines.numbered_lines neutral.now) group x }
+    ensures { (x : Keyed) → slice_get neutral.now.groups group ≡ Some x → result ≡ signature_number (numbered_lines neutral.now) group x }
 {
     made.numbers.of_signature(group, made.keys[group as usize])
 }
