@@ -1,6 +1,7 @@
 pub mod Codes
 pub mod Faults
 pub mod Formats
+pub mod Loans
 pub mod Messages
 pub mod Numbers
 pub mod Stops

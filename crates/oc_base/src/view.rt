@@ -1,6 +1,7 @@
 //! Numbers and texts at places of a file.
 ghost use Rattle.std.specs.Prelude.{◌≡◌, ◌+◌, ◌≤◌, length, slice_range, MatchResult, IsTrue, ◌↔◌};
 ghost use Rattle.std.specs.Result.{OkIff};
+ghost use Rattle.oc_base.specs.Loans.{LendsIff};
 ghost use Rattle.oc_base.specs.Numbers.{number_at};
 ghost use Rattle.oc_base.specs.Texts.{IsTextAt, HasNoTextAt};
 
@@ -118,7 +119,7 @@ impl<'a> View<'a> {
 
     // the bytes of `sub`
     fn part(&self, at: u64, len: u64) -> Result<&'a [u8], OutOfView>
-        ensures { MatchResult result (λ p. (at + len ≤ length self.now) × (p.now ≡ slice_range self.now at (at + len))) (λ _. ¬ (at + len ≤ length self.now)) }
+        ensures { LendsIff result (at + len ≤ length self.now) (slice_range self.now at (at + len)) }
     {
         match at.checked_add(len) {
             Some(end) if end <= self.len() => Ok(&self.bytes[at as usize..end as usize]),
