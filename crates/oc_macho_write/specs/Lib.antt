@@ -12,6 +12,5 @@ pub mod Relocations
 pub mod Strings
 pub mod Symbols
 pub mod Values
-pub mod Windows
 pub mod Words
 pub mod Writing

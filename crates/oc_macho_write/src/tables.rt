@@ -1,12 +1,11 @@
 //! Windows of the tables of a file, and of its string table.
-ghost use Rattle.std.specs.Prelude.{◌-◌, ◌^◌, ◌<◌, ◌≤◌, length, map};
+ghost use Rattle.std.specs.Prelude.{◌≡◌, ◌-◌, ◌^◌, ◌<◌, ◌≤◌, length, map};
 ghost use Rattle.oc_outside.specs.Windows.{IsFilled};
-ghost use Rattle.oc_shelf.specs.Writing.Parts.{table_of, HaveSize};
+ghost use Rattle.oc_shelf.specs.Writing.Parts.{table_of, HaveSize, IsFilledOn};
 ghost use Rattle.oc_macho.specs.SectionHeader.{section_header_size};
 ghost use Rattle.oc_macho.specs.MachHeader.{address_size};
 ghost use Rattle.oc_macho_file.specs.Layout.{filled, strings_of};
 ghost use Rattle.oc_macho.specs.Structures.{nlist_bytes, relocation_bytes, section_bytes};
-ghost use Rattle.oc_macho_write.specs.Windows.{IsFilledFurther};
 
 use crate::strings::{STRINGS_HEAD, padding};
 use crate::windows::pair_window;
@@ -107,7 +106,7 @@ fn fill_header(
 ) -> usize
     requires room { done ≤ length out.old }
     requires filled { done ≤ begin - from }
-    ensures { IsFilledFurther (section_bytes word header.now) begin from out.old done out.new result }
+    ensures { IsFilledOn (λ xs. length xs ≡ begin) (λ _. section_bytes word header.now) from (done, out.old) (result, out.new) }
 {
     let at = (from + done as u64).saturating_sub(begin);
     done + header_window(word, header, at, &mut out[done..])

@@ -1,8 +1,9 @@
 //! Windows of an entry: its type, its length, its contents and its checksum (TIS OMF 1.1, "Record
 //! Format").
-ghost use Rattle.std.specs.Prelude.{◌≡◌, ℕ, ◌+◌, ◌-◌, ◌%◌, ◌^◌, ◌<◌, ◌≤◌, List, ◌∷◌, ◌++◌, length, sum};
+ghost use Rattle.std.specs.Prelude.{◌≡◌, ℕ, ◌+◌, ◌-◌, ◌%◌, ◌^◌, ◌<◌, ◌≤◌, ◌∷◌, ◌++◌, length, sum};
 ghost use Rattle.oc_base.specs.Numbers.{bytes_of_number};
 ghost use Rattle.oc_outside.specs.Windows.{IsFilled};
+ghost use Rattle.oc_shelf.specs.Writing.Parts.{IsFilledOn};
 ghost use Rattle.oc_omf.specs.Bytes.{checksum, entry_bytes};
 ghost use Rattle.oc_omf.specs.declared.contents.TheConstants.{ROOM};
 
@@ -47,7 +48,7 @@ fn checksum_of(head: &[u8], contents: &[u8]) -> u8
 fn fill(bytes: &[u8], begin: usize, from: u64, done: usize, out: &mut [u8]) -> usize
     requires room { done ≤ length out.old }
     requires filled { done ≤ begin - from }
-    ensures { (xs old : List ℕ) → length xs ≡ begin → IsFilled xs from old out.old done → IsFilled (xs ++ bytes.now) from old out.new result }
+    ensures { IsFilledOn (λ xs. length xs ≡ begin) (λ _. bytes.now) from (done, out.old) (result, out.new) }
 {
     let at = (from + done as u64).saturating_sub(begin as u64);
     done + copy_window(bytes, at, &mut out[done..])
