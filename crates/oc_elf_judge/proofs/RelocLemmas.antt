@@ -17,7 +17,7 @@ use Rattle.oc_base.specs.declared.code.Code.TheVariants.{BadOffset, BadTarget, O
 use Rattle.oc_neutral.specs.declared.elf.TheConstants.{SHT_NOBITS}
 use Rattle.oc_elf.specs.Sections.{is_type}
 use Rattle.oc_neutral.specs.Rows.{Row, same_base}
-use Rattle.oc_elf_judge.specs.Known.{AreTaken}
+use Rattle.oc_elf_judge.specs.Known.{AreTaken, can_be_target}
 use Rattle.oc_shelf.specs.Reading.Bitmaps.{has, is_between, room}
 use Rattle.oc_shelf.proofs.ReadingLaws.BitmapLemmas.{bytes_more, bytes_same}
 use Rattle.oc_shelf.proofs.ReadingLaws.StageLemmas.{all_hold, first_broken-append, not_false, both_hold}
@@ -115,12 +115,10 @@ pub lies_by : (f : FileFrame) (i : ℕ) (r : Rel) (s : Shdr) (width : ℕ) (b : 
 lies_by f i r s width b same wide is =
     sym (is ∙ ap (λ (w : ℕ). not (is_type SHT_NOBITS s) && nat_le (r.r_offset + w) s.sh_size) wide ∙ ap (λ (x : Shdr). lies_within f x r) same)
 
-pub aimed_by : (f : FileFrame) (r : Rel) (s : Sym) (base : Base) (b : Bool) → s ≡ entry_of f r.r_sym → takes_address f r ≡ same_base base Address
-    → b ≡ (not (eqb r.r_sym 0) && (not (is_local_entry s) || is_some (home_of f s) && same_base base Address)) → is_target_for f r ≡ b
+pub aimed_by : (f : FileFrame) (r : Rel) (base : Base) (b : Bool) → takes_address f r ≡ same_base base Address → b ≡ can_be_target f r.r_sym base → is_target_for f r ≡ b
 unfolding is_target_for
-aimed_by f r s base b same address is =
-    sym (is ∙ ap (λ (t : Bool). not (eqb r.r_sym 0) && (not (is_local_entry s) || is_some (home_of f s) && t)) (sym address)
-    ∙ ap (λ (x : Sym). not (eqb r.r_sym 0) && (not (is_local_entry x) || is_some (home_of f x) && takes_address f r)) same)
+aimed_by f r base b address is =
+    sym (is ∙ ap (λ (t : Bool). not (eqb r.r_sym 0) && (not (is_local_entry (entry_of f r.r_sym)) || is_some (home_of f (entry_of f r.r_sym)) && t)) (sym address))
 
 -- the first of its own conditions that an entry breaks, by the four tests
 pub own_by : (f : FileFrame) (i place : ℕ) (r : Rel) (a b c d : Bool) → is_none (row_for f r) ≡ a → lies_within f (header_at f.headers i) r ≡ b → is_nameable f r.r_sym ≡ c → is_target_for f r ≡ d

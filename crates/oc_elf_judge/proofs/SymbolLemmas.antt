@@ -1,9 +1,9 @@
 -- Symbols, judged one after the other.
 use Rattle.std.proofs.Common.{◌≡◌, ℕ, ◌+◌, ◌<◌, inl, inr, true, false, cond, eqb, List, [], ◌∷◌, ◌++◌, map, Option, None, Some, refl, sym, ◌∙◌, ap, arith}
-use Rattle.std.specs.Prelude.{is_some, MatchOption}
+use Rattle.std.specs.Prelude.{Bool, is_some, nat_lt, not, MatchOption}
 use Rattle.std.specs.List.{range_with_len}
 use Rattle.std.specs.Option.{option_map, option_and_then, option_copied}
-use Rattle.std.proofs.lemmas.Bool.{ne_eqb}
+use Rattle.std.proofs.lemmas.Bool.{ne_eqb, true≢false}
 use Rattle.std.proofs.lemmas.Bool.{cases_eq}
 use Rattle.std.proofs.lemmas.List.{map-append}
 use Rattle.std.proofs.lemmas.List.FromFn.{length-map-range_with_len, map-range_with_len_more}
@@ -11,14 +11,16 @@ use Rattle.std.proofs.lemmas.Option.{none-some}
 use denote.Ref.{Bor}
 use Rattle.oc_base.specs.declared.fault.Fault.{Fault}
 use Rattle.oc_linking.specs.Numbers.{first_upto, or_else}
-use Rattle.oc_linking.specs.FirstFault.{first_broken, fault_of}
+use Rattle.oc_linking.specs.FirstFault.{first_broken, fault_of, stage_fault}
 use Rattle.oc_linking.proofs.FirstFaultLaws.{first_upto_none}
 use Rattle.oc_strings.specs.declared.repeats.Repeat.{Repeat}
 use Rattle.oc_strings.specs.Repeats.{NameList, name_at, names_of, place_of, repeat_at, first_repeat}
-use Rattle.oc_shelf.proofs.ReadingLaws.StageLemmas.{all_hold, first_broken-append}
+use Rattle.oc_shelf.proofs.ReadingLaws.StageLemmas.{all_hold, clean_at, clean_both, first_broken-append}
 use Rattle.oc_elf.specs.Frames.{FileFrame}
-use Rattle.oc_elf.specs.Tables.{symbol_count, symbol_place, entry_of}
-use Rattle.oc_elf.specs.SymbolRules.{kind_conditions, value_conditions, entry_conditions, other_conditions, symbol_conditions, symbol_stage, public_names, public_name, ends_at}
+use Rattle.oc_elf.specs.Entries.{is_local_entry}
+use Rattle.oc_elf.specs.Tables.{symbol_count, symbol_place, symtab_of, entry_of}
+use Rattle.oc_elf_judge.specs.Known.{AreLocalsFirst}
+use Rattle.oc_elf.specs.SymbolRules.{agree, kind_conditions, value_conditions, entry_conditions, other_conditions, symbol_conditions, symbol_stage, public_names, public_name, ends_at}
 use Rattle.oc_elf.specs.declared.sym.Sym.{Sym}
 use Rattle.oc_shows.proofs.RepeatLaws as laws
 
@@ -86,3 +88,20 @@ pub names_more : (slices : List (Option (Bor (List ℕ)))) (x : Option (Bor (Lis
 names_more slices x item k so is =
     map-append option_copied slices (x ∷ []) ∙ ap (λ (names : NameList). names ++ option_copied x ∷ []) so ∙ ap (λ (o : Option (List ℕ)). map item (range_with_len 0 k) ++ o ∷ []) is
     ∙ sym (map-range_with_len_more item 0 k k (omega arith))
+
+-- where no symbol has a fault, the LOCAL ones are those below sh_info
+pub locals_first : (f : FileFrame) → stage_fault (symbol_stage f) ≡ None → AreLocalsFirst f
+unfolding symbol_conditions entry_conditions
+locals_first f clean k some low =
+    let s : Sym = entry_of f k in
+    let place : ℕ = symbol_place f k in
+    let own = clean_at (fault_of (symbol_stage f)) (symbol_count f) k clean low in
+    let parts = clean_both (entry_conditions f k place s) (other_conditions f k place) (sym (ap (λ b. first_broken (cond b [] (entry_conditions f k place s ++ other_conditions f k place))) some) ∙ own) in
+    let entry = clean_both (kind_conditions f k place s) (value_conditions f k place s) parts.0 in
+    same (is_local_entry s) (nat_lt k (symtab_of f).sh_info) (all_hold (kind_conditions f k place s) entry.0).1.0
+  where
+    same : (a b : Bool) → not (agree a b) ≡ false → a ≡ b
+    same true true e = refl
+    same true false e = absurd (true≢false e)
+    same false true e = absurd (true≢false e)
+    same false false e = refl

@@ -1,5 +1,8 @@
 -- What is known of the tables of a file whose section headers have no fault (our profile).
-use Rattle.std.specs.Prelude.{◌≡◌, ℕ, ◌+◌, ◌*◌, ◌<◌, ◌≤◌, ◌^◌, List, length, Option, Some, true}
+use Rattle.std.specs.Prelude.{◌≡◌, ℕ, ◌+◌, ◌*◌, ◌<◌, ◌≤◌, ◌^◌, Bool, not, ◌&&◌, ◌||◌, nat_eq, nat_lt, is_some, List, length, Option, Some, true, false}
+use Rattle.oc_linking.specs.declared.terms.Base.{Base}
+use Rattle.oc_linking.specs.declared.terms.Base.TheVariants.{Address}
+use Rattle.oc_neutral.specs.Rows.{same_base}
 use Rattle.oc_shelf.specs.Reading.Slots.{AreSlots}
 use Rattle.oc_shelf.specs.Reading.Bitmaps.{AreBytesOf, room}
 use Rattle.oc_elf.specs.RelocRules.{span_of, stored_size}
@@ -9,7 +12,8 @@ use Rattle.oc_elf.specs.declared.sym.Sym.{Sym}
 use Rattle.oc_elf.specs.Frames.{FileFrame, header_at}
 use Rattle.oc_elf.specs.Groups.{is_comdat, owner_among}
 use Rattle.oc_elf.specs.Sections.{is_type, symtab_among, table_among}
-use Rattle.oc_elf.specs.Tables.{shndx_of, symtab_of, symbol_count, table_of}
+use Rattle.oc_elf.specs.Entries.{is_local_entry}
+use Rattle.oc_elf.specs.Tables.{entry_of, shndx_of, symtab_of, symbol_count, table_of}
 use Rattle.oc_elf.specs.CarriedSections.{position_of}
 use Rattle.oc_elf.specs.CarriedSymbols.{home_of, symbol_position}
 
@@ -35,11 +39,21 @@ pub record IsTable (f : FileFrame) (i : ℕ) (table : Shdr) : Type 0 where
   pub lies : table.sh_offset + table.sh_size ≤ length f.file
   pub small : length f.file ≤ 67108864
 
+-- the symbols behind the first are LOCAL exactly below sh_info (gABI, "Symbol Table")
+abbrev pub AreLocalsFirst : FileFrame → Type 0
+AreLocalsFirst f = (k : ℕ) → nat_eq k 0 ≡ false → k < symbol_count f → is_local_entry (entry_of f k) ≡ nat_lt k (symtab_of f).sh_info
+
+-- symbol j can be the target of an entry whose value begins with this: it is not the first, and where it is LOCAL, it lies in a carried section and
+-- its address is taken
+abbrev pub can_be_target : FileFrame → ℕ → Base → Bool
+can_be_target f j base = not (nat_eq j 0) && (not (is_local_entry (entry_of f j)) || is_some (home_of f (entry_of f j)) && same_base base Address)
+
 -- the symbol table, and the positions of sections and of symbols, are those of the file
 pub record IsAimed (f : FileFrame) (table : Shdr) (sections symbols : List (Option ℕ)) : Type 0 where
   pub table_is : IsSymtab f table
   pub sections_are : AreSlots (position_of f) (length f.headers) sections
   pub symbols_are : AreSlots (symbol_position f) (symbol_count f) symbols
+  pub locals_are : AreLocalsFirst f
 
 -- what is found in a file without faults: its symbol table, the relocation table and the group of each section, and the positions of sections
 -- and of symbols

@@ -3,22 +3,18 @@ ghost use Rattle.std.specs.Prelude.{◌≡◌, ◌+◌, ◌<◌, ◌≤◌, ◌^
 ghost use Rattle.oc_base.specs.Stops.{IsStop};
 ghost use Rattle.oc_linking.specs.Numbers.{first_upto};
 ghost use Rattle.oc_linking.specs.FirstFault.{first_broken};
-ghost use Rattle.oc_linking.specs.declared.terms.Base.TheVariants.{Address};
-ghost use Rattle.oc_neutral.specs.Rows.{same_base};
 ghost use Rattle.oc_neutral.specs.declared.elf.TheConstants as elf;
-ghost use Rattle.oc_elf.specs.CarriedSymbols as symbols;
-ghost use Rattle.oc_elf.specs.Entries.{is_local_entry};
 ghost use Rattle.oc_elf.specs.Fields as fields;
 ghost use Rattle.oc_elf.specs.Frames.{header_at};
-ghost use Rattle.oc_elf_judge.specs.Known.{AreTaken, IsAimed, IsTable};
+ghost use Rattle.oc_elf_judge.specs.Known.{AreTaken, can_be_target, IsAimed, IsTable};
 ghost use Rattle.oc_elf.specs.RelocRules as rules;
 ghost use Rattle.oc_elf.specs.Sections.{is_type};
 ghost use Rattle.oc_elf.specs.Tables as tables;
 
 use crate::homes::home_of;
-use crate::symbols::{entry_of, is_local, is_section_symbol, symbol_count};
+use crate::symbols::{entry_of, is_section_symbol, symbol_count};
 use oc_base::{Code, Fault, Phase, Stop};
-use oc_elf::{Frame, R_NONE, Rel, Shdr, Sym, meaning_of, rel_at, rel_size};
+use oc_elf::{Frame, R_NONE, Rel, Shdr, meaning_of, rel_at, rel_size};
 use oc_neutral::Base;
 use oc_neutral::elf::SHT_NOBITS;
 use oc_shelf::{Bitmap, Slots};
@@ -101,31 +97,32 @@ pub struct Aims<'a> {
     pub symbols: &'a Slots,
 }
 
-// symbol `j`, where it can be named
+// whether symbol `j` can be named
 #[tactic(auto, unfolding(oc_elf::specs::RelocRules::is_nameable))]
-fn named_symbol(frame: &Frame, aims: &Aims, j: u32) -> Option<Sym>
+fn is_nameable(frame: &Frame, aims: &Aims, j: u32) -> bool
     requires { IsAimed frame.now aims.now.table.now aims.now.sections.now aims.now.symbols.now }
-    ensures named { is_some result ≡ rules.is_nameable frame.now j }
-    ensures entry { IfSome result (λ s. s ≡ tables.entry_of frame.now j) }
+    ensures { result ≡ rules.is_nameable frame.now j }
 {
-    if j >= symbol_count(frame, aims.table) {
-        return None;
-    }
-    let s = entry_of(frame, aims.table, j);
-    if j == 0 || aims.symbols.get(j).is_some() || is_section_symbol(&s) {
-        return Some(s);
-    }
-    None
+    j < symbol_count(frame, aims.table)
+        && (j == 0
+            || aims.symbols.get(j).is_some()
+            || is_section_symbol(&entry_of(frame, aims.table, j)))
 }
 
-// whether symbol `j`, which is `s`, can be the target of an entry whose value begins with this
-fn is_target(frame: &Frame, aims: &Aims, j: u32, s: &Sym, base: Base) -> bool
-    requires { IsAimed frame.now aims.now.table.now aims.now.sections.now aims.now.symbols.now }
-    ensures { result ≡ (not (nat_eq j 0) && (not (is_local_entry s.now) || is_some (symbols.home_of frame.now s.now) && same_base base Address)) }
+// whether symbol `j` can be the target of an entry whose value begins with this: a LOCAL one is looked at
+fn is_target(frame: &Frame, aims: &Aims, j: u32, base: Base) -> bool
+    requires aims { IsAimed frame.now aims.now.table.now aims.now.sections.now aims.now.symbols.now }
+    requires there { j < tables.symbol_count frame.now }
+    ensures { result ≡ can_be_target frame.now j base }
 {
-    j != 0
-        && (!is_local(s)
-            || home_of(frame, aims.sections, s).is_some() && matches!(base, Base::Address))
+    if j == 0 {
+        return false;
+    }
+    if j >= aims.table.sh_info {
+        return true;
+    }
+    let s = entry_of(frame, aims.table, j);
+    home_of(frame, aims.sections, &s).is_some() && matches!(base, Base::Address)
 }
 
 // how many bytes the field of an entry has, where it meets its own conditions
@@ -143,11 +140,10 @@ fn own_width(frame: &Frame, aims: &Aims, i: u32, place: u64, r: &Rel) -> Result<
     if !lies_within(&frame.header(i), r, width) {
         return Err(reloc_fault(Code::BadOffset, i, place));
     }
-    let s = match named_symbol(frame, aims, r.r_sym) {
-        Some(s) => s,
-        None => return Err(reloc_fault(Code::BadTarget, i, place)),
-    };
-    if !is_target(frame, aims, r.r_sym, &s, meaning.form.base) {
+    if !is_nameable(frame, aims, r.r_sym) {
+        return Err(reloc_fault(Code::BadTarget, i, place));
+    }
+    if !is_target(frame, aims, r.r_sym, meaning.form.base) {
         return Err(reloc_fault(Code::TargetKind, i, place));
     }
     Ok(width)

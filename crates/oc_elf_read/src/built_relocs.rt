@@ -55,22 +55,18 @@ fn reloc_with(
     requires inside { r.now.r_offset + bytes_of meaning.form.width ≤ length contents.now }
     ensures { result ≡ given.reloc_meant frame.now contents.now r.now meaning }
 {
-    let s = entry_of(frame, aims.table, r.r_sym);
     let word = frame.word();
     let addend = addend_of(word, contents, meaning.form.width, r);
+    if let Some(k) = aims.symbols.get(r.r_sym) {
+        return Some(reloc_by(meaning, Target::Symbol(k), addend));
+    }
+    let s = entry_of(frame, aims.table, r.r_sym);
     if !is_section_symbol(&s) {
-        return match aims.symbols.get(r.r_sym) {
-            Some(k) => Some(reloc_by(meaning, Target::Symbol(k), addend)),
-            None => None,
-        };
+        return None;
     }
-    match home_of(frame, aims.sections, &s) {
-        Some(k) => {
-            let addend = reduce(word, moved_addend(meaning.form.base, addend, s.st_value));
-            Some(reloc_by(meaning, Target::Section(k), addend))
-        }
-        None => None,
-    }
+    let k = home_of(frame, aims.sections, &s)?;
+    let addend = reduce(word, moved_addend(meaning.form.base, addend, s.st_value));
+    Some(reloc_by(meaning, Target::Section(k), addend))
 }
 
 /// The relocation of an entry, where its type has a row and its symbol can be a target. Constant

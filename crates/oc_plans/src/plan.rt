@@ -35,7 +35,9 @@ impl<P: Parts> Plan<P> {
     }
 
     /// What it is made of, and where its parts stand. Constant time, no memory.
-    pub fn into_parts(self) -> (P, Layout) {
+    pub fn into_parts(self) -> (P, Layout)
+        ensures { pieces_by result.1 (P.parts result.0) ≡ self }
+    {
         (self.parts, self.layout)
     }
 }

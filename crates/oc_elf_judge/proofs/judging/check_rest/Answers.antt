@@ -1,6 +1,7 @@
 -- The symbol table lies in the file.
 use Rattle.std.proofs.Common.{sym, subst}
 use Rattle.oc_elf_judge.specs.Known.{IsSymtab}
+use Rattle.oc_elf_judge.proofs.SymbolLemmas.{locals_first}
 use Rattle.oc_elf_judge.proofs.TableLemmas.{are_signed, symtab_is}
 use Rattle.oc_elf_judge.proofs.judging.check_rest.Goals as goal
 
@@ -28,4 +29,5 @@ check_relocs-requires-clause-aims c = record {
       (symtab_is c.args.frame.now c.is_frame.ensures c.in-Ok.ensures.clean c.in-Ok.tables.symtab c.in-Ok.ensures.symtab);
   sections_are = c.in_ok-sections.ensures;
   symbols_are = c.in_ok-symbols.ensures;
+  locals_are = locals_first c.args.frame.now c.in-Ok-check_symbols.ensures.clean;
 }

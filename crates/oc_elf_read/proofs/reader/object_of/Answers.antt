@@ -9,6 +9,7 @@ use Rattle.oc_elf_read.proofs.FoundFields.{stages_clean}
 use Rattle.oc_elf_judge.proofs.PositionLemmas.{few_symbols}
 use Rattle.oc_elf_read.proofs.ReaderLemmas.{read_complete, read_readable, read_shows, symtab_found}
 use Rattle.oc_elf_read.proofs.ShowableLemmas.{is_started}
+use Rattle.oc_elf_judge.proofs.SymbolLemmas.{locals_first}
 use Rattle.oc_elf_judge.proofs.TableLemmas.{are_signed}
 use Rattle.oc_elf_read.proofs.reader.object_of.Goals as goal
 
@@ -26,6 +27,7 @@ add_relocations-requires-clause-aims c = record {
       (symtab_found c.args.frame.now c.args.keep.now c.is_frame.ensures c.requires.clean c.args.found.now.tables.symtab c.requires.found.symtab_is);
   sections_are = c.requires.found.sections_are;
   symbols_are = c.requires.found.symbols_are;
+  locals_are = locals_first c.args.frame.now (stages_clean c.args.frame.now c.args.keep.now c.requires.clean).symbols;
 }
 
 pub add_relocations-requires-clause-started : goal.add_relocations-requires-clause-started

@@ -1,0 +1,8 @@
+use Rattle.std.proofs.Common.{take}
+use Rattle.oc_neutral.specs.Keeping.{AreUpto}
+use Rattle.oc_express.specs.Firsts.{is_numbered}
+use Rattle.oc_express.proofs.relocs.numbers_end.Given as goal
+
+-- of the symbols before
+abbrev pub invariant-loop-k : goal.invariant-loop-k
+invariant-loop-k l = AreUpto is_numbered l.end (take l.k l.neutral.symbols)
