@@ -25,7 +25,6 @@ use Rattle.oc_elf.specs.declared.class.ElfClass.{ElfClass}
 use Rattle.oc_elf.specs.declared.meaning.Meaning.{Meaning}
 use Rattle.oc_elf.specs.declared.rel.Rel.{Rel}
 use Rattle.oc_elf.specs.declared.shdr.Shdr.{Shdr}
-use Rattle.oc_elf.specs.declared.sym.Sym.{Sym}
 use Rattle.oc_elf.specs.Frames.{FileFrame, header_at}
 use Rattle.oc_elf.specs.Fields.{is_idle, row_for, width_of}
 use Rattle.oc_elf.specs.Meanings.{meaning_of, meant_by}

@@ -5,7 +5,7 @@ use Rattle.oc_neutral.specs.declared.reloc.Reloc.{Reloc}
 use Rattle.oc_neutral.specs.declared.reloc.Target.TheVariants as target
 use Rattle.oc_elf.specs.declared.meaning.Meaning.{Meaning}
 use Rattle.oc_elf.specs.CarriedSymbols.{symbol_position}
-use Rattle.oc_elf_read.specs.Given.{addend_by, reloc_meant}
+use Rattle.oc_elf_read.specs.Given.{addend_by}
 use Rattle.oc_elf_read.proofs.CarriedLemmas.{placed_other}
 use Rattle.oc_elf_read.proofs.built_relocs.reloc_with.Goals as goal
 
