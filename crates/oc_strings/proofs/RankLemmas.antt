@@ -228,9 +228,10 @@ rank_none names all ranks whole = record {
 
 -- after all entries each name has its rank
 pub rank_all : (names : List (List ℕ)) (all : List Entry) → IsNumbered names all → (entries : List Entry) (ranks : List ℕ) (i : ℕ) → length all ≤ i
-    → IsRanked names all entries ranks i → IsOrder names entries ranks
-rank_all names all numbered entries ranks i l done =
+    → All IsKeyed entries → IsRanked names all entries ranks i → IsOrder names entries ranks
+rank_all names all numbered entries ranks i l keyed done =
     record {
+      keyed = keyed;
       ascends = done.ascends;
       named = done.named;
       ranked = λ j within.

@@ -1,10 +1,11 @@
 -- The order of names by their bytes, read from the last one on: a name comes right before the names that it ends.
-use Rattle.std.specs.Prelude.{◌≡◌, ℕ, ◌+◌, ◌-◌, ◌<◌, ◌≤◌, Bool, ◌&&◌, nat_lt, if◌then◌else◌, true, false, List, [], Option, Some, None, length, map, reverse, fold, take, drop, slice_get, slice_index, slice_index_or}
+use Rattle.std.specs.Prelude.{◌≡◌, ℕ, ◌+◌, ◌-◌, ◌<◌, ◌≤◌, Bool, ◌&&◌, nat_lt, if◌then◌else◌, true, false, List, [], All, Option, Some, None, length, map, reverse, fold, take, drop, slice_get, slice_index, slice_index_or}
 use Rattle.std.specs.Ordering.{nat_cmp, is_lt}
 use Rattle.std.specs.Option.{option_map, option_or}
 use Rattle.std.specs.Cmp.Lexicographic.{slice_cmp}
 use Rattle.oc_base.specs.Strings.{ends, with_top, place_from}
 use denote.Ref.{Bor}
+use Rattle.oc_strings.specs.Keys.{IsKeyed}
 use Rattle.oc_strings.specs.Tables.{capped, texts}
 use Rattle.oc_strings.specs.declared.layout.EntryLayout.{EntryLayout}
 use Rattle.oc_strings.specs.declared.order.Entry.{Entry}
@@ -42,8 +43,9 @@ pub record IsNumbered (names : List (List ℕ)) (entries : List Entry) : Type 0 
 abbrev pub EndsWithName : List Entry → List ℕ → Type 0
 EndsWithName entries name = (0 < length entries) × ((d : Entry) → (slice_index_or entries (length entries - 1) d).name.now ≡ name)
 
--- the entries are the given names in ascending order, once each, and each given name's rank is its position among them
+-- the entries are the given names in ascending order, once each, with their numbers, and each given name's rank is its position among them
 pub record IsOrder (names : List (List ℕ)) (entries : List Entry) (ranks : List ℕ) : Type 0 where
+  pub keyed : All IsKeyed entries
   pub ascends : StrictlyAscends (names_of entries)
   pub named : (k : ℕ) (d : Entry) → k < length entries → slice_get names (slice_index_or entries k d).number ≡ Some (slice_index_or entries k d).name.now
   pub ranked : (i : ℕ) → i < length names → slice_get (names_of entries) (slice_index ranks i) ≡ slice_get names i
@@ -65,6 +67,10 @@ ends_next names k = nat_lt (k + 1) (length names) && ends (name_at names k) (nam
 -- each of the first entries has the longest earlier name that ends it
 abbrev pub AreNextTails : List (List ℕ) → List (Option ℕ) → Type 0
 AreNextTails names tails = (k : ℕ) (d : Option ℕ) → k < length tails → IsNextTail names k (slice_index_or tails k d)
+
+-- each name has the longest earlier one that ends it
+abbrev pub AreTails : List (List ℕ) → List (Option ℕ) → Type 0
+AreTails names tails = (length tails ≡ length names) × AreNextTails names tails
 
 -- where a name lies in a text that begins at a place, if it ends the text
 abbrev pub place_in : ℕ → List ℕ → List ℕ → Option ℕ

@@ -2,7 +2,7 @@
 ghost use Rattle.std.specs.Prelude.{◌≡◌, ℕ, ◌<◌, List, ◌&&◌, All, IfOk, IsSome, is_none, not, length, map, slice_index_or};
 ghost use Rattle.oc_base.specs.Strings.{tops_of};
 ghost use Rattle.oc_strings.specs.Tables.{texts, offset_of};
-ghost use Rattle.oc_strings.specs.Order.{IsOrder, StrictlyAscends, ends_next, names_of, AreLaidOut};
+ghost use Rattle.oc_strings.specs.Order.{IsOrder, AreTails, ends_next, AreLaidOut};
 
 use crate::order::{Entry, Order};
 use crate::tails::{is_top, next_tails, place_tails};
@@ -19,13 +19,12 @@ pub(crate) struct EntryLayout<'a> {
 }
 
 /// Whether the name at `k` ends no other one, and has no place yet.
-fn is_new_top(entries: &[Entry], offsets: &[Option<u64>], k: usize) -> bool
-    requires ascends { StrictlyAscends (names_of entries.now) }
-    requires within { k < length entries.now }
-    requires room { length offsets.now ≡ length entries.now }
-    ensures { result ≡ (is_none (slice_index_or offsets.now k None) && not (ends_next (names_of entries.now) k)) }
+fn is_new_top(tails: &[Option<usize>], offsets: &[Option<u64>], k: usize) -> bool
+    requires within { k < length tails.now }
+    requires room { length offsets.now ≡ length tails.now }
+    ensures { (names : List (List ℕ)) → AreTails names tails.now → result ≡ (is_none (slice_index_or offsets.now k None) && not (ends_next names k)) }
 {
-    offsets[k].is_none() && is_top(entries, k)
+    offsets[k].is_none() && is_top(tails, k)
 }
 
 /// Puts the texts one after another from `head` on, each where it is used first, and gives each
@@ -45,7 +44,7 @@ fn place<'a>(
     let mut offsets = vec![in alloc; None; entries.len()]?;
     let mut at = u64::from(head);
     for rank in &order.ranks {
-        if is_new_top(entries, &offsets, *rank) {
+        if is_new_top(&tails, &offsets, *rank) {
             place_tails(&mut offsets, entries, &tails, *rank, at);
             let name = entries[*rank].name;
             tops.push(name)?;

@@ -1,5 +1,5 @@
 //! Names in the order of their bytes, read from the last one on.
-ghost use Rattle.std.specs.Prelude.{◌≡◌, ◌↔◌, ℕ, ◌<◌, ◌≤◌, ◌^◌, IsTrue, MatchBool, length, reverse, slice_index, IfOk};
+ghost use Rattle.std.specs.Prelude.{◌≡◌, ◌↔◌, ℕ, ◌<◌, ◌≤◌, ◌^◌, All, IsTrue, MatchBool, length, reverse, slice_index, IfOk};
 ghost use Rattle.std.specs.Ordering.{nat_cmp};
 ghost use Rattle.std.specs.Cmp.Lexicographic.{slice_cmp};
 ghost use Rattle.oc_base.specs.Strings.{ends};
@@ -134,7 +134,7 @@ pub(crate) fn compare_backward(a: &[u8], b: &[u8]) -> Ordering
 }
 
 /// Whether the name ends the text. Both are read from the last byte on, as far as they are the same.
-pub(crate) fn is_tail(name: &[u8], text: &[u8]) -> bool
+fn is_tail(name: &[u8], text: &[u8]) -> bool
     ensures { result ≡ ends name.now text.now }
 {
     let (name_left, text_left) = without_words(name, text);
@@ -165,6 +165,7 @@ fn compare_entries(a: &Entry, b: &Entry) -> Ordering
 
 /// An entry for each name, in ascending order.
 fn sorted<'a>(alloc: Global, names: &[&'a [u8]]) -> Result<Vec<Entry<'a>>, NoMemory>
+    ensures keyed { IfOk result (λ entries. All keys.IsKeyed entries.items) }
     ensures ascends { IfOk result (λ entries. Ascends (names_of entries.items)) }
     ensures numbered { IfOk result (λ entries. IsNumbered (texts names.now) entries.items) }
 {
@@ -185,12 +186,24 @@ pub(crate) struct Order<'a> {
     pub ranks: Vec<usize>,
 }
 
-/// Whether the last entry has the name.
-fn ends_with_name(entries: &[Entry], name: &[u8]) -> bool
-    ensures { MatchBool result (EndsWithName entries.now name.now) (¬ EndsWithName entries.now name.now) }
+/// Whether the name of the entry ends that of the other one. Where both have eight bytes, and their
+/// numbers differ, their bytes are not looked at.
+pub(crate) fn ends_other(entry: &Entry, other: &Entry) -> bool
+    requires keyed { keys.IsKeyed entry.now }
+    requires other_keyed { keys.IsKeyed other.now }
+    ensures { result ≡ ends entry.now.name.now other.now.name.now }
+{
+    (entry.name.len() < WORD || entry.back == other.back) && is_tail(entry.name, other.name)
+}
+
+/// Whether the last entry has the name of this one.
+fn ends_with_name(entries: &[Entry], entry: &Entry) -> bool
+    requires keyed { All keys.IsKeyed entries.now }
+    requires entry_keyed { keys.IsKeyed entry.now }
+    ensures { MatchBool result (EndsWithName entries.now entry.now.name.now) (¬ EndsWithName entries.now entry.now.name.now) }
 {
     match entries.last() {
-        Some(last) => last.name.len() == name.len() && is_tail(name, last.name),
+        Some(last) => last.name.len() == entry.name.len() && ends_other(entry, last),
         None => false,
     }
 }
@@ -204,7 +217,7 @@ impl<'a> Order<'a> {
         let mut ranks = vec![in alloc; 0; names.len()]?;
         let mut entries = Vec::new(alloc);
         for entry in &all {
-            if !ends_with_name(&entries, entry.name) {
+            if !ends_with_name(&entries, entry) {
                 entries.push(*entry)?;
             }
             ranks[entry.number] = entries.len() - 1;

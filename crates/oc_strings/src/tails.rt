@@ -1,35 +1,38 @@
 //! Which of the names in ascending order end which.
-ghost use Rattle.std.specs.Prelude.{◌≡◌, ◌<◌, IfOk, length, not};
+ghost use Rattle.std.specs.Prelude.{◌≡◌, ℕ, ◌<◌, List, All, IfOk, length, not};
 ghost use Rattle.oc_base.specs.Strings.{ends};
-ghost use Rattle.oc_strings.specs.Order.{names_of, name_at, StrictlyAscends, IsNextTail, AreNextTails, AreTailsPlaced, ends_next};
+ghost use Rattle.oc_strings.specs.Keys.{IsKeyed};
+ghost use Rattle.oc_strings.specs.Order.{names_of, name_at, StrictlyAscends, IsNextTail, AreNextTails, AreTails, AreTailsPlaced, ends_next};
 
-use crate::order::{Entry, is_tail};
+use crate::order::{Entry, ends_other};
 use oc_base::NoMemory;
 use std::alloc::Global;
 
 /// Whether the name at `i` ends the later one at `k`. No two names are the same, so one that is not
 /// shorter ends none: its bytes are not looked at.
 fn ends_later(entries: &[Entry], i: usize, k: usize) -> bool
+    requires keyed { All IsKeyed entries.now }
     requires ascends { StrictlyAscends (names_of entries.now) }
     requires before { i < k }
     requires within { k < length entries.now }
     ensures { result ≡ ends (name_at (names_of entries.now) i) (name_at (names_of entries.now) k) }
 {
-    let (name, later) = (entries[i].name, entries[k].name);
-    name.len() < later.len() && is_tail(name, later)
+    let (entry, later) = (&entries[i], &entries[k]);
+    entry.name.len() < later.name.len() && ends_other(entry, later)
 }
 
-/// Whether the name with this place ends no other one. The names that it ends come right after it.
-pub(crate) fn is_top(entries: &[Entry], k: usize) -> bool
-    requires ascends { StrictlyAscends (names_of entries.now) }
-    requires within { k < length entries.now }
-    ensures { result ≡ not (ends_next (names_of entries.now) k) }
+/// Whether the name with this place ends no other one. The names that it ends come right after it,
+/// and it is the longest tail of the next one.
+pub(crate) fn is_top(tails: &[Option<usize>], k: usize) -> bool
+    requires { k < length tails.now }
+    ensures { (names : List (List ℕ)) → AreTails names tails.now → result ≡ not (ends_next names k) }
 {
-    k + 1 >= entries.len() || !ends_later(entries, k, k + 1)
+    k + 1 >= tails.len() || tails[k + 1] != Some(k)
 }
 
 /// The longest earlier name that ends the first one whose tail is not known yet.
 fn next_tail(entries: &[Entry], tails: &[Option<usize>]) -> Option<usize>
+    requires keyed { All IsKeyed entries.now }
     requires ascends { StrictlyAscends (names_of entries.now) }
     requires known { AreNextTails (names_of entries.now) tails.now }
     requires within { length tails.now < length entries.now }
@@ -48,9 +51,9 @@ fn next_tail(entries: &[Entry], tails: &[Option<usize>]) -> Option<usize>
 /// For each name the longest earlier one that ends it, if one does. No name is passed over twice:
 /// the time is linear in the total length of the names.
 pub(crate) fn next_tails(alloc: Global, entries: &[Entry]) -> Result<Vec<Option<usize>>, NoMemory>
-    requires { StrictlyAscends (names_of entries.now) }
-    ensures whole { IfOk result (λ tails. length tails.items ≡ length entries.now) }
-    ensures known { IfOk result (λ tails. AreNextTails (names_of entries.now) tails.items) }
+    requires keyed { All IsKeyed entries.now }
+    requires ascends { StrictlyAscends (names_of entries.now) }
+    ensures { IfOk result (λ tails. AreTails (names_of entries.now) tails.items) }
 {
     let mut tails = Vec::with_capacity(alloc, entries.len())?;
     for _k in 0..entries.len() {
@@ -70,8 +73,7 @@ pub(crate) fn place_tails(
     at: u64,
 )
     requires ascends { StrictlyAscends (names_of entries.now) }
-    requires known { AreNextTails (names_of entries.now) tails.now }
-    requires whole { length tails.now ≡ length entries.now }
+    requires known { AreTails (names_of entries.now) tails.now }
     requires room { length offsets.old ≡ length entries.now }
     requires within { k < length entries.now }
     ensures { AreTailsPlaced entries.now at k offsets.old offsets.new }

@@ -5,7 +5,7 @@ use denote.Ref.{Bor}
 use Rattle.oc_base.specs.Strings.{text_of}
 use Rattle.oc_strings.specs.declared.order.Entry.{Entry}
 use Rattle.oc_strings.specs.Tables.{texts, capped}
-use Rattle.oc_strings.specs.Order.{names_of, name_at, IsOrder, IsLaidOut, place_in, ends_next}
+use Rattle.oc_strings.specs.Order.{names_of, name_at, IsOrder, IsLaidOut, place_in, ends_next, AreTails}
 use Rattle.oc_strings.proofs.RankLemmas.{name_of_entry, count_of_names}
 use Rattle.oc_strings.proofs.LayoutLemmas.{rank_there, rank_within, laid_none, laid_same, laid_more, last_text}
 use Rattle.oc_strings.proofs.layout.place.Goals as goal
@@ -55,7 +55,8 @@ loop-rank-preserved c =
     in
     let within : i < length names = omega (arith, order.whole) in
     let test : (is_none (get_or offsets rank None) && not (ends_next (names_of entries) rank)) ≡ c.is_new_top.result
-    = ap (λ (os : List (Option ℕ)). is_none (get_or os rank None) && not (ends_next (names_of entries) rank)) (sym c.deref.ensures.value) ∙ sym c.is_new_top.ensures
+    = ap (λ (os : List (Option ℕ)). is_none (get_or os rank None) && not (ends_next (names_of entries) rank)) (sym c.deref-in-loop-rank.ensures.value)
+    ∙ sym (c.is_new_top.ensures (names_of entries) (subst (AreTails (names_of entries)) (sym c.deref.ensures.value) c.in_ok-tails.ensures))
     in
     elim c.if-is_new_top.branch [
       | then-is_new_top+in_ok-push w ↦

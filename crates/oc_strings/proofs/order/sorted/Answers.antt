@@ -7,6 +7,11 @@ use Rattle.oc_strings.proofs.KeyLemmas.{entry_order_total}
 use Rattle.oc_strings.proofs.RankLemmas.{ascending, keyed_moved, numbered}
 use Rattle.oc_strings.proofs.order.sorted.Goals as goal
 
+pub returns-clause-keyed : goal.returns-clause-keyed
+returns-clause-keyed c =
+    keyed_moved c.args.names.now c.loop-number.entries.items c.sort_unstable_by.new.self.items c.sort_unstable_by.ensures.permutation
+    (λ k d e l. (c.loop-number.invariant.each k d e (omega arith), c.loop-number.invariant.bytes k e (omega arith)))
+
 pub returns-clause-ascends : goal.returns-clause-ascends
 returns-clause-ascends c =
     ascending c.sort_unstable_by.new.self.items

@@ -25,4 +25,4 @@ loop-current-preserved c =
     in
     subst (λ (o : Option ℕ). IsPlacing names c.args.at c.args.k c.args.offsets.now (set c.loop-current.offsets c.in-Some.i o) (get_or c.args.tails.now c.in-Some.i None)) (sym c.or.ensures)
     (placing_more names c.requires.ascends c.args.at c.args.k c.args.offsets.now c.loop-current.offsets c.in-Some.i (get_or c.args.tails.now c.in-Some.i None) None
-    c.saturating_add-offset.result (omega (arith, count_of_names c.args.entries.now)) placing (c.requires.known c.in-Some.i None (omega (arith, c.requires.whole))) offset)
+    c.saturating_add-offset.result (omega (arith, count_of_names c.args.entries.now)) placing (c.requires.known.1 c.in-Some.i None (omega (arith, c.requires.known.0, count_of_names c.args.entries.now))) offset)
