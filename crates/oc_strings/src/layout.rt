@@ -40,7 +40,7 @@ fn place<'a>(
 {
     let entries = order.entries.as_slice();
     let tails = next_tails(alloc, entries)?;
-    let mut tops = Vec::new(alloc);
+    let mut tops = Vec::with_capacity(alloc, entries.len())?;
     let mut offsets = vec![in alloc; None; entries.len()]?;
     let mut at = u64::from(head);
     for rank in &order.ranks {

@@ -215,7 +215,7 @@ impl<'a> Order<'a> {
     {
         let all = sorted(alloc, names)?;
         let mut ranks = vec![in alloc; 0; names.len()]?;
-        let mut entries = Vec::new(alloc);
+        let mut entries = Vec::with_capacity(alloc, all.len())?;
         for entry in &all {
             if !ends_with_name(&entries, entry) {
                 entries.push(*entry)?;

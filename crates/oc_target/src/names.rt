@@ -93,7 +93,7 @@ fn final_name(alloc: Global, names: &[Bytes], name: &[u8]) -> Result<Bytes, NoMe
 fn own_names(alloc: Global, neutral: &Neutral) -> Result<Vec<Bytes>, NoMemory>
     ensures { IfOk result (λ names. names.items ≡ map (λ (s : Shown). s.name) neutral.now.sections) }
 {
-    let mut names = Vec::new(alloc);
+    let mut names = Vec::with_capacity(alloc, neutral.section_count() as usize)?;
     for k in 0..neutral.section_count() {
         names.push(Bytes::from_slice(alloc, neutral.section(k).name.as_slice())?)?;
     }
@@ -105,7 +105,7 @@ fn own_names(alloc: Global, neutral: &Neutral) -> Result<Vec<Bytes>, NoMemory>
 fn wanted_names(alloc: Global, target: Format, neutral: &Neutral) -> Result<Vec<Bytes>, NoMemory>
     ensures { IfOk result (λ names. names.items ≡ homes.wanted_names target neutral.now) }
 {
-    let mut names = Vec::new(alloc);
+    let mut names = Vec::with_capacity(alloc, neutral.section_count() as usize)?;
     for k in 0..neutral.section_count() {
         names.push(Bytes::from_slice(alloc, wanted_at(target, neutral, k))?)?;
     }
@@ -117,7 +117,7 @@ fn wanted_names(alloc: Global, target: Format, neutral: &Neutral) -> Result<Vec<
 fn final_names(alloc: Global, target: Format, neutral: &Neutral) -> Result<Vec<Bytes>, NoMemory>
     ensures { IfOk result (λ names. names.items ≡ homes.final_names mach.numbered_name [] (homes.wanted_names target neutral.now)) }
 {
-    let mut names = Vec::new(alloc);
+    let mut names = Vec::with_capacity(alloc, neutral.section_count() as usize)?;
     for k in 0..neutral.section_count() {
         let name = final_name(alloc, &names, wanted_at(target, neutral, k))?;
         names.push(name)?;

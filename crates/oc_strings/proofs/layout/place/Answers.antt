@@ -14,7 +14,7 @@ use Rattle.oc_strings.proofs.layout.place.Goals.{then-is_new_top+in_ok-push, els
 pub loop-rank-init : goal.loop-rank-init
 unfolding text_of
 loop-rank-init c =
-    let none : texts c.new-tops.result.items ≡ [] = ap texts c.new-tops.ensures.items in
+    let none : texts c.in_ok-tops.tops.items ≡ [] = ap texts c.in_ok-tops.ensures.items in
     let empty = c.in_ok-offsets.ensures.items_if_clones_equal (λ y cloned. search rules) in
     record {
       laid = subst (λ (ts : List (List ℕ)). IsLaidOut c.args.head (texts c.args.names.now) (names_of c.as_slice-entries.result.now) 0 ts c.in_ok-offsets.offsets.items) (sym none)
@@ -22,6 +22,12 @@ loop-rank-init c =
           (laid_none c.args.head (texts c.args.names.now) (names_of c.as_slice-entries.result.now) _ (sym (count_of_names c.as_slice-entries.result.now))));
       at = omega (arith, ap (λ ts. length (text_of ts)) none);
     }
+
+pub is_new_top-requires-clause-within : goal.is_new_top-requires-clause-within
+is_new_top-requires-clause-within c =
+    let there = rank_there (texts c.args.names.now) c.args.order.now.entries.items c.args.order.now.ranks.items c.requires c.as_slice-entries.result.now c.deref-rank-items.result.now
+    c.as_slice-entries.ensures.value c.deref-rank-items.ensures.value c.loop-rank.rank-index (omega arith) in
+    omega (arith, there, c.in_ok-tails.ensures.0, count_of_names c.as_slice-entries.result.now, ap length c.deref.ensures.value)
 
 pub place_tails-requires-clause-within : goal.place_tails-requires-clause-within
 place_tails-requires-clause-within c =
