@@ -1,7 +1,7 @@
 //! The parts of a table.
-ghost use Rattle.std.specs.Prelude.{◌≡◌, ◌^◌, ◌<◌, All, IfOk, length};
+ghost use Rattle.std.specs.Prelude.{◌≡◌, ◌+◌, ◌^◌, ◌<◌, All, IfOk, length, sum_by};
 ghost use Rattle.oc_base.specs.Strings.{text_of};
-ghost use Rattle.oc_strings.specs.Tables.{texts};
+ghost use Rattle.oc_strings.specs.Tables.{capped, texts};
 ghost use Rattle.oc_strings.specs.Order.{numbers_of};
 ghost use Rattle.oc_strings.specs.Parts.{ArePlaces};
 
@@ -21,11 +21,22 @@ pub(crate) fn slices(alloc: Global, names: &[Bytes]) -> Result<Vec<&[u8]>, NoMem
     Ok(slices)
 }
 
+/// How many bytes the texts take, a NUL after each, or the largest number where it passes that.
+fn size_of(tops: &[&[u8]]) -> usize
+    ensures { result ≡ capped (sum_by (λ top. length top.now + 1) tops.now) }
+{
+    let mut total: usize = 0;
+    for top in tops {
+        total = total.saturating_add(top.len()).saturating_add(1);
+    }
+    total
+}
+
 /// Each text with a NUL after it.
 pub(crate) fn bytes_of(alloc: Global, tops: &[&[u8]]) -> Result<Vec<u8>, NoMemory>
     ensures { IfOk result (λ bytes. bytes.items ≡ text_of (texts tops.now)) }
 {
-    let mut bytes = Vec::new(alloc);
+    let mut bytes = Vec::with_capacity(alloc, size_of(tops))?;
     for top in tops {
         bytes.extend_from_slice(top)?;
         bytes.push(0)?;

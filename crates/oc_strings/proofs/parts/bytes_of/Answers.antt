@@ -6,7 +6,7 @@ use Rattle.oc_strings.proofs.parts.bytes_of.Goals as goal
 
 pub loop-top-init : goal.loop-top-init
 unfolding text_of
-loop-top-init c = c.new-bytes.ensures.items
+loop-top-init c = c.in_ok-bytes.ensures.items
 
 pub loop-top-preserved : goal.loop-top-preserved
 loop-top-preserved c =
