@@ -1,6 +1,6 @@
 -- Symbols, judged one after the other.
 use Rattle.std.proofs.Common.{◌≡◌, ℕ, ◌+◌, ◌<◌, inl, inr, true, false, cond, eqb, List, [], ◌∷◌, ◌++◌, map, Option, None, Some, refl, sym, ◌∙◌, ap, arith}
-use Rattle.std.specs.Prelude.{Bool, is_some, nat_lt, not, MatchOption}
+use Rattle.std.specs.Prelude.{Bool, is_some, nat_eq, nat_lt, not, MatchOption}
 use Rattle.std.specs.List.{range_with_len}
 use Rattle.std.specs.Option.{option_map, option_and_then, option_copied}
 use Rattle.std.proofs.lemmas.Bool.{ne_eqb, true≢false}
@@ -89,16 +89,27 @@ names_more slices x item k so is =
     map-append option_copied slices (x ∷ []) ∙ ap (λ (names : NameList). names ++ option_copied x ∷ []) so ∙ ap (λ (o : Option (List ℕ)). map item (range_with_len 0 k) ++ o ∷ []) is
     ∙ sym (map-range_with_len_more item 0 k k (omega arith))
 
--- where no symbol has a fault, the LOCAL ones are those below sh_info
-pub locals_first : (f : FileFrame) → stage_fault (symbol_stage f) ≡ None → AreLocalsFirst f
+-- what symbol k meets where no symbol has a fault: what is asked of its kind, of its value, and beside others
+pub record IsCleanSymbol (f : FileFrame) (k : ℕ) : Type 0 where
+  pub kind : first_broken (kind_conditions f k (symbol_place f k) (entry_of f k)) ≡ None
+  pub value : first_broken (value_conditions f k (symbol_place f k) (entry_of f k)) ≡ None
+  pub other : first_broken (other_conditions f k (symbol_place f k)) ≡ None
+
+pub clean_symbol : (f : FileFrame) (k : ℕ) → stage_fault (symbol_stage f) ≡ None → nat_eq k 0 ≡ false → k < symbol_count f → IsCleanSymbol f k
 unfolding symbol_conditions entry_conditions
-locals_first f clean k some low =
+clean_symbol f k clean some low =
     let s : Sym = entry_of f k in
     let place : ℕ = symbol_place f k in
     let own = clean_at (fault_of (symbol_stage f)) (symbol_count f) k clean low in
     let parts = clean_both (entry_conditions f k place s) (other_conditions f k place) (sym (ap (λ b. first_broken (cond b [] (entry_conditions f k place s ++ other_conditions f k place))) some) ∙ own) in
     let entry = clean_both (kind_conditions f k place s) (value_conditions f k place s) parts.0 in
-    same (is_local_entry s) (nat_lt k (symtab_of f).sh_info) (all_hold (kind_conditions f k place s) entry.0).1.0
+    record { kind = entry.0; value = entry.1; other = parts.1 }
+
+-- where no symbol has a fault, the LOCAL ones are those below sh_info
+pub locals_first : (f : FileFrame) → stage_fault (symbol_stage f) ≡ None → AreLocalsFirst f
+locals_first f clean k some low =
+    let s : Sym = entry_of f k in
+    same (is_local_entry s) (nat_lt k (symtab_of f).sh_info) (all_hold (kind_conditions f k (symbol_place f k) s) (clean_symbol f k clean some low).kind).1.0
   where
     same : (a b : Bool) → not (agree a b) ≡ false → a ≡ b
     same true true e = refl
