@@ -2,7 +2,7 @@
 use Rattle.std.proofs.Common.{◌≡◌, ℕ, zero, suc, ◌+◌, ◌-◌, ◌*◌, ◌^◌, ◌<◌, ◌≤◌, List, [], ◌∷◌, length, reverse, get_or, drop, Ordering, refl, sym, ◌∙◌, ap, arith, ⊎_elim}
 use Rattle.std.proofs.lemmas.List.{get_or-reverse, get_or-drop, get_or_past, length-drop, length-reverse}
 use Rattle.std.proofs.lemmas.Bool.{cases_lt, cases_order}
-use Rattle.std.proofs.lemmas.Cmp.{nat_cmp_total, nat_list_cmp_total, on_total, then_total}
+use Rattle.std.proofs.lemmas.Cmp.{back_total, nat_cmp_total, nat_list_cmp_total, on_total, then_total}
 use Rattle.std.proofs.lemmas.Nat.{le_bytes_8}
 use Rattle.std.specs.Cmp.{IsTotalOrder, nat_cmp_is}
 use Rattle.std.specs.Int.{w64, from_le_bytes, to_le_bytes}
@@ -10,7 +10,7 @@ use Rattle.std.specs.Ordering.{nat_cmp, ordering_then}
 use Rattle.std.specs.Cmp.Lexicographic.{slice_cmp}
 use Rattle.std.specs.declared.cmp.Ordering.TheVariants.{Less, Equal, Greater}
 use Rattle.oc_strings.specs.declared.order.Entry.{Entry}
-use Rattle.oc_strings.specs.Keys.{back_number, entry_order, IsKeyed}
+use Rattle.oc_strings.specs.Keys.{back_number, entry_order, full_order, IsKeyed}
 use Rattle.oc_strings.specs.Order.{SharesEnd}
 
 -- each number of the list is a byte
@@ -190,7 +190,10 @@ numbers_decided a b o x y is apart =
 pub entry_order_total : IsTotalOrder entry_order
 entry_order_total = then_total (on_total (λ (e : Entry). e.back) nat_cmp_total) (on_total (λ (e : Entry). reverse e.name.now) nat_list_cmp_total)
 
--- it is the order of their names, where the numbers are those of the names
+pub full_order_total : IsTotalOrder full_order
+full_order_total = then_total entry_order_total (back_total (on_total (λ (e : Entry). e.number) nat_cmp_total))
+
+-- the order of entries is that of their names, where the numbers are those of the names
 pub entry_order_is : (a b : Entry) → IsKeyed a → IsKeyed b → entry_order a b ≡ slice_cmp nat_cmp (reverse a.name.now) (reverse b.name.now)
 entry_order_is a b ka kb =
     let o : Ordering = slice_cmp nat_cmp (reverse a.name.now) (reverse b.name.now) in

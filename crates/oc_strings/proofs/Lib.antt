@@ -1,13 +1,14 @@
 pub mod EndLemmas
+pub mod EntryLemmas
 pub mod GivenLemmas
 pub mod KeyLemmas
 pub mod LayoutLemmas
 pub mod OrderLemmas
 pub mod PlaceLaws
-pub mod RankLemmas
 pub mod RepeatLemmas
 pub mod RepeatSorting
 pub mod SearchLemmas
 pub mod SliceLemmas
 pub mod TableLemmas
 pub mod TailLemmas
+pub mod WalkLemmas

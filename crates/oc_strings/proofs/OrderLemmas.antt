@@ -1,15 +1,16 @@
 -- Names in ascending order, and which of them end which.
 use Rattle.std.proofs.Common.{take, drop, ◌≡◌, ℕ, zero, suc, ◌+◌, ◌-◌, ◌<◌, ◌≤◌, true, false, List, [], ◌∷◌, ◌++◌, length, reverse, Ordering, refl, sym, ◌∙◌, ap, subst, arith, ⊎_elim}
 use Rattle.std.proofs.lemmas.List.{reverse-append, reverse-reverse, take-append-drop}
-use Rattle.std.proofs.lemmas.Bool.{both_ways, cases_lt, cases_order, false_from_ne_true}
+use Rattle.std.proofs.lemmas.List.Sorted.{ranks_by, sorted_far}
+use Rattle.std.proofs.lemmas.Bool.{both_ways, cases_order}
 use Rattle.std.proofs.lemmas.Bool.Decides.{nat_tests}
 use Rattle.std.proofs.lemmas.Cmp.{nat_list_cmp_total, tied_itself, nat_cmp_total}
 use Rattle.std.specs.Ordering.{nat_cmp, is_lt, is_le, ordering_then, ordering_reverse}
 use Rattle.std.specs.Cmp.Lexicographic.{slice_cmp}
 use Rattle.std.specs.declared.cmp.Ordering.TheVariants.{Less, Equal, Greater}
 use Rattle.oc_base.specs.Strings.{ends}
-use Rattle.oc_strings.specs.Order.{SharesEnd, is_before, StrictlyAscends, name_at}
-use Rattle.oc_strings.proofs.EndLemmas.{ends_split, ends_from, ends_whole}
+use Rattle.oc_strings.specs.Order.{SharesEnd, is_before, Ascends, StrictlyAscends, name_at}
+use Rattle.oc_strings.proofs.EndLemmas.{ends_split, ends_from}
 
 -- the order of lists of bytes
 abbrev pub order : List ℕ → List ℕ → Ordering
@@ -141,36 +142,33 @@ module _ (names : List (List ℕ)) (up : StrictlyAscends names) where
       let far : i + (j - i - 1) + 1 ≡ j = omega arith in
       subst (λ (m : ℕ). is_before (name_at names i) (name_at names m) ≡ true) far (before_later i (j - i - 1) (omega arith))
 
-  -- a name ends no later one that is not longer
-  pub ends_longer : (i k : ℕ) → i < k → k < length names → length (name_at names k) ≤ length (name_at names i) → ends (name_at names i) (name_at names k) ≡ false
-  ends_longer i k l lk short =
-      false_from_ne_true (ends (name_at names i) (name_at names k)) (λ e.
-      let same : name_at names i ≡ name_at names k = ends_whole (name_at names i) (name_at names k) e short in
-      both_ways false refl
-      (sym (ap is_lt (tied_itself nat_list_cmp_total (reverse (name_at names i))))
-      ∙ ap (λ (n : List ℕ). is_lt (order (reverse (name_at names i)) (reverse n))) same
-      ∙ earlier i k l lk))
+-- what does not come before another one comes at or behind it
+behind : (o : Ordering) → is_lt o ≡ false → is_le (ordering_reverse o) ≡ true
+behind Less e = absurd (both_ways false refl (sym e))
+behind Equal e = refl
+behind Greater e = refl
 
+-- what comes at or before another one, and that at or before it, is tied to it
+both_before : (o : Ordering) → is_le o ≡ true → is_le (ordering_reverse o) ≡ true → o ≡ Equal
+both_before Less e f = absurd (both_ways false refl f)
+both_before Equal e f = refl
+both_before Greater e f = absurd (both_ways false refl e)
+
+module _ (names : List (List ℕ)) (up : Ascends names) where
   -- a name stands at or before each that is not earlier
   at_or_before : (i j : ℕ) → i ≤ j → j < length names → is_le (order (reverse (name_at names i)) (reverse (name_at names j))) ≡ true
   at_or_before i j l lj =
-      ⊎_elim
-      (λ below. ap is_le (less_from _ (earlier i j below lj)))
-      (λ above.
-      let same : i ≡ j = omega arith in
-      subst (λ (m : ℕ). is_le (order (reverse (name_at names i)) (reverse (name_at names m))) ≡ true) same
-      (ap is_le (tied_itself nat_list_cmp_total (reverse (name_at names i)))))
-      (cases_lt i j)
+      ap is_le (nat_list_cmp_total.antisymm (reverse (name_at names i)) (reverse (name_at names j)))
+      ∙ behind (order (reverse (name_at names j)) (reverse (name_at names i))) (sorted_far is_before (ranks_by nat_list_cmp_total reverse) names (λ k d low l'. up k d l') i j [] l lj)
 
-  -- a name that ends another one stands at or before it
-  pub tail_first : (i j : ℕ) → i < length names → ends (name_at names i) (name_at names j) ≡ true → i ≤ j
-  tail_first i j li e =
-      ⊎_elim
-      (λ below. absurd (both_ways false refl
-      (sym (ap is_le (nat_list_cmp_total.antisymm (reverse (name_at names i)) (reverse (name_at names j)) ∙ ap ordering_reverse (less_from _ (earlier j i below li))))
-      ∙ before_ended (name_at names i) (name_at names j) e)))
-      (λ above. above)
-      (cases_lt j i)
+  -- a name that ends one that is not later is the same
+  pub tail_back : (k i : ℕ) → k ≤ i → i < length names → ends (name_at names i) (name_at names k) ≡ true → name_at names i ≡ name_at names k
+  tail_back k i l li e =
+      let x : List ℕ = reverse (name_at names i) in
+      let y : List ℕ = reverse (name_at names k) in
+      let flips : ordering_reverse (order x y) ≡ order y x = sym (nat_list_cmp_total.antisymm y x) in
+      let tie : order x y ≡ Equal = both_before (order x y) (before_ended (name_at names i) (name_at names k) e) (ap is_le flips ∙ at_or_before k i l li) in
+      sym (reverse-reverse (name_at names i)) ∙ ap reverse (tied_same x y tie) ∙ reverse-reverse (name_at names k)
 
   -- a name that ends a later one ends each name between them
   pub tail_between : (i j k : ℕ) → i ≤ j → j ≤ k → k < length names → ends (name_at names i) (name_at names k) ≡ true → ends (name_at names i) (name_at names j) ≡ true

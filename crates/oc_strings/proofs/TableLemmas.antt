@@ -2,7 +2,7 @@
 use Rattle.std.proofs.Common.{◌≡◌, ℕ, ◌+◌, ◌-◌, ◌^◌, ◌<◌, ◌≤◌, ◌↔◌, Bool, true, false, List, [], ◌∷◌, ◌++◌, length, take, drop, get_or, map, Option, Some, None, IsSome, refl, sym, ◌∙◌, ap, subst, arith, length-append, append_assoc}
 use Rattle.std.proofs.lemmas.List.{length-map, get_or-map, drop_at, take_at, get_or_at, get_or_default, same_lists}
 use Rattle.std.proofs.lemmas.List.Sums.{sum_by-cons}
-use Rattle.std.proofs.lemmas.Option.{same_Some, slice_get-get_or, slice_get_within, get_or_from_slice_get, none-some}
+use Rattle.std.proofs.lemmas.Option.{same_Some, slice_get-get_or, none-some}
 use Rattle.std.proofs.lemmas.Bool.{both_ways, cond-true}
 use Rattle.std.specs.List.{Contains, slice_range, sum_by}
 use Rattle.std.specs.Option.{is_some, option_map, IfSome}
@@ -10,13 +10,10 @@ use Rattle.std.specs.Prelude.{if◌then◌else◌}
 use Rattle.oc_base.specs.Strings.{is_given, tops_of, text_of, place_from, table_text, table_place}
 use Rattle.oc_strings.specs.declared.table.NameSpan.{NameSpan}
 use Rattle.oc_strings.specs.Tables.{StandsAt, capped, offset_of}
-use Rattle.oc_strings.specs.declared.order.Entry.{Entry}
-use Rattle.oc_strings.specs.Order.{name_at, names_of, numbers_of, StrictlyAscends, IsOrder}
-use Rattle.oc_strings.specs.Inside.{name_in, names_in, pick, IsSearchable, IsTable}
+use Rattle.oc_strings.specs.Order.{name_at}
+use Rattle.oc_strings.specs.Inside.{name_in, names_in, IsSearchable, IsTable}
 use Rattle.oc_strings.specs.Parts.{ArePlaces}
 use Rattle.oc_strings.proofs.GivenLemmas.{given_at, place_of_given}
-use Rattle.oc_strings.proofs.RankLemmas.{name_of_entry, count_of_names}
-use Rattle.oc_strings.proofs.LayoutLemmas.{rank_within, rank_is}
 use Rattle.oc_strings.proofs.PlaceLaws.{stands, given_place, tops_short}
 
 -- a name with a place is given, and the place is that in the texts
@@ -84,6 +81,14 @@ pub place_stands : (head : ℕ) (names : List (List ℕ)) (name : List ℕ) (o :
 place_stands head names name None e = tt
 place_stands head names name (Some p) e = let s = stands_in head names name p (sym e) in (s.above, s.there)
 
+-- there are fewer names than bytes
+pub names_fit : (head : ℕ) (names : List (List ℕ)) → head + sum_by (λ name. length name + 1) names < 2 ^ 32 → length names < 2 ^ 32
+names_fit head names fits = omega (arith, fits, count names)
+  where
+    count : (xs : List (List ℕ)) → length xs ≤ sum_by (λ name. length name + 1) xs
+    count [] = omega arith
+    count (x ∷ xs) = omega (arith, count xs, sum_by-cons (λ (name : List ℕ). length name + 1) x xs)
+
 module _ (head : ℕ) (names : List (List ℕ)) (offsets : List ℕ) (fits : head + sum_by (λ name. length name + 1) names < 2 ^ 32)
     (same : map Some offsets ≡ map (offset_of head names) names) where
   pub offsets_count : length offsets ≡ length names
@@ -114,14 +119,6 @@ module _ (head : ℕ) (names : List (List ℕ)) (offsets : List ℕ) (fits : hea
 
   pub lengths_fit : (k : ℕ) → k < length names → length (name_at names k) < 2 ^ 32
   lengths_fit k l = let s = stands_in head names (name_at names k) (get_or offsets k 0) (exact k l) in omega (arith, s.above, s.reach, short)
-
-  -- there are fewer names than that
-  pub names_fit : length names < 2 ^ 32
-  names_fit = omega (arith, count names)
-    where
-      count : (xs : List (List ℕ)) → length xs ≤ sum_by (λ name. length name + 1) xs
-      count [] = omega arith
-      count (x ∷ xs) = omega (arith, count xs, sum_by-cons (λ (name : List ℕ). length name + 1) x xs)
 
   module _ (places : List NameSpan) (p : ArePlaces names offsets places) where
     place_reads : (k : ℕ) (d : NameSpan) → k < length places → name_in head (table_text names) (get_or places k d) ≡ name_at names k
@@ -157,30 +154,3 @@ module _ (head : ℕ) (names : List (List ℕ)) (offsets : List ℕ) (fits : hea
               (omega (arith, p.at k d l, s'.above), omega (arith, p.at k d l, p.len k d l, s'.reach, ap length same_bytes));
           searchable = subst (λ (ns : List (List ℕ)). IsSearchable ns order) (sym are) s;
         }
-
--- the numbers of the entries serve for the search
-pub numbers_search : (names : List (List ℕ)) (entries : List Entry) (ranks : List ℕ) → IsOrder names entries ranks → IsSearchable names (numbers_of entries)
-numbers_search names entries ranks o =
-    let none : Entry = record { name = record { ref_ptr = (0, 0); now = [] }; number = 0; back = 0 } in
-    let count : length (numbers_of entries) ≡ length entries = length-map entries (λ (e : Entry). e.number) in
-    let number : (k : ℕ) → k < length entries → get_or (numbers_of entries) k 0 ≡ (get_or entries k none).number = λ k l. get_or-map (λ (e : Entry). e.number) entries k none 0 l in
-    let named : (k : ℕ) → k < length entries → name_at names (get_or (numbers_of entries) k 0) ≡ (get_or entries k none).name.now
-    = λ k l. ap (name_at names) (number k l) ∙ get_or_from_slice_get names (get_or entries k none).number (get_or entries k none).name.now [] (o.named k none l)
-    in
-    let are : pick names (numbers_of entries) ≡ names_of entries
-    = same_lists (pick names (numbers_of entries)) (names_of entries) (length-map (numbers_of entries) (name_at names) ∙ count ∙ sym (count_of_names entries))
-    (λ k d l.
-    let l' : k < length (numbers_of entries) = omega (arith, length-map (numbers_of entries) (name_at names)) in
-    let l'' : k < length entries = omega (arith, count) in
-    get_or-map (name_at names) (numbers_of entries) k 0 d l' ∙ named k l'' ∙ sym (name_of_entry entries k d none l''))
-    in
-    record {
-      ascends = subst StrictlyAscends (sym are) o.ascends;
-      numbers = λ k l.
-          let l' : k < length entries = omega (arith, count) in
-          let w = slice_get_within names (get_or entries k none).number (get_or entries k none).name.now (o.named k none l') in
-          omega (arith, number k l', w);
-      whole = λ i l.
-          let r : get_or ranks i 0 < length entries = omega (arith, rank_within names entries ranks o i l, count_of_names entries) in
-          (get_or ranks i 0, omega (arith, count), named (get_or ranks i 0) r ∙ sym (name_of_entry entries (get_or ranks i 0) [] none r) ∙ rank_is names entries ranks o i l);
-    }

@@ -1,13 +1,14 @@
 -- The walk from a name to the shorter ones that end it.
 use Rattle.std.proofs.Common.{◌≡◌, ℕ, ◌+◌, ◌-◌, ◌<◌, ◌≤◌, true, false, List, length, get_or, set, Option, Some, None, refl, sym, ◌∙◌, ap, subst, arith, ⊎_elim}
-use Rattle.std.proofs.lemmas.List.{get_or-set_same, get_or-set_other, length-set, get_or_default}
-use Rattle.std.proofs.lemmas.Bool.{both_ways, cases_order, false_from_ne_true, cond-false, cond-true}
-use Rattle.std.specs.Option.{option_or}
+use Rattle.std.proofs.lemmas.List.{get_or-set_same, get_or-set_other, length-set}
+use Rattle.std.proofs.lemmas.Bool.{and_from, both_ways, cases_Bool, cases_lt, cases_order, false_from_ne_true, cond-false, cond-true, lt-ltb}
+use Rattle.std.specs.Option.{is_none, is_some, option_or}
+use Rattle.std.specs.Prelude.{nat_lt}
 use Rattle.oc_base.specs.Strings.{ends}
 use Rattle.oc_strings.specs.Tables.{capped}
-use Rattle.oc_strings.specs.Order.{StrictlyAscends, name_at, IsNextTail, place_in}
+use Rattle.oc_strings.specs.Order.{Ascends, name_at, IsNextTail, ends_next, place_in}
 use Rattle.oc_strings.proofs.EndLemmas.{ends_self, ends_trans}
-use Rattle.oc_strings.proofs.OrderLemmas.{tail_first, tail_between}
+use Rattle.oc_strings.proofs.OrderLemmas.{tail_back, tail_between}
 
 -- how many names the walk may still meet
 abbrev pub still : Option ℕ → ℕ
@@ -33,13 +34,7 @@ abbrev pub StandsOn : List (List ℕ) → ℕ → Option ℕ → Type 0
 StandsOn names k None = Unit {0}
 StandsOn names k (Some c) = (c ≤ k) × (ends (name_at names c) (name_at names k) ≡ true)
 
-pub record IsPlacing (names : List (List ℕ)) (at k : ℕ) (old new : List (Option ℕ)) (current : Option ℕ) : Type 0 where
-  pub whole : length new ≡ length names
-  pub on : StandsOn names k current
-  pub done : (i : ℕ) (d : Option ℕ) → i < length names → Passed current i → get_or new i d ≡ option_or (get_or old i d) (place_in at (name_at names k) (name_at names i))
-  pub left : (i : ℕ) (d : Option ℕ) → i < length names → Left current i → get_or new i d ≡ get_or old i d
-
-module _ (names : List (List ℕ)) (up : StrictlyAscends names) where
+module _ (names : List (List ℕ)) (up : Ascends names) where
   -- a name between one and its longest tail ends no later name that the one ends
   between_none : (i c k : ℕ) → i < c → c ≤ k → k < length names → ends (name_at names i) (name_at names c) ≡ false → ends (name_at names i) (name_at names k) ≡ false
   between_none i c k l m w apart =
@@ -63,23 +58,50 @@ module _ (names : List (List ℕ)) (up : StrictlyAscends names) where
         (cases_order i j),
   )
 
-  no_place : (at : ℕ) (text name : List ℕ) (o : Option ℕ) → ends name text ≡ false → o ≡ option_or o (place_in at text name)
-  no_place at text name o apart = by o ∙ ap (option_or o) (sym (cond-false (ends name text) (Some (capped (at + (length text - length name)))) None apart))
-    where
-      by : (o : Option ℕ) → o ≡ option_or o None
-      by None = refl
-      by (Some x) = refl
+no_place : (at : ℕ) (text name : List ℕ) (o : Option ℕ) → ends name text ≡ false → o ≡ option_or o (place_in at text name)
+no_place at text name o apart = by o ∙ ap (option_or o) (sym (cond-false (ends name text) (Some (capped (at + (length text - length name)))) None apart))
+  where
+    by : (o : Option ℕ) → o ≡ option_or o None
+    by None = refl
+    by (Some x) = refl
 
-  -- the start of the walk
-  pub placing_none : (at k : ℕ) (old : List (Option ℕ)) → length old ≡ length names → k < length names → IsPlacing names at k old old (Some k)
-  placing_none at k old whole w = record {
-    whole = whole;
+in_place : (at : ℕ) (text name : List ℕ) (o : Option ℕ) → is_none o ≡ true → ends name text ≡ true → Some (capped (at + (length text - length name))) ≡ option_or o (place_in at text name)
+in_place at text name None none e = sym (cond-true (ends name text) (Some (capped (at + (length text - length name)))) None e)
+in_place at text name (Some x) none e = absurd (both_ways false refl none)
+
+old_place : (o p : Option ℕ) → is_some o ≡ true → o ≡ option_or o p
+old_place None p some = absurd (both_ways false refl some)
+old_place (Some x) p some = refl
+
+-- names in ascending order, whose offsets stand in a list by their numbers: the walk from the name at k to those that end it has got to one of them
+pub record IsPlacing (names : List (List ℕ)) (num : ℕ → ℕ) (at k : ℕ) (old new : List (Option ℕ)) (current : Option ℕ) : Type 0 where
+  pub whole : length new ≡ length old
+  pub on : StandsOn names k current
+  pub done : (i : ℕ) → i < length names → Passed current i
+      → get_or new (num i) None ≡ option_or (get_or old (num i) None) (place_in at (name_at names k) (name_at names i))
+  pub left : (i : ℕ) → i < length names → Left current i → get_or new (num i) None ≡ get_or old (num i) None
+
+-- what the walk is given: names in ascending order, each with a number of its own, and where the first one begins
+module _ (names : List (List ℕ)) (up : Ascends names) (num : ℕ → ℕ) (apart : (i k : ℕ) → i < length names → k < length names → num i ≡ num k → i ≡ k)
+    (at k : ℕ) (w : k < length names) (old : List (Option ℕ)) where
+  -- the start of the walk, at a name that does not end the next one
+  pub placing_none : ends_next names k ≡ false → IsPlacing names num at k old old (Some k)
+  placing_none top = record {
+    whole = refl;
     on = (omega arith, ends_self (name_at names k));
-    done = λ i d l above.
-        no_place at (name_at names k) (name_at names i) (get_or old i d)
-        (false_from_ne_true (ends (name_at names i) (name_at names k)) (λ e. let h = tail_first names up i k l e in absurd (omega arith)));
-    left = λ i d l below. refl;
+    done = λ i l above. no_place at (name_at names k) (name_at names i) (get_or old (num i) None) (false_from_ne_true (ends (name_at names i) (name_at names k)) (later i l above));
+    left = λ i l below. refl;
   }
+    where
+      -- a later name that ends this one is the same, and then this one ends the next one
+      later : (i : ℕ) → i < length names → k < i → ends (name_at names i) (name_at names k) ≡ true → ⊥
+      later i l above e =
+          let itself : ends (name_at names k) (name_at names i) ≡ true
+          = subst (λ (n : List ℕ). ends (name_at names k) n ≡ true) (sym (tail_back names up k i (omega arith) l e)) (ends_self (name_at names k))
+          in
+          both_ways (ends_next names k) top
+          (and_from (nat_lt (k + 1) (length names)) (ends (name_at names k) (name_at names (k + 1))) (lt-ltb (k + 1) (length names) (omega arith))
+          (tail_between names up k (k + 1) i (omega arith) (omega arith) l itself))
 
   passed_apart : (c : ℕ) (next : Option ℕ) (i : ℕ) → IsNextTail names c next → i < c → Passed next i → ends (name_at names i) (name_at names c) ≡ false
   passed_apart c None i tail l passed = tail i l
@@ -89,42 +111,56 @@ module _ (names : List (List ℕ)) (up : StrictlyAscends names) where
   left_below c None i tail left = absurd left
   left_below c (Some j) i tail left = omega (arith, tail.0, left)
 
-  on_next : (k c : ℕ) (next : Option ℕ) → StandsOn names k (Some c) → IsNextTail names c next → StandsOn names k next
-  on_next k c None on tail = tt
-  on_next k c (Some j) on tail = (omega (arith, tail.0, on.0), ends_trans (name_at names j) (name_at names c) (name_at names k) tail.1 on.1)
+  on_next : (c : ℕ) (next : Option ℕ) → StandsOn names k (Some c) → IsNextTail names c next → StandsOn names k next
+  on_next c None on tail = tt
+  on_next c (Some j) on tail = (omega (arith, tail.0, on.0), ends_trans (name_at names j) (name_at names c) (name_at names k) tail.1 on.1)
 
-  -- its step
-  pub placing_more : (at k : ℕ) (old new : List (Option ℕ)) (c : ℕ) (next : Option ℕ) (d : Option ℕ) (offset : ℕ) → k < length names
-      → IsPlacing names at k old new (Some c) → IsNextTail names c next → offset ≡ capped (at + (length (name_at names k) - length (name_at names c)))
-      → IsPlacing names at k old (set new c (option_or (get_or new c d) (Some offset))) next
-  placing_more at k old new c next d offset w p tail is =
-      let v : Option ℕ = option_or (get_or new c d) (Some offset) in
-      let in' : c < length new = omega (arith, p.on.0, p.whole) in
-      let in'' : c < length names = omega (arith, p.on.0) in
-      record {
-        whole = length-set new c v ∙ p.whole;
-        on = on_next k c next p.on tail;
-        done = λ i e l passed.
-            ⊎_elim
-            (λ same.
-            subst (λ (m : ℕ). get_or (set new c v) m e ≡ option_or (get_or old m e) (place_in at (name_at names k) (name_at names m))) (sym same)
-            (get_or-set_same new c v e in'
-            ∙ ap (λ o. option_or o (Some offset)) (get_or_default new c d e in' ∙ p.left c e in'' (omega arith))
-            ∙ ap (option_or (get_or old c e))
-            (ap Some is ∙ sym (cond-true (ends (name_at names c) (name_at names k)) (Some (capped (at + (length (name_at names k) - length (name_at names c))))) None p.on.1))))
-            (λ other. ⊎_elim
-            (λ below.
-            let ne : i ≡ c → ⊥ = λ e. omega arith in
-            get_or-set_other new c i v e ne ∙ p.left i e l (omega arith)
-            ∙ no_place at (name_at names k) (name_at names i) (get_or old i e)
-            (between_none i c k below p.on.0 w (passed_apart c next i tail below passed)))
-            (λ above.
-            let ne : i ≡ c → ⊥ = λ e. omega arith in
-            get_or-set_other new c i v e ne ∙ p.done i e l above)
-            other)
-            (cases_order i c);
-        left = λ i e l left.
-            let below : i < c = left_below c next i tail left in
-            let ne : i ≡ c → ⊥ = λ e. omega arith in
-            get_or-set_other new c i v e ne ∙ p.left i e l (omega arith);
-      }
+  module _ (new : List (Option ℕ)) (c : ℕ) (p : IsPlacing names num at k old new (Some c)) where
+    in_names : c < length names
+    in_names = omega (arith, p.on.0)
+
+    -- its step, where the name has no offset
+    pub placing_more : (next : Option ℕ) (offset : ℕ) → num c < length new → is_none (get_or new (num c) None) ≡ true
+        → IsNextTail names c next → offset ≡ capped (at + (length (name_at names k) - length (name_at names c)))
+        → IsPlacing names num at k old (set new (num c) (Some offset)) next
+    placing_more next offset room none tail is = record {
+      whole = length-set new (num c) (Some offset) ∙ p.whole;
+      on = on_next c next p.on tail;
+      done = λ i l passed.
+          ⊎_elim
+          (λ same.
+          subst (λ (m : ℕ). get_or more (num m) None ≡ option_or (get_or old (num m) None) (place_in at (name_at names k) (name_at names m))) (sym same)
+          (get_or-set_same new (num c) (Some offset) None room ∙ ap Some is
+          ∙ in_place at (name_at names k) (name_at names c) (get_or old (num c) None) (ap is_none (sym (p.left c in_names (omega arith))) ∙ none) p.on.1))
+          (λ other. ⊎_elim
+          (λ below.
+          kept i l (λ e. omega arith) ∙ p.left i l (omega arith)
+          ∙ no_place at (name_at names k) (name_at names i) (get_or old (num i) None) (between_none names up i c k below p.on.0 w (passed_apart c next i tail below passed)))
+          (λ above. kept i l (λ e. omega arith) ∙ p.done i l above)
+          other)
+          (cases_order i c);
+      left = λ i l left. let below : i < c = left_below c next i tail left in kept i l (λ e. omega arith) ∙ p.left i l (omega arith);
+    }
+      where
+        more : List (Option ℕ)
+        more = set new (num c) (Some offset)
+
+        kept : (i : ℕ) → i < length names → (i ≡ c → ⊥) → get_or more (num i) None ≡ get_or new (num i) None
+        kept i l ne = get_or-set_other new (num c) (num i) (Some offset) None (λ e. ne (apart i c l in_names e))
+
+    -- its end, where the name has one: then all that end it have
+    pub placing_stop : ((i : ℕ) → i < length names → ends (name_at names i) (name_at names c) ≡ true → is_some (get_or old (num i) None) ≡ true) → IsPlacing names num at k old new None
+    placing_stop closed = record {
+      whole = p.whole;
+      on = tt;
+      done = λ i l passed.
+          ⊎_elim (λ above. p.done i l above)
+          (λ below.
+          p.left i l (omega arith)
+          ∙ ⊎_elim
+          (λ e. old_place (get_or old (num i) None) (place_in at (name_at names k) (name_at names i)) (closed i l (tail_between names up i c k (omega arith) p.on.0 w e)))
+          (λ e. no_place at (name_at names k) (name_at names i) (get_or old (num i) None) e)
+          (cases_Bool (ends (name_at names i) (name_at names k))))
+          (cases_lt c i);
+      left = λ i l left. absurd left;
+    }

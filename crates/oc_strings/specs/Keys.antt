@@ -19,6 +19,10 @@ back_number name =
 abbrev pub entry_order : Entry → Entry → Ordering
 entry_order a b = ordering_then (nat_cmp a.back b.back) (slice_cmp nat_cmp (reverse a.name.now) (reverse b.name.now))
 
+-- and those with one name by their places among the given ones, the later one first
+abbrev pub full_order : Entry → Entry → Ordering
+full_order a b = ordering_then (entry_order a b) (nat_cmp b.number a.number)
+
 -- the entry has the number of its name
 pub record IsKeyed (entry : Entry) : Type 0 where
   pub back : entry.back ≡ back_number entry.name.now

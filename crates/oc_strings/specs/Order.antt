@@ -1,14 +1,13 @@
 -- The order of names by their bytes, read from the last one on: a name comes right before the names that it ends.
-use Rattle.std.specs.Prelude.{◌≡◌, ℕ, ◌+◌, ◌-◌, ◌<◌, ◌≤◌, Bool, ◌&&◌, nat_lt, if◌then◌else◌, true, false, List, [], All, Option, Some, None, length, map, reverse, fold, take, drop, slice_get, slice_index, slice_index_or}
+use Rattle.std.specs.Prelude.{◌≡◌, ℕ, ◌+◌, ◌-◌, ◌<◌, ◌≤◌, Bool, ◌&&◌, not, nat_lt, is_some, if◌then◌else◌, true, false, bytes_eq, zero, suc, List, [], All, Option, Some, None, length, map, reverse, fold, take, drop, slice_get, slice_index, slice_index_or}
 use Rattle.std.specs.Ordering.{nat_cmp, is_lt}
 use Rattle.std.specs.Option.{option_map, option_or}
 use Rattle.std.specs.Cmp.Lexicographic.{slice_cmp}
 use Rattle.oc_base.specs.Strings.{ends, with_top, place_from}
-use denote.Ref.{Bor}
 use Rattle.oc_strings.specs.Keys.{IsKeyed}
-use Rattle.oc_strings.specs.Tables.{capped, texts}
-use Rattle.oc_strings.specs.declared.layout.EntryLayout.{EntryLayout}
+use Rattle.oc_strings.specs.Tables.{capped}
 use Rattle.oc_strings.specs.declared.order.Entry.{Entry}
+use Rattle.oc_strings.specs.declared.spots.Spot.{Spot}
 
 -- the name comes before the other one
 abbrev pub is_before : List ℕ → List ℕ → Bool
@@ -39,18 +38,6 @@ pub record IsNumbered (names : List (List ℕ)) (entries : List Entry) : Type 0 
   pub named : (k : ℕ) (d : Entry) → k < length entries → slice_get names (slice_index_or entries k d).number ≡ Some (slice_index_or entries k d).name.now
   pub whole : (i : ℕ) → i < length names → (k : ℕ) × (k < length entries) × ((d : Entry) → (slice_index_or entries k d).number ≡ i)
 
--- the last entry has the name
-abbrev pub EndsWithName : List Entry → List ℕ → Type 0
-EndsWithName entries name = (0 < length entries) × ((d : Entry) → (slice_index_or entries (length entries - 1) d).name.now ≡ name)
-
--- the entries are the given names in ascending order, once each, with their numbers, and each given name's rank is its position among them
-pub record IsOrder (names : List (List ℕ)) (entries : List Entry) (ranks : List ℕ) : Type 0 where
-  pub keyed : All IsKeyed entries
-  pub ascends : StrictlyAscends (names_of entries)
-  pub named : (k : ℕ) (d : Entry) → k < length entries → slice_get names (slice_index_or entries k d).number ≡ Some (slice_index_or entries k d).name.now
-  pub ranked : (i : ℕ) → i < length names → slice_get (names_of entries) (slice_index ranks i) ≡ slice_get names i
-  pub whole : length ranks ≡ length names
-
 -- the name with this rank
 abbrev pub name_at : List (List ℕ) → ℕ → List ℕ
 name_at names k = slice_index_or names k []
@@ -72,22 +59,61 @@ AreNextTails names tails = (k : ℕ) (d : Option ℕ) → k < length tails → I
 abbrev pub AreTails : List (List ℕ) → List (Option ℕ) → Type 0
 AreTails names tails = (length tails ≡ length names) × AreNextTails names tails
 
+-- the number of the entry with this rank
+abbrev pub number_at : List Entry → ℕ → ℕ
+number_at entries k = slice_index (numbers_of entries) k
+
+-- no two entries have one number
+abbrev pub AreApart : List Entry → Type 0
+AreApart entries = (i k : ℕ) → i < k → k < length entries → number_at entries i ≡ number_at entries k → ⊥
+
+-- of the same names the one that was given later comes first
+abbrev pub AreSooner : List Entry → Type 0
+AreSooner entries = (k : ℕ) → k + 1 < length entries → name_at (names_of entries) k ≡ name_at (names_of entries) (k + 1) → number_at entries (k + 1) < number_at entries k
+
+-- the name with this rank is that of the one before
+abbrev pub is_repeat : List (List ℕ) → ℕ → Bool
+is_repeat names zero = false
+is_repeat names (suc k) = bytes_eq (name_at names k) (name_at names (suc k))
+
+-- the entries are the given names in ascending order, with their numbers, and each has its tail
+pub record IsOrder (names : List (List ℕ)) (entries : List Entry) (tails : List (Option ℕ)) : Type 0 where
+  pub keyed : All IsKeyed entries
+  pub ascends : Ascends (names_of entries)
+  pub numbered : IsNumbered names entries
+  pub apart : AreApart entries
+  pub sooner : AreSooner entries
+  pub tails_are : AreTails (names_of entries) tails
+
+-- what the name with this rank ends, and what ends it, by their numbers
+abbrev pub spot_of : List Entry → List (Option ℕ) → ℕ → Spot
+spot_of entries tails k = record { is_top = not (ends_next (names_of entries) k); tail = option_map (number_at entries) (slice_index_or tails k None) }
+
+-- each number has the spot of its name in an order of the names
+pub record AreSpots (names : List (List ℕ)) (spots : List Spot) : Type 0 where
+  pub entries : List Entry
+  pub tails : List (Option ℕ)
+  pub order : IsOrder names entries tails
+  pub whole : length spots ≡ length names
+  pub are : (k : ℕ) (d : Spot) → k < length entries → slice_index_or spots (number_at entries k) d ≡ spot_of entries tails k
+
 -- where a name lies in a text that begins at a place, if it ends the text
 abbrev pub place_in : ℕ → List ℕ → List ℕ → Option ℕ
 place_in at text name = if ends name text then Some (capped (at + (length text - length name))) else None
 
--- each name has its old offset, or else its place in the text that begins at a place and is the name at k, if it ends that text
-abbrev pub AreTailsPlaced : List Entry → ℕ → ℕ → List (Option ℕ) → List (Option ℕ) → Type 0
-AreTailsPlaced entries at k old new =
-    (i : ℕ) (d : Option ℕ) → i < length entries
-    → slice_index_or new i d ≡ option_or (slice_index_or old i d) (place_in at (name_at (names_of entries) k) (name_at (names_of entries) i))
+-- each name has its old offset, or else its place in the text that begins at a place and is the name with this number, if it ends that text
+abbrev pub AreTailsPlaced : List (List ℕ) → ℕ → ℕ → List (Option ℕ) → List (Option ℕ) → Type 0
+AreTailsPlaced names at number old new =
+    (i : ℕ) → i < length names → slice_index_or new i None ≡ option_or (slice_index_or old i None) (place_in at (name_at names number) (name_at names i))
 
--- the layout of the first names: their tops, and where each of the names of the order lies in them
-pub record IsLaidOut (head : ℕ) (names order : List (List ℕ)) (used : ℕ) (tops : List (List ℕ)) (offsets : List (Option ℕ)) : Type 0 where
+-- a name that ends one with an offset has an offset
+abbrev pub AreClosed : List (List ℕ) → List (Option ℕ) → Type 0
+AreClosed names offsets =
+    (i k : ℕ) → i < length names → k < length names → ends (name_at names i) (name_at names k) ≡ true
+    → is_some (slice_index_or offsets k None) ≡ true → is_some (slice_index_or offsets i None) ≡ true
+
+-- the layout of the first names: their tops, and where each name lies in them
+pub record IsLaidOut (head : ℕ) (names : List (List ℕ)) (used : ℕ) (tops : List (List ℕ)) (offsets : List (Option ℕ)) : Type 0 where
   pub tops_are : tops ≡ fold (with_top names) [] (take used names)
-  pub whole : length offsets ≡ length order
-  pub placed : (k : ℕ) (d : Option ℕ) → k < length order → slice_index_or offsets k d ≡ option_map capped (place_from head tops (name_at order k))
-
--- all given names are laid out from the head on
-abbrev pub AreLaidOut : ℕ → List (Bor (List ℕ)) → List Entry → EntryLayout → Type 0
-AreLaidOut head names entries placed = IsLaidOut head (texts names) (names_of entries) (length names) (texts placed.tops.items) placed.offsets.items
+  pub whole : length offsets ≡ length names
+  pub placed : (k : ℕ) → k < length names → slice_index_or offsets k None ≡ option_map capped (place_from head tops (name_at names k))

@@ -1,30 +1,21 @@
 //! The layout of a string table: its texts in their order, and where each given name lies.
-ghost use Rattle.std.specs.Prelude.{◌≡◌, ℕ, ◌<◌, List, ◌&&◌, All, IfOk, IsSome, is_none, not, length, map, slice_index_or};
+ghost use Rattle.std.specs.Prelude.{◌≡◌, Some, All, IfOk, IsSome, length, map};
 ghost use Rattle.oc_base.specs.Strings.{tops_of};
 ghost use Rattle.oc_strings.specs.Tables.{texts, offset_of};
-ghost use Rattle.oc_strings.specs.Order.{IsOrder, AreTails, ends_next, AreLaidOut};
+ghost use Rattle.oc_strings.specs.Order.{AreSpots, IsOrder};
 
-use crate::order::{Entry, Order};
-use crate::tails::{is_top, next_tails, place_tails};
+use crate::order::Order;
+use crate::spots::{Spot, place_tails, spots_of};
 use oc_base::NoMemory;
 use std::alloc::Global;
 
 /// The texts of a table, and where the names lie.
 #[derive(Drop)]
-pub(crate) struct EntryLayout<'a> {
+pub(crate) struct Places<'a> {
     /// The maximal names, once each, in the order of their first use.
     pub tops: Vec<&'a [u8]>,
-    /// For each entry its offset, or the largest number where it passes that.
+    /// For each given name its offset, or the largest number where it passes that.
     pub offsets: Vec<Option<u64>>,
-}
-
-/// Whether the name at `k` ends no other one, and has no place yet.
-fn is_new_top(tails: &[Option<usize>], offsets: &[Option<u64>], k: usize) -> bool
-    requires within { k < length tails.now }
-    requires room { length offsets.now ≡ length tails.now }
-    ensures { (names : List (List ℕ)) → AreTails names tails.now → result ≡ (is_none (slice_index_or offsets.now k None) && not (ends_next names k)) }
-{
-    offsets[k].is_none() && is_top(tails, k)
 }
 
 /// Puts the texts one after another from `head` on, each where it is used first, and gives each
@@ -33,37 +24,34 @@ fn place<'a>(
     alloc: Global,
     head: u32,
     names: &[&'a [u8]],
-    order: &Order<'a>,
-) -> Result<EntryLayout<'a>, NoMemory>
-    requires { IsOrder (texts names.now) order.now.entries.items order.now.ranks.items }
-    ensures { IfOk result (AreLaidOut head names.now order.now.entries.items) }
+    spots: &[Spot],
+) -> Result<Places<'a>, NoMemory>
+    requires { AreSpots (texts names.now) spots.now }
+    ensures tops { IfOk result (λ places. texts places.tops.items ≡ tops_of (texts names.now)) }
+    ensures offsets { IfOk result (λ places. places.offsets.items ≡ map (offset_of head (texts names.now)) (texts names.now)) }
+    ensures placed { IfOk result (λ places. All (λ offset. IsSome offset) places.offsets.items) }
 {
-    let entries = order.entries.as_slice();
-    let tails = next_tails(alloc, entries)?;
-    let mut tops = Vec::with_capacity(alloc, entries.len())?;
-    let mut offsets = vec![in alloc; None; entries.len()]?;
+    let mut tops = Vec::with_capacity(alloc, names.len())?;
+    let mut offsets = vec![in alloc; None; names.len()]?;
     let mut at = u64::from(head);
-    for rank in &order.ranks {
-        if is_new_top(&tails, &offsets, *rank) {
-            place_tails(&mut offsets, entries, &tails, *rank, at);
-            let name = entries[*rank].name;
-            tops.push(name)?;
+    for (i, name) in names.iter().enumerate() {
+        if spots[i].is_top {
+            place_tails(&mut offsets, names, spots, i, at);
+            tops.push(*name)?;
             at = at.saturating_add(name.len() as u64).saturating_add(1);
         }
     }
-    Ok(EntryLayout { tops, offsets })
+    Ok(Places { tops, offsets })
 }
 
-/// For each rank the offset with that rank.
-fn by_rank(alloc: Global, offsets: &[Option<u64>], ranks: &[usize]) -> Result<Vec<u64>, NoMemory>
-    requires within { All (λ rank. rank < length offsets.now) ranks.now }
-    requires placed { All (λ offset. IsSome offset) offsets.now }
-    ensures { IfOk result (λ found. map Some found.items ≡ map (λ rank. slice_index_or offsets.now rank None) ranks.now) }
+/// The offsets, which are all there.
+fn all_of(alloc: Global, offsets: &[Option<u64>]) -> Result<Vec<u64>, NoMemory>
+    requires { All (λ offset. IsSome offset) offsets.now }
+    ensures { IfOk result (λ found. map Some found.items ≡ offsets.now) }
 {
-    let mut found = Vec::with_capacity(alloc, ranks.len())?;
-    for rank in ranks {
-        let offset = offsets[*rank].unwrap();
-        found.push(offset)?;
+    let mut found = Vec::with_capacity(alloc, offsets.len())?;
+    for offset in offsets {
+        found.push(offset.unwrap())?;
     }
     Ok(found)
 }
@@ -75,24 +63,26 @@ pub(crate) struct Layout<'a> {
     pub tops: Vec<&'a [u8]>,
     /// For each given name, in the order in which they were given, its offset.
     pub offsets: Vec<u64>,
-    /// The given names in ascending order, once each.
-    pub entries: Vec<Entry<'a>>,
 }
 
 impl<'a> Layout<'a> {
-    /// Lays out the table whose first text lies at `head`.
-    pub fn of(alloc: Global, head: u32, names: &[&'a [u8]]) -> Result<Layout<'a>, NoMemory>
+    /// Lays out the table whose first text lies at `head`, of the names in this order.
+    pub fn of(
+        alloc: Global,
+        head: u32,
+        names: &[&'a [u8]],
+        order: Order<'a>,
+    ) -> Result<Layout<'a>, NoMemory>
+        requires { IsOrder (texts names.now) order.entries.items order.tails.items }
         ensures tops { IfOk result (λ layout. texts layout.tops.items ≡ tops_of (texts names.now)) }
         ensures offsets { IfOk result (λ layout. map Some layout.offsets.items ≡ map (offset_of head (texts names.now)) (texts names.now)) }
-        ensures entries { IfOk result (λ layout. (ranks : List ℕ) × IsOrder (texts names.now) layout.entries.items ranks) }
     {
-        let order = Order::of(alloc, names)?;
-        let placed = place(alloc, head, names, &order)?;
-        let offsets = by_rank(alloc, &placed.offsets, &order.ranks)?;
+        let spots = spots_of(alloc, names, order)?;
+        let places = place(alloc, head, names, &spots)?;
+        let offsets = all_of(alloc, &places.offsets)?;
         Ok(Layout {
-            tops: placed.tops,
+            tops: places.tops,
             offsets,
-            entries: order.entries,
         })
     }
 }
@@ -105,6 +95,7 @@ impl<'a> Layout<'a> {
 pub fn offsets(alloc: Global, head: u32, names: &[&[u8]]) -> Result<Vec<u64>, NoMemory>
     ensures { IfOk result (λ offsets. map Some offsets.items ≡ map (offset_of head (texts names.now)) (texts names.now)) }
 {
-    let layout = Layout::of(alloc, head, names)?;
+    let order = Order::of(alloc, names)?;
+    let layout = Layout::of(alloc, head, names, order)?;
     Ok(layout.offsets)
 }

@@ -6,6 +6,7 @@ mod order;
 mod parts;
 mod repeats;
 mod search;
+mod spots;
 mod table;
 mod tails;
 

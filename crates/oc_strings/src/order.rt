@@ -1,12 +1,14 @@
 //! Names in the order of their bytes, read from the last one on.
-ghost use Rattle.std.specs.Prelude.{◌≡◌, ◌↔◌, ℕ, ◌<◌, ◌≤◌, ◌^◌, All, IsTrue, MatchBool, length, reverse, slice_index, IfOk};
+ghost use Rattle.std.specs.Prelude.{◌≡◌, ◌↔◌, ℕ, ◌<◌, ◌≤◌, ◌^◌, List, All, IsTrue, length, reverse, slice_index, IfOk};
 ghost use Rattle.std.specs.Ordering.{nat_cmp};
 ghost use Rattle.std.specs.Cmp.Lexicographic.{slice_cmp};
 ghost use Rattle.oc_base.specs.Strings.{ends};
 ghost use Rattle.oc_strings.specs.Keys as keys;
-ghost use Rattle.oc_strings.specs.Order.{IsNumbered, names_of, Ascends, EndsWithName, IsOrder, SharesEnd};
+ghost use Rattle.oc_strings.specs.Inside.{IsSearchable};
+ghost use Rattle.oc_strings.specs.Order.{IsNumbered, names_of, Ascends, AreApart, AreSooner, AreTails, IsOrder, SharesEnd, is_repeat};
 ghost use Rattle.oc_strings.specs.Tables.{texts};
 
+use crate::tails::next_tails;
 use oc_base::NoMemory;
 use std::alloc::Global;
 use std::cmp::Ordering;
@@ -153,12 +155,22 @@ fn entry_of(name: &[u8], number: usize) -> Entry<'_>
     }
 }
 
-/// Compares the numbers of two entries, and their names only where these are the same.
-fn compare_entries(a: &Entry, b: &Entry) -> Ordering
+/// Compares the numbers of two entries' names, and the names only where these are the same.
+fn compare_names(a: &Entry, b: &Entry) -> Ordering
     ensures { result ≡ keys.entry_order a.now b.now }
 {
     match a.back.cmp(&b.back) {
         Ordering::Equal => compare_backward(a.name, b.name),
+        other => other,
+    }
+}
+
+/// Compares the names of two entries. Of the same names the one that was given later comes first.
+fn compare_entries(a: &Entry, b: &Entry) -> Ordering
+    ensures { result ≡ keys.full_order a.now b.now }
+{
+    match compare_names(a, b) {
+        Ordering::Equal => b.number.cmp(&a.number),
         other => other,
     }
 }
@@ -168,6 +180,8 @@ fn sorted<'a>(alloc: Global, names: &[&'a [u8]]) -> Result<Vec<Entry<'a>>, NoMem
     ensures keyed { IfOk result (λ entries. All keys.IsKeyed entries.items) }
     ensures ascends { IfOk result (λ entries. Ascends (names_of entries.items)) }
     ensures numbered { IfOk result (λ entries. IsNumbered (texts names.now) entries.items) }
+    ensures apart { IfOk result (λ entries. AreApart entries.items) }
+    ensures sooner { IfOk result (λ entries. AreSooner entries.items) }
 {
     let mut entries = Vec::with_capacity(alloc, names.len())?;
     for (number, name) in names.iter().enumerate() {
@@ -175,15 +189,6 @@ fn sorted<'a>(alloc: Global, names: &[&'a [u8]]) -> Result<Vec<Entry<'a>>, NoMem
     }
     entries.sort_unstable_by(compare_entries);
     Ok(entries)
-}
-
-/// The given names in ascending order, and where each comes among them.
-#[derive(Drop)]
-pub(crate) struct Order<'a> {
-    /// Each name once, with a place of it among the given ones.
-    pub entries: Vec<Entry<'a>>,
-    /// For each given name, in the order in which they were given, its place in `entries`.
-    pub ranks: Vec<usize>,
 }
 
 /// Whether the name of the entry ends that of the other one. Where both have eight bytes, and their
@@ -196,32 +201,51 @@ pub(crate) fn ends_other(entry: &Entry, other: &Entry) -> bool
     (entry.name.len() < WORD || entry.back == other.back) && is_tail(entry.name, other.name)
 }
 
-/// Whether the last entry has the name of this one.
-fn ends_with_name(entries: &[Entry], entry: &Entry) -> bool
-    requires keyed { All keys.IsKeyed entries.now }
-    requires entry_keyed { keys.IsKeyed entry.now }
-    ensures { MatchBool result (EndsWithName entries.now entry.now.name.now) (¬ EndsWithName entries.now entry.now.name.now) }
-{
-    match entries.last() {
-        Some(last) => last.name.len() == entry.name.len() && ends_other(entry, last),
-        None => false,
-    }
+/// The given names in ascending order. Of the same names the one that was given first comes last.
+#[derive(Drop)]
+pub(crate) struct Order<'a> {
+    /// An entry for each given name. Its place here is its rank.
+    pub entries: Vec<Entry<'a>>,
+    /// For each entry the rank of the last one before it whose name ends its own, if one does.
+    pub tails: Vec<Option<usize>>,
 }
 
 impl<'a> Order<'a> {
-    /// Sorts the names, and drops those that are present already.
+    /// Sorts the names, and says which end which.
     pub fn of(alloc: Global, names: &[&'a [u8]]) -> Result<Order<'a>, NoMemory>
-        ensures { IfOk result (λ order. IsOrder (texts names.now) order.entries.items order.ranks.items) }
+        ensures { IfOk result (λ order. IsOrder (texts names.now) order.entries.items order.tails.items) }
     {
-        let all = sorted(alloc, names)?;
-        let mut ranks = vec![in alloc; 0; names.len()]?;
-        let mut entries = Vec::with_capacity(alloc, all.len())?;
-        for entry in &all {
-            if !ends_with_name(&entries, entry) {
-                entries.push(*entry)?;
-            }
-            ranks[entry.number] = entries.len() - 1;
+        let entries = sorted(alloc, names)?;
+        let tails = next_tails(alloc, &entries)?;
+        Ok(Order { entries, tails })
+    }
+
+    /// Whether the entry before this one has the same name.
+    fn is_repeat(&self, k: usize) -> bool
+        requires ascends { Ascends (names_of self.now.entries.items) }
+        requires tailed { AreTails (names_of self.now.entries.items) self.now.tails.items }
+        requires within { k < length self.now.entries.items }
+        ensures { result ≡ is_repeat (names_of self.now.entries.items) k }
+    {
+        match self.tails[k] {
+            Some(j) => self.entries[j].name.len() == self.entries[k].name.len(),
+            None => false,
         }
-        Ok(Order { entries, ranks })
+    }
+
+    /// The numbers of the names in ascending order, each name once.
+    pub fn numbers(&self, alloc: Global) -> Result<Vec<u32>, NoMemory>
+        requires ascends { Ascends (names_of self.now.entries.items) }
+        requires tailed { AreTails (names_of self.now.entries.items) self.now.tails.items }
+        requires fit { All (λ entry. entry.number < 2 ^ 32) self.now.entries.items }
+        ensures { IfOk result (λ numbers. (names : List (List ℕ)) → IsOrder names self.now.entries.items self.now.tails.items → IsSearchable names numbers.items) }
+    {
+        let mut numbers = Vec::with_capacity(alloc, self.entries.len())?;
+        for k in 0..self.entries.len() {
+            if !self.is_repeat(k) {
+                numbers.push(self.entries[k].number as u32)?;
+            }
+        }
+        Ok(numbers)
     }
 }

@@ -2,10 +2,8 @@
 ghost use Rattle.std.specs.Prelude.{◌≡◌, ◌+◌, ◌^◌, ◌<◌, All, IfOk, length, sum_by};
 ghost use Rattle.oc_base.specs.Strings.{text_of};
 ghost use Rattle.oc_strings.specs.Tables.{capped, texts};
-ghost use Rattle.oc_strings.specs.Order.{numbers_of};
 ghost use Rattle.oc_strings.specs.Parts.{ArePlaces};
 
-use crate::order::Entry;
 use crate::table::NameSpan;
 use oc_base::{Bytes, NoMemory};
 use std::alloc::Global;
@@ -63,16 +61,4 @@ pub(crate) fn places(
         })?;
     }
     Ok(places)
-}
-
-/// The numbers of the entries.
-pub(crate) fn numbers(alloc: Global, entries: &[Entry]) -> Result<Vec<u32>, NoMemory>
-    requires { All (λ entry. entry.number < 2 ^ 32) entries.now }
-    ensures { IfOk result (λ numbers. numbers.items ≡ numbers_of entries.now) }
-{
-    let mut numbers = Vec::with_capacity(alloc, entries.len())?;
-    for entry in entries {
-        numbers.push(entry.number as u32)?;
-    }
-    Ok(numbers)
 }

@@ -4,7 +4,8 @@ ghost use Rattle.oc_base.specs.Strings.{table_text, table_place};
 ghost use Rattle.oc_strings.specs.Tables.{StringTable, StandsAt, texts};
 
 use crate::layout::Layout;
-use crate::parts::{bytes_of, numbers, places, slices};
+use crate::order::Order;
+use crate::parts::{bytes_of, places, slices};
 use crate::search::{find, find_near};
 use oc_base::{Bytes, NoMemory};
 use std::alloc::Global;
@@ -65,10 +66,11 @@ impl Table {
         requires { head + sum_by (λ name. length name + 1) (texts names.now) < 2 ^ 32 }
         ensures { IfOk result (λ table. table ≡ record { head = head; names = texts names.now }) }
     {
-        let layout = Layout::of(alloc, head, names)?;
+        let sorted = Order::of(alloc, names)?;
+        let order = sorted.numbers(alloc)?;
+        let layout = Layout::of(alloc, head, names, sorted)?;
         let bytes = bytes_of(alloc, &layout.tops)?;
         let given = places(alloc, names, &layout.offsets)?;
-        let order = numbers(alloc, &layout.entries)?;
         Ok(Table {
             head,
             bytes,

@@ -2,9 +2,9 @@ use Rattle.std.proofs.Common.{rules, arith}
 use Rattle.std.proofs.lemmas.List.Sorted.{ranks_by, answers_always}
 use Rattle.std.specs.Ordering.{is_lt}
 use Rattle.oc_strings.specs.declared.order.Entry.{Entry}
-use Rattle.oc_strings.specs.Keys.{entry_order}
-use Rattle.oc_strings.proofs.KeyLemmas.{entry_order_total}
-use Rattle.oc_strings.proofs.RankLemmas.{ascending, keyed_moved, numbered}
+use Rattle.oc_strings.specs.Keys.{full_order}
+use Rattle.oc_strings.proofs.KeyLemmas.{full_order_total}
+use Rattle.oc_strings.proofs.EntryLemmas.{apart_moved, ascending, keyed_moved, numbered, sooner_first}
 use Rattle.oc_strings.proofs.order.sorted.Goals as goal
 
 pub returns-clause-keyed : goal.returns-clause-keyed
@@ -17,8 +17,20 @@ returns-clause-ascends c =
     ascending c.sort_unstable_by.new.self.items
     (keyed_moved c.args.names.now c.loop-number.entries.items c.sort_unstable_by.new.self.items c.sort_unstable_by.ensures.permutation
     (λ k d e l. (c.loop-number.invariant.each k d e (omega arith), c.loop-number.invariant.bytes k e (omega arith))))
-    (c.sort_unstable_by.ensures.sorted (λ a b. is_lt (entry_order a b)) (ranks_by entry_order_total (λ (e : Entry). e)) (answers_always _ _ _ (λ f a r g called. search rules)))
+    (c.sort_unstable_by.ensures.sorted (λ a b. is_lt (full_order a b)) (ranks_by full_order_total (λ (e : Entry). e)) (answers_always _ _ _ (λ f a r g called. search rules)))
 
 pub returns-clause-numbered : goal.returns-clause-numbered
 returns-clause-numbered c =
     numbered c.args.names.now c.loop-number.entries.items c.sort_unstable_by.new.self.items c.sort_unstable_by.ensures.permutation (omega arith) (λ k d e l. c.loop-number.invariant.each k d e (omega arith))
+
+pub returns-clause-apart : goal.returns-clause-apart
+returns-clause-apart c =
+    apart_moved c.args.names.now c.loop-number.entries.items c.sort_unstable_by.new.self.items c.sort_unstable_by.ensures.permutation (λ k d e l. c.loop-number.invariant.each k d e (omega arith))
+
+pub returns-clause-sooner : goal.returns-clause-sooner
+returns-clause-sooner c =
+    sooner_first c.sort_unstable_by.new.self.items
+    (keyed_moved c.args.names.now c.loop-number.entries.items c.sort_unstable_by.new.self.items c.sort_unstable_by.ensures.permutation
+    (λ k d e l. (c.loop-number.invariant.each k d e (omega arith), c.loop-number.invariant.bytes k e (omega arith))))
+    (apart_moved c.args.names.now c.loop-number.entries.items c.sort_unstable_by.new.self.items c.sort_unstable_by.ensures.permutation (λ k d e l. c.loop-number.invariant.each k d e (omega arith)))
+    (c.sort_unstable_by.ensures.sorted (λ a b. is_lt (full_order a b)) (ranks_by full_order_total (λ (e : Entry). e)) (answers_always _ _ _ (λ f a r g called. search rules)))

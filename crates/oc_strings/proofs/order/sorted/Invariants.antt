@@ -1,7 +1,7 @@
 use Rattle.std.proofs.Common.{◌≡◌, ℕ, ◌<◌, ◌^◌, List, length, get_or}
 use denote.Ref.{Bor}
 use Rattle.oc_strings.specs.declared.order.Entry.{Entry}
-use Rattle.oc_strings.proofs.RankLemmas.{made_of}
+use Rattle.oc_strings.proofs.EntryLemmas.{made_of}
 use Rattle.oc_strings.proofs.order.sorted.Given as goal
 
 abbrev pub invariant-loop-number : goal.invariant-loop-number

@@ -1,14 +1,13 @@
 use Rattle.std.proofs.Common.{◌≡◌, ℕ, ◌<◌, List, [], length, get_or, sym, ◌∙◌, ap, subst, arith}
-use Rattle.std.proofs.lemmas.List.{get_or_default, get_or-map, length-map}
+use Rattle.std.proofs.lemmas.List.{get_or_default, length-map}
 use denote.Ref.{Bor}
 use Rattle.oc_base.specs.Strings.{text_of, table_text}
-use Rattle.oc_strings.specs.declared.order.Entry.{Entry}
 use Rattle.oc_strings.specs.Tables.{StringTable, texts}
 use Rattle.oc_strings.specs.Inside.{names_in, IsSearchable}
-use Rattle.oc_strings.specs.Order.{numbers_of}
 use Rattle.oc_strings.specs.Parts.{ArePlaces}
+use Rattle.oc_strings.proofs.EntryLemmas.{number_is, number_within}
 use Rattle.oc_strings.proofs.SliceLemmas.{text_at}
-use Rattle.oc_strings.proofs.TableLemmas.{offsets_count, offsets_fit, lengths_fit, names_fit, names_are, is_table, numbers_search}
+use Rattle.oc_strings.proofs.TableLemmas.{offsets_count, offsets_fit, lengths_fit, names_fit, names_are, is_table}
 use Rattle.oc_strings.proofs.table.Table.of_slices.Goals as goal
 
 pub places-requires-clause-offsets_fit : goal.places-requires-clause-offsets_fit
@@ -28,40 +27,24 @@ places-requires-clause-lengths_fit c k d l =
     let fit = lengths_fit c.args.head names offsets c.requires c.in_ok-layout.ensures.offsets k in' in
     omega (arith, ap length (sym (text_at c.args.names.now k d [] l)), fit)
 
-pub numbers-requires : goal.numbers-requires
-numbers-requires c k d l =
+pub numbers-requires-clause-fit : goal.numbers-requires-clause-fit
+numbers-requires-clause-fit c k d l =
     let names : List (List ℕ) = texts c.args.names.now in
-    let offsets : List ℕ = c.in_ok-layout.layout.offsets.items in
-    let entries : List Entry = c.in_ok-layout.layout.entries.items in
-    let o = c.in_ok-layout.ensures.entries in
-    let s = numbers_search names entries o.0 o.1 in
-    let in' : k < length entries = omega (arith, ap length c.deref-3.ensures.value) in
-    let n = s.numbers k (omega (arith, length-map entries (λ (e : Entry). e.number))) in
-    omega (
-      arith,
-      n,
-      get_or-map (λ (e : Entry). e.number) entries k d 0 in',
-      ap (λ es. (get_or es k d).number) c.deref-3.ensures.value,
-      names_fit c.args.head names offsets c.requires c.in_ok-layout.ensures.offsets,
-    )
+    let o = c.in_ok-sorted.ensures in
+    omega (arith, number_within names _ _ o k l, number_is c.in_ok-sorted.sorted.entries.items k d l, names_fit c.args.head names c.requires)
 
 pub invariant_of-result : goal.invariant_of-result
 unfolding table_text
 invariant_of-result c =
     let names : List (List ℕ) = texts c.args.names.now in
     let offsets : List ℕ = c.in_ok-layout.layout.offsets.items in
-    let entries : List Entry = c.in_ok-layout.layout.entries.items in
     let p : ArePlaces names offsets c.in_ok-given.given.items
     = subst (λ (os : List ℕ). ArePlaces names os c.in_ok-given.given.items) c.deref-2.ensures.value c.in_ok-given.ensures
     in
     let bytes : c.in_ok-bytes.bytes.items ≡ table_text names
     = c.in_ok-bytes.ensures ∙ ap (λ ts. text_of (texts ts)) c.deref.ensures.value ∙ ap text_of c.in_ok-layout.ensures.tops
     in
-    let o = c.in_ok-layout.ensures.entries in
-    let order : c.in_ok-order.order.items ≡ numbers_of entries = c.in_ok-order.ensures ∙ ap numbers_of c.deref-3.ensures.value in
-    let s : IsSearchable names c.in_ok-order.order.items
-    = subst (λ (ks : List ℕ). IsSearchable names ks) (sym order) (numbers_search names entries o.0 o.1)
-    in
+    let s : IsSearchable names c.in_ok-order.order.items = c.in_ok-order.ensures names c.in_ok-sorted.ensures in
     is_table c.args.head names offsets c.requires c.in_ok-layout.ensures.offsets c.in_ok-given.given.items p c.in_ok-bytes.bytes.items c.in_ok-order.order.items bytes s
 
 pub returns : goal.returns
