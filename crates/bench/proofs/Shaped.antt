@@ -36,6 +36,7 @@ use Rattle.oc_neutral.proofs.MoreRelocs.{all_placed, by_list}
 use Rattle.oc_neutral.proofs.MoreSections.{sectioned}
 use Rattle.oc_neutral.proofs.MoreSymbols.{symboled}
 use Rattle.oc_neutral.proofs.NormalLemmas.{kept_hinted}
+use Rattle.oc_neutral.proofs.Positions.{each_weaker}
 use Rattle.bench.specs.Shape.{AreNumbered, IsCode, IsElf, IsPlain, elf_of}
 
 -- ... lists
@@ -44,11 +45,6 @@ use Rattle.bench.specs.Shape.{AreNumbered, IsCode, IsElf, IsPlain, elf_of}
 all_more : {X : Type 0} (P : X → Type 0) (xs : List X) (x : X) → AllByRecursion P xs → P x → AllByRecursion P (xs ++ x ∷ [])
 all_more P [] x all is = (is, tt)
 all_more P (y ∷ ys) x all is = (all.0, all_more P ys x all.1 is)
-
--- what each has by one condition, it has by a weaker one
-weaker : {X : Type 0} (P Q : X → Type 0) → ((x : X) → P x → Q x) → (xs : List X) → AllByRecursion P xs → AllByRecursion Q xs
-weaker P Q says [] all = tt
-weaker P Q says (x ∷ xs) all = (says x all.0, weaker P Q says xs all.1)
 
 -- the next symbol has the next number
 numbered_more : (k : ℕ) (symbols : List Symbol) (y : Symbol) → AreNumbered k symbols → y.number ≡ k + length symbols → AreNumbered k (symbols ++ y ∷ [])
@@ -186,7 +182,7 @@ module _ (n : Object) (elf : IsElf n) (fine : IsBuilt n) where
       omega (arith, number_at 0 n.symbols j elf.numbered (omega (arith, low, there)), number_at 0 n.symbols k elf.numbered there, same, low)
 
   originals : (s : ℕ) → AllByRecursion (λ (x : Field Reloc). NamesOriginal n.symbols x.item.target) (list_of n.relocs s)
-  originals zero = weaker (IsHeld n 0 elf.section.bytes) (λ (x : Field Reloc). NamesOriginal n.symbols x.item.target) (λ x is. original x.item.target is.normal.target) (list_of n.relocs 0) (fine.fields.each 0 elf.section here)
+  originals zero = each_weaker (IsHeld n 0 elf.section.bytes) (λ (x : Field Reloc). NamesOriginal n.symbols x.item.target) (λ x is. original x.item.target is.normal.target) (list_of n.relocs 0) (fine.fields.each 0 elf.section here)
   originals (suc s) = subst (λ xs. AllByRecursion (λ (x : Field Reloc). NamesOriginal n.symbols x.item.target) xs)
       (sym (get_or_past n.relocs (suc s) [] (let counted = fine.fields.counted in omega (arith, counted, ap length elf.only)))) tt
 
@@ -196,7 +192,7 @@ module _ (n : Object) (elf : IsElf n) (fine : IsBuilt n) where
     begun = subst (λ gs. AreBegun (length gs) 0 (groups_of n.sections)) (sym elf.groups)
         (subst (λ ss. AreBegun 0 0 (groups_of ss)) (sym elf.only) (subst (λ g. AreBegun 0 0 (g ∷ [])) (sym elf.code.alone) (tt, refl)));
     aligns = subst (λ ss. AllByRecursion (λ (s : Section). IsAlign s.align) ss) (sym elf.only) ((4, omega arith, elf.code.align), tt);
-    symbols = weaker IsPlain (IsSymbol n) symbol n.symbols elf.symbols;
+    symbols = each_weaker IsPlain (IsSymbol n) symbol n.symbols elf.symbols;
     hints = elf.hints;
     originals = originals;
   }

@@ -26,7 +26,7 @@ low-byte : (r i back j : ℕ) → j ≡ 8 * i + 8 + 8 * back → r % 2 ^ j / 256
 low-byte r i back j e = rw (e, pow-256 back, field r (8 * i + 8) (8 * back)) (mod-mod-pow (r / 2 ^ (8 * back)) (8 * i) 8)
 
 -- the bytes of the low bytes of a residue are its own
-low_of-byte : (k : Width) (r back : ℕ) → back < bytes_of k → low_of k r / 256 ^ back % 256 ≡ r / 256 ^ back % 256
+pub low_of-byte : (k : Width) (r back : ℕ) → back < bytes_of k → low_of k r / 256 ^ back % 256 ≡ r / 256 ^ back % 256
 low_of-byte One r back l = low-byte r (0 - back) back 8 (omega arith)
 low_of-byte Two r back l = low-byte r (1 - back) back 16 (omega arith)
 low_of-byte Four r back l = low-byte r (3 - back) back 32 (omega arith)

@@ -4,7 +4,7 @@ use mathlib.Core.Path.{fun_ext}
 use Rattle.std.specs.Prelude.{slice_get, filter, flat_map, nat_eq, decimal}
 use Rattle.std.specs.List.{AllByRecursion, enumerate_from, range_with_len}
 use Rattle.std.specs.Option.{option_map, option_map_or, option_and_then, unwrap_or}
-use Rattle.std.proofs.lemmas.Bool.{true≢false, cases_lt}
+use Rattle.std.proofs.lemmas.Bool.{true≢false, cases_lt, and_parts, false_from_ne_true}
 use Rattle.std.proofs.lemmas.List.{length-map}
 use Rattle.std.proofs.lemmas.List.FromFn.{length-enumerate_from}
 use Rattle.std.proofs.lemmas.Option.{none-some, same_Some, slice_get_within}
@@ -87,18 +87,7 @@ use Rattle.oc_canonical.proofs.MapLemmas.{enumerate_map, filter-append, filter-w
 use Rattle.oc_canonical.proofs.SeenSymbols.{shown_ones, gathered, ones_gathered, gathered_append, gathered_silent, gathered_where, moved, all_moved, any_same, outer_tell, listed, listed_flat}
 use Rattle.oc_canonical.proofs.StaysLemmas.{sections_long, plain_row}
 use Rattle.oc_shows.proofs.FoundLaws.{found_in}
-
-is_not : (b : Bool) → not b ≡ true → b ≡ false
-is_not true e = absurd (true≢false (sym e))
-is_not false e = refl
-
-both : (a b : Bool) → (a && b) ≡ true → (a ≡ true) × (b ≡ true)
-both true b e = (refl, e)
-both false b e = absurd (true≢false (sym e))
-
-fails : (b : Bool) → (b ≡ true → ⊥) → b ≡ false
-fails true never = absurd (never refl)
-fails false never = refl
+use Rattle.oc_linking.proofs.LawProofs.{not-true}
 
 -- ... what a symbol says
 
@@ -298,10 +287,10 @@ module _ (w : CoffForm) (n : Object) (is : IsForCoff w n) where
       (λ x. filter-apart (λ (y : ℕ × Symbol). test y.1) (λ (y : ℕ × Symbol). is_key_at n x.0 y.1) placed (λ y e. other x.0 y.1 e))
 
   kept_local : (s : Symbol) → kept s ≡ true → is_local s.binding ≡ true
-  kept_local s e = (both (is_local s.binding) (is_written n.format s) e).0
+  kept_local s e = (and_parts (is_local s.binding) (is_written n.format s) e).0
 
   rest_outer : (s : Symbol) → rest s ≡ true → is_local s.binding ≡ false
-  rest_outer s e = is_not (is_local s.binding) (both (is_outer s.binding) (not (is_key n s)) e).0
+  rest_outer s e = not-true (is_local s.binding) (and_parts (is_outer s.binding) (not (is_key n s)) e).0
 
   -- a test of Locals that are written
   locals_all : (test : Symbol → Bool) → ((s : Symbol) → test s ≡ true → kept s ≡ true) → filter (λ (x : ℕ × Symbol). test x.1) (shown_ones n (shown n)) ≡ filter (λ (x : ℕ × Symbol). test x.1) placed
@@ -309,10 +298,10 @@ module _ (w : CoffForm) (n : Object) (is : IsForCoff w n) where
       let passes : ℕ × Symbol → Bool = λ x. test x.1 in
       split test
       ∙ ap (λ xs. xs ++ (filter passes (filter (λ (x : ℕ × Symbol). kept x.1) placed) ++ filter passes (filter (λ (x : ℕ × Symbol). rest x.1) placed)))
-      (no_keys test (λ k s e. fails (test s) (λ t. true≢false (sym (kept_local s (within s t)) ∙ key_outer k s e))))
+      (no_keys test (λ k s e. false_from_ne_true (test s) (λ t. true≢false (sym (kept_local s (within s t)) ∙ key_outer k s e))))
       ∙ ap (λ xs. xs ++ filter passes (filter (λ (x : ℕ × Symbol). rest x.1) placed)) (filter-within passes (λ (x : ℕ × Symbol). kept x.1) placed (λ x e. within x.1 e))
       ∙ ap (λ xs. filter passes placed ++ xs)
-      (filter-apart passes (λ (x : ℕ × Symbol). rest x.1) placed (λ x e. fails (test x.1) (λ t. true≢false (sym (kept_local x.1 (within x.1 t)) ∙ rest_outer x.1 e))))
+      (filter-apart passes (λ (x : ℕ × Symbol). rest x.1) placed (λ x e. false_from_ne_true (test x.1) (λ t. true≢false (sym (kept_local x.1 (within x.1 t)) ∙ rest_outer x.1 e))))
       ∙ append-nil (filter passes placed)
 
   -- a test of those that are neither
@@ -321,10 +310,10 @@ module _ (w : CoffForm) (n : Object) (is : IsForCoff w n) where
       let passes : ℕ × Symbol → Bool = λ x. test x.1 in
       split test
       ∙ ap (λ xs. xs ++ (filter passes (filter (λ (x : ℕ × Symbol). kept x.1) placed) ++ filter passes (filter (λ (x : ℕ × Symbol). rest x.1) placed)))
-      (no_keys test (λ k s e. fails (test s) (λ t.
-      true≢false (sym (key_own k s e) ∙ is_not (is_key n s) (both (is_outer s.binding) (not (is_key n s)) (within s t)).1))))
+      (no_keys test (λ k s e. false_from_ne_true (test s) (λ t.
+      true≢false (sym (key_own k s e) ∙ not-true (is_key n s) (and_parts (is_outer s.binding) (not (is_key n s)) (within s t)).1))))
       ∙ ap (λ xs. xs ++ filter passes (filter (λ (x : ℕ × Symbol). rest x.1) placed))
-      (filter-apart passes (λ (x : ℕ × Symbol). kept x.1) placed (λ x e. fails (test x.1) (λ t. true≢false (sym (kept_local x.1 e) ∙ rest_outer x.1 (within x.1 t)))))
+      (filter-apart passes (λ (x : ℕ × Symbol). kept x.1) placed (λ x e. false_from_ne_true (test x.1) (λ t. true≢false (sym (kept_local x.1 e) ∙ rest_outer x.1 (within x.1 t)))))
       ∙ filter-within passes (λ (x : ℕ × Symbol). rest x.1) placed (λ x e. within x.1 e)
 
   -- the key symbols of one section
@@ -332,7 +321,7 @@ module _ (w : CoffForm) (n : Object) (is : IsForCoff w n) where
   tested k x = filter (λ (y : ℕ × Symbol). is_key_at n k y.1) (keyed x)
 
   other_keys : (k j : ℕ) (x : Section) → j ≢ k → tested k (j, x) ≡ []
-  other_keys k j x differ = filter-apart (λ (y : ℕ × Symbol). is_key_at n k y.1) (λ (y : ℕ × Symbol). is_key_at n j y.1) placed (λ y e. fails (is_key_at n k y.1) (λ f. differ (key_place j k y.1 e f)))
+  other_keys k j x differ = filter-apart (λ (y : ℕ × Symbol). is_key_at n k y.1) (λ (y : ℕ × Symbol). is_key_at n j y.1) placed (λ y e. false_from_ne_true (is_key_at n k y.1) (λ f. differ (key_place j k y.1 e f)))
 
   keys_behind : (k i : ℕ) (xs : List Section) → k < i → flat_map (tested k) (enumerate_from i xs) ≡ []
   keys_behind k i [] low = refl
@@ -359,10 +348,10 @@ module _ (w : CoffForm) (n : Object) (is : IsForCoff w n) where
       split (is_key_at n k)
       ∙ ap (λ xs. xs ++ (filter passes (filter (λ (x : ℕ × Symbol). kept x.1) placed) ++ filter passes (filter (λ (x : ℕ × Symbol). rest x.1) placed))) (keys_of k 0 n.sections (omega arith) (omega (arith, low)))
       ∙ ap (λ xs. filter passes placed ++ (xs ++ filter passes (filter (λ (x : ℕ × Symbol). rest x.1) placed)))
-      (filter-apart passes (λ (x : ℕ × Symbol). kept x.1) placed (λ x e. fails (is_key_at n k x.1) (λ t. true≢false (sym (kept_local x.1 e) ∙ key_outer k x.1 t))))
+      (filter-apart passes (λ (x : ℕ × Symbol). kept x.1) placed (λ x e. false_from_ne_true (is_key_at n k x.1) (λ t. true≢false (sym (kept_local x.1 e) ∙ key_outer k x.1 t))))
       ∙ ap (λ xs. filter passes placed ++ xs)
-      (filter-apart passes (λ (x : ℕ × Symbol). rest x.1) placed (λ x e. fails (is_key_at n k x.1) (λ t.
-      true≢false (sym (key_own k x.1 t) ∙ is_not (is_key n x.1) (both (is_outer x.1.binding) (not (is_key n x.1)) e).1))))
+      (filter-apart passes (λ (x : ℕ × Symbol). rest x.1) placed (λ x e. false_from_ne_true (is_key_at n k x.1) (λ t.
+      true≢false (sym (key_own k x.1 t) ∙ not-true (is_key n x.1) (and_parts (is_outer x.1.binding) (not (is_key n x.1)) e).1))))
       ∙ append-nil (filter passes placed)
 
   -- ... tests
@@ -388,7 +377,7 @@ module _ (w : CoffForm) (n : Object) (is : IsForCoff w n) where
   default_rest : (s : Symbol) → needs_default s ≡ true → rest s ≡ true
   default_rest s e =
       ap (λ b. b && not (is_key n s)) (outer s.binding e)
-      ∙ ap not (fails (is_key n s) (λ t. not_key s.binding refl e t))
+      ∙ ap not (false_from_ne_true (is_key n s) (λ t. not_key s.binding refl e t))
     where
       outer : (b : Binding) → is_weak_with has_default b ≡ true → is_outer b ≡ true
       outer (Local v) e = absurd (true≢false (sym e))

@@ -2,8 +2,9 @@
 use Rattle.std.proofs.Common.{◌≡◌, ℕ, ◌^◌, true, false, cond, not, ◌&&◌, ◌||◌, eqb, nat_lt, nat_le, [], length, is_none, is_err, Option, Some, None, ℤ, refl, sym, ◌∙◌, ap, subst, arith}
 use Rattle.std.specs.Prelude.{slice_get, bytes_eq, nat_eq}
 use Rattle.std.specs.Option.{option_map, option_map_or, unwrap_or}
-use Rattle.std.proofs.lemmas.Bool.{eq-eqb, lt-ltb}
+use Rattle.std.proofs.lemmas.Bool.{eq-eqb, lt-ltb, or_parts, or_from}
 use Rattle.std.proofs.lemmas.Slice.Eq.{bytes_eq-Decides}
+use Rattle.std.proofs.lemmas.Map.Keys.{any_passes_from_place}
 use Rattle.oc_base.specs.declared.format.Format.{Format}
 use Rattle.oc_base.specs.declared.fault.Spot.{Spot}
 use Rattle.oc_base.specs.Formats.{word_for}
@@ -39,12 +40,11 @@ use Rattle.oc_neutral.specs.TargetSections.{section_count, section_conditions}
 use Rattle.oc_neutral.specs.TargetSymbols.{bounded}
 use Rattle.oc_neutral.specs.TargetRelocations.{reloc_conditions, is_too_wide, section_taken, taken_end, lacks_difference, fixed_end, has_empty_end}
 use Rattle.oc_neutral.specs.Tests.{is_cut}
-use Rattle.oc_target.proofs.MeetsConditions.{AreMet, section_met, reloc_met, neither}
+use Rattle.oc_target.proofs.MeetsConditions.{AreMet, section_met, reloc_met}
 use Rattle.oc_target.proofs.MeetsRelocs.{normal_of}
 use Rattle.oc_target.proofs.SeenLaws.{seen_is_object_law}
 use Rattle.oc_shows.proofs.SeenLines.{IsShown}
 use Rattle.oc_target.proofs.SeenReady.{IsReady, coff_ready}
-use Rattle.oc_shelf.proofs.WritingLaws.MemberLemmas.{member_passes}
 use Rattle.oc_coff.specs.declared.form.CoffForm.{CoffForm}
 use Rattle.oc_coff.specs.declared.form.CoffForm.TheVariants.{Usual32, Usual64, Big32, Big64}
 use Rattle.oc_coff.specs.Forms.{format_of, word_of}
@@ -52,7 +52,10 @@ use Rattle.oc_coff_file.proofs.CodedLaws.{IsForCoff, for_coff}
 use Rattle.oc_coff_file.proofs.SeenLaws.{shown, again, again_is, are_shown}
 use Rattle.oc_canonical.proofs.CoffAgain.{plain_rows, offset_same, key_again}
 use Rattle.oc_canonical.proofs.SeenFitted.{FamilyStays, seen_fitted}
-use Rattle.oc_canonical.proofs.StaysLemmas.{same_kind-self, and_false, or_false, low_not, sections_long, target_stays, plain_row}
+use Rattle.oc_canonical.proofs.StaysLemmas.{sections_long, target_stays, plain_row}
+use Rattle.oc_elf_file.proofs.TableClean.{none_right}
+use Rattle.oc_elf_file.proofs.HeaderClean.{within_file}
+use Rattle.oc_neutral.proofs.GivenLaws.{same_kind-self}
 
 family_whole : (w : CoffForm) → family_of (format_of w) ≡ coff_family (word_of w)
 family_whole Usual32 = refl
@@ -75,7 +78,7 @@ key_told n g has =
     ∙ ap (λ b. b && is_key_name n has.symbol.name g) (eq-eqb g g refl)
     ∙ ap (λ o. option_map_or (bytes_eq has.symbol.name) o false) has.key
     ∙ (bytes_eq-Decides has.symbol.name has.symbol.name).1 refl in
-    member_passes (λ (s : Symbol). lies_in n g s && is_key_name n s.name g) n.symbols has.position has.symbol has.there own
+    any_passes_from_place (λ (s : Symbol). lies_in n g s && is_key_name n s.name g) n.symbols has.position has.symbol has.there own
 
 module _ (w : CoffForm) (n : Object) (fits : IsFitted (format_of w) n) where
   is : IsForCoff w n
@@ -104,7 +107,7 @@ module _ (w : CoffForm) (n : Object) (fits : IsFitted (format_of w) n) where
       let low = is.meets.few in
       let none = least_none w in
       subst (λ (f : Family). AreMet (sections_of_target.bounded (section_range target) (f.sections (is_relocated target a) a))) (sym whole)
-      (low_not (length a.sections) (section_range target).least (omega (arith, none)), (low_not (section_range target).most (length a.sections) (omega (arith, long, low)), tt))
+      (within_file (length a.sections) (section_range target).least (omega (arith, none)), (within_file (section_range target).most (length a.sections) (omega (arith, long, low)), tt))
 
   abbrev kind_of : Section → Kind
   kind_of s = unwrap_or (coff_kind s.name s.tag) s.kind
@@ -149,14 +152,14 @@ module _ (w : CoffForm) (n : Object) (fits : IsFitted (format_of w) n) where
       let row : written_row target r.form Plain ≡ written_row target r.form r.hint = plain_row target (plain_rows w) r.form r.hint in
       let end : taken_end target r.form.less ≡ None = ap (λ (f : Family). cond f.scatters (section_taken r.form.less) None) whole in
       let formed : is_none (spelling_of target r.form Plain) ≡ false
-      = ap (λ o. is_none (option_map (λ (x : Row). numbers_in x.number x.second) o)) row ∙ (neither (is_none (spelling_of target r.form r.hint)) _ met.1.0).0 in
+      = ap (λ o. is_none (option_map (λ (x : Row). numbers_in x.number x.second) o)) row ∙ (or_parts (is_none (spelling_of target r.form r.hint)) _ met.1.0).0 in
       let wide : is_too_wide target at q ≡ is_too_wide target at r
       = ap (λ (x : ℤ). option_map_or (λ shift. is_err (to_field_of (word_for target) r.form.width shift x)) (cond (family_of target).holds_all_addends None (option_map (written_shift at r.form.less) (written_row target r.form Plain))) false)
       (normal_of n is.object s at r here).reduced
       ∙ ap (λ o. option_map_or (λ shift. is_err (to_field_of (word_for target) r.form.width shift r.addend)) (cond (family_of target).holds_all_addends None (option_map (written_shift at r.form.less) o)) false) row in (
         target_stays coff_manner n (shown n) shows ready s at r here met.0,
         (
-          or_false (is_none (spelling_of target r.form Plain)) (option_map_or (lacks_difference q.target (fixed_end a q.target)) (taken_end target r.form.less) false) formed
+          or_from (is_none (spelling_of target r.form Plain)) (option_map_or (lacks_difference q.target (fixed_end a q.target)) (taken_end target r.form.less) false) formed
               (ap (λ o. option_map_or (lacks_difference q.target (fixed_end a q.target)) o false) end),
           (
             ap (λ o. option_map_or (λ (k : ℕ). nat_le (2 ^ 24) at) o false) end,
@@ -171,7 +174,7 @@ module _ (w : CoffForm) (n : Object) (fits : IsFitted (format_of w) n) where
   coff_stays : FamilyStays target coff_manner n (shown n)
   coff_stays = record {
     counted = counted;
-    debug = λ k s here. ap (λ (f : Family). same_kind (kind_of s) Debug && not f.keeps_debug) whole ∙ and_false (same_kind (kind_of s) Debug);
+    debug = λ k s here. ap (λ (f : Family). same_kind (kind_of s) Debug && not f.keeps_debug) whole ∙ none_right (same_kind (kind_of s) Debug);
     kind = λ k s here. ap (λ (f : Family). f.lacks_kind (kind_of s)) whole;
     gives = gives;
     name = name;

@@ -4,8 +4,9 @@ use mathlib.Core.Path.{fun_ext}
 use Rattle.std.specs.Prelude.{slice_get, filter, filter_map, flat_map, replicate, bytes_eq}
 use Rattle.std.specs.List.{enumerate_from}
 use Rattle.std.specs.Option.{option_map, option_map_or, option_and_then}
-use Rattle.std.proofs.lemmas.Bool.{true≢false}
+use Rattle.std.proofs.lemmas.Bool.{true≢false, not_from_false}
 use Rattle.std.proofs.lemmas.List.{length-map}
+use Rattle.std.specs.Cmp.{first_so}
 use Rattle.oc_base.specs.declared.format.Word.TheVariants.{W32, W64}
 use Rattle.oc_base.specs.declared.format.Format.TheVariants.{Elf32}
 use Rattle.oc_linking.specs.declared.terms.Mark.{Mark}
@@ -74,6 +75,7 @@ use Rattle.oc_elf_file.proofs.SeenLaws.{shown, again, again_is, are_shown, seen_
 use Rattle.oc_canonical.proofs.MapLemmas.{enumerate_map, filter-append, filter-within, filter-apart, filter-same, flat_map-mapped, lists_map, map_append, laid_as, laid_map, place_map, joined_map}
 use Rattle.oc_canonical.proofs.SeenSymbols.{shown_ones, gathered, ones_gathered, gathered_append, gathered_replicate, gathered_silent, gathered_where, number_in, moved, all_moved, any_same}
 use Rattle.oc_shows.proofs.FoundLaws.{found_in}
+use Rattle.oc_linking.proofs.LawProofs.{not-true}
 
 -- every Local is written
 written : (class : ElfClass) (name : List ℕ) (b : Binding) → (is_local b && is_written_as (format_of class) name b) ≡ is_local b
@@ -85,18 +87,6 @@ written class name (Global v) = refl
 written class name Undefined = refl
 written class name (Common size align) = refl
 written class name (Weak f) = refl
-
-is_not : (b : Bool) → not b ≡ true → b ≡ false
-is_not true e = absurd (true≢false (sym e))
-is_not false e = refl
-
-not_is : (b : Bool) → b ≡ false → not b ≡ true
-not_is true e = absurd (true≢false e)
-not_is false e = refl
-
-both_first : (a b : Bool) → (a && b) ≡ true → a ≡ true
-both_first true b e = refl
-both_first false b e = e
 
 -- ... what a symbol says
 
@@ -197,7 +187,7 @@ module _ (class : ElfClass) (n : Object) (is : IsForElf class n) where
       ap (filter test) ones_are
       ∙ filter-append test (filter first placed_symbols) (filter second placed_symbols)
       ∙ ap (λ xs. xs ++ filter test (filter second placed_symbols)) (filter-within test first placed_symbols (λ x e. kept_is x.1 ∙ e))
-      ∙ ap (λ xs. filter test placed_symbols ++ xs) (filter-apart test second placed_symbols (λ x e. is_not (is_local x.1.binding) e))
+      ∙ ap (λ xs. filter test placed_symbols ++ xs) (filter-apart test second placed_symbols (λ x e. not-true (is_local x.1.binding) e))
       ∙ append-nil (filter test placed_symbols)
 
   -- of a test that no Local passes
@@ -217,7 +207,7 @@ module _ (class : ElfClass) (n : Object) (is : IsForElf class n) where
         ap (filter passes) ones_are
         ∙ filter-append passes (filter first placed_symbols) (filter second placed_symbols)
         ∙ ap (λ xs. xs ++ filter passes (filter second placed_symbols)) (filter-apart passes first placed_symbols (λ x e. fails_kept x.1 e))
-        ∙ filter-within passes second placed_symbols (λ x e. not_is (is_local x.1.binding) (out x.1 e))
+        ∙ filter-within passes second placed_symbols (λ x e. not_from_false (is_local x.1.binding) (out x.1 e))
 
   local_same : (k number : ℕ) (s : Symbol) → slice_get n.symbols k ≡ Some s → is_local (seen_symbol elf_manner n (shown n) number s).binding ≡ is_local s.binding
   local_same k number s here = seen_local elf_manner n (shown n) shows s.binding
@@ -227,13 +217,13 @@ module _ (class : ElfClass) (n : Object) (is : IsForElf class n) where
 
   outers_moved : filter (λ (x : ℕ × Symbol). not (is_local x.1.binding)) (enumerate_from 0 a.symbols) ≡ map move (filter (λ (x : ℕ × Symbol). not (is_local x.1.binding)) placed_symbols)
   outers_moved = all_moved elf_manner n (shown n) shows (λ s. not (is_local s.binding)) (λ s. not (is_local s.binding)) (λ k number s here. ap not (local_same k number s here))
-      (outers_all (λ s. not (is_local s.binding)) (λ s e. is_not (is_local s.binding) e))
+      (outers_all (λ s. not (is_local s.binding)) (λ s e. not-true (is_local s.binding) e))
 
   pub signature_same : (g : Group) → needs_signature a.symbols g ≡ needs_signature n.symbols g
   signature_same g =
       ap not (any_same elf_manner n (shown n) shows (λ s. not (is_local s.binding) && bytes_eq s.name g.key) (λ s. not (is_local s.binding) && bytes_eq s.name g.key)
       (λ k number s here. ap (λ b. not b && bytes_eq s.name g.key) (local_same k number s here))
-      (outers_all (λ s. not (is_local s.binding) && bytes_eq s.name g.key) (λ s e. is_not (is_local s.binding) (both_first (not (is_local s.binding)) (bytes_eq s.name g.key) e))))
+      (outers_all (λ s. not (is_local s.binding) && bytes_eq s.name g.key) (λ s e. not-true (is_local s.binding) (first_so (not (is_local s.binding)) (bytes_eq s.name g.key) e))))
 
   -- ... lines
 

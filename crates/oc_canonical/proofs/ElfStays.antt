@@ -1,5 +1,6 @@
 -- What is seen of an object that is ready for ELF is ready for ELF.
 use Rattle.std.proofs.Common.{◌≡◌, ℕ, ◌+◌, ◌-◌, ◌^◌, ◌<◌, ◌≤◌, Bool, true, false, cond, not, ◌&&◌, ◌||◌, nat_lt, nat_le, [], length, count_by, is_none, is_err, Some, None, ℤ, refl, sym, ◌∙◌, ap, subst, arith}
+use Rattle.std.proofs.lemmas.Bool.{or_parts, or_from}
 use mathlib.Core.Path.{fun_ext}
 use Rattle.std.specs.Prelude.{slice_get}
 use Rattle.std.specs.List.{range_with_len}
@@ -41,7 +42,7 @@ use Rattle.oc_neutral.specs.TargetSections.{section_count, section_conditions}
 use Rattle.oc_neutral.specs.TargetSymbols.{bounded}
 use Rattle.oc_neutral.specs.TargetRelocations.{reloc_conditions, is_too_wide, section_taken, taken_end, lacks_difference, fixed_end, has_empty_end}
 use Rattle.oc_neutral.specs.Spelling.{spelling_of}
-use Rattle.oc_target.proofs.MeetsConditions.{AreMet, section_met, reloc_met, neither}
+use Rattle.oc_target.proofs.MeetsConditions.{AreMet, section_met, reloc_met}
 use Rattle.oc_target.proofs.MeetsRelocs.{normal_of}
 use Rattle.oc_target.proofs.SeenLaws.{seen_is_object_law}
 use Rattle.oc_shows.proofs.SeenLines.{IsShown}
@@ -51,10 +52,13 @@ use Rattle.oc_elf.specs.declared.class.ElfClass.TheVariants.{Class32, Class64, B
 use Rattle.oc_elf.specs.Classes.{word_of, format_of}
 use Rattle.oc_elf_file.proofs.CodedLaws.{IsForElf, for_elf}
 use Rattle.oc_elf_file.proofs.SeenLaws.{shown, again, again_is, are_shown}
+use Rattle.oc_elf_file.proofs.TableClean.{none_right}
+use Rattle.oc_elf_file.proofs.HeaderClean.{within_file}
 use Rattle.oc_canonical.proofs.ElfAgain.{signature_same}
 use Rattle.oc_canonical.proofs.SeenSums.{seen_few}
 use Rattle.oc_canonical.proofs.SeenFitted.{FamilyStays, seen_fitted}
-use Rattle.oc_canonical.proofs.StaysLemmas.{same_kind-self, and_false, or_false, low_not, none_member, sections_long, relocated_same, target_stays}
+use Rattle.oc_canonical.proofs.StaysLemmas.{none_member, sections_long, relocated_same, target_stays}
+use Rattle.oc_neutral.proofs.GivenLaws.{same_kind-self}
 
 family_whole : (class : ElfClass) → family_of (format_of class) ≡ elf_family (is_many (format_of class)) (word_of class)
 family_whole Class32 = refl
@@ -100,8 +104,8 @@ module _ (class : ElfClass) (n : Object) (fits : IsFitted (format_of class) n) w
       let range : Range = section_range target in
       let count : ℕ = header_count many (is_relocated target a) a in
       subst (λ (f : Family). AreMet (sections_of_target.bounded range (f.sections (is_relocated target a) a))) (sym whole) (
-        low_not count range.least (subst (λ (k : ℕ). range.least ≤ k) (sym headers_same) is.meets.least),
-        (low_not range.most count (subst (λ (k : ℕ). k ≤ range.most) (sym headers_same) is.meets.headers), tt),
+        within_file count range.least (subst (λ (k : ℕ). range.least ≤ k) (sym headers_same) is.meets.least),
+        (within_file range.most count (subst (λ (k : ℕ). k ≤ range.most) (sym headers_same) is.meets.headers), tt),
       )
 
   abbrev kind_of : Section → Kind
@@ -138,7 +142,7 @@ module _ (class : ElfClass) (n : Object) (fits : IsFitted (format_of class) n) w
       let long = sections_long elf_manner n (shown n) shows in
       let fewer = seen_few elf_manner n (shown n) shows in
       let signs = signatures in
-      (low_not 0xFFFFFF (elf_symbol_count a) (omega (arith, low, long, fewer, signs)), tt)
+      (within_file 0xFFFFFF (elf_symbol_count a) (omega (arith, low, long, fewer, signs)), tt)
 
   few : AreMet (option_map_or bounded ((family_of target).symbols a) [])
   few = subst (λ (f : Family). AreMet (option_map_or bounded (f.symbols a) [])) (sym whole) (by class is.meets.table)
@@ -168,12 +172,12 @@ module _ (class : ElfClass) (n : Object) (fits : IsFitted (format_of class) n) w
       let q : Reloc = seen_reloc elf_manner n (shown n) r in
       let met = reloc_met target n fits s at r here in
       let end : taken_end target r.form.less ≡ None = ap (λ (f : Family). cond f.scatters (section_taken r.form.less) None) whole in
-      let formed : is_none (spelling_of target r.form r.hint) ≡ false = (neither _ _ met.1.0).0 in
+      let formed : is_none (spelling_of target r.form r.hint) ≡ false = (or_parts _ _ met.1.0).0 in
       let wide : is_too_wide target at q ≡ is_too_wide target at r
       = ap (λ (x : ℤ). option_map_or (λ shift. is_err (to_field_of (word_for target) r.form.width shift x)) (field_shift target at r) false) (normal_of n is.object s at r here).reduced in (
         target_stays elf_manner n (shown n) shows ready s at r here met.0,
         (
-          or_false (is_none (spelling_of target r.form r.hint)) (option_map_or (lacks_difference q.target (fixed_end a q.target)) (taken_end target r.form.less) false) formed
+          or_from (is_none (spelling_of target r.form r.hint)) (option_map_or (lacks_difference q.target (fixed_end a q.target)) (taken_end target r.form.less) false) formed
               (ap (λ o. option_map_or (lacks_difference q.target (fixed_end a q.target)) o false) end),
           (
             ap (λ o. option_map_or (λ (k : ℕ). nat_le (2 ^ 24) at) o false) end,
@@ -188,7 +192,7 @@ module _ (class : ElfClass) (n : Object) (fits : IsFitted (format_of class) n) w
   elf_stays : FamilyStays target elf_manner n (shown n)
   elf_stays = record {
     counted = counted;
-    debug = λ k s here. ap (λ (f : Family). same_kind (kind_of s) Debug && not f.keeps_debug) whole ∙ and_false (same_kind (kind_of s) Debug);
+    debug = λ k s here. ap (λ (f : Family). same_kind (kind_of s) Debug && not f.keeps_debug) whole ∙ none_right (same_kind (kind_of s) Debug);
     kind = λ k s here. ap (λ (f : Family). f.lacks_kind (kind_of s)) whole;
     gives = gives;
     name = name;

@@ -1,6 +1,5 @@
 -- The first bytes of a canonical file tell its format.
-use Rattle.std.proofs.Common.{◌≡◌, ℕ, ◌≤◌, Bool, true, false, cond, not, ◌&&◌, ◌||◌, eqb, nat_le, List, length, Some, refl, ◌∙◌, ap, arith}
-use Rattle.std.proofs.lemmas.Bool.Decides.{nat_tests}
+use Rattle.std.proofs.Common.{◌≡◌, ℕ, ◌≤◌, Bool, true, false, cond, not, ◌&&◌, ◌||◌, eqb, nat_le, List, length, Some, refl, ◌∙◌, ap}
 use Rattle.oc_base.specs.declared.format.Word.{Word}
 use Rattle.oc_base.specs.declared.format.Word.TheVariants.{W32, W64}
 use Rattle.oc_base.specs.declared.format.Format.TheVariants.{Elf32, Elf64, Omf, BigElf32, BigElf64}
@@ -37,15 +36,13 @@ use Rattle.oc_macho_file.specs.Canonical.{mach_file}
 use Rattle.oc_omf.specs.Bytes as omf
 use Rattle.oc_omf_file.specs.Outputs as omf_outputs
 use Rattle.oc_omf_file.specs.Canonical.{omf_file}
+use Rattle.oc_macho_file.proofs.StructureLaws.{high_test}
 
 -- ... ELF: the file header says where its numbers stand
 
 -- the numbers of the section headers stand in the first of them, by this file header of a file of so many bytes
 abbrev stand_elsewhere : ElfClass → ℕ → Ehdr → Bool
 stand_elsewhere class size h = nat_le (ehdr_size (word_of class)) size && not (eqb h.e_shoff 0) && (eqb h.e_shnum 0 || eqb h.e_shstrndx SHN_XINDEX)
-
-low_is : (a b : ℕ) → a ≤ b → nat_le a b ≡ true
-low_is a b le = grind (arith, nat_tests, le)
 
 none_stands : (a b : Bool) → (a && b && false) ≡ false
 none_stands true true = refl
@@ -72,7 +69,7 @@ module _ (class : ElfClass) (n : Object) (is : IsForElf class n) where
   many_elsewhere : is_big class ≡ true → stand_elsewhere class (length file) (ehdr_in (word_of class) file) ≡ true
   many_elsewhere big =
       elsewhere_is
-      ∙ ap (λ b. b && not (eqb header.e_shoff 0) && (eqb header.e_shnum 0 || eqb header.e_shstrndx SHN_XINDEX)) (low_is (ehdr_size (word_of class)) (length file) (header_inside class n))
+      ∙ ap (λ b. b && not (eqb header.e_shoff 0) && (eqb header.e_shnum 0 || eqb header.e_shstrndx SHN_XINDEX)) (high_test (ehdr_size (word_of class)) (length file) (header_inside class n))
       ∙ ap (λ b. not b && (eqb header.e_shnum 0 || eqb header.e_shstrndx SHN_XINDEX)) (some_table class n)
       ∙ ap (λ (count : ℕ). eqb count 0 || eqb header.e_shstrndx SHN_XINDEX) (big_number class n big)
 

@@ -4,7 +4,7 @@ use mathlib.Core.Path.{fun_ext}
 use Rattle.std.specs.Prelude.{slice_get, filter, flat_map, replicate, nat_eq, neg_ℤ, ◌-ℤ◌, ◌+ℤ◌}
 use Rattle.std.specs.List.{AllByRecursion, enumerate_from, list_any, range_with_len}
 use Rattle.std.specs.Option.{option_map, option_map_or, option_and_then}
-use Rattle.std.proofs.lemmas.Bool.{true≢false}
+use Rattle.std.proofs.lemmas.Bool.{true≢false, and_parts, false_from_ne_true}
 use Rattle.std.proofs.lemmas.Int.{ints}
 use Rattle.std.proofs.lemmas.List.{length-map}
 use Rattle.std.proofs.lemmas.Option.{none-some}
@@ -55,7 +55,7 @@ use Rattle.oc_shows.specs.Seen.{place_at, target_place, section_place, new_posit
 use Rattle.oc_neutral.specs.Shifts.{Sectional, entry_target_shift, sectdiff_shift, written_shift}
 use Rattle.oc_neutral.specs.Spelling.{written_row}
 use Rattle.oc_shows.specs.SymbolLines as table
-use Rattle.oc_shows.specs.SymbolLines.{silent, one, is_defined, is_undefined, is_weak_with, mach_lines}
+use Rattle.oc_shows.specs.SymbolLines.{one, is_defined, is_undefined, is_weak_with, mach_lines}
 use Rattle.oc_neutral.specs.TargetRelocations.{section_taken}
 use Rattle.oc_neutral.specs.WrittenSymbols.{is_written}
 use Rattle.oc_target.proofs.MeetsRelocs.{normal_of}
@@ -99,14 +99,7 @@ use Rattle.oc_canonical.proofs.MapLemmas.{enumerate_map, filter-append, filter-m
 use Rattle.oc_canonical.proofs.SeenSymbols.{shown_ones, gathered, ones_gathered, gathered_append, gathered_silent, gathered_where, moved, all_moved, outer_tell}
 use Rattle.oc_canonical.proofs.StaysLemmas.{sections_long, plain_row}
 use Rattle.oc_shows.proofs.FoundLaws.{found_in}
-
-is_not : (b : Bool) → not b ≡ true → b ≡ false
-is_not true e = absurd (true≢false (sym e))
-is_not false e = refl
-
-fails : (b : Bool) → (b ≡ true → ⊥) → b ≡ false
-fails true never = absurd (never refl)
-fails false never = refl
+use Rattle.oc_linking.proofs.LawProofs.{not-true}
 
 -- ... parts of a list by tests, of which no two hold of one
 
@@ -159,7 +152,7 @@ defined_rank (Local v) e = absurd (true≢false (sym e))
 defined_rank (Global v) e = refl
 defined_rank Undefined e = absurd (true≢false (sym e))
 defined_rank (Common size align) e = absurd (true≢false (sym e))
-defined_rank (Weak f) e = ap (λ b. cond b 4 1) (is_not (weak.is_zero f) e)
+defined_rank (Weak f) e = ap (λ b. cond b 4 1) (not-true (weak.is_zero f) e)
 
 undefined_rank : (b : Binding) → is_undefined b ≡ true → rank b ≡ 2
 undefined_rank (Local v) e = absurd (true≢false (sym e))
@@ -187,11 +180,7 @@ abbrev IsRanked : (Symbol → Bool) → ℕ → Type 0
 IsRanked test k = (s : Symbol) → test s ≡ true → rank s.binding ≡ k
 
 apart_by : (test u : Symbol → Bool) (i j : ℕ) → IsRanked test i → IsRanked u j → i ≢ j → IsApart test u
-apart_by test u i j first second differ s e = fails (test s) (λ t. differ (sym (first s t) ∙ second s e))
-
-both : (a b : Bool) → (a && b) ≡ true → (a ≡ true) × (b ≡ true)
-both true b e = (refl, e)
-both false b e = absurd (true≢false (sym e))
+apart_by test u i j first second differ s e = false_from_ne_true (test s) (λ t. differ (sym (first s t) ∙ second s e))
 
 -- ... what a symbol says
 
@@ -480,7 +469,7 @@ module _ (w : Word) (n : Object) (is : IsForMach w n) where
   weaks s = is_weak_with weak.is_zero s.binding
 
   kept_ranked : IsRanked kept 0
-  kept_ranked s e = local_rank s.binding (both (is_local s.binding) (is_written n.format s) e).0
+  kept_ranked s e = local_rank s.binding (and_parts (is_local s.binding) (is_written n.format s) e).0
 
   defines_ranked : IsRanked defines 1
   defines_ranked s e = defined_rank s.binding e

@@ -3,8 +3,7 @@ use Rattle.std.proofs.Common.{◌≡◌, ℕ, zero, suc, ◌+◌, ◌^◌, ◌<�
 use Rattle.std.specs.Prelude.{slice_get, nat_eq}
 use Rattle.std.specs.List.{enumerate_from, list_any}
 use Rattle.std.specs.Option.{option_map, option_map_or, option_and_then}
-use Rattle.std.proofs.lemmas.Bool.{eq-eqb, lt-ltb}
-use Rattle.std.proofs.lemmas.Bool.Decides.{nat_tests}
+use Rattle.std.proofs.lemmas.Bool.{eq-eqb, lt-ltb, or_parts, or_from}
 use Rattle.std.proofs.lemmas.Option.{none-some, same_Some}
 use Rattle.oc_base.specs.declared.format.Word.{Word}
 use Rattle.oc_base.specs.declared.format.Word.TheVariants.{W32, W64}
@@ -49,17 +48,21 @@ use Rattle.oc_neutral.specs.TargetSections as sections_of_target
 use Rattle.oc_neutral.specs.TargetSections.{section_count, section_conditions}
 use Rattle.oc_neutral.specs.TargetSymbols.{bounded}
 use Rattle.oc_neutral.specs.TargetRelocations.{reloc_conditions, is_too_wide, taken_end, lacks_difference, fixed_end, global_section, has_empty_end, is_empty, is_symbol}
-use Rattle.oc_target.proofs.MeetsConditions.{AreMet, section_met, reloc_met, neither}
+use Rattle.oc_target.proofs.MeetsConditions.{AreMet, section_met, reloc_met}
 use Rattle.oc_target.proofs.SeenLaws.{seen_is_object_law}
 use Rattle.oc_shows.proofs.SeenAlike.{stands}
 use Rattle.oc_shows.proofs.SeenLines.{IsShown}
 use Rattle.oc_macho.specs.MachHeader.{mach_format}
 use Rattle.oc_macho_file.proofs.CodedLaws.{IsForMach, IsPlaced, for_mach, fallback_is}
 use Rattle.oc_macho_file.proofs.SeenLaws.{shown, again, again_is, are_shown}
+use Rattle.oc_macho_file.proofs.StructureLaws.{high_test}
 use Rattle.oc_canonical.proofs.MachAgain.{row_same, is_moved, written_same, ready, form_same, hint_same, target_same, long_place, self_same, needed_again, addend_same}
 use Rattle.oc_canonical.proofs.SeenSums.{seen_count}
 use Rattle.oc_canonical.proofs.SeenFitted.{FamilyStays, seen_fitted}
-use Rattle.oc_canonical.proofs.StaysLemmas.{same_kind-self, and_false, or_false, low_not, sections_long, target_stays}
+use Rattle.oc_canonical.proofs.StaysLemmas.{sections_long, target_stays}
+use Rattle.oc_elf_file.proofs.TableClean.{none_right}
+use Rattle.oc_elf_file.proofs.HeaderClean.{within_file}
+use Rattle.oc_neutral.proofs.GivenLaws.{same_kind-self}
 
 family_whole : (w : Word) → family_of (mach_format w) ≡ mach_family w
 family_whole W32 = refl
@@ -76,9 +79,6 @@ comma_in (x ∷ xs) ys = by (is_comma x) (comma_in xs ys)
     by : (b : Bool) → list_any is_comma (xs ++ 44 ∷ ys) ≡ true → (b || list_any is_comma (xs ++ 44 ∷ ys)) ≡ true
     by true e = refl
     by false e = e
-
-low_is : (a b : ℕ) → a ≤ b → nat_le a b ≡ true
-low_is a b le = grind (arith, nat_tests, le)
 
 section_of_place : (b : Binding) (p : Place) → global_place b ≡ Some p → global_section b ≡ Some p.0
 section_of_place (Local v) p h = absurd (none-some p h)
@@ -118,7 +118,7 @@ module _ (w : Word) (n : Object) (fits : IsFitted (mach_format w) n) where
       let low = is.meets.few in
       let count : ℕ = length a.sections in
       subst (λ (f : Family). AreMet (sections_of_target.bounded (section_range target) (f.sections (is_relocated target a) a))) (sym whole)
-      (subst (λ (range : Range). AreMet (sections_of_target.bounded range count)) (sym (range_whole w)) (low_not count 0 (omega arith), (low_not 255 count (omega (arith, long, low)), tt)))
+      (subst (λ (range : Range). AreMet (sections_of_target.bounded range count)) (sym (range_whole w)) (within_file count 0 (omega arith), (within_file 255 count (omega (arith, long, low)), tt)))
 
   abbrev kind_of : Section → Kind
   kind_of s = mach_kind (segment_of s.name) (section_of s.name) s.tag
@@ -132,8 +132,8 @@ module _ (w : Word) (n : Object) (fits : IsFitted (mach_format w) n) where
       ap (λ (f : Family). f.gives (kind_of s) s.name s.tag) whole
       ∙ ap (λ b. not b && ((list_any is_comma s.name && nat_le (length (segment_of s.name)) 16 && nat_le (length (section_of s.name)) 16) && nat_lt s.tag (2 ^ 32) && nat_eq (mach_tag s.tag) s.tag && is_read_type s.tag && same_kind (kind_of s) (kind_of s))) x.uncut
       ∙ ap (λ b. (b && nat_le (length (segment_of s.name)) 16 && nat_le (length (section_of s.name)) 16) && nat_lt s.tag (2 ^ 32) && nat_eq (mach_tag s.tag) s.tag && is_read_type s.tag && same_kind (kind_of s) (kind_of s)) comma
-      ∙ ap (λ b. (b && nat_le (length (section_of s.name)) 16) && nat_lt s.tag (2 ^ 32) && nat_eq (mach_tag s.tag) s.tag && is_read_type s.tag && same_kind (kind_of s) (kind_of s)) (low_is (length (segment_of s.name)) 16 x.segment)
-      ∙ ap (λ b. b && nat_lt s.tag (2 ^ 32) && nat_eq (mach_tag s.tag) s.tag && is_read_type s.tag && same_kind (kind_of s) (kind_of s)) (low_is (length (section_of s.name)) 16 x.section)
+      ∙ ap (λ b. (b && nat_le (length (section_of s.name)) 16) && nat_lt s.tag (2 ^ 32) && nat_eq (mach_tag s.tag) s.tag && is_read_type s.tag && same_kind (kind_of s) (kind_of s)) (high_test (length (segment_of s.name)) 16 x.segment)
+      ∙ ap (λ b. b && nat_lt s.tag (2 ^ 32) && nat_eq (mach_tag s.tag) s.tag && is_read_type s.tag && same_kind (kind_of s) (kind_of s)) (high_test (length (section_of s.name)) 16 x.section)
       ∙ ap (λ b. b && nat_eq (mach_tag s.tag) s.tag && is_read_type s.tag && same_kind (kind_of s) (kind_of s)) (lt-ltb s.tag (2 ^ 32) x.small)
       ∙ ap (λ b. b && is_read_type s.tag && same_kind (kind_of s) (kind_of s)) (eq-eqb (mach_tag s.tag) s.tag x.tag)
       ∙ ap (λ b. b && same_kind (kind_of s) (kind_of s)) x.type
@@ -162,7 +162,7 @@ module _ (w : Word) (n : Object) (fits : IsFitted (mach_format w) n) where
       let long = needed_long w refl in
       let le = seen_count m n sh shows (λ s. is_written_by (mach_writes w) s.name s.binding) (λ s. is_written_by (mach_writes w) s.name s.binding) (λ k number s h. written_same w n sh (mach_writes w) s.name s.binding) in
       subst (λ (f : Family). AreMet (option_map_or bounded (f.symbols a) [])) (sym whole)
-      (low_not 0xFFFFFF (mach_symbol_count w a) (omega (arith, low, long, le)), tt)
+      (within_file 0xFFFFFF (mach_symbol_count w a) (omega (arith, low, long, le)), tt)
 
   weak : (k : ℕ) (s : Symbol) (f : Fallback) → slice_get n.symbols k ≡ Some s → s.binding ≡ Weak f → (family_of target).lacks_weak a (seen_fallback m n sh f) ≡ false
   weak k s f here own = ap (λ (g : Family). g.lacks_weak a (seen_fallback m n sh f)) whole ∙ by (fallback_is w n is k s here f own)
@@ -228,8 +228,8 @@ module _ (w : Word) (n : Object) (fits : IsFitted (mach_format w) n) where
 
     lacks_again : (k : ℕ) → lacks_difference r.target (fixed_end n r.target) k ≡ false → lacks_difference q.target (fixed_end a q.target) k ≡ false
     lacks_again k none =
-        let parts = neither (is_none (fixed_end n r.target)) (is_symbol r.target && option_map_or (λ (e : ℕ). nat_eq e k) (fixed_end n r.target) false) none in
-        or_false (is_none (fixed_end a q.target)) (is_symbol q.target && option_map_or (λ (e : ℕ). nat_eq e k) (fixed_end a q.target) false) (ap is_none end_same ∙ parts.0) (by place refl parts.1)
+        let parts = or_parts (is_none (fixed_end n r.target)) (is_symbol r.target && option_map_or (λ (e : ℕ). nat_eq e k) (fixed_end n r.target) false) none in
+        or_from (is_none (fixed_end a q.target)) (is_symbol q.target && option_map_or (λ (e : ℕ). nat_eq e k) (fixed_end a q.target) false) (ap is_none end_same ∙ parts.0) (by place refl parts.1)
       where
         by : (o : Option Place) → place ≡ o → (is_symbol r.target && option_map_or (λ (e : ℕ). nat_eq e k) (fixed_end n r.target) false) ≡ false
             → (is_symbol q.target && option_map_or (λ (e : ℕ). nat_eq e k) (fixed_end a q.target) false) ≡ false
@@ -272,10 +272,10 @@ module _ (w : Word) (n : Object) (fits : IsFitted (mach_format w) n) where
     reloc spot =
         let met = reloc_met target n fits s at r here in
         let taken : taken_end target q.form.less ≡ taken_end target r.form.less = ap (λ (f : Form). taken_end target f.less) (form_same w n is r) in
-        let no_form = neither (is_none (spelling_of target r.form r.hint)) (option_map_or (lacks_difference r.target (fixed_end n r.target)) (taken_end target r.form.less) false) met.1.0 in (
+        let no_form = or_parts (is_none (spelling_of target r.form r.hint)) (option_map_or (lacks_difference r.target (fixed_end n r.target)) (taken_end target r.form.less) false) met.1.0 in (
           target_stays m n sh shows (ready w n is) s at r here met.0,
           (
-            or_false (is_none (spelling_of target q.form q.hint)) (option_map_or (lacks_difference q.target (fixed_end a q.target)) (taken_end target q.form.less) false)
+            or_from (is_none (spelling_of target q.form q.hint)) (option_map_or (lacks_difference q.target (fixed_end a q.target)) (taken_end target q.form.less) false)
                 (ap (λ o. is_none (option_map (λ (x : Row). numbers_in x.number x.second) o)) row_again ∙ no_form.0)
                 (ap (λ o. option_map_or (lacks_difference q.target (fixed_end a q.target)) o false) taken ∙ differs (taken_end target r.form.less) no_form.1),
             (
@@ -298,7 +298,7 @@ module _ (w : Word) (n : Object) (fits : IsFitted (mach_format w) n) where
   mach_stays : FamilyStays target m n sh
   mach_stays = record {
     counted = counted;
-    debug = λ k s here. ap (λ (f : Family). same_kind (kind_of s) Debug && not f.keeps_debug) whole ∙ and_false (same_kind (kind_of s) Debug);
+    debug = λ k s here. ap (λ (f : Family). same_kind (kind_of s) Debug && not f.keeps_debug) whole ∙ none_right (same_kind (kind_of s) Debug);
     kind = λ k s here. ap (λ (f : Family). f.lacks_kind (kind_of s)) whole;
     gives = gives;
     name = name;

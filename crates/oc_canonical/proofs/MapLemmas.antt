@@ -1,7 +1,7 @@
 -- Lists whose items are changed: what is found in them, and the parts of files.
-use Rattle.std.proofs.Common.{◌≡◌, ℕ, zero, suc, ◌+◌, ◌-◌, Bool, true, false, cond, List, [], ◌∷◌, ◌++◌, length, map, Option, Some, None, refl, sym, ◌∙◌, ap}
-use Rattle.std.specs.Prelude.{slice_get, slice_index_or, filter, filter_map, flat_map, find, replicate}
-use Rattle.std.specs.List.{enumerate_from, cons_option, list_any}
+use Rattle.std.proofs.Common.{◌≡◌, ℕ, zero, suc, ◌+◌, ◌-◌, Bool, true, false, cond, List, [], ◌∷◌, ◌++◌, length, map, Some, refl, sym, ◌∙◌, ap}
+use Rattle.std.specs.Prelude.{slice_get, slice_index_or, filter, flat_map, find, replicate}
+use Rattle.std.specs.List.{enumerate_from, list_any}
 use Rattle.std.specs.Option.{option_map_or}
 use Rattle.std.proofs.lemmas.Bool.{true≢false}
 use Rattle.oc_shelf.specs.Writing.Parts.{Laid, laid, laid_end, joined, place_where}
@@ -67,19 +67,6 @@ any_filled {X} test i (x ∷ xs) = elim (test x) as (λ b. test x ≡ b → list
   | true ↦ λ e. rw e refl
   | false ↦ λ e. rw e (any_filled test (i + 1) xs)
 ] refl
-
--- what leaves each item leaves the list
-pub filter_map-all : {X : Type 0} (f : X → Option X) (xs : List X) → ((k : ℕ) (x : X) → slice_get xs k ≡ Some x → f x ≡ Some x) → filter_map f xs ≡ xs
-filter_map-all f [] all = refl
-filter_map-all f (x ∷ xs) all = ap (λ o. cons_option o (filter_map f xs)) (all 0 x refl) ∙ ap (λ ys. x ∷ ys) (filter_map-all f xs (λ k y h. all (suc k) y h))
-
-pub filter_map-append : {X Y : Type 0} (f : X → Option Y) (xs ys : List X) → filter_map f (xs ++ ys) ≡ filter_map f xs ++ filter_map f ys
-filter_map-append f [] ys = refl
-filter_map-append {X} {Y} f (x ∷ xs) ys = by (f x) (filter_map-append f xs ys)
-  where
-    by : (o : Option Y) → filter_map f (xs ++ ys) ≡ filter_map f xs ++ filter_map f ys → cons_option o (filter_map f (xs ++ ys)) ≡ cons_option o (filter_map f xs) ++ filter_map f ys
-    by None e = e
-    by (Some y) e = ap (λ zs. y ∷ zs) e
 
 -- ... parts of files
 

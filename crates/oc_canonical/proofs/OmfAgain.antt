@@ -4,7 +4,7 @@ use mathlib.Core.Path.{fun_ext}
 use Rattle.std.specs.Prelude.{slice_get, filter, filter_map, flat_map, bytes_eq, nat_eq, codes, slice_range}
 use Rattle.std.specs.List.{AllByRecursion, enumerate_from, cons_option, position_or_len}
 use Rattle.std.specs.Option.{option_map, option_map_or, option_and_then}
-use Rattle.std.proofs.lemmas.Bool.{true≢false}
+use Rattle.std.proofs.lemmas.Bool.{true≢false, false_from_ne_true}
 use Rattle.std.proofs.lemmas.List.{length-map}
 use Rattle.oc_base.specs.declared.format.Word.TheVariants.{W32}
 use Rattle.oc_base.specs.declared.format.Format.TheVariants.{Omf}
@@ -58,10 +58,6 @@ use Rattle.oc_canonical.proofs.MapLemmas.{enumerate_map, filter-append, filter-w
 use Rattle.oc_canonical.proofs.SeenSymbols.{shown_ones, gathered, ones_gathered, gathered_append, gathered_where, moved, all_moved, outer_tell}
 use Rattle.oc_canonical.proofs.StaysLemmas.{plain_row}
 use Rattle.oc_shows.proofs.FoundLaws.{found_in}
-
-fails : (b : Bool) → (b ≡ true → ⊥) → b ≡ false
-fails true never = absurd (never refl)
-fails false never = refl
 
 -- the first place that passes a test, of items that are changed
 position_map : {X Y : Type 0} (f : X → Y) (test : X → Bool) (tests : Y → Bool) (xs : List X) → ((k : ℕ) (x : X) → slice_get xs k ≡ Some x → tests (f x) ≡ test x)
@@ -225,8 +221,8 @@ module _ (n : Object) (is : IsForOmf n) (object : IsObject (again n)) where
       split is_undefined
       ∙ ap (λ xs. xs ++ (filter (passes is_undefined) (those is_common) ++ filter (passes is_undefined) (those is_global))) (own is_undefined)
       ∙ ap (λ xs. those is_undefined ++ (xs ++ filter (passes is_undefined) (those is_global)))
-      (none is_undefined is_common (λ b e. fails (is_undefined b) (λ f. true≢false (sym e ∙ undefined_common b f))))
-      ∙ ap (λ xs. those is_undefined ++ xs) (none is_undefined is_global (λ b e. fails (is_undefined b) (λ f. true≢false (sym e ∙ undefined_global b f))))
+      (none is_undefined is_common (λ b e. false_from_ne_true (is_undefined b) (λ f. true≢false (sym e ∙ undefined_common b f))))
+      ∙ ap (λ xs. those is_undefined ++ xs) (none is_undefined is_global (λ b e. false_from_ne_true (is_undefined b) (λ f. true≢false (sym e ∙ undefined_global b f))))
       ∙ append-nil (those is_undefined)
 
   common_all : filter (passes is_common) (shown_ones n (shown n)) ≡ those is_common
@@ -234,7 +230,7 @@ module _ (n : Object) (is : IsForOmf n) (object : IsObject (again n)) where
       split is_common
       ∙ ap (λ xs. xs ++ (filter (passes is_common) (those is_common) ++ filter (passes is_common) (those is_global))) (none is_common is_undefined undefined_common)
       ∙ ap (λ xs. xs ++ filter (passes is_common) (those is_global)) (own is_common)
-      ∙ ap (λ xs. those is_common ++ xs) (none is_common is_global (λ b e. fails (is_common b) (λ f. true≢false (sym e ∙ common_global b f))))
+      ∙ ap (λ xs. those is_common ++ xs) (none is_common is_global (λ b e. false_from_ne_true (is_common b) (λ f. true≢false (sym e ∙ common_global b f))))
       ∙ append-nil (those is_common)
 
   global_all : filter (passes is_global) (shown_ones n (shown n)) ≡ those is_global

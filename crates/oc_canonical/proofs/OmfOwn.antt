@@ -65,26 +65,16 @@ use Rattle.oc_omf_file.proofs.RelocationClean.{relocations_clean}
 use Rattle.oc_omf_file.proofs.WrittenLaw.{omf_is_written}
 use Rattle.oc_canonical.proofs.OmfStays.{IsClassed, classed}
 use Rattle.oc_canonical.specs.Stable.{IsReadBack}
+use Rattle.oc_linking.proofs.Whole.{keeps-all}
 
 -- ... fewer conditions
-
-every_kind : (k : Kind) → keeps all k ≡ true
-every_kind Code = refl
-every_kind ReadOnly = refl
-every_kind Data = refl
-every_kind Zero = refl
-every_kind Init = refl
-every_kind Fini = refl
-every_kind Debug = refl
-every_kind Exception = refl
-every_kind Note = refl
 
 all_judged : (t : Tables) (x : Fixed) → is_judged t all x ≡ true
 all_judged t x = by x.piece
   where
     kept : (d : Piece) (o : Option Segment) → option_map_or (λ (s : Segment). keeps all (segment_kind t d.segment s)) o true ≡ true
     kept d None = refl
-    kept d (Some s) = every_kind (segment_kind t d.segment s)
+    kept d (Some s) = keeps-all (segment_kind t d.segment s)
 
     by : (o : Option Piece) → option_map_or (faults.is_kept t all) o true ≡ true
     by None = refl
@@ -244,7 +234,7 @@ module _ (n : Object) (fits : IsFitted Omf n) where
       kinds : (ys : List parts.Section) → ((k : ℕ) (y : parts.Section) → slice_get ys k ≡ Some y → keeps own_keep y.kind ≡ true) → map (λ (s : parts.Section). keeps own_keep s.kind) ys ≡ map (λ (s : parts.Section). keeps all s.kind) ys
       kinds [] each = refl
       kinds (y ∷ ys) each =
-          ap (λ b. b ∷ map (λ (s : parts.Section). keeps own_keep s.kind) ys) (each 0 y refl ∙ sym (every_kind y.kind))
+          ap (λ b. b ∷ map (λ (s : parts.Section). keeps own_keep s.kind) ys) (each 0 y refl ∙ sym (keeps-all y.kind))
           ∙ ap (λ bs. keeps all y.kind ∷ bs) (kinds ys (λ k z h. each (suc k) z h))
 
       kept : (k : ℕ) (y : parts.Section) → slice_get (omf_rules.sections c) k ≡ Some y → keeps own_keep y.kind ≡ true

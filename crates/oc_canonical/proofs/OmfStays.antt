@@ -2,7 +2,7 @@
 use Rattle.std.proofs.Common.{◌≡◌, ℕ, Bool, true, false, not, ◌&&◌, ◌||◌, nat_lt, List, length, is_none, Some, refl, sym, ◌∙◌, ap, subst, arith}
 use Rattle.std.specs.Prelude.{slice_get, count_by}
 use Rattle.std.specs.Option.{option_map, option_map_or}
-use Rattle.std.proofs.lemmas.Bool.{eq-eqb}
+use Rattle.std.proofs.lemmas.Bool.{eq-eqb, or_parts, or_from}
 use Rattle.std.proofs.lemmas.Option.{none-some}
 use Rattle.oc_base.specs.declared.format.Format.TheVariants.{Omf}
 use Rattle.oc_base.specs.declared.fault.Spot.{Spot}
@@ -29,7 +29,7 @@ use Rattle.oc_shows.specs.Seen.{seen, seen_symbol, seen_binding, seen_reloc}
 use Rattle.oc_neutral.specs.Shifts.{field_shift}
 use Rattle.oc_neutral.specs.Spelling.{numbers_in, spelling_of}
 use Rattle.oc_neutral.specs.TargetRelocations.{reloc_conditions}
-use Rattle.oc_target.proofs.MeetsConditions.{AreMet, reloc_met, neither}
+use Rattle.oc_target.proofs.MeetsConditions.{AreMet, reloc_met}
 use Rattle.oc_target.proofs.SeenLaws.{seen_is_object_law}
 use Rattle.oc_shows.proofs.SeenLines.{IsShown}
 use Rattle.oc_shows.proofs.SeenAlike.{seen_local}
@@ -39,7 +39,8 @@ use Rattle.oc_omf_file.proofs.SeenLaws.{shown, again, again_is, are_shown}
 use Rattle.oc_canonical.proofs.OmfAgain.{plain_rows, form_same}
 use Rattle.oc_canonical.proofs.SeenSums.{seen_count}
 use Rattle.oc_canonical.proofs.SeenFitted.{FamilyStays, seen_fitted}
-use Rattle.oc_canonical.proofs.StaysLemmas.{or_false, low_not, sections_long, target_stays, plain_row}
+use Rattle.oc_canonical.proofs.StaysLemmas.{sections_long, target_stays, plain_row}
+use Rattle.oc_elf_file.proofs.HeaderClean.{within_file}
 
 -- a kind that has a class
 pub record IsClassed (kind : Kind) : Type 0 where
@@ -88,14 +89,14 @@ module _ (n : Object) (fits : IsFitted Omf n) where
   few =
       let low = is.meets.externals in
       let le = seen_count omf_manner n (shown n) shows (λ s. is_external s.binding) (λ s. is_external s.binding) (λ k number s h. external_same n (shown n) s.binding) in
-      low_not 32767 _ (omega (arith, low, le))
+      within_file 32767 _ (omega (arith, low, le))
 
   symbol : (k number : ℕ) (s : Symbol) → slice_get n.symbols k ≡ Some s → (not (is_local (seen_symbol omf_manner n (shown n) number s).binding) && is_too_long s.name) ≡ false
   symbol k number s here = ap (λ b. not b && is_too_long s.name) (seen_local omf_manner n (shown n) shows s.binding) ∙ by (is_local s.binding) refl
     where
       by : (b : Bool) → is_local s.binding ≡ b → (not b && is_too_long s.name) ≡ false
       by true e = refl
-      by false e = low_not 255 (length s.name) ((is.meets.symbols k s here).name e)
+      by false e = within_file 255 (length s.name) ((is.meets.symbols k s here).name e)
 
   reloc : (s at : ℕ) (r : Reloc) (spot : Spot) → reloc_at n s at ≡ Some r → AreMet (reloc_conditions Omf a at (seen_reloc omf_manner n (shown n) r) spot)
   unfolding reloc_conditions field_shift
@@ -105,18 +106,18 @@ module _ (n : Object) (fits : IsFitted Omf n) where
       let formed : is_none (spelling_of Omf q.form Plain) ≡ false
       = ap (λ (f : Form). is_none (spelling_of Omf f Plain)) (form_same n is object s at r here)
       ∙ ap (λ o. is_none (option_map (λ (x : Row). numbers_in x.number x.second) o)) (plain_row Omf plain_rows r.form r.hint)
-      ∙ (neither (is_none (spelling_of Omf r.form r.hint)) _ met.1.0).0 in (
+      ∙ (or_parts (is_none (spelling_of Omf r.form r.hint)) _ met.1.0).0 in (
         target_stays omf_manner n (shown n) shows ready s at r here met.0,
-        (or_false (is_none (spelling_of Omf q.form Plain)) false formed refl, (refl, (refl, (refl, tt)))),
+        (or_from (is_none (spelling_of Omf q.form Plain)) false formed refl, (refl, (refl, (refl, tt)))),
       )
 
   omf_stays : FamilyStays Omf omf_manner n (shown n)
   omf_stays = record {
-    counted = (let long = sections_long omf_manner n (shown n) shows in let low = is.meets.few in (low_not (length a.sections) 0 (omega arith), (low_not 30000 (length a.sections) (omega (arith, long, low)), tt)));
+    counted = (let long = sections_long omf_manner n (shown n) shows in let low = is.meets.few in (within_file (length a.sections) 0 (omega arith), (within_file 30000 (length a.sections) (omega (arith, long, low)), tt)));
     debug = λ k s here. ap (λ b. b && true) (kind_of k s here).debug;
     kind = λ k s here. (kind_of k s here).there;
     gives = λ k s here. ap (λ b. b && omf_gives s.kind) (eq-eqb s.tag 0 (is.meets.sections k s here).tag) ∙ (kind_of k s here).given;
-    name = λ k s here. low_not 255 (length s.name) (is.meets.sections k s here).name;
+    name = λ k s here. within_file 255 (length s.name) (is.meets.sections k s here).name;
     member = λ k s here. ap (λ o. option_map_or (λ (g : ℕ). true) o false) (is.meets.sections k s here).alone;
     few = (few, tt);
     symbol = symbol;

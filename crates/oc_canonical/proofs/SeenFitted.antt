@@ -35,11 +35,12 @@ use Rattle.oc_neutral.specs.TargetSymbols.{bounded, limited, names_length, symbo
 use Rattle.oc_neutral.specs.TargetSections as sections_of_target
 use Rattle.oc_neutral.specs.TargetRelocations.{PlacedReloc, placed_relocs_in, placed_relocs_from, placed_relocs, spot_of, reloc_conditions, standing_conditions, relocation_stages}
 use Rattle.oc_target.proofs.MeetsConditions.{AreMet, section_met, symbol_met, symbol_count_met, own_names, same_format-self}
-use Rattle.oc_target.proofs.MeetsCounts.{met_parts, sum_map}
+use Rattle.oc_target.proofs.MeetsCounts.{met_parts}
 use Rattle.oc_neutral.proofs.Positions.{each_at, there_at}
 use Rattle.oc_shows.proofs.SeenAlike.{symbol_from, relocs_same}
 use Rattle.oc_shows.proofs.SeenLines.{IsShown}
 use Rattle.oc_neutral.proofs.Mapped.{all_from, list_map}
+use Rattle.oc_neutral.proofs.LeftObject.{sum_map}
 use Rattle.oc_shelf.proofs.ReadingLaws.StageLemmas.{Unbroken, unbroken_append, no_first_fault}
 use Rattle.oc_shelf.proofs.WritingLaws.MemberLemmas.{of_map, of_append}
 use Rattle.oc_canonical.proofs.SeenSums.{seen_sum, seen_few}

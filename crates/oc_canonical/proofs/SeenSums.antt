@@ -9,18 +9,13 @@ use Rattle.oc_neutral.specs.declared.symbol.Symbol.{Symbol}
 use Rattle.oc_neutral.specs.Objects.{Object}
 use Rattle.oc_shows.specs.Manners.{Manner}
 use Rattle.oc_shows.specs.Seen.{seen_symbol, seen_symbols}
-use Rattle.oc_target.proofs.MeetsCounts.{sum_map}
 use Rattle.oc_shows.proofs.SeenLines.{IsShown}
 use Rattle.oc_neutral.proofs.Mapped.{all_from}
+use Rattle.oc_neutral.proofs.LeftObject.{sum_map}
 use Rattle.oc_shelf.proofs.WritingLaws.MemberLemmas.{of_filter_map}
+use Rattle.oc_shelf.proofs.WritingLaws.SizeLemmas.{sum_enumerated}
 use Rattle.oc_canonical.proofs.SeenSymbols.{with_position, shown_ones, number_in, moved, one_there, symbols_moved}
 use Rattle.oc_canonical.proofs.SumLemmas.{AreApart, AreOf, sum_apart}
-
--- a sum over numbered items
-sum_numbered : {X : Type 0} (f : X → ℕ) (i : ℕ) (xs : List X) → sum_by (λ (x : ℕ × X). f x.1) (enumerate_from i xs) ≡ sum_by f xs
-sum_numbered f i [] = refl
-sum_numbered {X} f i (x ∷ xs) =
-    sum_by-cons (λ (y : ℕ × X). f y.1) (i, x) (enumerate_from (i + 1) xs) ∙ ap (λ n. f x + n) (sum_numbered f (i + 1) xs) ∙ sym (sum_by-cons f x xs)
 
 -- sums of the same
 sum_same : {X : Type 0} (f g : X → ℕ) (xs : List X) → ((k : ℕ) (x : X) → slice_get xs k ≡ Some x → f x ≡ g x) → sum_by f xs ≡ sum_by g xs
@@ -63,7 +58,7 @@ module _ (m : Manner) (n : Object) (shown : List (ℕ × ℕ)) (is : IsShown n s
   -- the sum over what is seen, where each symbol counts as before
   pub seen_sum : (f g : Symbol → ℕ) → ((k number : ℕ) (s : Symbol) → slice_get n.symbols k ≡ Some s → g (seen_symbol m n shown number s) ≡ f s) → sum_by g (seen_symbols m n shown) ≤ sum_by f n.symbols
   seen_sum f g same =
-      let a : sum_by (λ (x : ℕ × Symbol). g x.1) (enumerate_from 0 (seen_symbols m n shown)) ≡ sum_by g (seen_symbols m n shown) = sum_numbered g 0 (seen_symbols m n shown) in
+      let a : sum_by (λ (x : ℕ × Symbol). g x.1) (enumerate_from 0 (seen_symbols m n shown)) ≡ sum_by g (seen_symbols m n shown) = sum_enumerated g 0 (seen_symbols m n shown) in
       let b : sum_by (λ (x : ℕ × Symbol). g x.1) (enumerate_from 0 (seen_symbols m n shown)) ≡ sum_by (λ (x : ℕ × Symbol). f x.1) (shown_ones n shown)
       = ap (sum_by (λ (x : ℕ × Symbol). g x.1)) (symbols_moved m n shown is)
       ∙ sum_map (λ (x : ℕ × Symbol). g x.1) (moved m n shown is) (shown_ones n shown)

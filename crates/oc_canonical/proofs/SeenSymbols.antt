@@ -6,15 +6,16 @@ use Rattle.std.specs.Option.{option_map, option_map_or, option_and_then}
 use Rattle.std.proofs.lemmas.Bool.{true≢false, eq-eqb, eqb-true, ne_eqb}
 use Rattle.oc_linking.specs.Parts.{is_local}
 use Rattle.std.proofs.lemmas.Option.{none-some, same_Some, get_or_from_slice_get}
+use Rattle.std.proofs.lemmas.List.Elements.{filter_map-append}
 use Rattle.oc_neutral.specs.declared.symbol.Symbol.{Symbol}
 use Rattle.oc_neutral.specs.Objects.{Object}
 use Rattle.oc_shows.specs.Manners.{Manner}
 use Rattle.oc_shows.specs.Seen.{shown_from, new_position, seen_symbol, seen_symbols}
 use Rattle.oc_shows.specs.SymbolLines.{Line, silent, lines_where}
 use Rattle.oc_shows.proofs.SeenLines.{IsShown}
-use Rattle.oc_shelf.proofs.WritingLaws.MemberLemmas.{position_first, filter_map-map, of_filter_map, map-map, map-alike, of_filter}
-use Rattle.oc_elf_file.proofs.HeadLaws.{of_enumerated}
-use Rattle.oc_canonical.proofs.MapLemmas.{filter-mapped, filter_map-all, filter_map-append, is_filled, filled_map, any_filled, filter_numbered, flat_map-mapped}
+use Rattle.oc_shelf.proofs.WritingLaws.MemberLemmas.{position_first, filter_map-map, of_filter_map, map-map, map-alike, of_filter, of_enumerated}
+use Rattle.oc_canonical.proofs.MapLemmas.{filter-mapped, is_filled, filled_map, any_filled, filter_numbered, flat_map-mapped}
+use Rattle.oc_names.proofs.Unedited.{filter_map_stays}
 
 -- a symbol with its position
 abbrev pub with_position : Object → ℕ → Option (ℕ × Symbol)
@@ -54,7 +55,7 @@ pub gathered_where : (n : Object) (test : Symbol → Bool) (entries : Symbol →
 gathered_where n test entries =
     let passed : List (ℕ × Symbol) = filter (λ (x : ℕ × Symbol). test x.1) (enumerate_from 0 n.symbols) in
     filter_map-map (λ (l : Line). option_and_then (with_position n) l.shows) (λ (x : ℕ × Symbol). record { entries = entries x.1; shows = Some x.0 }) passed
-    ∙ filter_map-all (λ (x : ℕ × Symbol). with_position n x.0) passed (λ k x here.
+    ∙ filter_map_stays (λ (x : ℕ × Symbol). with_position n x.0) passed (λ k x here.
     let t = of_filter (λ (y : ℕ × Symbol). test y.1) (enumerate_from 0 n.symbols) k x here in
     let z = of_enumerated 0 n.symbols t.0 x t.1 in
     let e : x.0 ≡ t.0 = omega (arith, z.0) in

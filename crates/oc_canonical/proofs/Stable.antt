@@ -1,7 +1,5 @@
 -- The canonical file of each object that is ready is given again by a conversion to its own format.
-use Rattle.std.proofs.Common.{◌≡◌, ℕ, true, List, Ok, refl, sym, ◌∙◌, ap}
-use Rattle.oc_linking.specs.declared.terms.Kind.{Kind}
-use Rattle.oc_linking.specs.declared.terms.Kind.TheVariants.{Code, ReadOnly, Data, Zero, Init, Fini, Debug, Exception, Note}
+use Rattle.std.proofs.Common.{◌≡◌, ℕ, List, Ok, refl, sym, ◌∙◌, ap}
 use Rattle.oc_linking.specs.declared.terms.Keep.{Keep}
 use Rattle.oc_linking.specs.Keeping.{all, keeps}
 use Rattle.oc_linking.specs.Numbers.{or_else}
@@ -46,6 +44,7 @@ use Rattle.oc_macho_file.proofs.WrittenLaw.{mach_is_written}
 use Rattle.oc_canonical.proofs.MachAgain.{mach_file_again}
 use Rattle.oc_canonical.proofs.MachStays.{mach_seen_fitted}
 use Rattle.oc_canonical.specs.Stable.{IsStable, IsReadBack, ReadsBack, CanonicalIsStable, ElfReadsBack, CoffReadsBack, MachReadsBack}
+use Rattle.oc_linking.proofs.Whole.{keeps-all}
 
 module _ (g : Dialect) (canonical : Object → List ℕ) (laws : ReadsBack g canonical) (n : Object) (fits : IsFitted g.format n) where
   abbrev c : List ℕ
@@ -84,17 +83,6 @@ module _ (g : Dialect) (canonical : Object → List ℕ) (laws : ReadsBack g can
 pub canonical_is_stable : CanonicalIsStable
 canonical_is_stable g canonical laws n fits = stable g canonical laws n fits
 
-all_kept : (k : Kind) → keeps all k ≡ true
-all_kept Code = refl
-all_kept ReadOnly = refl
-all_kept Data = refl
-all_kept Zero = refl
-all_kept Init = refl
-all_kept Fini = refl
-all_kept Debug = refl
-all_kept Exception = refl
-all_kept Note = refl
-
 -- where everything is kept on the way to the same format
 pub own_of_all : (g : Dialect) (canonical : Object → List ℕ) → WritesCanonical g canonical → kept_of_file no_wishes g g.format ≡ all → (n : Object) → IsFitted g.format n → IsReadBack g n (canonical n)
 own_of_all g canonical law every n fits =
@@ -102,7 +90,7 @@ own_of_all g canonical law every n fits =
     record {
       well_formed = ap (g.rules.fault (canonical n)) every ∙ written.well_formed;
       object = ap (object_in g (canonical n)) every ∙ sym (shown_is_computed g (canonical n) all (seen n) (seen_is_object_law g.format n fits) written.shows);
-      kept = λ k s here. ap (λ keep. keeps keep s.kind) every ∙ all_kept s.kind;
+      kept = λ k s here. ap (λ keep. keeps keep s.kind) every ∙ keeps-all s.kind;
     }
 
 elf_keeps : (class : ElfClass) → kept_of_file no_wishes (elf_dialect class) (elf_dialect class).format ≡ all

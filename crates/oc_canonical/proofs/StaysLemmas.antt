@@ -1,13 +1,10 @@
 -- What stays of the conditions of all families where an object is seen.
-use Rattle.std.proofs.Common.{◌≡◌, ℕ, suc, ◌+◌, ◌≤◌, Bool, true, false, cond, not, ◌&&◌, ◌||◌, nat_lt, List, [], ◌∷◌, length, map, Option, Some, None, refl, sym, ◌∙◌, ap, arith}
+use Rattle.std.proofs.Common.{◌≡◌, ℕ, suc, ◌+◌, ◌≤◌, Bool, true, false, cond, not, ◌&&◌, ◌||◌, List, [], ◌∷◌, length, map, Option, Some, None, refl, sym, ◌∙◌, ap}
 use Rattle.std.specs.Prelude.{find}
 use Rattle.std.specs.List.{AllByRecursion, enumerate_from, list_any}
 use Rattle.std.specs.Option.{option_map_or}
-use Rattle.std.proofs.lemmas.Bool.Decides.{nat_tests}
 use Rattle.oc_base.specs.declared.format.Format.{Format}
 use Rattle.oc_base.specs.Formats.{word_for}
-use Rattle.oc_linking.specs.declared.terms.Kind.{Kind}
-use Rattle.oc_linking.specs.declared.terms.Kind.TheVariants.{Code, ReadOnly, Data, Zero, Init, Fini, Debug, Exception, Note}
 use Rattle.oc_linking.specs.declared.terms.Base.{Base}
 use Rattle.oc_linking.specs.declared.terms.Base.TheVariants as base
 use Rattle.oc_linking.specs.declared.terms.Fallback.{Fallback}
@@ -23,7 +20,6 @@ use Rattle.oc_neutral.specs.declared.reloc.Target.{Target}
 use Rattle.oc_neutral.specs.declared.reloc.Target.TheVariants as target
 use Rattle.oc_neutral.specs.Objects.{Object, reloc_at}
 use Rattle.oc_neutral.specs.Bindings.{is_zero}
-use Rattle.oc_neutral.specs.KindRules.{same_kind}
 use Rattle.oc_shows.specs.Manners.{Manner}
 use Rattle.oc_neutral.specs.Normal.{Place, at_section}
 use Rattle.oc_neutral.specs.Relocated.{stays, is_relocated}
@@ -41,27 +37,7 @@ use Rattle.oc_shows.proofs.SeenLines.{IsShown}
 use Rattle.oc_neutral.proofs.Mapped.{list_map}
 use Rattle.oc_target.proofs.SeenReady.{IsReady}
 use Rattle.oc_canonical.proofs.MapLemmas.{any_mapped}
-
-pub same_kind-self : (k : Kind) → same_kind k k ≡ true
-same_kind-self Code = refl
-same_kind-self ReadOnly = refl
-same_kind-self Data = refl
-same_kind-self Zero = refl
-same_kind-self Init = refl
-same_kind-self Fini = refl
-same_kind-self Debug = refl
-same_kind-self Exception = refl
-same_kind-self Note = refl
-
-pub and_false : (b : Bool) → (b && false) ≡ false
-and_false true = refl
-and_false false = refl
-
-pub or_false : (a b : Bool) → a ≡ false → b ≡ false → (a || b) ≡ false
-or_false a b e f = ap (λ x. x || b) e ∙ f
-
-pub low_not : (most counted : ℕ) → counted ≤ most → nat_lt most counted ≡ false
-low_not most counted le = grind (arith, nat_tests, le)
+use Rattle.oc_elf_file.proofs.TableClean.{none_right}
 
 pub none_member : {X : Type 0} (o : Option X) → option_map_or (λ x. false) o false ≡ false
 none_member None = refl
@@ -146,7 +122,7 @@ module _ (m : Manner) (n : Object) (shown : List (ℕ × ℕ)) (is : IsShown n s
             ∙ right
         by (Some place) e =
             ap (λ b. (b && true) || (needs_home r.form && false)) (no_slot base.Address refl r.form (ready.sectional s at r place here e).base)
-            ∙ and_false (needs_home r.form)
+            ∙ none_right (needs_home r.form)
 
 -- ... formats without types for calls write a call as the plain form
 
@@ -159,7 +135,7 @@ no_call form t [] plain = refl
 no_call form t (r ∷ rows) plain =
     let fails : is_written form Call t r ≡ false
     = ap (λ b. r.canonical && same_width r.width form.width && same_check r.check form.check && same_base r.base form.base && same_taken r.taken t && b) plain.0
-    ∙ and_false (r.canonical && same_width r.width form.width && same_check r.check form.check && same_base r.base form.base && same_taken r.taken t) in
+    ∙ none_right (r.canonical && same_width r.width form.width && same_check r.check form.check && same_base r.base form.base && same_taken r.taken t) in
     ap (λ b. cond b (Some r) (find (is_written form Call t) rows)) fails ∙ no_call form t rows plain.1
 
 pub plain_row : (format : Format) → AllByRecursion (λ (r : Row). same_hint r.hint Call ≡ false) (rows_of format) → (form : Form) (hint : Hint) → written_row format form Plain ≡ written_row format form hint

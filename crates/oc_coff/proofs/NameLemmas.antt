@@ -7,7 +7,7 @@ use Rattle.std.proofs.lemmas.Bool.Decides.{nat_tests}
 use Rattle.std.proofs.lemmas.List.{take_more, take_all}
 use Rattle.std.proofs.lemmas.List.Sums.{fold-append}
 use Rattle.std.proofs.lemmas.Option.{none-some, same_Some}
-use Rattle.oc_shelf.proofs.ReadingLaws.StageLemmas.{both_hold}
+use Rattle.std.proofs.lemmas.Bool.{and_parts}
 use Rattle.oc_coff.specs.Names.{is_digit, decimal_of}
 
 -- ... before the first NUL
@@ -38,8 +38,8 @@ pub record IsDecimal (digits : List ℕ) (k number : ℕ) : Type 0 where
 
 pub digit_there : (digits : List ℕ) (k d : ℕ) → list_all is_digit digits ≡ true → k < length digits → is_digit (get_or digits k d) ≡ true
 digit_there [] k d all low = absurd (omega arith)
-digit_there (c ∷ digits) zero d all low = (both_hold (is_digit c) (list_all is_digit digits) all).0
-digit_there (c ∷ digits) (suc k) d all low = digit_there digits k d (both_hold (is_digit c) (list_all is_digit digits) all).1 (omega arith)
+digit_there (c ∷ digits) zero d all low = (and_parts (is_digit c) (list_all is_digit digits) all).0
+digit_there (c ∷ digits) (suc k) d all low = digit_there digits k d (and_parts (is_digit c) (list_all is_digit digits) all).1 (omega arith)
 
 -- a number of up to seven digits is small
 pub decimal_small : (digits : List ℕ) (k number : ℕ) → IsDecimal digits k number → k ≤ 7 → number < 10000000

@@ -28,6 +28,7 @@ use Rattle.oc_neutral.specs.Objects.{Object, reloc_at}
 use Rattle.oc_neutral.specs.Coff.Strings.{has_default}
 use Rattle.oc_shows.specs.SymbolLines.{is_weak_with}
 use Rattle.oc_neutral.proofs.Positions.{there_at}
+use Rattle.oc_neutral.proofs.Adding.{wide_enough}
 use Rattle.oc_shelf.specs.Writing.Parts.{place_where}
 use Rattle.oc_shelf.proofs.WritingLaws.PackedLemmas.{Fit}
 use Rattle.oc_shelf.proofs.WritingLaws.PartLemmas.{IsFound, laid_within}
@@ -49,7 +50,7 @@ use Rattle.oc_coff_file.proofs.LineLaws.{section_found, default_found, outer_fou
 use Rattle.oc_coff_file.proofs.CodedLaws.{IsForCoff, IsCodedValue, IsCodedFallback, IsCodedBinding, coded_section, coded_line, outer_coded, IsCodedLine, fewest, number_room, other_room, counted_room}
 use Rattle.oc_coff_file.proofs.SectionLaws.{flags_say}
 use Rattle.oc_coff_file.proofs.GroupLaws.{leader_of}
-use Rattle.oc_coff_file.proofs.FieldLaws.{coff_reloc, meets, type_is, has_bytes, wide_enough}
+use Rattle.oc_coff_file.proofs.FieldLaws.{coff_reloc, meets, type_is, has_bytes}
 use Rattle.oc_coff_file.proofs.SymbolLaws.{AreTagged}
 use Rattle.oc_coff_file.proofs.SizeLaws.{small_file, few_entries}
 use Rattle.oc_neutral.specs.Building.{is_zero}

@@ -12,7 +12,6 @@ use Rattle.oc_coff.specs.declared.form.CoffForm.TheVariants.{Usual32, Usual64, B
 use Rattle.oc_base.specs.Formats.{word_for}
 use Rattle.oc_base.specs.Numbers.{number_at}
 use Rattle.oc_linking.specs.declared.terms.Width.{Width}
-use Rattle.oc_linking.specs.declared.terms.Width.TheVariants.{One, Two, Four, Eight}
 use Rattle.oc_linking.specs.declared.terms.Check.{Check}
 use Rattle.oc_linking.specs.declared.terms.Base.{Base}
 use Rattle.oc_linking.specs.declared.terms.Hint.{Hint}
@@ -40,11 +39,12 @@ use Rattle.oc_neutral.specs.RelocTables.{rows_of, row_of}
 use Rattle.oc_shows.specs.RowFields.{field_in_place, number_in}
 use Rattle.oc_shows.specs.RowValues.{row_reloc}
 use Rattle.oc_neutral.specs.Rows as rows
-use Rattle.oc_neutral.specs.Rows.{Row, TakesZero, TakesPlace, TakesGotBase, TakesImageBase, TakesHome, TakesSection, same_taken, shift_of}
+use Rattle.oc_neutral.specs.Rows.{Row, TakesSection, same_taken, shift_of}
 use Rattle.oc_shows.specs.Seen.{seen_reloc, seen_target}
 use Rattle.oc_neutral.proofs.Mapped.{from_mapped}
 use Rattle.oc_neutral.proofs.Positions.{each_at, there_at}
 use Rattle.oc_neutral.proofs.Standing.{ends_by, wide_in}
+use Rattle.oc_neutral.proofs.Adding.{wide_enough}
 use Rattle.oc_shelf.specs.Writing.Parts.{Laid}
 use Rattle.oc_shelf.proofs.WritingLaws.MemberLemmas.{member_map, member_enumerated, all_members}
 use Rattle.oc_coff.specs.declared.relocation.Relocation.{Relocation}
@@ -77,12 +77,6 @@ find_by_offset w lines (x ∷ xs) at says =
       | true ↦ λ e. ap (λ k. Some (entry_of w lines k x.item)) (eqb-true x.at at e)
       | false ↦ λ e. find_by_offset w lines xs at says.1
     ] refl)
-
-pub wide_enough : (width : Width) → 1 ≤ bytes_of width
-wide_enough One = omega arith
-wide_enough Two = omega arith
-wide_enough Four = omega arith
-wide_enough Eight = omega arith
 
 -- ... rows
 

@@ -3,9 +3,10 @@ use Rattle.std.proofs.Common.{◌≡◌, ℕ, zero, suc, ◌+◌, ◌<◌, ◌�
 use Rattle.std.specs.Prelude.{slice_get, nat_eq, nat_le, filter, find, flat_map, bytes_eq}
 use Rattle.std.specs.List.{enumerate_from, list_any}
 use Rattle.std.specs.Option.{option_map_or, option_and_then}
-use Rattle.std.proofs.lemmas.Bool.{true≢false, eqb-true, eq-eqb, ne_eqb, le-leb}
+use Rattle.std.proofs.lemmas.Bool.{true≢false, eqb-true, eq-eqb, ne_eqb, le-leb, and_parts}
 use Rattle.std.proofs.lemmas.Option.{none-some, same_Some, slice_get_within}
 use Rattle.std.proofs.lemmas.Slice.Eq.{bytes_eq-Decides}
+use Rattle.std.proofs.lemmas.Map.Keys.{any_passes_from_place}
 use Rattle.oc_coff.specs.declared.form.CoffForm.{CoffForm}
 use Rattle.oc_linking.specs.declared.terms.Value.TheVariants as value
 use Rattle.oc_linking.specs.declared.terms.Binding.{Binding}
@@ -18,7 +19,7 @@ use Rattle.oc_neutral.specs.KeySymbols.{global_place, group_at, is_key_name, is_
 use Rattle.oc_target.specs.Meets.{HasKeySymbol}
 use Rattle.oc_neutral.specs.Normal.{Place}
 use Rattle.oc_shelf.specs.Writing.Parts.{laid, laid_end, behind}
-use Rattle.oc_shelf.proofs.WritingLaws.MemberLemmas.{each_map, each_enumerated, member_passes, member_enumerated, member_map, member_filter}
+use Rattle.oc_shelf.proofs.WritingLaws.MemberLemmas.{each_map, each_enumerated, member_enumerated, member_map, member_filter}
 use Rattle.oc_coff.specs.Entries.{Entry, is_in}
 use Rattle.oc_coff.specs.Comdat.{symbols_of}
 use Rattle.oc_coff_file.specs.Lines.{Line, SectionLine, OuterLine, placed_symbols, lines_where, section_lines, lines_of, line_size, numbered_lines}
@@ -26,10 +27,6 @@ use Rattle.oc_coff.specs.Values.{numbers_by}
 use Rattle.oc_coff_file.specs.Canonical.{leader_number, leads}
 use Rattle.oc_coff_file.proofs.EntryLaws.{made_entry}
 use Rattle.oc_coff_file.proofs.LineLaws.{each_filter}
-
-both : (x y : Bool) → (x && y) ≡ true → (x ≡ true) × (y ≡ true)
-both true y e = (refl, e)
-both false y e = absurd (true≢false (sym e))
 
 and_false : (a : Bool) → (a && false) ≡ false
 and_false true = refl
@@ -93,7 +90,7 @@ module _ (n : Object) where
 
   pub key_is : (k : ℕ) (t : Symbol) → is_key_at n k t ≡ true → IsKeyOf k t
   key_is k t e =
-      let parts = both _ _ e in
+      let parts = and_parts _ _ e in
       let q = placed_by (λ (place : Place). nat_eq place.0 k) (global_place t.binding) parts.0 in
       let g = numbered_by (is_key_name n t.name) (group_at n k) parts.1 in
       let at : q.0.0 ≡ k = eqb-true q.0.0 k q.2 in
@@ -132,8 +129,8 @@ module _ (n : Object) where
       ∙ ap (λ o. option_map_or (bytes_eq has.symbol.name) o false) has.key
       ∙ (bytes_eq-Decides has.symbol.name has.symbol.name).1 refl in
       let o = first_passing (λ (s : Symbol). lies_in n g s && is_key_name n s.name g) n.symbols
-      (member_passes (λ (s : Symbol). lies_in n g s && is_key_name n s.name g) n.symbols has.position has.symbol has.there own) in
-      let parts = both _ _ o.passes in
+      (any_passes_from_place (λ (s : Symbol). lies_in n g s && is_key_name n s.name g) n.symbols has.position has.symbol has.there own) in
+      let parts = and_parts _ _ o.passes in
       let q = placed_by (λ (place : Place). option_map_or (nat_eq g) (group_at n place.0) false) (global_place o.one.binding) parts.0 in
       let m = numbered_by (nat_eq g) (group_at n q.0.0) q.2 in
       let same : m.0 ≡ g = sym (eqb-true g m.0 m.2) in
@@ -148,7 +145,7 @@ module _ (n : Object) where
         section = x.0;
         here = x.1;
         group = x.2;
-        leads = member_passes (is_key_at n q.0.0) n.symbols o.index o.one o.here key;
+        leads = any_passes_from_place (is_key_at n q.0.0) n.symbols o.index o.one o.here key;
         number = ap (λ p. option_map_or (λ (place : Place). place.0 + 1) (option_and_then (λ (s : Symbol). global_place s.binding) p) 0) o.found
             ∙ ap (λ p. option_map_or (λ (place : Place). place.0 + 1) p 0) q.1;
       }

@@ -3,7 +3,7 @@ use Rattle.std.proofs.Common.{◌≡◌, ℕ, zero, suc, ◌+◌, ◌≤◌, Boo
 use Rattle.std.specs.Prelude.{slice_get, nat_eq, filter, filter_map, flat_map}
 use Rattle.std.specs.List.{enumerate_from, cons_option}
 use Rattle.std.specs.Option.{option_map_or}
-use Rattle.std.proofs.lemmas.Bool.{true≢false, eqb-true, eq-eqb}
+use Rattle.std.proofs.lemmas.Bool.{true≢false, eqb-true, eq-eqb, and_parts}
 use Rattle.std.proofs.lemmas.Option.{none-some, same_Some}
 use Rattle.oc_coff.specs.declared.form.CoffForm.{CoffForm}
 use Rattle.oc_linking.specs.declared.terms.Binding.{Binding}
@@ -34,10 +34,6 @@ IsLineOf w n (OuterLine k s) = (slice_get n.symbols k ≡ Some s) × (is_local s
 zero_behind : (k : ℕ) → 0 + k ≡ k
 zero_behind k = omega arith
 
-both : (x y : Bool) → (x && y) ≡ true → (x ≡ true) × (y ≡ true)
-both true y e = (refl, e)
-both false y e = absurd (true≢false (sym e))
-
 -- members of a filtered list
 pub each_filter : {X : Type 0} (P : X → Type 0) (test : X → Bool) (xs : List X) → ((k : ℕ) (x : X) → slice_get xs k ≡ Some x → test x ≡ true → P x) → (k : ℕ) (x : X) → slice_get (filter test xs) k ≡ Some x → P x
 each_filter P test [] each k x here = absurd (none-some x here)
@@ -67,7 +63,7 @@ module _ (w : CoffForm) (n : Object) where
       subst (λ i. IsLineOf w n (line i s)) (sym (zero_behind j)) (each j s h passes))))
 
   key_outer : (k : ℕ) (s : Symbol) → is_key_at n k s ≡ true → is_local s.binding ≡ false
-  key_outer k s e = by s.binding (both _ _ e).0
+  key_outer k s e = by s.binding (and_parts _ _ e).0
     where
       by : (b : Binding) → option_map_or (λ (place : Place). nat_eq place.0 k) (global_place b) false ≡ true → is_local b ≡ false
       by (Local v) e = absurd (true≢false (sym e))
@@ -77,7 +73,7 @@ module _ (w : CoffForm) (n : Object) where
       by (Weak f) e = refl
 
   free_outer : (s : Symbol) → is_free n s ≡ true → is_local s.binding ≡ false
-  free_outer s e = by (is_local s.binding) (both _ _ e).0
+  free_outer s e = by (is_local s.binding) (and_parts _ _ e).0
     where
       by : (b : Bool) → not b ≡ true → b ≡ false
       by true e = absurd (true≢false (sym e))
@@ -107,7 +103,7 @@ module _ (w : CoffForm) (n : Object) where
   pub line_is_of : (k : ℕ) (x : Line) → slice_get (lines_of w n) k ≡ Some x → IsLineOf w n x
   unfolding lines_of
   line_is_of = each_append (IsLineOf w n) first_lines (local_lines ++ (default_lines ++ free_lines)) in_sections
-      (each_append (IsLineOf w n) local_lines (default_lines ++ free_lines) (in_symbols LocalLine (is_written_local w) (λ j s h passes. let p = both _ _ passes in (h, p.0, p.1)))
+      (each_append (IsLineOf w n) local_lines (default_lines ++ free_lines) (in_symbols LocalLine (is_written_local w) (λ j s h passes. let p = and_parts _ _ passes in (h, p.0, p.1)))
       (each_append (IsLineOf w n) default_lines free_lines (in_symbols DefaultLine needs_default (λ j s h passes. (h, passes)))
       (in_symbols OuterLine (is_free n) (λ j s h passes. (h, free_outer s passes)))))
 
@@ -149,7 +145,7 @@ module _ (w : CoffForm) (n : Object) where
       ∙ ap (λ ls. coff_section_lines n (i, s) ++ ls) (counted_sections (i + 1) xs)
     where
       single : (t : Symbol) → is_key_at n i t ≡ true → coff_entries t ≡ one t
-      single t e = by t.binding (both _ _ e).0
+      single t e = by t.binding (and_parts _ _ e).0
         where
           sized : Bool → ℕ
           sized b = cond b 2 1

@@ -1,10 +1,9 @@
 -- Names of a canonical file are read back.
 use Rattle.std.proofs.Common.{◌≡◌, ℕ, ◌+◌, ◌-◌, ◌*◌, ◌/◌, ◌%◌, ◌^◌, ◌<◌, ◌≤◌, ◌≢◌, Bool, true, false, cond, eqb, List, [], ◌∷◌, ◌++◌, length, Some, None, refl, sym, ◌∙◌, ap, arith, append-nil, length-append}
-use Rattle.std.specs.Prelude.{nat_eq, nat_lt, nat_le, ◌&&◌, ◌||◌, All, decimal, codes}
+use Rattle.std.specs.Prelude.{nat_eq, nat_le, ◌&&◌, ◌||◌, All, decimal, codes}
 use Rattle.std.specs.List.{list_all}
 use Rattle.std.specs.Option.{unwrap_or}
-use Rattle.std.proofs.lemmas.Bool.{true≢false, eqb-false, ne_eqb, le-leb}
-use Rattle.std.proofs.lemmas.Bool.Decides.{nat_tests}
+use Rattle.std.proofs.lemmas.Bool.{true≢false, eqb-false, ne_eqb, le-leb, or_parts}
 use Rattle.std.proofs.lemmas.List.Folds.{list_all-append, list_any-append}
 use Rattle.std.proofs.lemmas.List.Sums.{fold-append}
 use Rattle.std.proofs.lemmas.List.Elements.{All-cons}
@@ -26,6 +25,7 @@ use Rattle.oc_shelf.specs.Reading.Texts.{text_at}
 use Rattle.oc_coff_file.specs.Layout.{text_of}
 use Rattle.oc_target.specs.CoffMeets.{offset_of, strings_of}
 use Rattle.oc_coff_file.specs.Canonical.{symbol_field, section_field, string_table}
+use Rattle.oc_target.proofs.MeetsConditions.{not_below}
 
 -- a name without NUL
 pub no_nul : (name : List ℕ) → has_nul name ≡ false → All (λ c. c ≢ 0) name
@@ -70,13 +70,6 @@ more_digits n ds high is =
 
 decimal_digits : (n : ℕ) → n < 2 ^ 64 → AreDigits n (decimal n)
 decimal_digits n small = decimal_by_steps AreDigits one_digit more_digits n small
-
-not_less : (a b : ℕ) → nat_lt a b ≡ false → b ≤ a
-not_less a b e = grind (arith, nat_tests)
-
-either : (x y : Bool) → (x || y) ≡ false → (x ≡ false) × (y ≡ false)
-either true y e = absurd (true≢false e)
-either false y e = (refl, e)
 
 -- a name that does not begin with `/`
 no_slash : (c : ℕ) (rest : List ℕ) → begins (c ∷ rest) (codes "/") ≡ false → eqb c 47 ≡ false
@@ -134,7 +127,7 @@ module _ (w : CoffForm) (n : Object) (small : length (string_table w n) < 2 ^ 32
           let other : eqb off 0 ≡ false = ne_eqb off 0 (omega (arith, p.low)) in
           rw (e, zeros, number, other) p.text
       by false e =
-          let short : length name ≤ 8 = not_less 8 (length name) e in
+          let short : length name ≤ 8 = not_below 8 (length name) e in
           rw (e, padded-long name some (no_nul name none)) (ap Some (until_nul-padded name short (no_nul name none)))
 
   pub symbol_named : (name : List ℕ) → has_nul name ≡ false → (is_long name ≡ true → is_given given name ≡ true)
@@ -151,7 +144,7 @@ module _ (w : CoffForm) (n : Object) (small : length (string_table w n) < 2 ^ 32
     where
       plain : (name : List ℕ) → (is_long name || begins name (codes "/")) ≡ false → name_for (string_table w n) name ≡ Some name
       plain [] e = refl
-      plain (c ∷ rest) e = rw (no_slash c rest (either (is_long (c ∷ rest)) (begins (c ∷ rest) (codes "/")) e).1) refl
+      plain (c ∷ rest) e = rw (no_slash c rest (or_parts (is_long (c ∷ rest)) (begins (c ∷ rest) (codes "/")) e).1) refl
 
       by : (b : Bool) → is_tabled name ≡ b → section_name (string_table w n) (section_field w n name) ≡ Some name
       by true e =
@@ -164,5 +157,5 @@ module _ (w : CoffForm) (n : Object) (small : length (string_table w n) < 2 ^ 32
           = until_nul-padded (47 ∷ decimal off) (omega (arith, long)) (no_nul (47 ∷ decimal off) d.plain) in
           rw (e, field, d.some, d.digits, d.value) p.text
       by false e =
-          let short : length name ≤ 8 = not_less 8 (length name) (either (is_long name) (begins name (codes "/")) e).0 in
+          let short : length name ≤ 8 = not_below 8 (length name) (or_parts (is_long name) (begins name (codes "/")) e).0 in
           rw (e, until_nul-padded name short (no_nul name none)) (plain name e)

@@ -24,6 +24,7 @@ use Rattle.oc_shows.specs.RowFields.{place_target}
 use Rattle.oc_neutral.specs.RelocTables.{row_of}
 use Rattle.oc_neutral.specs.TargetRelocations.{is_homeless, needs_home}
 use Rattle.oc_neutral.proofs.Positions.{there_at, each_at}
+use Rattle.oc_neutral.proofs.Adding.{wide_enough}
 use Rattle.oc_shelf.specs.Writing.Parts.{Laid}
 use Rattle.oc_shelf.proofs.WritingLaws.MemberLemmas.{each_flat_map, each_map, each_enumerated, all_members}
 use Rattle.oc_shelf.proofs.ReadingLaws.StageLemmas.{Unbroken, IsUnbroken}
@@ -40,7 +41,7 @@ use Rattle.oc_coff_file.proofs.CodedLaws.{IsForCoff, coded_section}
 use Rattle.oc_coff_file.proofs.SectionLaws.{made_carried, stored_read}
 use Rattle.oc_coff_file.proofs.SymbolLaws.{S, E}
 use Rattle.oc_coff_file.proofs.TargetLaws.{section_aim, symbol_aim}
-use Rattle.oc_coff_file.proofs.FieldLaws.{coff_reloc, has_bytes, inside, meets, row, row_found, says_something, wide_enough}
+use Rattle.oc_coff_file.proofs.FieldLaws.{coff_reloc, has_bytes, inside, meets, row, row_found, says_something}
 use Rattle.oc_coff_file.proofs.LineLaws.{each_filter}
 use Rattle.oc_coff_file.proofs.CodableLaws.{HasNumbers}
 use Rattle.oc_coff_file.proofs.HeaderClean.{within_file}

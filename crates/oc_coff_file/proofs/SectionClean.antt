@@ -35,7 +35,7 @@ use Rattle.oc_coff_file.specs.Canonical.{header_at, string_table, coff_file, sec
 use Rattle.oc_coff.specs.SectionFaults.{Numbered, limit_conditions, table_conditions, raw_conditions, section_conditions, section_stage, names_another, follows_follower, copy_conditions, carried_size, carried_bytes, worth_by}
 use Rattle.oc_coff_file.proofs.CodedLaws.{seen_kind, IsForCoff, coded_section}
 use Rattle.oc_coff_file.proofs.PartLaws.{length-raw, raw_past, stands_raw, stands_relocs}
-use Rattle.oc_coff_file.proofs.TableLaws.{made_table, made_tables, relocation_stands, not_less}
+use Rattle.oc_coff_file.proofs.TableLaws.{made_table, made_tables, relocation_stands}
 use Rattle.oc_coff_file.proofs.SectionLaws.{FlagsSay, flags_say, name_read, kind_read, enumerated_again, sized}
 use Rattle.oc_coff_file.proofs.HeaderClean.{within_file}
 use Rattle.oc_shelf.proofs.ReadingLaws.StageLemmas.{Unbroken, unbroken_append, IsUnbroken}
@@ -50,6 +50,7 @@ use Rattle.oc_shelf.specs.Reading.Sums.{sum_upto}
 use Rattle.oc_neutral.specs.Building.{stored_size, is_zero}
 use Rattle.oc_linking.specs.declared.terms.Kind.{Kind}
 use Rattle.oc_neutral.proofs.Positions.{there_at}
+use Rattle.oc_target.proofs.MeetsConditions.{not_below}
 
 -- ... running sums
 
@@ -165,7 +166,7 @@ module _ (w : CoffForm) (n : Object) (is : IsForCoff w n) (numbers : HasNumbers 
             )
         by false e =
             let at : ℕ = place_where (is_relocs k) (laid_parts w n) in
-            let short : length (relocs k) ≤ 65535 = not_less 65535 (length (relocs k)) e in
+            let short : length (relocs k) ≤ 65535 = not_below 65535 (length (relocs k)) e in
             let uncapped : min (length (relocs k)) 0xFFFF ≡ length (relocs k) = omega (arith, short) in
             let flag : has (section_flags s (relocs k)) IMAGE_SCN_LNK_NRELOC_OVFL ≡ false = say.overflow ∙ e in
             let counted : with_count (relocs k) ≡ relocs k = ap (λ b. cond b (count_entry (relocs k) ∷ relocs k) (relocs k)) e in

@@ -4,7 +4,7 @@ use Rattle.std.proofs.Common.{◌≡◌, ℕ, zero, suc, ◌+◌, ◌<◌, ◌�
 use Rattle.std.specs.Prelude.{slice_get, nat_lt, is_none, codes}
 use Rattle.std.specs.List.{enumerate_from, list_any}
 use Rattle.std.specs.Option.{option_map_or, unwrap_or}
-use Rattle.std.proofs.lemmas.Bool.{true≢false, ne_eqb, le-leb, cases_lt, false_from_ne_true}
+use Rattle.std.proofs.lemmas.Bool.{true≢false, ne_eqb, le-leb, cases_lt, false_from_ne_true, and_parts}
 use Rattle.std.proofs.lemmas.Slice.Eq.{bytes_eq-Decides}
 use Rattle.std.proofs.lemmas.List.{length-map}
 use Rattle.std.proofs.lemmas.List.FromFn.{length-enumerate_from}
@@ -61,10 +61,6 @@ taken_below zero xs j x h = absurd (none-some x h)
 taken_below (suc i) [] j x h = absurd (none-some x h)
 taken_below (suc i) (y ∷ xs) zero x h = (omega arith, h)
 taken_below (suc i) (y ∷ xs) (suc j) x h = let l = taken_below i xs j x h in (omega (arith, l.0), l.1)
-
-both : (x y : Bool) → (x && y) ≡ true → (x ≡ true) × (y ≡ true)
-both true y e = (refl, e)
-both false y e = absurd (true≢false (sym e))
 
 module _ (w : CoffForm) (n : Object) (is : IsForCoff w n) (numbers : HasNumbers w n) (sections : sections_in (made_tables w n) ≡ S w n is) (entries : entries_in (made_tables w n) ≡ E w n is) where
   abbrev lines : List (Laid Line)
@@ -253,9 +249,9 @@ module _ (w : CoffForm) (n : Object) (is : IsForCoff w n) (numbers : HasNumbers 
       → is_named (string_table w n) (name_of (string_table w n) (made_entry w n l)) (made_entry w n l) ≡ true
       → is_named (string_table w n) (name_of (string_table w n) (made_entry w n l)) (made_entry w n m) ≡ true → ⊥
   not_twice i j l m before here there first second =
-      let a = both _ _ (both _ _ first).0 in
-      let b = both _ _ second in
-      let c = both _ _ b.0 in
+      let a = and_parts _ _ (and_parts _ _ first).0 in
+      let b = and_parts _ _ second in
+      let c = and_parts _ _ b.0 in
       let x = external_is l.part a.0 in
       let y = external_is m.part c.0 in
       let p = outer_name i l x.0 x.1 here x.2 in

@@ -6,6 +6,7 @@ use Rattle.std.specs.List.{enumerate_from}
 use Rattle.std.specs.Option.{unwrap_or, option_map, option_map_or, option_and_then}
 use Rattle.std.proofs.lemmas.Bool.{true≢false, eq-eqb, ne_eqb, le-leb, or_right}
 use Rattle.std.proofs.lemmas.Option.{same_Some, slice_get_within}
+use Rattle.std.proofs.lemmas.Map.Keys.{any_passes_from_place}
 use Rattle.oc_coff.specs.declared.form.CoffForm.{CoffForm}
 use Rattle.oc_linking.specs.declared.terms.Mark.{Mark}
 use Rattle.oc_linking.specs.declared.terms.Mark.TheVariants.{NoType, Object as ObjectMark, Function}
@@ -23,7 +24,7 @@ use Rattle.oc_neutral.specs.Coff.Strings.{default_name, has_default}
 use Rattle.oc_coff.specs.declared.symbol.SymbolEntry.{SymbolEntry}
 use Rattle.oc_shelf.specs.Writing.Parts.{Laid, place_where}
 use Rattle.oc_shelf.proofs.WritingLaws.PartLemmas.{IsFound}
-use Rattle.oc_shelf.proofs.WritingLaws.MemberLemmas.{of_map, find_first, none_passes, member_passes, member_map, filter_map-map, filter_map-results}
+use Rattle.oc_shelf.proofs.WritingLaws.MemberLemmas.{of_map, find_first, none_passes, member_map, filter_map-map, filter_map-results}
 use Rattle.oc_coff.specs.Names.{is_nothing, symbol_name}
 use Rattle.oc_coff.specs.Tables.{Slot}
 use Rattle.oc_coff.specs.Sections.{sections_in, position_from, position_of}
@@ -199,7 +200,7 @@ module _ (w : CoffForm) (n : Object) (is : IsForCoff w n) where
         let index : i ≡ d.index = one_default w n k i d.index s s first second in
         let same : l ≡ d.one = same_Some l d.one (sym here ∙ ap (slice_get lines) index ∙ d.here) in
         let number : default_number lines k ≡ l.at = d.place ∙ ap (λ (x : Laid Line). x.at) (sym same) in
-        member_passes (tags l.at) E u.index (made_entry w n u.one) (member_map (made_entry w n) lines u.index u.one u.here)
+        any_passes_from_place (tags l.at) E u.index (made_entry w n u.one) (member_map (made_entry w n) lines u.index u.one u.here)
         (subst (λ x. tags l.at (made_entry w n (record { at = u.one.at; part = x })) ≡ true) (sym u.part)
         (ap (λ b. eqb (class_by b) 105 && option_map_or (eqb l.at) (option_map (λ (x : Slot). x.weak.TagIndex) (outer_slot (shape_of w) lines k b)) false) f.1
         ∙ ap (λ o. option_map_or (eqb l.at) o false) (tag_read k s f.0 o.0 f.1) ∙ eq-eqb l.at (tag_of lines k f.0) (sym (tag_is f.0 f.2 ∙ number))))

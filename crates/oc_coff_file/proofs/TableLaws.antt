@@ -6,7 +6,6 @@ use Rattle.std.specs.Prelude.{slice_get, flat_map, nat_lt, min}
 use Rattle.std.specs.List.{enumerate_from}
 use Rattle.std.proofs.lemmas.List.FromFn.{length-enumerate_from}
 use Rattle.std.proofs.lemmas.Bool.{eqb-true, ne_eqb, ltb-true, lt-ltb}
-use Rattle.std.proofs.lemmas.Bool.Decides.{nat_tests}
 use Rattle.oc_coff.specs.declared.form.CoffForm.{CoffForm}
 use Rattle.oc_base.specs.Numbers.{number_at, bytes_of_number}
 use Rattle.oc_base.proofs.NumberLaws.{length-bytes_of_number}
@@ -38,6 +37,7 @@ use Rattle.oc_coff.specs.Flags.{is_crowded, count_entry, with_count, pointer_to,
 use Rattle.oc_coff_file.specs.Layout.{text_of, laid_parts, is_raw, is_relocs, is_symbol_table}
 use Rattle.oc_coff_file.specs.Canonical.{header_at, entry_rows, file_header, string_table, coff_file}
 use Rattle.oc_coff_file.proofs.PartLaws.{header_is_eight, entries_are_rows, length-entry_rows, stands_raw, stands_relocs, table_place, table_past, table_place_is, stands_symbols, stands_strings, length-coff_file, stands_header, stands_headers, length-raw, raw_past}
+use Rattle.oc_target.proofs.MeetsConditions.{not_below}
 
 -- what the header counts
 pub symbols_counted : (w : CoffForm) (n : Object) → (file_header w n).NumberOfSymbols ≡ entry_count w n
@@ -107,10 +107,6 @@ pub relocations_stand : (file : List ℕ) (at : ℕ) (rs : List Relocation) → 
     → rows relocation_at 10 file at (length rs) ≡ rs
 relocations_stand file at rs s fits =
     rows_read relocation_at 10 relocation_bytes (λ r. r) file at rs (λ k r h. length-relocation_bytes r) (λ k p r h stands. relocation_stands file p r stands (fits k r h)) s ∙ map_same rs
-
--- a test that fails
-pub not_less : (a b : ℕ) → nat_lt a b ≡ false → b ≤ a
-not_less a b e = grind (arith, nat_tests)
 
 -- nothing has no bytes
 nothing : (xs : List ℕ) → length xs ≡ 0 → xs ≡ []
@@ -256,7 +252,7 @@ module _ (w : CoffForm) (n : Object) (fits : IsCodable w n) where
           (subst (λ rs. (j : ℕ) (r : Relocation) → slice_get rs j ≡ Some r → Fit (relocation_numbers r)) counted (fits.relocs k)))
       by false e =
           let at : ℕ = place_where (is_relocs k) (laid_parts w n) in
-          let short : length (relocs k) ≤ 65535 = not_less 65535 (length (relocs k)) e in
+          let short : length (relocs k) ≤ 65535 = not_below 65535 (length (relocs k)) e in
           let uncapped : min (length (relocs k)) 0xFFFF ≡ length (relocs k) = omega (arith, short) in
           let flag : has (section_flags s (relocs k)) IMAGE_SCN_LNK_NRELOC_OVFL ≡ false = fits.crowded k s here ∙ e in
           let counted : with_count (relocs k) ≡ relocs k = ap (λ b. cond b (count_entry (relocs k) ∷ relocs k) (relocs k)) e in

@@ -66,11 +66,6 @@ module _ (file : CoffFile) (is : IsHeaded file) where
   pub entries_rise : Rise 0 (entries_in (tables_in file))
   entries_rise = whole.1
 
-pub all_here : {X : Type 0} (P : X → Type 0) (xs : List X) (k : ℕ) (x : X) → AllByRecursion P xs → slice_get xs k ≡ Some x → P x
-all_here P [] k x all here = absurd (none-some x here)
-all_here P (y ∷ ys) zero x all here = subst P (same_Some y x here) all.0
-all_here P (y ∷ ys) (suc k) x all here = all_here P ys k x all.1 here
-
 -- each stands behind where they rise from
 rise_low : (m : ℕ) (entries : List Entry) (k : ℕ) (e : Entry) → Rise m entries → slice_get entries k ≡ Some e → m ≤ e.number
 rise_low m [] k e rise here = absurd (none-some e here)

@@ -2,11 +2,10 @@
 use Rattle.std.proofs.Common.{◌≡◌, ℕ, zero, suc, ◌-◌, ◌≤◌, Bool, true, false, cond, eqb, List, length, Option, None, Some, refl, sym, ◌∙◌, ap, arith}
 use Rattle.std.specs.Prelude.{not, ◌&&◌, ◌||◌, nat_eq, nat_le, slice_get}
 use Rattle.std.specs.Option.{option_map, option_map_or, option_and_then}
-use Rattle.std.proofs.lemmas.Bool.{eqb-true, ne_eqb}
+use Rattle.std.proofs.lemmas.Bool.{eqb-true, ne_eqb, and_parts}
 use Rattle.std.proofs.lemmas.Bool.Decides.{nat_tests}
 use Rattle.std.proofs.lemmas.Option.{none-some, same_Some, slice_get_within}
 use Rattle.oc_linking.specs.FirstFault.{stage_fault}
-use Rattle.oc_shelf.proofs.ReadingLaws.StageLemmas.{both_hold}
 use Rattle.oc_coff.specs.declared.constants.TheConstants.{IMAGE_SYM_SECTION_MAX_EX, IMAGE_COMDAT_SELECT_ANY, IMAGE_COMDAT_SELECT_ASSOCIATIVE, IMAGE_SYM_DEBUG, IMAGE_SYM_CLASS_EXTERNAL}
 use Rattle.oc_coff.specs.declared.section_aux.SectionAux.{SectionAux}
 use Rattle.oc_coff.specs.Tables.{SectionTable, Tables}
@@ -84,8 +83,8 @@ leading t k key is = by (definition_in t k) refl is
 -- its symbol is seen by other files
 leading_seen : (t : Tables) (clean : stage_fault (symbol_stage t) ≡ None) (k : ℕ) (key : List ℕ) (l : IsLeading t k key) → is_seen t clean l.symbol ≡ true
 leading_seen t clean k key l =
-    let both = both_hold (has_section l.symbol.symbol) (nat_eq l.symbol.symbol.SectionNumber k) l.in_it in
-    let most = (both_hold (nat_le 1 l.symbol.symbol.SectionNumber) (nat_le l.symbol.symbol.SectionNumber IMAGE_SYM_SECTION_MAX_EX) both.0).1 in
+    let both = and_parts (has_section l.symbol.symbol) (nat_eq l.symbol.symbol.SectionNumber k) l.in_it in
+    let most = (and_parts (nat_le 1 l.symbol.symbol.SectionNumber) (nat_le l.symbol.symbol.SectionNumber IMAGE_SYM_SECTION_MAX_EX) both.0).1 in
     let other : nat_eq l.symbol.symbol.SectionNumber IMAGE_SYM_DEBUG ≡ false = grind (arith, nat_tests, most) in
     ap (λ b. (b || is_class 105 l.symbol.symbol) && not (nat_eq l.symbol.symbol.SectionNumber IMAGE_SYM_DEBUG)) l.external ∙ ap not other
 
@@ -96,6 +95,6 @@ one_leader t clean g h key other at_g at_h same =
     let m = leading t h other at_h in
     let one : l.place ≡ m.place = seen_once t clean l.place m.place l.symbol m.symbol l.there m.there (leading_seen t clean g key l) (leading_seen t clean h other m) (l.named ∙ same ∙ sym m.named) in
     let entry : l.symbol ≡ m.symbol = same_Some l.symbol m.symbol (sym l.there ∙ ap (slice_get (entries_in t)) one ∙ m.there) in
-    let in_g = eqb-true l.symbol.symbol.SectionNumber g (both_hold (has_section l.symbol.symbol) (nat_eq l.symbol.symbol.SectionNumber g) l.in_it).1 in
-    let in_h = eqb-true m.symbol.symbol.SectionNumber h (both_hold (has_section m.symbol.symbol) (nat_eq m.symbol.symbol.SectionNumber h) m.in_it).1 in
+    let in_g = eqb-true l.symbol.symbol.SectionNumber g (and_parts (has_section l.symbol.symbol) (nat_eq l.symbol.symbol.SectionNumber g) l.in_it).1 in
+    let in_h = eqb-true m.symbol.symbol.SectionNumber h (and_parts (has_section m.symbol.symbol) (nat_eq m.symbol.symbol.SectionNumber h) m.in_it).1 in
     sym in_g ∙ ap (λ (e : Entry). e.symbol.SectionNumber) entry ∙ in_h

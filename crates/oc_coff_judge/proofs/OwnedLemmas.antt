@@ -11,7 +11,8 @@ use Rattle.oc_coff.specs.Entries.{Entry, entries_in, is_class, is_in}
 use Rattle.oc_coff.specs.Comdat.{key_symbol, selects, symbols_of}
 use Rattle.oc_coff.specs.Head.{IsHeaded}
 use Rattle.oc_coff_judge.specs.Numbered.{entry_by, entry_place, symbol_in}
-use Rattle.oc_coff_judge.proofs.EntryLemmas.{IsEntry, all_here, entries_sound, filter_from}
+use Rattle.oc_coff_judge.proofs.EntryLemmas.{IsEntry, entries_sound, filter_from}
+use Rattle.oc_neutral.proofs.Positions.{each_at}
 
 -- entry j is symbol i of section number k
 pub record IsOwner (file : CoffFile) (i k j : ℕ) : Type 0 where
@@ -25,7 +26,7 @@ owner_is file head i k j is = by (slice_get (symbols_of (entries_in (tables_in f
     by None e h = absurd (none-some j h)
     by (Some x) e h =
         let p = filter_from (λ (e : Entry). is_in k e.symbol) (entries_in (tables_in file)) i x e in
-        let m = all_here (IsEntry file) (entries_in (tables_in file)) p.place x (entries_sound file head) p.there in
+        let m = each_at (IsEntry file) (entries_in (tables_in file)) p.place x (entries_sound file head) p.there in
         let number = same_Some x.number j h in
         record {
           low = subst (λ (n : ℕ). n < length (tables_in file).entries) number m.low;

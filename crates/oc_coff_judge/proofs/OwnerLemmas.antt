@@ -20,6 +20,7 @@ use Rattle.oc_coff.specs.Head.{IsHeaded}
 use Rattle.oc_coff_judge.specs.Judged.{firsts_with, is_owner, owner_among, seconds_with}
 use Rattle.oc_coff_judge.specs.Numbered.{AreNumbers, AreOwners, entry_by, symbol_in}
 use Rattle.oc_coff_judge.proofs.NumberLemmas.{IsPassing, follow_of, passing_end, passing_more, passing_none, slots_of}
+use Rattle.oc_coff_judge.proofs.EntryLemmas.{number_is}
 
 -- the first and the second symbols are those of these numbers
 pub record IsOwning (file : CoffFile) (numbers : List ℕ) (firsts seconds : List (Option ℕ)) : Type 0 where
@@ -51,10 +52,6 @@ second_push (x ∷ []) e false = refl
 second_push (x ∷ y ∷ xs) e true = refl
 second_push (x ∷ y ∷ xs) e false = refl
 
-pub number_of : (file : CoffFile) (j : ℕ) → (entry_by file j).number ≡ j
-unfolding entry_by
-number_of file j = refl
-
 -- the symbol of entry j
 abbrev symbol_of : CoffFile → ℕ → SymbolEntry
 symbol_of file j = (entry_by file j).symbol
@@ -68,7 +65,7 @@ first_more : (file : CoffFile) (numbers : List ℕ) (j k : ℕ) → owner_among 
 first_more file numbers j k =
     ap (λ (es : List Entry). numbered es 0) (owned_push file numbers j k)
     ∙ first_push (symbols_of (map (entry_by file) numbers) k) (entry_by file j) (is_in k (symbol_of file j))
-    ∙ ap (λ (n : ℕ). cond (is_in k (symbol_of file j) && is_none (owner_among file numbers 0 k)) (Some n) (owner_among file numbers 0 k)) (number_of file j)
+    ∙ ap (λ (n : ℕ). cond (is_in k (symbol_of file j) && is_none (owner_among file numbers 0 k)) (Some n) (owner_among file numbers 0 k)) (number_is file j)
 
 second_more : (file : CoffFile) (numbers : List ℕ) (j k : ℕ)
     → owner_among file (numbers ++ j ∷ []) 1 k
@@ -76,7 +73,7 @@ second_more : (file : CoffFile) (numbers : List ℕ) (j k : ℕ)
 second_more file numbers j k =
     ap (λ (es : List Entry). numbered es 1) (owned_push file numbers j k)
     ∙ second_push (symbols_of (map (entry_by file) numbers) k) (entry_by file j) (is_in k (symbol_of file j))
-    ∙ ap (λ (n : ℕ). cond (is_in k (symbol_of file j) && not (is_none (owner_among file numbers 0 k)) && is_none (owner_among file numbers 1 k)) (Some n) (owner_among file numbers 1 k)) (number_of file j)
+    ∙ ap (λ (n : ℕ). cond (is_in k (symbol_of file j) && not (is_none (owner_among file numbers 0 k)) && is_none (owner_among file numbers 1 k)) (Some n) (owner_among file numbers 1 k)) (number_is file j)
 
 -- a slot that is filled, or not
 slots_with : (f g : ℕ → Option ℕ) (n at j : ℕ) (b : Bool) (xs : List (Option ℕ)) → AreSlots f n xs → (b ≡ true → at < n) → ((k : ℕ) → k < n → g k ≡ cond (b && eqb at k) (Some j) (f k))
@@ -213,7 +210,7 @@ pub record IsEntry (file : CoffFile) (e : Entry) : Type 0 where
 pub entries_are : (file : CoffFile) (numbers : List ℕ) → AllByRecursion (λ i. i < length (tables_in file).entries) numbers → AllByRecursion (IsEntry file) (map (entry_by file) numbers)
 entries_are file [] all = tt
 entries_are file (j ∷ numbers) all = (
-  record { is = ap (entry_by file) (sym (number_of file j)); low = subst (λ (n : ℕ). n < length (tables_in file).entries) (sym (number_of file j)) all.0 },
+  record { is = ap (entry_by file) (sym (number_is file j)); low = subst (λ (n : ℕ). n < length (tables_in file).entries) (sym (number_is file j)) all.0 },
   entries_are file numbers all.1,
 )
 

@@ -3,12 +3,12 @@ use Rattle.std.proofs.Common.{◌≡◌, ℕ, zero, suc, ◌+◌, ◌<◌, inl, 
 use Rattle.std.specs.Prelude.{not, ◌&&◌, ◌||◌, nat_eq, nat_lt, bytes_eq, is_none, is_some, slice_get}
 use Rattle.std.specs.List.{list_any}
 use Rattle.std.specs.Option.{option_map_or}
-use Rattle.std.proofs.lemmas.Bool.{cases_eq, cases_lt, true≢false}
+use Rattle.std.proofs.lemmas.Bool.{cases_eq, cases_lt, true≢false, not-false}
 use Rattle.std.proofs.lemmas.Option.{none-some, same_Some, slice_get_within}
 use Rattle.std.proofs.lemmas.Slice.Eq.{bytes_eq-Decides}
 use Rattle.oc_base.specs.declared.code.Code.TheVariants.{BadSymbol, BadName, SymbolKind, SymbolPastEnd}
 use Rattle.oc_linking.specs.FirstFault.{Condition, fault_of, first_broken, stage_fault}
-use Rattle.oc_shelf.proofs.ReadingLaws.StageLemmas.{all_hold, clean_at, clean_both, not_false}
+use Rattle.oc_shelf.proofs.ReadingLaws.StageLemmas.{all_hold, clean_at, clean_both}
 use Rattle.oc_coff.specs.declared.constants.TheConstants.{IMAGE_SYM_DEBUG, IMAGE_SYM_CLASS_EXTERNAL, IMAGE_SYM_CLASS_WEAK_EXTERNAL}
 use Rattle.oc_coff.specs.Tables.{Tables}
 use Rattle.oc_coff.specs.Names.{is_nothing, symbol_name}
@@ -58,13 +58,13 @@ sound_by t earlier e clean =
       fits = first.0;
       named = some_not (symbol_name t.strings e.symbol.Name) first.1.0;
       section = first.1.1.0;
-      known = not_false (is_known e.symbol) first.1.1.1.0;
+      known = not-false (is_known e.symbol) first.1.1.1.0;
       placed = first.1.1.1.1.0;
       undefined = first.1.1.1.1.1.0;
       inside = first.1.1.1.1.1.1.0;
       tags = λ weak.
           let holds = all_hold (tag_conditions t e (tagged_by (entries_in t) e)) (sym (ap (λ b. first_broken (cond b (tag_conditions t e (tagged_by (entries_in t) e)) [])) weak) ∙ rest.0) in
-          not_false (option_map_or (λ (d : Entry). can_be_tagged (sections_in t) d.symbol) (tagged_by (entries_in t) e) false) holds.1.0;
+          not-false (option_map_or (λ (d : Entry). can_be_tagged (sections_in t) d.symbol) (tagged_by (entries_in t) e) false) holds.1.0;
       carried = names.0;
       full = names.1.0;
       once = names.1.1.0;

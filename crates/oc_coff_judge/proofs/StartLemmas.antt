@@ -13,7 +13,8 @@ use Rattle.oc_coff.specs.Symbols.{tag_of, tagged_by}
 use Rattle.oc_coff_judge.specs.Found.{IsTagOf, start_of}
 use Rattle.oc_coff.specs.Head.{IsHeaded}
 use Rattle.oc_coff_judge.specs.Numbered.{AreNumbers, entry_by}
-use Rattle.oc_coff_judge.proofs.EntryLemmas.{IsEntry, all_here, entries_sound, find_from, number_is}
+use Rattle.oc_coff_judge.proofs.EntryLemmas.{IsEntry, entries_sound, find_from, number_is}
+use Rattle.oc_neutral.proofs.Positions.{each_at}
 
 -- ... symbol by symbol
 
@@ -77,7 +78,7 @@ module _ (file : CoffFile) (head : IsHeaded file) where
       by None e h = absurd (none-some d h)
       by (Some x) e h =
           let p = find_from (λ (y : Entry). nat_eq y.number j) (entries_in (tables_in file)) x e in
-          let own = all_here (IsEntry file) (entries_in (tables_in file)) p.place x (entries_sound file head) p.there in
+          let own = each_at (IsEntry file) (entries_in (tables_in file)) p.place x (entries_sound file head) p.there in
           let number : x.number ≡ j = eqb-true x.number j p.passes in
           let entry : x ≡ entry_by file j = own.is ∙ ap (entry_by file) number in
           record {

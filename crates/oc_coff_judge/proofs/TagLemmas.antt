@@ -14,15 +14,16 @@ use Rattle.oc_coff.specs.SymbolFaults.{can_be_tagged, symbol_stage}
 use Rattle.oc_coff.specs.Head.{IsHeaded}
 use Rattle.oc_coff_judge.specs.Numbered.{entry_by}
 use Rattle.oc_coff_judge.specs.Tagged.{IsSymbolEntry}
-use Rattle.oc_coff_judge.proofs.EntryLemmas.{IsEntry, all_here, entries_sound, find_from}
+use Rattle.oc_coff_judge.proofs.EntryLemmas.{IsEntry, entries_sound, find_from}
 use Rattle.oc_coff_judge.proofs.SoundSymbols.{sound_symbol}
+use Rattle.oc_neutral.proofs.Positions.{each_at}
 
 module _ (file : CoffFile) (head : IsHeaded file) (clean : stage_fault (symbol_stage (tables_in file)) ≡ None) where
   abbrev t : Tables
   t = tables_in file
 
   pub entry_at : (p : ℕ) (e : Entry) → slice_get (entries_in t) p ≡ Some e → IsEntry file e
-  entry_at p e there = all_here (IsEntry file) (entries_in t) p e (entries_sound file head) there
+  entry_at p e there = each_at (IsEntry file) (entries_in t) p e (entries_sound file head) there
 
   -- the symbol that a weak external tags
   pub record IsTag (j d : ℕ) : Type 0 where

@@ -1,11 +1,10 @@
 -- The sections of a file without faults, added one after the other.
 use Rattle.oc_coff.specs.Files.{CoffFile}
 use Rattle.std.proofs.Common.{◌≡◌, ℕ, zero, suc, ◌+◌, ◌<◌, ◌≤◌, Bool, true, false, cond, eqb, List, [], ◌∷◌, ◌++◌, length, map, take, drop, replicate, Option, None, Some, Ok, refl, sym, ◌∙◌, ap, subst, arith, length-take, length-drop}
-use Rattle.std.specs.Prelude.{not, ◌&&◌, nat_eq, nat_lt, is_none, is_some, slice_get, bytes_eq}
+use Rattle.std.specs.Prelude.{not, ◌&&◌, nat_eq, is_none, is_some, slice_get, bytes_eq}
 use Rattle.std.specs.List.{enumerate_from, position_or_len}
 use Rattle.std.specs.Option.{option_and_then, option_map, option_map_or}
 use Rattle.std.proofs.lemmas.Bool.{true≢false}
-use Rattle.std.proofs.lemmas.Bool.Decides.{nat_tests}
 use Rattle.std.proofs.lemmas.Option.{slice_get_within}
 use Rattle.std.proofs.lemmas.List.{length-map}
 use Rattle.oc_base.specs.declared.format.Word.{Word}
@@ -39,7 +38,8 @@ use Rattle.oc_coff_read.specs.Built.{keys_of, sectioned}
 use Rattle.oc_coff_read.proofs.BegunLemmas.{key_given, section_group}
 use Rattle.oc_coff_judge.proofs.CarriedLemmas.{section_is}
 use Rattle.oc_shows.proofs.KeyListLemmas.{given_low}
-use Rattle.oc_target.proofs.MeetsCounts.{sum_map}
+use Rattle.oc_target.proofs.MeetsConditions.{not_below}
+use Rattle.oc_neutral.proofs.LeftObject.{sum_map}
 
 numbered_at : {X : Type 0} (n : ℕ) (xs : List X) (i : ℕ) → slice_get (enumerate_from n xs) i ≡ option_map (λ x. (i + n, x)) (slice_get xs i)
 numbered_at n [] zero = refl
@@ -63,9 +63,6 @@ pub record IsSoundSection (file : CoffFile) (t : Tables) (i : ℕ) (x : SectionT
   pub table : first_broken (table_conditions file.bytes t (i + 1, x) x.header) ≡ None
   pub limits : is_some (kind_in t.strings x.header) ≡ true → IsCounted t i x
 
-at_most : (a b : ℕ) → nat_lt a b ≡ false → b ≤ a
-at_most a b e = grind (arith, nat_tests)
-
 sound_by : (file : CoffFile) (t : Tables) (i : ℕ) (x : SectionTable) → first_broken (section_conditions file.bytes t i (i + 1, x)) ≡ None → IsSoundSection file t i x
 unfolding section_conditions
 sound_by file t i x clean =
@@ -88,9 +85,9 @@ sound_by file t i x clean =
       limits = λ some.
           let holds = all_hold (limit_conditions t i n) (sym (ap (λ b. first_broken (cond b (limit_conditions t i n) [])) some) ∙ fifth.1) in
           record {
-            size = at_most 2147483647 (carried_size t x) holds.0;
-            sizes = at_most 2147483648 (sum_upto (worth_by (carried_size t) t) i + worth_by (carried_size t) t i) holds.1.0;
-            bytes = at_most 67108864 (sum_upto (worth_by (carried_bytes t) t) i + worth_by (carried_bytes t) t i) holds.1.1.0;
+            size = not_below 2147483647 (carried_size t x) holds.0;
+            sizes = not_below 2147483648 (sum_upto (worth_by (carried_size t) t) i + worth_by (carried_size t) t i) holds.1.0;
+            bytes = not_below 67108864 (sum_upto (worth_by (carried_bytes t) t) i + worth_by (carried_bytes t) t i) holds.1.1.0;
           };
     }
 
@@ -212,7 +209,7 @@ module _ (w : Word) (file : CoffFile) (t : Tables) (clean : stage_fault (section
       let holds = all_hold (raw_conditions file.bytes t (i + 1, x) x.header) (sound_section file t clean i x here).raw in
       let past : passes_end file.bytes x.header.PointerToRawData x.header.SizeOfRawData ≡ false
       = second (is_stored (kind_in t.strings x.header) x.header) (passes_end file.bytes x.header.PointerToRawData x.header.SizeOfRawData) (ap (λ (o : Option Kind). is_stored o x.header) is ∙ stored) holds.1.0 in
-      at_most (length file.bytes) (x.header.PointerToRawData + x.header.SizeOfRawData) past
+      not_below (length file.bytes) (x.header.PointerToRawData + x.header.SizeOfRawData) past
     where
       second : (a b : Bool) → a ≡ true → (a && b) ≡ false → b ≡ false
       second true b e h = h

@@ -6,7 +6,7 @@ use Rattle.std.specs.List.{AllByRecursion, position_or_len}
 use Rattle.std.specs.Option.{option_map, option_and_then}
 use Rattle.std.proofs.lemmas.Bool.{true≢false}
 use Rattle.std.proofs.lemmas.List.{length-map}
-use Rattle.std.proofs.lemmas.Option.{none-some, same_Some, slice_get-map}
+use Rattle.std.proofs.lemmas.Option.{none-some}
 use Rattle.oc_base.specs.declared.format.Word.{Word}
 use Rattle.oc_linking.specs.FirstFault.{stage_fault}
 use Rattle.oc_linking.specs.Parts as parts
@@ -18,7 +18,8 @@ use Rattle.oc_shows.specs.Computed.{computed_symbol, keys_after}
 use Rattle.oc_neutral.specs.Invariants.{AreBegun, AreBytes, HaveKeys, IsAlign, IsComplete, IsHinted, IsSymbol, NamesOriginal, groups_of}
 use Rattle.oc_shows.specs.Started.{groups_by, stored_section}
 use Rattle.oc_shows.proofs.StartedLaws.{fieldless_at}
-use Rattle.oc_shelf.proofs.ReadingLaws.CollectedLemmas.{IsFrom, collected-from}
+use Rattle.oc_shelf.proofs.ReadingLaws.CollectedLemmas.{IsFrom, collected-from, all_mapped}
+use Rattle.oc_shelf.proofs.WritingLaws.MemberLemmas.{of_map}
 use Rattle.oc_coff.specs.Tables.{Tables}
 use Rattle.oc_coff.specs.Names.{is_nothing}
 use Rattle.oc_coff.specs.Comdat.{led_key}
@@ -33,26 +34,19 @@ use Rattle.oc_coff_judge.specs.Led.{leader_of, section_at, symbol_at}
 use Rattle.oc_coff.specs.Head.{IsHeaded}
 use Rattle.oc_coff_read.proofs.BegunLemmas.{section_group}
 use Rattle.oc_coff_judge.proofs.CollectLemmas.{sections_are, symbols_are}
-use Rattle.oc_shows.proofs.KeyListLemmas.{all_at, keys_all, keys_apart, keys_begin}
+use Rattle.oc_shows.proofs.KeyListLemmas.{keys_all, keys_apart, keys_begin}
 use Rattle.oc_coff_judge.proofs.LedLemmas.{IsLeading, key_led, leading}
 use Rattle.oc_coff_judge.proofs.NumberedSymbols.{IsAt, stands_at}
-use Rattle.oc_coff_read.proofs.ReadableLemmas.{all_mapped}
 use Rattle.oc_coff_judge.proofs.SoundSymbols.{sound_symbol}
 use Rattle.oc_coff_read.proofs.WholeSymbols.{IsOf, section_by, symbol_whole, symbols_same}
 use Rattle.oc_coff_judge.proofs.PlacedLemmas.{section_from}
+use Rattle.oc_neutral.proofs.Positions.{each_at}
 
 -- the groups of sections that are stored
 groups_are : (keys : List (List ℕ)) (xs : List parts.Section)
     → map (option_map (λ key. position_or_len (bytes_eq key) keys)) (map (λ (x : parts.Section). x.group) xs) ≡ groups_of (map (stored_section keys) xs)
 groups_are keys [] = refl
 groups_are keys (x ∷ xs) = ap (λ (gs : List (Option ℕ)). option_map (λ key. position_or_len (bytes_eq key) keys) x.group ∷ gs) (groups_are keys xs)
-
-mapped_at : {X Y : Type 0} (g : X → Y) (xs : List X) (k : ℕ) (y : Y) → slice_get (map g xs) k ≡ Some y → (x : X) × (slice_get xs k ≡ Some x) × (g x ≡ y)
-mapped_at {X} {Y} g xs k y there = by (slice_get xs k) refl (sym (slice_get-map g xs k) ∙ there)
-  where
-    by : (o : Option X) → slice_get xs k ≡ o → option_map g o ≡ Some y → (x : X) × (slice_get xs k ≡ Some x) × (g x ≡ y)
-    by None h e = absurd (none-some y e)
-    by (Some x) h e = (x, h, same_Some (g x) y e)
 
 align_aligns : (flags : ℕ) → IsAlign (align_of flags)
 align_aligns flags = by (nat_eq (align_bits flags) 0)
@@ -81,7 +75,7 @@ module _ (w : Word) (file : CoffFile) (head : IsHeaded file) (bytes : AreBytes f
           true≢false (sym (ap (λ b. b && is_nothing (name_of t.strings m.symbol)) external ∙ ap is_nothing (m.named ∙ none)) ∙ (sound_symbol t symbols m.place m.symbol m.there).full)
 
   key_full : (k : ℕ) (key : List ℕ) → slice_get (map (λ (x : parts.Section). x.group) (sections_in t)) k ≡ Some (Some key) → key ≢ []
-  key_full k key there = by (mapped_at (λ (x : parts.Section). x.group) (sections_in t) k (Some key) there)
+  key_full k key there = by (of_map (λ (x : parts.Section). x.group) (sections_in t) k (Some key) there)
     where
       held : (o : Option ℕ) → option_and_then (led_key t) o ≡ Some key → key ≢ []
       held None e = absurd (none-some key e)
@@ -103,12 +97,12 @@ module _ (w : Word) (file : CoffFile) (head : IsHeaded file) (bytes : AreBytes f
   have_keys : HaveKeys (groups_by (keys_of t))
   have_keys = record {
     differ = differ;
-    full = all_mapped (λ (g : Group). g.key ≢ []) (λ key. record { key = key }) (keys_of t) (λ k key there. all_at (λ (l : List ℕ). l ≢ []) (keys_of t) k key
+    full = all_mapped (λ (g : Group). g.key ≢ []) (λ key. record { key = key }) (keys_of t) (λ k key there. each_at (λ (l : List ℕ). l ≢ []) (keys_of t) k key
         (subst (AllByRecursion (λ (l : List ℕ). l ≢ [])) (sym keys_same) (keys_all (λ (l : List ℕ). l ≢ []) [] groups key_full)) there);
   }
     where
       differ : (i j : ℕ) (g h : Group) → i < j → slice_get (groups_by (keys_of t)) i ≡ Some g → slice_get (groups_by (keys_of t)) j ≡ Some h → g.key ≢ h.key
-      differ i j g h low at_i at_j same = by (mapped_at (λ key. record { key = key }) (keys_of t) i g at_i) (mapped_at (λ key. record { key = key }) (keys_of t) j h at_j)
+      differ i j g h low at_i at_j same = by (of_map (λ key. record { key = key }) (keys_of t) i g at_i) (of_map (λ key. record { key = key }) (keys_of t) j h at_j)
         where
           by : (k : List ℕ) × (slice_get (keys_of t) i ≡ Some k) × (record { key = k } ≡ g) → (l : List ℕ) × (slice_get (keys_of t) j ≡ Some l) × (record { key = l } ≡ h) → ⊥
           by a b =

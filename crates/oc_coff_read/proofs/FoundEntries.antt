@@ -3,7 +3,7 @@ use Rattle.std.proofs.Common.{◌≡◌, ℕ, zero, suc, ◌+◌, ◌<◌, ◌�
 use Rattle.std.specs.Prelude.{not, ◌&&◌, ◌||◌, nat_lt, filter, find, is_none, slice_get}
 use Rattle.std.specs.List.{list_any}
 use Rattle.std.specs.Option.{option_map_or}
-use Rattle.std.proofs.lemmas.Bool.{cases_eq, cases_lt, eq-eqb, eqb-true, true≢false}
+use Rattle.std.proofs.lemmas.Bool.{cases_eq, cases_lt, eq-eqb, eqb-true, true≢false, and_parts, or_parts, not-false}
 use Rattle.std.proofs.lemmas.Bool.Decides.{nat_tests}
 use Rattle.std.proofs.lemmas.Option.{none-some, same_Some, slice_get_within}
 use Rattle.oc_base.specs.declared.format.Word.{Word}
@@ -14,7 +14,7 @@ use Rattle.oc_linking.specs.Fits.{bytes_of}
 use Rattle.oc_linking.specs.FirstFault.{fault_of, first_broken, stage_fault}
 use Rattle.oc_neutral.specs.Rows.{Row}
 use Rattle.oc_neutral.specs.RelocTables.{row_of}
-use Rattle.oc_shelf.proofs.ReadingLaws.StageLemmas.{all_hold, both_hold, clean_at, not_false}
+use Rattle.oc_shelf.proofs.ReadingLaws.StageLemmas.{all_hold, clean_at}
 use Rattle.oc_shelf.proofs.WritingLaws.MemberLemmas.{member_flat_map, member_filter}
 use Rattle.oc_coff.specs.declared.relocation.Relocation.{Relocation}
 use Rattle.oc_coff.specs.Tables.{Tables}
@@ -24,8 +24,9 @@ use Rattle.oc_coff.specs.Forms.{coff_format}
 use Rattle.oc_coff.specs.Fields.{relocates, says_nothing}
 use Rattle.oc_coff.specs.RelocationFaults.{Judged, is_wrong_aim, judged_from, judged_in, meets_field, relocation_conditions, relocation_fault, relocation_stage, row_conditions}
 use Rattle.oc_coff_judge.proofs.EntryLemmas.{find_from}
-use Rattle.oc_coff_read.proofs.RowLemmas.{wide}
 use Rattle.std.proofs.lemmas.List.{append-nil}
+use Rattle.oc_target.proofs.MeetsConditions.{not_below}
+use Rattle.oc_neutral.proofs.Adding.{wide_enough}
 
 -- ... the entries that are judged
 
@@ -56,13 +57,6 @@ pub record IsGood (w : Word) (t : Tables) (c : Carried) (k : ℕ) (r : Relocatio
   pub aimed : aim_in w t r.SymbolTableIndex ≡ Some (Some aim)
   pub unmet : list_any (meets_field w r.VirtualAddress (bytes_of row.width)) (take k c.relocs) ≡ false
 
-at_most : (a b : ℕ) → nat_lt a b ≡ false → b ≤ a
-at_most a b e = grind (arith, nat_tests)
-
-neither : (a b : Bool) → (a || b) ≡ false → (a ≡ false) × (b ≡ false)
-neither true b e = absurd (true≢false e)
-neither false b e = (refl, e)
-
 good_by : (w : Word) (t : Tables) (c : Carried) (p k : ℕ) (r : Relocation) → first_broken (relocation_conditions w t (judged c p (take k c.relocs) r)) ≡ None → says_nothing r ≡ false → IsGood w t c k r
 unfolding relocation_conditions
 good_by w t c p k r clean busy =
@@ -81,13 +75,13 @@ good_by w t c p k r clean busy =
     by None g h = absurd (true≢false (all_hold ((true, relocation_fault x RelocKind) ∷ []) h).0)
     by (Some row) g h =
         let holds = all_hold ((false, relocation_fault x RelocKind) ∷ row_conditions w x r (aim_in w t r.SymbolTableIndex) row) h in
-        let lies = neither (not c.stored) (nat_lt c.section.size (r.VirtualAddress + bytes_of row.width)) holds.1.0 in
+        let lies = or_parts (not c.stored) (nat_lt c.section.size (r.VirtualAddress + bytes_of row.width)) holds.1.0 in
         let aim = aimed row (aim_in w t r.SymbolTableIndex) holds.1.1.0 holds.1.1.1.0 in
         record {
           row = row;
           listed = g;
-          stored = not_false c.stored lies.0;
-          inside = at_most c.section.size (r.VirtualAddress + bytes_of row.width) lies.1;
+          stored = not-false c.stored lies.0;
+          inside = not_below c.section.size (r.VirtualAddress + bytes_of row.width) lies.1;
           aim = aim.0;
           aimed = aim.1;
           unmet = holds.1.1.1.1.0;
@@ -113,8 +107,8 @@ module _ (w : Word) (t : Tables) (keep : Keep) (clean : stage_fault (relocation_
   any_none : (test : Relocation → Bool) (xs : List Relocation) (p q : ℕ) (x : Relocation) → p < q → slice_get xs p ≡ Some x → list_any test (take q xs) ≡ false → test x ≡ false
   any_none test [] p q x less here none = absurd (none-some x here)
   any_none test (y ∷ xs) p zero x less here none = absurd (omega (arith, less))
-  any_none test (y ∷ xs) zero (suc q) x less here none = sym (ap test (same_Some y x here)) ∙ (neither (test y) (list_any test (take q xs)) none).0
-  any_none test (y ∷ xs) (suc p) (suc q) x less here none = any_none test xs p q x (omega (arith, less)) here (neither (test y) (list_any test (take q xs)) none).1
+  any_none test (y ∷ xs) zero (suc q) x less here none = sym (ap test (same_Some y x here)) ∙ (or_parts (test y) (list_any test (take q xs)) none).0
+  any_none test (y ∷ xs) (suc p) (suc q) x less here none = any_none test xs p q x (omega (arith, less)) here (or_parts (test y) (list_any test (take q xs)) none).1
 
   -- the field of an entry does not meet that of one before
   unmet : (a b : ℕ) (x y : Relocation) (m : IsGood w t c a x) (n : IsGood w t c b y) → a < b → slice_get c.relocs a ≡ Some x
@@ -137,7 +131,7 @@ module _ (w : Word) (t : Tables) (keep : Keep) (clean : stage_fault (relocation_
   differ_at a b x y m n less here same =
       same_place y.VirtualAddress (bytes_of n.row.width) (bytes_of m.row.width)
       (sym (ap (λ (v : ℕ). nat_lt y.VirtualAddress (v + bytes_of m.row.width) && nat_lt v (y.VirtualAddress + bytes_of n.row.width)) same) ∙ unmet a b x y m n less here)
-      (wide n.row.width) (wide m.row.width)
+      (wide_enough n.row.width) (wide_enough m.row.width)
 
   -- two fields are apart
   pub apart_at : (a b : ℕ) (x y : Relocation) (m : IsGood w t c a x) (n : IsGood w t c b y) → slice_get c.relocs a ≡ Some x → slice_get c.relocs b ≡ Some y → x.VirtualAddress < y.VirtualAddress
@@ -164,7 +158,7 @@ module _ (w : Word) (t : Tables) (keep : Keep) (clean : stage_fault (relocation_
   pub found_at : (at : ℕ) (r : Relocation) → find (relocates at) c.relocs ≡ Some r → IsAtOffset at r
   found_at at r e =
       let m = find_from (relocates at) c.relocs r e in
-      let both = both_hold _ (not (says_nothing r)) m.passes in
+      let both = and_parts _ (not (says_nothing r)) m.passes in
       record { k = m.place; here = m.there; busy = unset (says_nothing r) both.1; offset = eqb-true r.VirtualAddress at both.0 }
     where
       unset : (b : Bool) → not b ≡ true → b ≡ false

@@ -3,7 +3,7 @@ use Rattle.oc_coff.specs.Files.{CoffFile, tables_in}
 use Rattle.std.proofs.Common.{◌≡◌, ℕ, ◌⊎◌, inl, inr, Bool, true, false, cond, ℤ, List, Option, None, Some, refl, sym, ◌∙◌, ap, subst}
 use Rattle.std.specs.Prelude.{not, nat_eq, find, slice_get}
 use Rattle.std.specs.Option.{option_and_then, option_map, unwrap_or}
-use Rattle.std.proofs.lemmas.Bool.{eqb-true}
+use Rattle.std.proofs.lemmas.Bool.{eqb-true, and_parts}
 use Rattle.std.proofs.lemmas.Option.{slice_get-map}
 use Rattle.oc_base.specs.declared.format.Word.{Word}
 use Rattle.oc_linking.specs.declared.terms.Keep.{Keep}
@@ -28,7 +28,6 @@ use Rattle.oc_shows.specs.RowValues.{row_reloc}
 use Rattle.oc_neutral.specs.TargetRelocations.{is_homeless}
 use Rattle.oc_neutral.specs.Rows.{Row}
 use Rattle.oc_shows.proofs.RowFieldLaws.{rows_are_fields, section_rows_are_fields, symbol_is_target}
-use Rattle.oc_shelf.proofs.ReadingLaws.StageLemmas.{both_hold}
 use Rattle.oc_coff.specs.declared.relocation.Relocation.{Relocation}
 use Rattle.oc_coff.specs.Entries.{Entry, entries_in, entry_numbered}
 use Rattle.oc_coff.specs.Sections.{Carried, carried_in, sections_in}
@@ -141,7 +140,7 @@ module _ (w : Word) (b : CoffFile) (head : IsHeaded b) (keep : Keep) (n : Object
       by None e = inl (refl, refl)
       by (Some r) e =
           let p = find_from (relocates at) c.relocs r e in
-          let same : r.VirtualAddress ≡ at = eqb-true r.VirtualAddress at (both_hold (nat_eq r.VirtualAddress at) (not (says_nothing r)) p.passes).0 in
+          let same : r.VirtualAddress ≡ at = eqb-true r.VirtualAddress at (and_parts (nat_eq r.VirtualAddress at) (not (says_nothing r)) p.passes).0 in
           subst (λ (x : ℕ). Agree s x (field_by w (target_in w (tables_in b)) s c.section.contents r) (reloc_by w (tables_in b) s c.section.contents r)) same (by_type s c.section.contents r)
 
   -- whether the section at a position is kept

@@ -2,7 +2,7 @@
 use Rattle.oc_coff.specs.Files.{CoffFile, tables_in}
 use Rattle.std.proofs.Common.{◌≡◌, ℕ, ◌<◌, length, Bool, true, false, cond, List, Option, None, Some, refl, sym, ◌∙◌, ap, subst}
 use Rattle.std.specs.Prelude.{ℤ, ◌+ℤ◌, nat_eq}
-use Rattle.std.specs.Option.{option_and_then, option_map, option_map_or}
+use Rattle.std.specs.Option.{option_and_then, option_map}
 use Rattle.std.proofs.lemmas.Bool.{eqb-true, true≢false}
 use Rattle.std.proofs.lemmas.Option.{none-some, same_Some}
 use Rattle.oc_base.specs.declared.format.Word.{Word}
@@ -11,7 +11,6 @@ use Rattle.oc_linking.specs.declared.terms.Hint.TheVariants.{Plain, Call}
 use Rattle.oc_linking.specs.declared.terms.Less.{Less}
 use Rattle.oc_linking.specs.declared.terms.Value.{Value}
 use Rattle.oc_linking.specs.declared.terms.Value.TheVariants as value
-use Rattle.oc_linking.specs.Fits.{bytes_of}
 use Rattle.oc_linking.specs.Parts as parts
 use Rattle.oc_linking.specs.Targets as file
 use Rattle.oc_linking.specs.Targets.{symbol_target}
@@ -28,6 +27,7 @@ use Rattle.oc_neutral.specs.Rows.{Row, less_of, same_hint, shift_of}
 use Rattle.oc_shows.specs.RowValues.{row_reloc}
 use Rattle.oc_neutral.specs.TargetRelocations.{is_homeless}
 use Rattle.oc_neutral.proofs.MovedAddends.{moved_reduced}
+use Rattle.oc_neutral.proofs.Positions.{each_at}
 use Rattle.oc_coff.specs.declared.relocation.Relocation.{Relocation}
 use Rattle.oc_coff.specs.Tables.{Tables}
 use Rattle.oc_coff.specs.Entries.{Entry, entries_in, entry_numbered}
@@ -40,9 +40,8 @@ use Rattle.oc_coff_read.specs.Given.{IsAimed, addend_by, place_meant, reloc_as, 
 use Rattle.oc_coff.specs.Head.{IsHeaded}
 use Rattle.oc_coff.specs.Meanings.{meaning_of, meant_by}
 use Rattle.oc_coff_judge.specs.Numbered.{entry_by}
-use Rattle.oc_coff_judge.specs.Relocs.{width_of}
 use Rattle.oc_coff_judge.specs.Tagged.{carried_position}
-use Rattle.oc_coff_judge.proofs.EntryLemmas.{IsEntry, all_here, entries_sound, find_from}
+use Rattle.oc_coff_judge.proofs.EntryLemmas.{IsEntry, entries_sound, find_from}
 use Rattle.oc_coff_read.proofs.RowLemmas.{IsMeant, IsRow, is_row, meant_none, meant_some, takes_same}
 
 -- the number that is added, as the row has it
@@ -110,7 +109,7 @@ module _ (w : Word) (b : CoffFile) (head : IsHeaded b) where
       by None g h = absurd (none-some (Some aimed.aim) h)
       by (Some x) g h =
           let m = find_from (λ (y : Entry). nat_eq y.number r.SymbolTableIndex) (entries_in t) x g in
-          let entry : IsEntry b x = all_here (IsEntry b) (entries_in t) m.place x (entries_sound b head) m.there in
+          let entry : IsEntry b x = each_at (IsEntry b) (entries_in t) m.place x (entries_sound b head) m.there in
           let same : entry_by b r.SymbolTableIndex ≡ x = ap (entry_by b) (sym (eqb-true x.number r.SymbolTableIndex m.passes)) ∙ sym entry.is in
           ap (λ (n : ℤ). symbol_meant w (meant_by row) n (value_of (sections_in t) (entry_by b r.SymbolTableIndex).symbol) (carried_position t x)) (addend_is w row contents r.VirtualAddress)
           ∙ ap (λ (e : Entry). symbol_meant w (meant_by row) (reduced_number w (a +ℤ shift_of row)) (value_of (sections_in t) e.symbol) (carried_position t x)) same
@@ -141,12 +140,5 @@ aimed_low w b head j aimed = by (entry_numbered (entries_in (tables_in b)) j) re
     by None g h = absurd (none-some (Some aimed.aim) h)
     by (Some x) g h =
         let m = find_from (λ (y : Entry). nat_eq y.number j) (entries_in (tables_in b)) x g in
-        let entry : IsEntry b x = all_here (IsEntry b) (entries_in (tables_in b)) m.place x (entries_sound b head) m.there in
+        let entry : IsEntry b x = each_at (IsEntry b) (entries_in (tables_in b)) m.place x (entries_sound b head) m.there in
         subst (λ (n : ℕ). n < length (tables_in b).entries) (eqb-true x.number j m.passes) entry.low
-
--- a meaning has the width of its row
-pub meant_width : (w : Word) (r : Relocation) (m : Meaning) → meaning_of w r.Type ≡ Some m → width_of w r ≡ bytes_of m.form.width
-meant_width w r m e = by (meant_some w r.Type m e)
-  where
-    by : IsMeant w r.Type m → width_of w r ≡ bytes_of m.form.width
-    by n = ap (λ (o : Option Row). option_map_or (λ (row : Row). bytes_of row.width) o 0) n.listed ∙ ap (λ (x : Meaning). bytes_of x.form.width) n.is

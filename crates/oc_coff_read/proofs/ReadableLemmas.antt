@@ -2,9 +2,9 @@
 use Rattle.oc_coff.specs.declared.form.Shape.{Shape}
 use Rattle.oc_coff.specs.declared.form.Shape.TheVariants.{Usual, Big}
 use Rattle.oc_coff.specs.Files.{CoffFile, tables_in}
-use Rattle.std.proofs.Common.{◌≡◌, ℕ, suc, ◌+◌, ◌/◌, ◌%◌, ◌^◌, ◌<◌, ◌≤◌, Bool, true, false, cond, eqb, List, [], ◌∷◌, drop, take, map, Option, None, Some, refl, sym, ◌∙◌, ap, subst, arith, length}
+use Rattle.std.proofs.Common.{◌≡◌, ℕ, suc, ◌+◌, ◌/◌, ◌%◌, ◌^◌, ◌<◌, ◌≤◌, Bool, true, false, cond, eqb, List, [], ◌∷◌, drop, take, Option, None, Some, refl, sym, ◌∙◌, ap, subst, arith, length}
 use Rattle.std.specs.Prelude.{not, ◌&&◌, ◌||◌, nat_eq, nat_le, nat_lt, codes, slice_get}
-use Rattle.std.specs.List.{AllByRecursion, before_first, list_all, position_or_len}
+use Rattle.std.specs.List.{before_first, list_all, position_or_len}
 use Rattle.std.specs.Option.{option_and_then, option_map, option_map_or, unwrap_or}
 use Rattle.std.proofs.lemmas.Bool.{eq-eqb, ne_eqb, true≢false}
 use Rattle.std.proofs.lemmas.Bool.Decides.{nat_tests}
@@ -19,11 +19,11 @@ use Rattle.oc_neutral.specs.Coff.Family.{coff_gives}
 use Rattle.oc_neutral.specs.Coff.Kinds.{coff_kind, coff_tag, is_unwind_name}
 use Rattle.oc_neutral.specs.GivenTags.{can_have, is_blank_type}
 use Rattle.oc_neutral.specs.Invariants.{AreBytes}
-use Rattle.oc_neutral.specs.KindRules.{begins, first_rule, has_nul, kind_number, same_kind}
+use Rattle.oc_neutral.specs.KindRules.{begins, first_rule, has_nul, same_kind}
 use Rattle.oc_shows.specs.Readable.{IsReadable}
 use Rattle.oc_shows.specs.Started.{stored_section}
 use Rattle.oc_shelf.specs.Reading.Texts.{text_at, text_within}
-use Rattle.oc_shelf.proofs.ReadingLaws.CollectedLemmas.{IsFrom}
+use Rattle.oc_shelf.proofs.ReadingLaws.CollectedLemmas.{IsFrom, all_mapped}
 use Rattle.oc_coff.specs.Tables.{Tables}
 use Rattle.oc_coff.specs.Forms.{format_by}
 use Rattle.oc_coff.specs.Names.{decimal_of, is_digit, is_nothing, name_for, section_name, string_at, until_nul}
@@ -34,6 +34,7 @@ use Rattle.oc_coff_judge.specs.Led.{section_at}
 use Rattle.oc_coff_read.proofs.ByteLemmas.{header_small}
 use Rattle.oc_coff_read.proofs.WholeSymbols.{IsOf, section_by}
 use Rattle.oc_coff_judge.proofs.PlacedLemmas.{section_from}
+use Rattle.oc_neutral.proofs.GivenLaws.{same_kind-self, coff_kind-tag}
 
 -- ... names
 
@@ -132,21 +133,6 @@ cut flags = record {
   small = omega arith;
 }
 
-kind_cut : (name : List ℕ) (flags : ℕ) → coff_kind name (coff_tag flags) ≡ coff_kind name flags
-kind_cut name flags =
-    let c : IsCut flags = cut flags in
-    kind_by name (coff_tag flags)
-    ∙ ap (λ (n : ℕ). kind_for name n (coff_tag flags / 0x800 % 2) (coff_tag flags / 0x80 % 2) (coff_tag flags / 0x20 % 2) (coff_tag flags / 0x20000000 % 2) (coff_tag flags / 0x80000000 % 2)) c.info
-    ∙ ap (λ (n : ℕ). kind_for name (flags / 0x200 % 2) n (coff_tag flags / 0x80 % 2) (coff_tag flags / 0x20 % 2) (coff_tag flags / 0x20000000 % 2) (coff_tag flags / 0x80000000 % 2)) c.remove
-    ∙ ap (λ (n : ℕ). kind_for name (flags / 0x200 % 2) (flags / 0x800 % 2) n (coff_tag flags / 0x20 % 2) (coff_tag flags / 0x20000000 % 2) (coff_tag flags / 0x80000000 % 2)) c.zeros
-    ∙ ap (λ (n : ℕ). kind_for name (flags / 0x200 % 2) (flags / 0x800 % 2) (flags / 0x80 % 2) n (coff_tag flags / 0x20000000 % 2) (coff_tag flags / 0x80000000 % 2)) c.code
-    ∙ ap (λ (n : ℕ). kind_for name (flags / 0x200 % 2) (flags / 0x800 % 2) (flags / 0x80 % 2) (flags / 0x20 % 2) n (coff_tag flags / 0x80000000 % 2)) c.execute
-    ∙ ap (λ (n : ℕ). kind_for name (flags / 0x200 % 2) (flags / 0x800 % 2) (flags / 0x80 % 2) (flags / 0x20 % 2) (flags / 0x20000000 % 2) n) c.write
-    ∙ sym (kind_by name flags)
-
-same_kind_self : (k : Kind) → same_kind k k ≡ true
-same_kind_self k = eq-eqb (kind_number k) (kind_number k) refl
-
 gives_at : (name : List ℕ) (flags : ℕ) (kind : Kind) → flags < 2 ^ 32 → coff_kind name flags ≡ Some kind → coff_gives kind name (coff_tag flags) ≡ true
 unfolding coff_gives
 gives_at name flags kind low is =
@@ -154,7 +140,7 @@ gives_at name flags kind low is =
     let small = c.small in
     all_three (nat_lt (coff_tag flags) (2 ^ 32)) (nat_eq (coff_tag (coff_tag flags)) (coff_tag flags)) (option_map_or (same_kind kind) (coff_kind name (coff_tag flags)) false)
     (below (coff_tag flags) flags (2 ^ 32) small low) (eq-eqb (coff_tag (coff_tag flags)) (coff_tag flags) c.own)
-    (ap (λ (o : Option Kind). option_map_or (same_kind kind) o false) (kind_cut name flags ∙ is) ∙ same_kind_self kind)
+    (ap (λ (o : Option Kind). option_map_or (same_kind kind) o false) (coff_kind-tag name flags ∙ is) ∙ same_kind-self kind)
   where
     below : (a b c : ℕ) → a ≤ b → b < c → nat_lt a c ≡ true
     below a b c l m = grind (arith, nat_tests)
@@ -178,10 +164,6 @@ blank_is W64 Usual tag = refl
 blank_is W64 Big tag = refl
 
 -- ... all
-
-pub all_mapped : {X Y : Type 0} (P : Y → Type 0) (g : X → Y) (xs : List X) → ((k : ℕ) (x : X) → slice_get xs k ≡ Some x → P (g x)) → AllByRecursion P (map g xs)
-all_mapped P g [] each = tt
-all_mapped P g (x ∷ xs) each = (each 0 x refl, all_mapped P g xs (λ k. each (suc k)))
 
 module _ (w : Word) (file : CoffFile) (bytes : AreBytes file.bytes) where
   abbrev t : Tables

@@ -1,5 +1,5 @@
 -- The rows of COFF: none takes a section, and none has a hint.
-use Rattle.std.proofs.Common.{◌≡◌, ℕ, Bool, true, false, ◌≤◌, Option, None, Some, refl, sym, ◌∙◌, ap, arith}
+use Rattle.std.proofs.Common.{◌≡◌, ℕ, Bool, true, false, ◌≤◌, Option, None, Some, refl, sym, ◌∙◌, ap}
 use Rattle.std.specs.Prelude.{not, ◌&&◌, nat_eq}
 use Rattle.std.specs.Option.{option_map}
 use Rattle.std.proofs.lemmas.Bool.{true≢false}
@@ -9,9 +9,6 @@ use Rattle.oc_base.specs.declared.format.Word.TheVariants.{W32, W64}
 use Rattle.oc_linking.specs.declared.terms.Hint.{Hint}
 use Rattle.oc_linking.specs.declared.terms.Hint.TheVariants.{Plain, Call}
 use Rattle.oc_linking.specs.declared.terms.Less.TheVariants as less
-use Rattle.oc_linking.specs.declared.terms.Width.{Width}
-use Rattle.oc_linking.specs.declared.terms.Width.TheVariants.{One, Two, Four, Eight}
-use Rattle.oc_linking.specs.Fits.{bytes_of}
 use Rattle.oc_neutral.specs.Rows.{Row, Taken, TakesZero, TakesPlace, TakesGotBase, TakesImageBase, TakesHome, TakesSection, less_of, same_hint, same_taken}
 use Rattle.oc_neutral.specs.RelocTables.{row_of, rows_of}
 use Rattle.oc_coff.specs.Forms.{coff_format}
@@ -68,13 +65,6 @@ takes_same row s is = by row.taken is.alone
 -- it has no hint
 pub no_call : (row : Row) → IsRow row → (row.hint ≡ Call → ⊥)
 no_call row is e = true≢false (sym is.plain ∙ ap (λ (h : Hint). same_hint h Plain) e)
-
--- a field has bytes
-pub wide : (w : Width) → 1 ≤ bytes_of w
-wide One = omega arith
-wide Two = omega arith
-wide Four = omega arith
-wide Eight = omega arith
 
 -- ... meanings
 

@@ -3,7 +3,7 @@ use Rattle.std.proofs.Common.{◌≡◌, ℕ, zero, suc, ◌+◌, ◌<◌, Bool,
 use Rattle.std.specs.Prelude.{slice_get, nat_eq}
 use Rattle.std.specs.List.{AllByRecursion, filter_map, cons_option, position_from}
 use Rattle.std.specs.Option.{option_map, option_and_then, is_some}
-use Rattle.std.proofs.lemmas.Bool.{eqb-true, eq-eqb}
+use Rattle.std.proofs.lemmas.Bool.{eq-eqb}
 use Rattle.std.proofs.lemmas.Option.{none-some, same_Some, slice_get_within}
 use Rattle.oc_linking.specs.declared.terms.Keep.{Keep}
 use Rattle.oc_linking.specs.Keeping.{keeps, kept_flags, kept_of}
@@ -15,7 +15,7 @@ use Rattle.oc_neutral.specs.Invariants.{IsMember, groups_of}
 use Rattle.oc_neutral.proofs.Positions.{there_at}
 use Rattle.oc_drop.specs.Dropping.{sections_stay}
 use Rattle.oc_neutral.specs.Without.{place_in, begun_more, begun_by, groups_left, regrouped}
-use Rattle.oc_neutral.proofs.Regrouping.{left_low, picked, picked_from, picked_long}
+use Rattle.oc_neutral.proofs.Regrouping.{left_low, picked, picked_from, picked_long, place_says}
 
 -- what two functions make of a list, where they agree on each item
 pub map_same : {X Y : Type 0} (f g : X → Y) (xs : List X) → ((k : ℕ) (x : X) → slice_get xs k ≡ Some x → f x ≡ g x) → map f xs ≡ map g xs
@@ -42,15 +42,6 @@ front_at (y ∷ xs) ys (suc k) x here = front_at xs ys k x here
 
 -- ... the places of groups
 
--- what a place says, in a list from position i on
-place_holds : (g i : ℕ) (xs : List ℕ) (p : ℕ) → position_from (nat_eq g) i xs ≡ Some p → (k : ℕ) × (i + k ≡ p) × (slice_get xs k ≡ Some g)
-place_holds g i [] p e = absurd (none-some p e)
-place_holds g i (x ∷ xs) p e =
-    elim (eqb g x) as (λ b. eqb g x ≡ b → cond b (Some i) (position_from (nat_eq g) (i + 1) xs) ≡ Some p → (k : ℕ) × (i + k ≡ p) × (slice_get (x ∷ xs) k ≡ Some g)) [
-      | true ↦ λ t e. (0, (let same : i ≡ p = same_Some i p e in omega (arith, same)), ap Some (sym (eqb-true g x t)))
-      | false ↦ λ t e. let m = place_holds g (i + 1) xs p e in (suc m.0, (let f = m.1 in omega (arith, f)), m.2)
-    ] refl e
-
 -- one that is there has a place
 place_found : (g i : ℕ) (xs : List ℕ) (k : ℕ) → slice_get xs k ≡ Some g → (p : ℕ) × (position_from (nat_eq g) i xs ≡ Some p)
 place_found g i [] k here = absurd (none-some g here)
@@ -76,7 +67,7 @@ begun_there begun g = by (place_in begun g) refl
   where
     by : (o : Option ℕ) → place_in begun g ≡ o → (j : ℕ) × (slice_get (cond (is_some o) begun (begun ++ g ∷ [])) j ≡ Some g)
     by None e = (length begun, at_end begun g)
-    by (Some p) e = let m = place_holds g 0 begun p e in (m.0, m.2)
+    by (Some p) e = let m = place_says g 0 begun p e in (m.0, m.2)
 
 all_there : (members begun : List ℕ) (g : ℕ) → (j : ℕ) × (slice_get begun j ≡ Some g) → (j : ℕ) × (slice_get (begun_by begun members) j ≡ Some g)
 all_there [] begun g there = there
@@ -118,7 +109,7 @@ module _ (groups : List Group) (sections : List Section) (members : AllByRecursi
       by (Some g) own =
           let there = member_there sections [] k s g here own in
           let place = place_found g 0 left there.0 there.1 in
-          let holds = place_holds g 0 left place.0 place.1 in
+          let holds = place_says g 0 left place.0 place.1 in
           let at : slice_get left place.0 ≡ Some g = ap (slice_get left) (let f = holds.1 in omega (arith, f)) ∙ holds.2 in
           ap (option_and_then (key_of (picked groups left))) place.1
           ∙ ap (option_map (λ (x : Group). x.key)) (picked_at groups left place.0 g (left_low (length groups) sections members) at)

@@ -3,7 +3,7 @@ use Rattle.std.proofs.Common.{◌≡◌, ℕ, zero, suc, ◌+◌, ◌<◌, Bool,
 use mathlib.Core.Path.{fun_ext}
 use Rattle.std.specs.Prelude.{slice_get}
 use Rattle.std.specs.Option.{option_map, option_map_or, unwrap_or}
-use Rattle.std.proofs.lemmas.Bool.{cases_lt, true≢false}
+use Rattle.std.proofs.lemmas.Bool.{cases_lt, true≢false, or_parts, not-false}
 use Rattle.std.proofs.lemmas.List.{length-map, get_or_past}
 use Rattle.std.proofs.lemmas.Option.{none-some}
 use Rattle.oc_base.specs.declared.format.Word.{Word}
@@ -49,7 +49,7 @@ use Rattle.oc_drop.specs.KeptShows.{kept_patches, ShowsKept, DroppedShowsKept}
 use Rattle.oc_neutral.proofs.KeptLists.{Stays}
 use Rattle.oc_neutral.proofs.LeftObject.{all_both}
 use Rattle.oc_neutral.proofs.LeftParts.{symbol_there}
-use Rattle.oc_drop.proofs.DroppedSymbols.{carried_back, nonlocal-clear, not_dropped}
+use Rattle.oc_drop.proofs.DroppedSymbols.{carried_back, nonlocal-clear}
 use Rattle.oc_drop.proofs.DroppedSections.{kept_map, map_twice, flags-framed, stay-shown}
 use Rattle.oc_drop.proofs.StepLaws.{unless_ok}
 use Rattle.oc_drop.proofs.Detached.{detached}
@@ -108,11 +108,6 @@ found_moved stay flags (x ∷ xs) at =
       | false ↦ found_moved stay flags xs at
     ]
 
--- where neither of two holds
-pub or_none : (a b : Bool) → (a || b) ≡ false → (a ≡ false) × (b ≡ false)
-or_none true b e = absurd (true≢false e)
-or_none false b e = (refl, e)
-
 module _ (keep : Keep) (n : Object) (is : IsObject n) (none : IsDetached (stays keep n) n) (p : Placement) (v : Valuation) where
   abbrev stay : List Bool
   stay = stays keep n
@@ -149,7 +144,7 @@ module _ (keep : Keep) (n : Object) (is : IsObject n) (none : IsDetached (stays 
   site-moved : (k : ℕ) → k < length n.sections → is_dropped stay k ≡ false → p.site (new_position stay k) ≡ q.site k
   site-moved k low clear =
       sym (spread-carried nowhere stay p.site (new_position stay k))
-      ∙ ap (spread_over nowhere stay p.site) (carried_back stay k (omega (arith, low, long)) (not_dropped (get_or stay k true) clear))
+      ∙ ap (spread_over nowhere stay p.site) (carried_back stay k (omega (arith, low, long)) (not-false (get_or stay k true) clear))
 
   -- a target is worth what it was
   target-moved : (t : Target) → IsThere n t → place_among n.symbols t ≡ None → targets_dropped stay t ≡ false → target_worth m.symbols p v (moved_target stay syms t) ≡ target_worth n.symbols q v t
@@ -175,7 +170,7 @@ module _ (keep : Keep) (n : Object) (is : IsObject n) (none : IsDetached (stays 
       → residue_at w m.symbols p v s at (moved_reloc stay syms r) ≡ residue_at w n.symbols q v (carried_of stay s) at r
   unfolding residue_at
   residue-moved w s at r normal clear =
-      let both = or_none (targets_dropped stay r.target) (takes_dropped stay r.form.less) clear in
+      let both = or_parts (targets_dropped stay r.target) (takes_dropped stay r.form.less) clear in
       let t : Valued = target_worth m.symbols p v (moved_target stay syms r.target) in
       ap (λ l. minus w (base_of p t r.form.base + residue_of w r.addend) l) (less-moved s at t r.form.less normal.less both.1)
       ∙ ap (λ t. minus w (base_of q t r.form.base + residue_of w r.addend) (less_of q (carried_of stay s) at t r.form.less)) (target-moved r.target normal.target normal.against both.0)

@@ -3,7 +3,7 @@ use Rattle.std.proofs.Common.{◌≡◌, ◌≢◌, ℕ, zero, suc, ◌<◌, Boo
 use Rattle.std.specs.Prelude.{slice_get}
 use Rattle.std.specs.List.{AllByRecursion}
 use Rattle.std.specs.Option.{option_map_or}
-use Rattle.std.proofs.lemmas.Bool.{true≢false}
+use Rattle.std.proofs.lemmas.Bool.{true≢false, not-false}
 use Rattle.std.proofs.lemmas.Option.{slice_get_within}
 use Rattle.oc_linking.specs.declared.terms.Value.{Value}
 use Rattle.oc_linking.specs.declared.terms.Value.TheVariants as value
@@ -17,12 +17,12 @@ use Rattle.oc_linking.proofs.Raising.{raised_value, raised_fallback, raised_bind
 use Rattle.oc_neutral.specs.declared.symbol.Symbol.{Symbol}
 use Rattle.oc_neutral.specs.Objects.{Object}
 use Rattle.oc_neutral.specs.Faces.{number_of, shown_fallback, shown_binding}
-use Rattle.oc_neutral.specs.Invariants.{HasOffset, IsValue, is_strong, IsFallback, IsBinding, IsSymbol}
+use Rattle.oc_neutral.specs.Invariants.{HasOffset, IsValue, IsFallback, IsBinding, IsSymbol}
 use Rattle.oc_neutral.proofs.Positions.{each_at, each_weaker}
 use Rattle.oc_neutral.specs.Without.{symbols_stay, is_dropped, value_section, binding_section, lies_in_dropped, new_position, moved_value, moved_fallback, moved_binding, with_binding, IsDetached}
 use Rattle.oc_drop.specs.KeptShows.{left_symbols}
 use Rattle.oc_neutral.proofs.KeptLists.{Stays, all_kept}
-use Rattle.oc_neutral.proofs.LeftParts.{flags, moved_symbol, left_object, symbol_there}
+use Rattle.oc_neutral.proofs.LeftParts.{flags, moved_symbol, left_object, symbol_there, strong_outer}
 use Rattle.oc_drop.proofs.Filed.{filed, all_filed, Names, AllNamed, AreSingle, numbers_of}
 
 -- one that stays comes back to its position
@@ -36,18 +36,6 @@ carried_back (false ∷ stay) (suc k) low is = ap suc (carried_back stay k (omeg
 -- a symbol whose fallback has its number
 abbrev pub numbered : List Symbol → Symbol → Symbol
 numbered symbols s = with_binding s (shown_binding symbols s.binding)
-
--- what is not dropped stays
-pub not_dropped : (b : Bool) → not b ≡ false → b ≡ true
-not_dropped true e = refl
-not_dropped false e = absurd (true≢false e)
-
-strong_nonlocal : (b : Binding) → is_strong b ≡ true → is_local b ≡ false
-strong_nonlocal (Local v) e = absurd (true≢false (sym e))
-strong_nonlocal (Global v) e = refl
-strong_nonlocal Undefined e = refl
-strong_nonlocal (Common size align) e = refl
-strong_nonlocal (Weak f) e = refl
 
 -- the section of a symbol is the same, whatever names its fallback
 section_same : (symbols : List Symbol) (b : Binding) → binding_section (shown_binding symbols b) ≡ binding_section b
@@ -84,7 +72,7 @@ module _ (stay : List Bool) (n : Object) (long : length n.sections ≡ length st
   syms = flags stay n long none
 
   place-back : (k offset : ℕ) → HasOffset n.sections k offset → is_dropped stay k ≡ false → carried_of stay (new_position stay k) ≡ k
-  place-back k offset there clear = carried_back stay k (let l = slice_get_within n.sections k there.0 there.1 in omega (arith, l, long)) (not_dropped (get_or stay k true) clear)
+  place-back k offset there clear = carried_back stay k (let l = slice_get_within n.sections k there.0 there.1 in omega (arith, l, long)) (not-false (get_or stay k true) clear)
 
   value-back : (v : Value) → IsValue n v → option_map_or (is_dropped stay) (value_section v) false ≡ false → raised_value stay (moved_value stay v) ≡ v
   value-back (value.Place k offset) there clear = ap (λ j. value.Place j offset) (place-back k offset there clear)
@@ -99,7 +87,7 @@ module _ (stay : List Bool) (n : Object) (long : length n.sections ≡ length st
   fallback-back (fallback.Place k offset) there clear = ap (λ j. fallback.Place j offset) (place-back k offset there clear)
   fallback-back fallback.Zero there clear = refl
   fallback-back (fallback.Name k) there clear =
-      ap (λ i. fallback.Name i) (number-back k there.0 there.1 (nonlocal-clear k there.0 there.1 (strong_nonlocal there.0.binding there.2)))
+      ap (λ i. fallback.Name i) (number-back k there.0 there.1 (nonlocal-clear k there.0 there.1 (strong_outer there.0.binding there.2)))
 
   pub binding-back : (b : Binding) → IsBinding n b → option_map_or (is_dropped stay) (binding_section b) false ≡ false
       → raised_binding stay (shown_binding m.symbols (moved_binding stay syms b)) ≡ shown_binding n.symbols b

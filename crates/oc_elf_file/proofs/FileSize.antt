@@ -37,7 +37,7 @@ use Rattle.oc_elf_file.proofs.HeadCounts.{length-heads, counted_tables, most_tab
 use Rattle.oc_elf_file.proofs.PartLaws.{length-elf_file}
 use Rattle.oc_elf_file.proofs.SizeLaws.{strings_size, end_low, gap_low, align_low, members_few}
 use Rattle.oc_shelf.proofs.WritingLaws.SizeLemmas.{sum_enumerated, sum_filter, sum_more, sum_same, ended_size}
-use Rattle.oc_target.proofs.MeetsCounts.{sum_map}
+use Rattle.oc_neutral.proofs.LeftObject.{sum_map}
 
 -- ... sums over lists
 

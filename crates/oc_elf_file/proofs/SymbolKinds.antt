@@ -36,10 +36,7 @@ use Rattle.oc_elf_file.proofs.LineLaws.{IsLineAt}
 use Rattle.oc_elf_file.proofs.EntryLaws.{entry_with, bind_is, type_is}
 use Rattle.oc_elf_file.proofs.HeaderClean.{within_file}
 use Rattle.oc_elf_file.proofs.SectionClean.{power_found}
-
-none_right : (a : Bool) → (a && false) ≡ false
-none_right true = refl
-none_right false = refl
+use Rattle.oc_elf_file.proofs.TableClean.{none_right}
 
 -- ... kinds of symbols
 

@@ -1,7 +1,7 @@
 -- The members of groups, taken up one after the other.
 use Rattle.std.proofs.Common.{◌≡◌, ℕ, ◌+◌, ◌<◌, ◌≤◌, inl, inr, Bool, true, false, cond, eqb, List, length, set, Option, None, Some, refl, sym, ◌∙◌, ap, arith}
 use Rattle.std.specs.Prelude.{◌&&◌, ◌||◌, nat_eq, nat_le, is_some, slice_index_or, if◌then◌else◌}
-use Rattle.std.proofs.lemmas.Bool.{eqb-true, true≢false}
+use Rattle.std.proofs.lemmas.Bool.{eqb-true, true≢false, and_parts}
 use Rattle.std.proofs.lemmas.Bool.{cases_lt}
 use Rattle.std.proofs.lemmas.Bool.Decides.{nat_tests}
 use Rattle.oc_linking.specs.Numbers.{or_else}
@@ -15,7 +15,7 @@ use Rattle.oc_elf.specs.Frames.{FileFrame, header_at}
 use Rattle.oc_elf.specs.Groups.{has_member, is_member, member_at, member_count, owner_among}
 use Rattle.oc_elf.specs.Sections.{is_type}
 use Rattle.oc_elf.specs.SectionRules.{is_bad_member, is_good_group}
-use Rattle.oc_shelf.proofs.ReadingLaws.StageLemmas.{both_hold}
+use Rattle.oc_elf_judge.proofs.TableLemmas.{at_least}
 
 module _ (f : FileFrame) (k : ℕ) (s : Shdr) where
   -- the owners of sections where i members of group k were taken up
@@ -117,15 +117,12 @@ taking_passed f k owners other are = slots_same (owner_among f k) (owner_among f
         ∙ ap (λ b. or_else (owner_among f k j) (cond (b && has_member f (header_at f.headers k) (member_count (header_at f.headers k)) j) (Some k) None)) other
         ∙ right (owner_among f k j)
 
-at_least : (a b : ℕ) → nat_le a b ≡ true → a ≤ b
-at_least a b e = grind (arith, nat_tests)
-
 -- a good group has its first word
 pub good_first : (f : FileFrame) (s : Shdr) → is_good_group f s ≡ true → 4 ≤ s.sh_size
 unfolding is_good_group
 good_first f s good =
-    let four = both_hold _ _ good in
-    let three = both_hold _ _ four.0 in
-    let two = both_hold _ _ three.0 in
-    let one = both_hold _ _ two.0 in
+    let four = and_parts _ _ good in
+    let three = and_parts _ _ four.0 in
+    let two = and_parts _ _ three.0 in
+    let one = and_parts _ _ two.0 in
     at_least 4 s.sh_size one.1

@@ -1,6 +1,6 @@
 -- The stages of reading together.
 use Rattle.std.proofs.Common.{◌≡◌, ℕ, ◌<◌, ◌^◌, true, cond, List, length, Option, None, sym, ◌∙◌, ap, arith, inl, inr}
-use Rattle.std.proofs.lemmas.Bool.{true≢false}
+use Rattle.std.proofs.lemmas.Bool.{true≢false, and_parts}
 use Rattle.oc_base.specs.declared.fault.Fault.{Fault}
 use Rattle.oc_base.specs.declared.stop.Stop.{Stop}
 use Rattle.oc_base.specs.declared.stop.Stop.TheVariants as stop
@@ -8,7 +8,7 @@ use Rattle.oc_base.specs.Stops.{IsStop}
 use Rattle.oc_linking.specs.declared.terms.Keep.{Keep}
 use Rattle.oc_linking.specs.FirstFault.{fault_of, first_fault, stage_fault}
 use Rattle.oc_linking.specs.Numbers.{first_upto, or_else}
-use Rattle.oc_shelf.proofs.ReadingLaws.StageLemmas.{both_hold, clean_at, first_fault-append}
+use Rattle.oc_shelf.proofs.ReadingLaws.StageLemmas.{clean_at, first_fault-append}
 use Rattle.oc_elf.specs.declared.class.ElfClass.{ElfClass}
 use Rattle.oc_elf.specs.Elf.{fault_in, rest_stages}
 use Rattle.oc_elf.specs.Frames.{FileFrame, framed, header_at}
@@ -27,7 +27,7 @@ kept_stage f keep i is = ap (λ b. first_upto (entry_fault f i) (cond b (reloc_c
 -- a kept section is small
 pub kept_small : (f : FileFrame) (keep : Keep) (i : ℕ) → IsFrame f → stage_fault (section_stage f) ≡ None → i < length f.headers → is_kept_section f keep i ≡ true → (header_at f.headers i).sh_size < 2 ^ 32
 kept_small f keep i frame clean low is =
-    let carried = (both_hold _ _ is).0 in
+    let carried = (and_parts _ _ is).0 in
     elim (sound_at f i (clean_at (fault_of (section_stage f)) (length f.headers) i clean low)) as (λ _. (here f i).sh_size < 2 ^ 32) [
       | inl none ↦ absurd (true≢false (sym carried ∙ ap (λ (j : ℕ). is_carried (here f j)) none ∙ ap is_carried (null_first f frame)))
       | inr sound ↦ let size = (sound.carried carried).size in omega (arith, size)

@@ -3,7 +3,7 @@ use Rattle.std.proofs.Common.{◌≡◌, ℕ, ◌+◌, ◌*◌, ◌<◌, ◌≤�
 use Rattle.std.specs.Prelude.{not, ◌&&◌, ◌||◌, nat_lt, nat_le, is_some, is_none, length}
 use Rattle.std.specs.Option.{option_map, option_map_or}
 use Rattle.std.proofs.lemmas.Option.{none-some, same_Some}
-use Rattle.std.proofs.lemmas.Bool.{true≢false}
+use Rattle.std.proofs.lemmas.Bool.{true≢false, and_parts, not-false}
 use Rattle.std.proofs.lemmas.Bool.Decides.{nat_tests}
 use Rattle.oc_base.specs.declared.fault.Fault.{Fault}
 use Rattle.oc_linking.specs.Numbers.{first_upto, or_else}
@@ -20,7 +20,7 @@ use Rattle.oc_neutral.specs.Rows.{Row, same_base}
 use Rattle.oc_elf_judge.specs.Known.{AreTaken, can_be_target}
 use Rattle.oc_shelf.specs.Reading.Bitmaps.{has, is_between, room}
 use Rattle.oc_shelf.proofs.ReadingLaws.BitmapLemmas.{bytes_more, bytes_same}
-use Rattle.oc_shelf.proofs.ReadingLaws.StageLemmas.{all_hold, first_broken-append, not_false, both_hold}
+use Rattle.oc_shelf.proofs.ReadingLaws.StageLemmas.{all_hold, first_broken-append}
 use Rattle.oc_elf.specs.declared.class.ElfClass.{ElfClass}
 use Rattle.oc_elf.specs.declared.meaning.Meaning.{Meaning}
 use Rattle.oc_elf.specs.declared.rel.Rel.{Rel}
@@ -64,12 +64,12 @@ pub good_entry : (f : FileFrame) (i place : ℕ) (r : Rel) → first_broken (own
 unfolding own_conditions
 good_entry f i place r clean =
     let holds = all_hold (own_conditions f i place r) clean in
-    by (row_for f r) refl holds.0 (not_false _ holds.1.0) (not_false _ holds.1.1.0) (not_false _ holds.1.1.1.0)
+    by (row_for f r) refl holds.0 (not-false _ holds.1.0) (not-false _ holds.1.1.0) (not-false _ holds.1.1.1.0)
   where
     by : (o : Option Row) → row_for f r ≡ o → is_none o ≡ false → lies_within f (header_at f.headers i) r ≡ true → is_nameable f r.r_sym ≡ true → is_target_for f r ≡ true → IsGood f i r
     by None e n lies named aimed = absurd (true≢false n)
     by (Some row) e n lies named aimed =
-        let parts = both_hold _ _ lies in
+        let parts = and_parts _ _ lies in
         let wide : width_of f r ≡ bytes_of row.width = ap (λ (o : Option Row). option_map_or (λ (x : Row). bytes_of x.width) o 0) e in
         let bits : not (is_type SHT_NOBITS (header_at f.headers i)) ≡ true = parts.0 in
         let low = parts.1 in
@@ -144,7 +144,7 @@ field_inside f i r good = subst (λ (o : Option Row). r.r_offset + option_map_or
 pub nameable_there : (f : FileFrame) (j : ℕ) → is_nameable f j ≡ true → j < symbol_count f
 unfolding is_nameable
 nameable_there f j is =
-    let low : nat_lt j (symbol_count f) ≡ true = (both_hold (nat_lt j (symbol_count f)) (eqb j 0 || is_some (symbol_of f j) || is_section_symbol (entry_of f j)) is).0 in
+    let low : nat_lt j (symbol_count f) ≡ true = (and_parts (nat_lt j (symbol_count f)) (eqb j 0 || is_some (symbol_of f j) || is_section_symbol (entry_of f j)) is).0 in
     grind (arith, nat_tests)
 
 -- where the field meets none before, the entry has no fault but its own

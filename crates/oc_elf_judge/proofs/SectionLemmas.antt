@@ -2,7 +2,7 @@
 use Rattle.std.proofs.Common.{◌≡◌, ℕ, zero, suc, ◌+◌, ◌<◌, ◌≤◌, ◌^◌, ◌⊎◌, inl, inr, Bool, true, false, cond, eqb, List, [], ◌∷◌, ◌++◌, length, map, set, Option, None, Some, refl, sym, ◌∙◌, ap, subst, arith}
 use Rattle.std.specs.Prelude.{not, ◌&&◌, ◌||◌, nat_lt, is_some, if◌then◌else◌}
 use Rattle.std.specs.List.{range_with_len}
-use Rattle.std.proofs.lemmas.Bool.{eqb-true, true≢false}
+use Rattle.std.proofs.lemmas.Bool.{eqb-true, true≢false, and_parts, not-false}
 use Rattle.std.proofs.lemmas.Bool.Decides.{nat_tests}
 use Rattle.oc_base.specs.declared.code.Code.TheVariants.{BadAlign, AlignRange, BadTable, Group}
 use Rattle.oc_base.specs.declared.fault.Fault.{Fault}
@@ -12,7 +12,7 @@ use Rattle.oc_neutral.specs.Building.{is_zero}
 use Rattle.oc_shelf.specs.Reading.Sums.{sum_upto}
 use Rattle.oc_shelf.specs.Reading.Slots.{AreSlots}
 use Rattle.oc_shelf.specs.Reading.Firsts.{any_upto}
-use Rattle.oc_shelf.proofs.ReadingLaws.StageLemmas.{all_hold, implied, both_hold, not_false, clean_both, clean_more, broken_of_three, first_broken-append, sum_more}
+use Rattle.oc_shelf.proofs.ReadingLaws.StageLemmas.{all_hold, implied, clean_both, clean_more, broken_of_three, first_broken-append, sum_more}
 use Rattle.oc_shelf.proofs.ReadingLaws.FirstsLemmas.{first_more, keyed_more, keyed_none}
 use Rattle.oc_shelf.proofs.ReadingLaws.SlotLemmas.{slots_same, slots_filled}
 use Rattle.oc_elf.specs.declared.constants.TheConstants.{SHT_SYMTAB, SHT_SYMTAB_SHNDX, SHT_GROUP, GRP_COMDAT}
@@ -68,7 +68,7 @@ unfolding carried_conditions
 counted_is f k place s clean is =
     let holds = all_hold (aligned_conditions k place s ++ limits_by k s.sh_size (sum_with (size_counted f) k) (sum_with (bytes_counted f) k)) (sym (ap (λ b. first_broken (cond b (aligned_conditions k place s ++ limits_by k s.sh_size (sum_with (size_counted f) k) (sum_with (bytes_counted f) k)) [])) is) ∙ clean) in
     record {
-      aligned = not_false _ holds.0;
+      aligned = not-false _ holds.0;
       range = at_most (2 ^ 20) s.sh_addralign holds.1.0;
       size = at_most 2147483647 s.sh_size holds.1.1.0;
       sizes = at_most 2147483648 (sum_with (size_counted f) k) holds.1.1.1.0;
@@ -86,7 +86,7 @@ sound_group : (f : FileFrame) (k place : ℕ) (s : Shdr) → first_broken (group
 unfolding group_conditions
 sound_group f k place s clean is =
     let holds = all_hold (group_list f k place s) (sym (ap (λ b. first_broken (cond b (group_list f k place s) [])) is) ∙ clean) in
-    record { good = not_false _ holds.0; members = holds.1.0; flags = not_false _ holds.1.1.0 }
+    record { good = not-false _ holds.0; members = holds.1.0; flags = not-false _ holds.1.1.0 }
 
 -- the bytes of a header without a fault of its own lie in the file
 pub form_lies : (f : FileFrame) (k place : ℕ) (s : Shdr) → first_broken (form_conditions f k place s) ≡ None → has_bytes s ≡ true → s.sh_offset + s.sh_size ≤ length f.file
@@ -122,7 +122,7 @@ sound f k place s clean =
     let tables = all_hold (table_conditions f k place s) are.table in
     record {
       lies = form_lies f k place s are.form;
-      named = not_false _ forms.1.0;
+      named = not-false _ forms.1.0;
       group = sound_group f k place s are.group;
       plain = tables.0;
       symtab = implied _ _ tables.1.0;
@@ -213,8 +213,8 @@ step_first f null = record {
 step_sound : (f : FileFrame) (k : ℕ) → IsSound f k (header_at f.headers k) → IsStep f k
 unfolding is_good_table
 step_sound f k is = record {
-  inside = λ t. let good = both_hold _ _ (is.table t) in let inner = both_hold _ _ good.0 in below inner.1;
-  new = λ t. let good = both_hold _ _ (is.table t) in none_is (table_among f k (here f k).sh_info) good.1;
+  inside = λ t. let good = and_parts _ _ (is.table t) in let inner = and_parts _ _ good.0 in below inner.1;
+  new = λ t. let good = and_parts _ _ (is.table t) in none_is (table_among f k (here f k).sh_info) good.1;
   sizes = λ before. elim (is_carried (here f k)) as (λ b. is_carried (here f k) ≡ b → sum_upto (size_counted f) k + cond b (here f k).sh_size 0 ≤ 2147483648) [
     | true ↦ λ e. let most = (is.carried e).sizes in subst (λ b. sum_upto (size_counted f) k + cond b (here f k).sh_size 0 ≤ 2147483648) e most
     | false ↦ λ e. omega arith

@@ -2,14 +2,14 @@
 use Rattle.std.proofs.Common.{◌≡◌, ℕ, zero, suc, ◌+◌, ◌*◌, ◌/◌, ◌<◌, ◌≤◌, inl, inr, Bool, true, false, cond, eqb, List, [], ◌∷◌, length, Option, None, Some, refl, sym, ◌∙◌, ap, subst, arith}
 use Rattle.std.specs.Prelude.{not, nat_lt, nat_le, is_some}
 use Rattle.std.specs.Option.{unwrap_or, option_map_or}
-use Rattle.std.proofs.lemmas.Bool.{eqb-true, true≢false}
+use Rattle.std.proofs.lemmas.Bool.{eqb-true, true≢false, and_parts}
 use Rattle.std.proofs.lemmas.Bool.{cases_lt}
 use Rattle.std.proofs.lemmas.Bool.Decides.{nat_tests}
 use Rattle.std.proofs.lemmas.Option.{none-some, same_Some}
 use Rattle.oc_linking.specs.FirstFault.{fault_of, stage_fault}
 use Rattle.oc_linking.proofs.Upto.{first_upto_from, first_upto_stop}
 use Rattle.oc_shelf.proofs.ReadingLaws.FirstsLemmas.{keyed_from}
-use Rattle.oc_shelf.proofs.ReadingLaws.StageLemmas.{both_hold, clean_at}
+use Rattle.oc_shelf.proofs.ReadingLaws.StageLemmas.{clean_at}
 use Rattle.oc_elf.specs.declared.constants.TheConstants.{SHT_SYMTAB, SHT_SYMTAB_SHNDX, SHT_GROUP}
 use Rattle.oc_elf.specs.declared.shdr.Shdr.{Shdr}
 use Rattle.oc_elf.specs.Classes.{reloc_type, word_of}
@@ -35,16 +35,16 @@ shndx_bytes s is = let e : s.sh_type ≡ 18 = eqb-true s.sh_type 18 is in rw e r
 symtab_bytes : (s : Shdr) → is_type SHT_SYMTAB s ≡ true → has_bytes s ≡ true
 symtab_bytes s is = let e : s.sh_type ≡ 2 = eqb-true s.sh_type 2 is in rw e refl
 
-at_least : (a b : ℕ) → nat_le a b ≡ true → a ≤ b
+pub at_least : (a b : ℕ) → nat_le a b ≡ true → a ≤ b
 at_least a b e = grind (arith, nat_tests)
 
 -- a good table of section numbers is that of a symbol table, and has enough
 shndx_enough : (f : FileFrame) (k : ℕ) (s : Shdr) → is_good_shndx f k s ≡ true → (is_type SHT_SYMTAB (here f s.sh_link) ≡ true) × ((here f s.sh_link).sh_size / sym_size (word_of f.class) ≤ s.sh_size / 4)
 unfolding is_good_shndx
 shndx_enough f k s is =
-    let a = both_hold _ _ is in
-    let b = both_hold _ _ a.0 in
-    let c = both_hold _ _ b.0 in
+    let a = and_parts _ _ is in
+    let b = and_parts _ _ a.0 in
+    let c = and_parts _ _ b.0 in
     (c.1, at_least _ _ b.1)
 
 pub group_bytes : (s : Shdr) → is_type SHT_GROUP s ≡ true → has_bytes s ≡ true
@@ -91,7 +91,7 @@ module _ (f : FileFrame) (frame : IsFrame f) (clean : stage_fault (section_stage
   unfolding is_good_symtab
   only_symtab k is =
       let m = typed_sound k SHT_SYMTAB refl is in
-      let good = both_hold _ _ (m.1.symtab is) in
+      let good = and_parts _ _ (m.1.symtab is) in
       let none : symtab_among f k ≡ None = none_is (symtab_among f k) good.1 in
       let found : symtab_among f (length f.headers) ≡ Some k
       = first_upto_stop (λ j. cond (is_type SHT_SYMTAB (header_at f.headers j)) (Some j) None) k (length f.headers) k none (ap (λ b. cond b (Some k) None) is) m.0 in
@@ -160,22 +160,22 @@ module _ (f : FileFrame) (frame : IsFrame f) (clean : stage_fault (section_stage
   group_at g is =
       let m = typed_sound g SHT_GROUP refl is in
       let good = (m.1.group is).good in
-      let four = both_hold _ _ good in
-      let three = both_hold _ _ four.0 in
-      let two = both_hold _ _ three.0 in
-      let one = both_hold _ _ two.0 in
+      let four = and_parts _ _ good in
+      let three = and_parts _ _ four.0 in
+      let two = and_parts _ _ three.0 in
+      let one = and_parts _ _ two.0 in
       record { lies = m.1.lies (group_bytes (here f g) is); first = at_least 4 (here f g).sh_size one.1; there = m.0 }
 
   -- the signatures of groups are symbols
   pub are_signed : AreSigned f
   unfolding is_good_group
   are_signed g is =
-      let group = (both_hold _ _ is).0 in
+      let group = (and_parts _ _ is).0 in
       let m = typed_sound g SHT_GROUP refl group in
       let good = (m.1.group group).good in
-      let four = both_hold _ _ good in
-      let three = both_hold _ _ four.0 in
-      let two = both_hold _ _ three.0 in
+      let four = and_parts _ _ good in
+      let three = and_parts _ _ four.0 in
+      let two = and_parts _ _ three.0 in
       let low = four.1 in
       let table : symtab_of f ≡ here f (here f g).sh_link = only_symtab (here f g).sh_link two.1 in
       below (here f g).sh_info (entry_count f (here f (here f g).sh_link)) (symbol_count f) low (ap (entry_count f) table)

@@ -3,7 +3,7 @@ use Rattle.std.proofs.Common.{◌≡◌, ℕ, ◌+◌, ◌^◌, ◌<◌, ◌≤�
 use Rattle.std.specs.Prelude.{◌&&◌, nat_lt, slice_get, is_some}
 use Rattle.std.specs.List.Sorted.{IsPermutation}
 use Rattle.std.specs.Option.{option_map_or, option_and_then}
-use Rattle.std.proofs.lemmas.Bool.{cases_eq, cases_lt, true≢false}
+use Rattle.std.proofs.lemmas.Bool.{cases_eq, cases_lt, true≢false, and_parts}
 use Rattle.std.proofs.lemmas.Bool.Decides.{nat_tests}
 use Rattle.std.proofs.lemmas.Option.{same_Some}
 use Rattle.oc_linking.specs.declared.terms.Keep.{Keep}
@@ -17,7 +17,6 @@ use Rattle.oc_shows.specs.Built.{HasAdded, IsStarted}
 use Rattle.oc_shelf.specs.declared.reading.order.PlacedEntry.{PlacedEntry}
 use Rattle.oc_shelf.specs.Reading.Collected.{collected}
 use Rattle.oc_shelf.proofs.ReadingLaws.CollectedLemmas.{collected-at}
-use Rattle.oc_shelf.proofs.ReadingLaws.StageLemmas.{both_hold}
 use Rattle.oc_elf.specs.declared.rel.Rel.{Rel}
 use Rattle.oc_elf_read.specs.Built.{IsPlaced, symboled}
 use Rattle.oc_elf.specs.CarriedSections.{position_of, section_of, section_with, sections_of}
@@ -89,7 +88,7 @@ unfolding section_with
 contents_of_it f i = refl
 
 kept_parts : (f : FileFrame) (keep : Keep) (i : ℕ) → is_kept_section f keep i ≡ true → (is_carried (here f i) ≡ true) × (keeps keep (kind_of f (here f i)) ≡ true)
-kept_parts f keep i kept = both_hold (is_carried (here f i)) (keeps keep (kind_of f (here f i))) kept
+kept_parts f keep i kept = and_parts (is_carried (here f i)) (keeps keep (kind_of f (here f i))) kept
 
 -- a section that is kept has a position
 pub kept_position : (f : FileFrame) (keep : Keep) (i : ℕ) → is_kept_section f keep i ≡ true → is_some (position_of f i) ≡ true

@@ -28,7 +28,7 @@ use Rattle.oc_elf.specs.Sections.{is_type, is_carried, kind_of, contents_of}
 use Rattle.oc_elf.specs.SectionRules.{has_bytes, size_counted, bytes_counted, section_stage}
 use Rattle.oc_elf_judge.proofs.SectionLemmas.{IsSound, here, null_first, sound_at}
 use Rattle.oc_elf_judge.proofs.PlaceLemmas.{section_some, section_none}
-use Rattle.oc_target.proofs.MeetsCounts.{sum_map}
+use Rattle.oc_neutral.proofs.LeftObject.{sum_map}
 
 -- a carried section takes bytes of the file, where it is not NOBITS
 carried_bytes : (s : Shdr) → is_carried s ≡ true → is_type SHT_NOBITS s ≡ false → has_bytes s ≡ true

@@ -2,7 +2,7 @@
 use Rattle.std.proofs.Common.{◌≡◌, ℕ, Bool, true, false, Option, None, Some, refl, sym, ◌∙◌, ap, subst, arith, get_or}
 use Rattle.std.specs.Prelude.{◌&&◌, ◌||◌, slice_get}
 use Rattle.std.specs.Option.{option_map, option_map_or}
-use Rattle.std.proofs.lemmas.Bool.{true≢false}
+use Rattle.std.proofs.lemmas.Bool.{true≢false, and_parts}
 use Rattle.std.proofs.lemmas.Option.{same_Some, slice_get-map, slice_get_within, slice_get-get_or}
 use Rattle.oc_linking.specs.declared.terms.Base.{Base}
 use Rattle.oc_linking.specs.declared.terms.Base.TheVariants as base
@@ -28,7 +28,6 @@ use Rattle.oc_neutral.specs.Rows.{Row, Taken, TakesZero, TakesPlace, TakesGotBas
 use Rattle.oc_shows.specs.Shows.{AreNumbered}
 use Rattle.oc_shows.specs.Started.{stored_section}
 use Rattle.oc_shows.proofs.BuiltLaws.{built_shows}
-use Rattle.oc_shelf.proofs.ReadingLaws.StageLemmas.{both_hold}
 use Rattle.oc_elf_read.specs.Built.{keys_of, symboled}
 use Rattle.oc_elf.specs.CarriedSections.{section_with, sections_of}
 use Rattle.oc_elf.specs.CarriedSymbols.{symbols_of}
@@ -65,8 +64,8 @@ call_row : (row : Row) → IsRow row → row.hint ≡ Call → IsCall row
 call_row row is hint =
     let test : (same_base row.base base.Address && same_taken row.taken TakesPlace && same_width row.width Four) ≡ true
     = called (same_hint row.hint Plain) _ (ap (λ h. same_hint h Plain) hint) is.called in
-    let outer = both_hold (same_base row.base base.Address && same_taken row.taken TakesPlace) (same_width row.width Four) test in
-    let inner = both_hold (same_base row.base base.Address) (same_taken row.taken TakesPlace) outer.0 in
+    let outer = and_parts (same_base row.base base.Address && same_taken row.taken TakesPlace) (same_width row.width Four) test in
+    let inner = and_parts (same_base row.base base.Address) (same_taken row.taken TakesPlace) outer.0 in
     record { base = of_base row.base inner.0; less = of_taken row.taken inner.1; width = of_width row.width outer.1 }
   where
     called : (a b : Bool) → a ≡ false → (a || b) ≡ true → b ≡ true

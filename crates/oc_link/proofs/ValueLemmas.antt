@@ -38,9 +38,10 @@ use Rattle.oc_place.specs.Placings.{Placing, as_site, is_dropped, nothing_given,
 use Rattle.oc_place.specs.Footprints.{footprint_of}
 use Rattle.oc_place.specs.Written.{symbol_named}
 use Rattle.oc_place.proofs.CheckLemmas.{group_is}
-use Rattle.oc_place.proofs.IndexLemmas.{local-shown, name_here, names, one_name, place_only}
+use Rattle.oc_place.proofs.IndexLemmas.{name_here, names, one_name, place_only}
 use Rattle.oc_link.specs.declared.target.TargetValue.{TargetValue}
 use Rattle.oc_link.specs.Values.{IsLessIn, as_valued, given, laid, patch_at, site_in, value_in, valued}
+use Rattle.oc_shows.proofs.Reordered.{shown_local}
 
 -- the binding is not Weak
 abbrev pub not_weak : Binding → Bool
@@ -81,12 +82,12 @@ module _ (n : Object) (fine : IsObject n) (x : Placing) where
   slot_own k t there nonlocal o gives s here =
       let same : t ≡ s = same_Some t s (sym there ∙ here) in
       let other : is_local s.binding ≡ false = subst (λ (y : Symbol). is_local y.binding ≡ false) same nonlocal in
-      sym (ap (λ (b : Bool). cond b 0 ((given n x).slot s.name)) (local-shown n.symbols s.binding ∙ other) ∙ ap (λ (y : Outside). y.slot) (given_own k s here other o gives))
+      sym (ap (λ (b : Bool). cond b 0 ((given n x).slot s.name)) (shown_local n.symbols s.binding ∙ other) ∙ ap (λ (y : Outside). y.slot) (given_own k s here other o gives))
 
   pub slot_local : (k : ℕ) (t : Symbol) → slice_get n.symbols k ≡ Some t → is_local t.binding ≡ true → (s : Symbol) → slice_get n.symbols k ≡ Some s → 0 ≡ (value_in n x s).slot
   slot_local k t there local s here =
       let same : t ≡ s = same_Some t s (sym there ∙ here) in
-      sym (ap (λ (b : Bool). cond b 0 ((given n x).slot s.name)) (local-shown n.symbols s.binding ∙ subst (λ (y : Symbol). is_local y.binding ≡ true) same local))
+      sym (ap (λ (b : Bool). cond b 0 ((given n x).slot s.name)) (shown_local n.symbols s.binding ∙ subst (λ (y : Symbol). is_local y.binding ≡ true) same local))
 
   -- where a symbol lies
   pub spot_own : (k : ℕ) (t : Symbol) → slice_get n.symbols k ≡ Some t → (o : Outside) → slice_get x.given k ≡ Some o → (r : Spot)

@@ -15,7 +15,7 @@ use Rattle.oc_linking.proofs.Storing.{field_holds, others_stay}
 use Rattle.oc_linking.proofs.Valid.{zeros_is}
 
 -- a test that is denied
-not-true : (b : Bool) → not b ≡ true → b ≡ false
+pub not-true : (b : Bool) → not b ≡ true → b ≡ false
 not-true true e = absurd (true≢false (sym e))
 not-true false e = refl
 

@@ -27,11 +27,6 @@ pub flat_map-twice : {X Y Z : Type 0} (g : Y → List Z) (h : X → List Y) (xs 
 flat_map-twice g h [] = refl
 flat_map-twice g h (x ∷ xs) = flat_map-append g (h x) (flat_map h xs) ∙ ap (λ ys. flat_map g (h x) ++ ys) (flat_map-twice g h xs)
 
--- joined lists of mapped elements
-pub flat_map-of_map : {X Y Z : Type 0} (g : Y → List Z) (h : X → Y) (xs : List X) → flat_map g (map h xs) ≡ flat_map (λ x. g (h x)) xs
-flat_map-of_map g h [] = refl
-flat_map-of_map g h (x ∷ xs) = ap (λ ys. g (h x) ++ ys) (flat_map-of_map g h xs)
-
 -- joined lists that agree at each element
 pub flat_map-same : {X Z : Type 0} (g h : X → List Z) (xs : List X) → ((x : X) → g x ≡ h x) → flat_map g xs ≡ flat_map h xs
 flat_map-same g h [] same = refl

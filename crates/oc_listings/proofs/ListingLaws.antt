@@ -1,17 +1,17 @@
 -- The listings of an object are those of the file that it shows.
-use Rattle.std.proofs.Common.{◌≡◌, ℕ, ◌<◌, ◌≤◌, Bool, true, false, List, [], length, map, Option, Some, None, refl, sym, ◌∙◌, ap, subst, arith}
+use Rattle.std.proofs.Common.{◌≡◌, ℕ, ◌<◌, ◌≤◌, List, [], length, map, Option, Some, None, refl, sym, ◌∙◌, ap, subst, arith}
 use Rattle.std.proofs.lemmas.List.{length-map}
 use Rattle.std.specs.Prelude.{filter_map, slice_get}
 use Rattle.std.specs.List.{flat_map, range_with_len}
 use Rattle.std.specs.Option.{option_and_then, option_map, option_map_or}
-use Rattle.std.proofs.lemmas.Option.{none-some, slice_get-map, slice_get_within}
+use Rattle.std.proofs.lemmas.Option.{slice_get-map, slice_get_within}
+use Rattle.std.proofs.lemmas.List.Folds.{flat_map-map}
 use Rattle.oc_base.specs.Formats.{word_for}
 use Rattle.oc_linking.specs.declared.terms.Patch.{Patch}
 use Rattle.oc_linking.specs.Keeping.{all}
 use Rattle.oc_linking.specs.Linking.{patch_of}
 use Rattle.oc_linking.specs.Parts as parts
 use Rattle.oc_linking.specs.Placing.{zeros}
-use Rattle.oc_linking.specs.Shows.{live_of}
 use Rattle.oc_linking.specs.Values.{Valuation, numbered, values}
 use Rattle.oc_chains.specs.Fields.{end_of}
 use Rattle.oc_chains.specs.Lists.{held_in, list_of}
@@ -32,6 +32,7 @@ use Rattle.oc_neutral.proofs.Positions.{each_at, each_weaker, images_same, there
 use Rattle.oc_neutral.proofs.SameParts.{bytes_within}
 use Rattle.oc_neutral.proofs.Scanning.{field_at, field_found, scanned}
 use Rattle.oc_shows.proofs.Truth.{values_fixed}
+use Rattle.oc_shows.proofs.ShownComputed.{live_there}
 use Rattle.oc_listings.specs.declared.listing.Listing.{Listing}
 use Rattle.oc_listings.specs.declared.listing.Listing.TheVariants.{Header, Sections, Relocations}
 use Rattle.oc_listings.specs.Texts.{field_text, header_text, numbered_text, section_text, symbol_text}
@@ -39,18 +40,13 @@ use Rattle.oc_listings.specs.Listings as file
 use Rattle.oc_listings.specs.Listings.{silent}
 use Rattle.oc_listings.specs.ObjectListings as object
 use Rattle.oc_listings.specs.ObjectListings.{resting_residue, target_text, reloc_line, number_at, reloc_text_of}
-use Rattle.oc_listings.proofs.LineLaws.{filter_map-same, filter_map-map, flat_map-twice, flat_map-of_map, flat_map-same, flat_map-numbered, held-lines}
+use Rattle.oc_listings.proofs.LineLaws.{filter_map-same, filter_map-map, flat_map-twice, flat_map-same, flat_map-numbered, held-lines}
 use Rattle.oc_listings.proofs.RestLaws.{found_by_number, residue-rests, resting}
-
--- what is live was there
-live_there : (folded : Bool) (o : Option Patch) (q : Patch) → live_of folded o ≡ Some q → o ≡ Some q
-live_there true o q here = absurd (none-some q here)
-live_there false o q here = here
 
 -- the lines of sections are those of their frames
 frame-lines : (xs : List parts.Section) → flat_map (λ (s : parts.Section). section_text s.number s.kind s.align s.size s.name) (map frame_of xs)
     ≡ flat_map (λ (s : parts.Section). section_text s.number s.kind s.align s.size s.name) xs
-frame-lines xs = flat_map-of_map (λ (s : parts.Section). section_text s.number s.kind s.align s.size s.name) frame_of xs
+frame-lines xs = flat_map-map (λ (s : parts.Section). section_text s.number s.kind s.align s.size s.name) frame_of xs
 
 -- so are their numbers
 frame-number : (xs : List parts.Section) (k : ℕ) → option_map_or (λ (s : parts.Section). s.number) (slice_get (map frame_of xs) k) 0 ≡ option_map_or (λ (s : parts.Section). s.number) (slice_get xs k) 0
@@ -185,13 +181,13 @@ module _ (f : Dialect) (b : List ℕ) (n : Object) (fine : IsObject n) (shows : 
   lines-joined =
       ap (flat_map (λ line. line)) all-lines ∙ flat_map-twice (λ line. line) lines_at (range_with_len 0 (length n.sections))
       ∙ flat_map-same (λ k. flat_map (λ line. line) (lines_at k)) (reloc_text_of n) (range_with_len 0 (length n.sections))
-      (λ k. flat_map-of_map (λ line. line) (reloc_line n (number_at n k)) (list_of n.relocs k))
+      (λ k. flat_map-map (λ line. line) (reloc_line n (number_at n k)) (list_of n.relocs k))
 
   -- the lines of all sections
   sections-joined : flat_map (file.section_line f b) file_sections ≡ flat_map object.section_line n.sections
   sections-joined =
       sym (frame-lines file_sections) ∙ ap (flat_map (λ (s : parts.Section). section_text s.number s.kind s.align s.size s.name)) (sym shows.sections) ∙ frame-lines (shown_sections n)
-      ∙ flat_map-of_map (λ (s : parts.Section). section_text s.number s.kind s.align s.size s.name) (shown_section n.groups) n.sections
+      ∙ flat_map-map (λ (s : parts.Section). section_text s.number s.kind s.align s.size s.name) (shown_section n.groups) n.sections
 
   -- as many symbols
   symbols-counted : length (f.rules.symbols b all) ≡ length n.symbols

@@ -2,7 +2,7 @@
 use Rattle.std.proofs.Common.{◌≡◌, ℕ, zero, suc, ◌+◌, ◌*◌, ◌<◌, ◌≤◌, Bool, true, false, cond, List, [], length, map, take, drop, Option, None, Some, refl, sym, ◌∙◌, ap, subst, arith}
 use Rattle.std.specs.Prelude.{◌||◌, nat_lt}
 use Rattle.std.specs.Option.{option_map, option_map_or}
-use Rattle.std.proofs.lemmas.Bool.{eqb-true, true≢false}
+use Rattle.std.proofs.lemmas.Bool.{eqb-true, or_parts, not-false}
 use Rattle.std.proofs.lemmas.Bool.Decides.{nat_tests}
 use Rattle.std.proofs.lemmas.Option.{none-some, same_Some}
 use Rattle.oc_base.specs.declared.format.Word.{Word}
@@ -13,7 +13,7 @@ use Rattle.oc_linking.proofs.FirstFaultLaws.{first_upto_none}
 use Rattle.oc_linking.proofs.Upto.{first_upto_from}
 use Rattle.oc_shelf.specs.Reading.Rows.{rows}
 use Rattle.oc_shelf.proofs.ReadingLaws.FirstsLemmas.{any_false}
-use Rattle.oc_shelf.proofs.ReadingLaws.StageLemmas.{all_hold, first_broken-append, not_false}
+use Rattle.oc_shelf.proofs.ReadingLaws.StageLemmas.{all_hold, first_broken-append}
 use Rattle.oc_macho.specs.declared.constants.TheConstants.{LC_SYMTAB}
 use Rattle.oc_macho.specs.declared.symtab_command.SymtabCommand.{SymtabCommand}
 use Rattle.oc_macho.specs.LoadCommand.{load_command_at}
@@ -36,10 +36,6 @@ header_broken w file = first_broken-append (command_conditions w file) (option_m
 
 -- ... commands
 
-last_two : (a b : Bool) → (a || b) ≡ false → (a ≡ false) × (b ≡ false)
-last_two true b e = absurd (true≢false e)
-last_two false b e = (refl, e)
-
 -- the commands break no rule, lie in the file, and one of them places symbols and strings
 pub record AreGood (w : Word) (file : List ℕ) : Type 0 where
   pub good : any_bad w file (command_count file) ≡ false
@@ -49,11 +45,11 @@ pub record AreGood (w : Word) (file : List ℕ) : Type 0 where
 pub are_good : (w : Word) (file : List ℕ) → first_broken (command_conditions w file) ≡ None → AreGood w file
 are_good w file clean =
     let holds = all_hold (command_conditions w file) clean in
-    let bad = last_two (nat_lt (mach_header_of file).sizeofcmds (8 * command_count file) || any_bad w file (command_count file)) _ holds.1.1.1.0 in
+    let bad = or_parts (nat_lt (mach_header_of file).sizeofcmds (8 * command_count file) || any_bad w file (command_count file)) _ holds.1.1.1.0 in
     record {
-      good = (last_two (nat_lt (mach_header_of file).sizeofcmds (8 * command_count file)) _ bad.0).1;
+      good = (or_parts (nat_lt (mach_header_of file).sizeofcmds (8 * command_count file)) _ bad.0).1;
       lie = within (length file) (commands_end w file) holds.1.1.0;
-      one = eqb-true (count_upto w file LC_SYMTAB (command_count file)) 1 (not_false _ bad.1);
+      one = eqb-true (count_upto w file LC_SYMTAB (command_count file)) 1 (not-false _ bad.1);
     }
   where
     within : (a b : ℕ) → nat_lt a b ≡ false → b ≤ a
@@ -79,8 +75,8 @@ found_first w file cmd n at good e =
 room : (w : Word) (file : List ℕ) (at least : ℕ) → AreGood w file → is_bad w file at ≡ false → least_size w file at (load_command_at file at).cmd ≡ Some least → at + least ≤ length file
 unfolding is_bad
 room w file at least are good size =
-    let parts = last_two (is_misplaced w file at) (is_short w file at) good in
-    let inside = (last_two _ (passes_end (commands_end w file) at (load_command_at file at).cmdsize) parts.0).1 in
+    let parts = or_parts (is_misplaced w file at) (is_short w file at) good in
+    let inside = (or_parts _ (passes_end (commands_end w file) at (load_command_at file at).cmdsize) parts.0).1 in
     let long : nat_lt (load_command_at file at).cmdsize least ≡ false = sym (ap (λ (o : Option ℕ). option_map_or (nat_lt (load_command_at file at).cmdsize) o true) size) ∙ parts.1 in
     let lie = are.lie in
     fits (commands_end w file) (length file) at (load_command_at file at).cmdsize least inside long lie

@@ -2,7 +2,6 @@
 use Rattle.std.proofs.Common.{◌≡◌, ℕ, Bool, true, false, cond, List, map, Option, Some, None, refl, sym, ◌∙◌, ap, subst}
 use mathlib.Core.Path.{fun_ext}
 use Rattle.std.specs.Option.{option_map, option_map_or}
-use Rattle.oc_linking.specs.declared.terms.Base.{Base}
 use Rattle.oc_linking.specs.declared.terms.Base.TheVariants as base
 use Rattle.oc_linking.specs.declared.terms.Less.TheVariants as less
 use Rattle.oc_linking.specs.Keeping.{all}
@@ -13,7 +12,6 @@ use Rattle.oc_linking.specs.Placing.{Placement}
 use Rattle.oc_linking.specs.Rules.{Field}
 use Rattle.oc_linking.specs.Shows.{Apart, lives, unders}
 use Rattle.oc_linking.specs.Values.{Valuation}
-use Rattle.oc_neutral.specs.declared.reloc.Target.{Target}
 use Rattle.oc_neutral.specs.declared.reloc.Target.TheVariants as target
 use Rattle.oc_shows.specs.Again.{IsReadAgain}
 use Rattle.oc_neutral.specs.Dialects.{Dialect, target_by, is_difference, is_kept, kept_fields, is_folded, look_of, less_in, looks_in, patches_in}
@@ -22,6 +20,7 @@ use Rattle.oc_neutral.specs.Normal.{cancels, takes_section}
 use Rattle.oc_neutral.specs.Objects.{Object}
 use Rattle.oc_shows.specs.Shows.{Shows}
 use Rattle.oc_shows.proofs.AgainLaws.{read_again_shows}
+use Rattle.oc_neutral.proofs.NormalLemmas.{cancels-place}
 
 -- a field of section s, from which its own section is taken as its place
 abbrev pub placed_field : ℕ → Field → Field
@@ -42,13 +41,6 @@ placed_dialect g = record {
   };
 }
 
-no_place : (b : Base) (t : Target) → cancels b t less.Place ≡ false
-no_place base.Address (target.Section k) = refl
-no_place base.Address (target.Symbol k) = refl
-no_place base.Slot t = refl
-no_place base.GotBase t = refl
-no_place base.HomeNumber t = refl
-
 module _ (g : Dialect) (c : List ℕ) (n : Object) (fine : IsObject n) (is : IsReadAgain (placed_dialect g) c n)
     (varies : (s at : ℕ) (f : Field) → kept_fields g c all s at ≡ Some f → is_difference f ≡ false) where
   abbrev h : Dialect
@@ -65,7 +57,7 @@ module _ (g : Dialect) (c : List ℕ) (n : Object) (fine : IsObject n) (is : IsR
   still_varies s f e = by (takes_section s f.less)
     where
       by : (b : Bool) → cancels f.base (target_by f.target) (cond b less.Place f.less) ≡ false
-      by true = no_place f.base (target_by f.target)
+      by true = cancels-place f.base (target_by f.target)
       by false = e
 
   same_look : (s : ℕ) (f : Field) → look_of s (placed_field s f) ≡ look_of s f

@@ -9,7 +9,6 @@ use Rattle.oc_base.specs.declared.format.Word.TheVariants.{W32, W64}
 use Rattle.oc_chains.specs.Lists.{list_of}
 use Rattle.oc_linking.specs.declared.terms.Width.{Width}
 use Rattle.oc_linking.specs.declared.terms.Width.TheVariants.{One, Two, Four, Eight}
-use Rattle.oc_linking.specs.Fits.{bytes_of}
 use Rattle.oc_neutral.specs.declared.reloc.Reloc.{Reloc}
 use Rattle.oc_neutral.specs.declared.reloc.Target.{Target}
 use Rattle.oc_neutral.specs.declared.reloc.Target.TheVariants as target
@@ -38,6 +37,7 @@ use Rattle.oc_macho_file.proofs.PinLaws.{IsTakenSection, Another, Own, taken_is}
 use Rattle.oc_macho_file.proofs.AddressLaws.{ordered, section_rises, laid_inside, memory_low}
 use Rattle.oc_macho_file.proofs.SymbolFits.{lines_fit}
 use Rattle.oc_macho_file.proofs.HeaderFits.{where_low, name_low, head_fits, segment_fits, symtab_fits, headers_fit}
+use Rattle.oc_neutral.proofs.Adding.{wide_enough}
 
 -- what stands in a list of lists stands in one of them
 of_flat : {X Y : Type 0} (f : X → List Y) (xs : List X) (j : ℕ) (y : Y) → slice_get (flat_map f xs) j ≡ Some y → (i : ℕ) × (x : X) × (slice_get xs i ≡ Some x) × (q : ℕ) × (slice_get (f x) q ≡ Some y)
@@ -56,12 +56,6 @@ length_low One = omega arith
 length_low Two = omega arith
 length_low Four = omega arith
 length_low Eight = omega arith
-
-some_bytes : (v : Width) → 1 ≤ bytes_of v
-some_bytes One = omega arith
-some_bytes Two = omega arith
-some_bytes Four = omega arith
-some_bytes Eight = omega arith
 
 flag_low : (b : Bool) → cond b 1 0 < 2
 flag_low true = omega arith
@@ -107,7 +101,7 @@ module _ (w : Word) (n : Object) (is : IsForMach w n) (small : length (mach_file
         let l = m.inside in
         let long = has_size w n is k at r there m.section m.there in
         let size = size_low w n is k m.section m.there in
-        let some = some_bytes r.form.width in
+        let some = wide_enough r.form.width in
         omega (arith, l, long, size, some)
 
     type_low : x.row.number < 16

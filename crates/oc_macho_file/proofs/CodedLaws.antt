@@ -7,8 +7,7 @@ use Rattle.std.proofs.lemmas.Option.{none-some}
 use Rattle.oc_base.specs.declared.format.Word.{Word}
 use Rattle.oc_base.specs.declared.format.Word.TheVariants.{W32, W64}
 use Rattle.oc_base.specs.Formats.{word_for}
-use Rattle.oc_linking.specs.declared.terms.Kind.{Kind}
-use Rattle.oc_linking.specs.declared.terms.Kind.TheVariants.{Code, ReadOnly, Data, Zero, Init, Fini, Debug, Exception, Note}
+use Rattle.oc_linking.specs.declared.terms.Kind.TheVariants.{Zero}
 use Rattle.oc_linking.specs.declared.terms.Fallback.{Fallback}
 use Rattle.oc_linking.specs.declared.terms.Fallback.TheVariants as fallback
 use Rattle.oc_linking.specs.declared.terms.Binding.TheVariants.{Weak}
@@ -31,6 +30,7 @@ use Rattle.oc_neutral.specs.Objects.{Object}
 use Rattle.oc_shows.specs.Seen.{place_at, new_position, seen_fallback}
 use Rattle.oc_target.proofs.MeetsMach.{meets_mach}
 use Rattle.oc_target.proofs.MeetsMachKinds.{mach_zero}
+use Rattle.oc_target.proofs.MeetsParts.{zero_kind}
 use Rattle.oc_neutral.proofs.Positions.{each_at}
 use Rattle.oc_macho.specs.MachHeader.{mach_format}
 use Rattle.oc_macho_file.specs.Addresses.{is_blank}
@@ -119,17 +119,6 @@ pub exponent_low : (align : ℕ) → IsPower 15 align → exponent_of align ≤ 
 exponent_low align p = let e = exponent_is align p in let l = p.low in omega (arith, e, l)
 
 -- ... kinds
-
-pub zero_kind : (k : Kind) → is_zero k ≡ true → k ≡ Zero
-zero_kind Code e = absurd (true≢false (sym e))
-zero_kind ReadOnly e = absurd (true≢false (sym e))
-zero_kind Data e = absurd (true≢false (sym e))
-zero_kind Zero e = refl
-zero_kind Init e = absurd (true≢false (sym e))
-zero_kind Fini e = absurd (true≢false (sym e))
-zero_kind Debug e = absurd (true≢false (sym e))
-zero_kind Exception e = absurd (true≢false (sym e))
-zero_kind Note e = absurd (true≢false (sym e))
 
 module _ (w : Word) (n : Object) (is : IsForMach w n) where
   pub word_is : word_for n.format ≡ w

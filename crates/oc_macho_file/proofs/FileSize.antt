@@ -37,7 +37,7 @@ use Rattle.oc_macho_file.proofs.EntryLaws.{written_field, written_all, entries_a
 use Rattle.oc_macho_file.proofs.AddressLaws.{laid_low, gap_low}
 use Rattle.oc_macho_file.proofs.CountLaws.{few_lines}
 use Rattle.oc_shelf.proofs.WritingLaws.SizeLemmas.{ended_size, table_size, sum_filter, sum_more, sum_enumerated}
-use Rattle.oc_target.proofs.MeetsCounts.{sum_map}
+use Rattle.oc_neutral.proofs.LeftObject.{sum_map}
 
 -- ... sums
 

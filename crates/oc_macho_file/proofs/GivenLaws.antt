@@ -33,7 +33,7 @@ use Rattle.oc_shows.specs.RowFields.{number_in}
 use Rattle.oc_neutral.specs.Normal.{Place, cancels, at_section, moved_addend}
 use Rattle.oc_neutral.specs.Objects.{Object, reloc_at}
 use Rattle.oc_neutral.specs.Rows as rows
-use Rattle.oc_neutral.specs.Rows.{Row, Taken, TakesZero, TakesPlace, TakesGotBase, TakesImageBase, TakesHome, TakesSection, same_taken, taken_of, shift_of}
+use Rattle.oc_neutral.specs.Rows.{Taken, TakesZero, TakesPlace, TakesGotBase, TakesImageBase, TakesHome, TakesSection, same_taken, taken_of, shift_of}
 use Rattle.oc_shows.specs.Seen.{target_place, section_place, seen_target, seen_reloc}
 use Rattle.oc_neutral.specs.Shifts.{entry_target_shift}
 use Rattle.oc_neutral.specs.Worth as worth
@@ -58,6 +58,7 @@ use Rattle.oc_macho_file.proofs.SeenLaws.{shown, again}
 use Rattle.oc_macho_file.proofs.TargetLaws.{IsAimedAt}
 use Rattle.oc_macho_file.proofs.FieldLaws.{own_item, field_there, number, held, found_alone, taken_alone}
 use Rattle.oc_macho_file.proofs.AgainLaws.{placed_field, placed_dialect}
+use Rattle.oc_neutral.proofs.NormalLemmas.{cancels-place}
 
 -- ... numbers, by word
 
@@ -92,13 +93,6 @@ no_zero base.Address (target.Symbol k) = refl
 no_zero base.Slot t = refl
 no_zero base.GotBase t = refl
 no_zero base.HomeNumber t = refl
-
-no_place : (b : Base) (t : Target) → cancels b t less.Place ≡ false
-no_place base.Address (target.Section k) = refl
-no_place base.Address (target.Symbol k) = refl
-no_place base.Slot t = refl
-no_place base.GotBase t = refl
-no_place base.HomeNumber t = refl
 
 -- what is taken where no section is: nothing, or the place
 pub data IsLone (t : Taken) (l : Less) : Type 0 where
@@ -397,4 +391,4 @@ module _ (w : Word) (n : Object) (is : IsForMach w n) (symbols : (mach_dialect w
 
           varied : IsLone e.row.taken r.form.less → is_difference (field_with t k at (added_by t k at (number_of c at alone) alone) alone) ≡ false
           varied (Nothing z l) = ap (λ y. cancels e.row.base (target_by aim.target.named) (rows.less_of y 0)) z ∙ no_zero e.row.base (target_by aim.target.named)
-          varied (ThePlace z l) = ap (λ y. cancels e.row.base (target_by aim.target.named) (rows.less_of y 0)) z ∙ no_place e.row.base (target_by aim.target.named)
+          varied (ThePlace z l) = ap (λ y. cancels e.row.base (target_by aim.target.named) (rows.less_of y 0)) z ∙ cancels-place e.row.base (target_by aim.target.named)

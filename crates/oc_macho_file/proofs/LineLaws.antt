@@ -2,7 +2,7 @@
 use Rattle.std.proofs.Common.{◌≡◌, ℕ, ◌+◌, Bool, true, false, ◌&&◌, List, [], ◌∷◌, ◌++◌, length, map, Some, refl, sym, ◌∙◌, ap, subst, inl, inr, arith, append_assoc}
 use Rattle.std.specs.Prelude.{slice_get}
 use Rattle.std.specs.List.{enumerate_from, filter}
-use Rattle.std.proofs.lemmas.Bool.{true≢false, eqb-true, eq-eqb}
+use Rattle.std.proofs.lemmas.Bool.{true≢false, eqb-true, eq-eqb, and_parts}
 use Rattle.std.proofs.lemmas.Option.{none-some, same_Some}
 use Rattle.oc_base.specs.declared.format.Word.{Word}
 use Rattle.oc_base.specs.declared.format.Word.TheVariants.{W32, W64}
@@ -71,10 +71,6 @@ weak_outer Undefined e = refl
 weak_outer (Common size align) e = refl
 weak_outer (Weak f) e = refl
 
-both_true : (a b : Bool) → (a && b) ≡ true → (a ≡ true) × (b ≡ true)
-both_true true b e = (refl, e)
-both_true false b e = absurd (true≢false (sym e))
-
 module _ (w : Word) (n : Object) where
   -- ... what lines are
 
@@ -107,7 +103,7 @@ module _ (w : Word) (n : Object) where
   inner_is : (i : ℕ) (x : Line) → slice_get (inner_lines w n) i ≡ Some x → IsLine w n x
   inner_is i x here = elim (of_append (own_lines w n) (local_lines n) i x here) [
     | inl g ↦ own_is w i x g
-    | inr r ↦ where_is LocalLine (λ s. is_local s.binding && is_written n.format s) (λ k s h t. let b = both_true (is_local s.binding) (is_written n.format s) t in (h, b.0, b.1)) r.0 x r.2
+    | inr r ↦ where_is LocalLine (λ s. is_local s.binding && is_written n.format s) (λ k s h t. let b = and_parts (is_local s.binding) (is_written n.format s) t in (h, b.0, b.1)) r.0 x r.2
   ]
 
   pub line_at : (i : ℕ) (x : Line) → slice_get (lines_of w n) i ≡ Some x → IsLine w n x

@@ -1,8 +1,8 @@
 -- The names of the sections and of the symbols of a canonical file are read back.
-use Rattle.std.proofs.Common.{◌≡◌, ℕ, zero, suc, ◌+◌, ◌-◌, ◌<◌, ◌≤◌, Bool, true, false, ◌||◌, eqb, List, [], ◌∷◌, ◌++◌, length, take, replicate, Some, refl, sym, ◌∙◌, ap, arith}
+use Rattle.std.proofs.Common.{◌≡◌, ℕ, zero, suc, ◌+◌, ◌-◌, ◌<◌, ◌≤◌, false, ◌||◌, eqb, List, [], ◌∷◌, ◌++◌, length, take, replicate, Some, refl, sym, ◌∙◌, ap, arith}
 use Rattle.std.specs.Prelude.{slice_get, nat_eq}
 use Rattle.std.specs.List.{position_or_len, range_with_len}
-use Rattle.std.proofs.lemmas.Bool.{true≢false, eq-eqb, ne_eqb}
+use Rattle.std.proofs.lemmas.Bool.{true≢false, eq-eqb, ne_eqb, or_parts}
 use Rattle.std.proofs.lemmas.List.Folds.{list_any-append}
 use Rattle.std.proofs.lemmas.Option.{none-some, same_Some}
 use Rattle.oc_base.specs.declared.format.Word.{Word}
@@ -30,10 +30,6 @@ use Rattle.oc_macho_file.proofs.LineLaws.{IsLine, line_at}
 
 -- ... padded names
 
-or_first : (a b : Bool) → (a || b) ≡ false → (a ≡ false) × (b ≡ false)
-or_first true b e = absurd (true≢false e)
-or_first false b e = (refl, e)
-
 -- the bytes before the NULs that follow a name, where the first n are taken
 until_nul-taken : (name : List ℕ) (n m : ℕ) → length name ≤ n → has_nul name ≡ false → until_nul (take n (name ++ replicate m 0)) ≡ name
 until_nul-taken [] zero m short none = refl
@@ -41,7 +37,7 @@ until_nul-taken [] (suc n) zero short none = refl
 until_nul-taken [] (suc n) (suc m) short none = refl
 until_nul-taken (c ∷ name) zero m short none = absurd (omega (arith, short))
 until_nul-taken (c ∷ name) (suc n) m short none =
-    let parts = or_first (nat_eq 0 c) (has_nul name) none in
+    let parts = or_parts (nat_eq 0 c) (has_nul name) none in
     let own : eqb c 0 ≡ false = ne_eqb c 0 (λ e. true≢false (sym (eq-eqb 0 c (sym e)) ∙ parts.0)) in
     let more : (i : ℕ) → 1 + i ≡ suc i = λ i. omega arith in
     rw (own, more (position_or_len (λ x. eqb x 0) (take n (name ++ replicate m 0))), until_nul-taken name n m (omega (arith, short)) parts.1) refl
@@ -52,7 +48,7 @@ until_nul-padded name short none = until_nul-taken name 16 16 short none
 
 -- neither part of a section's name has a NUL
 pub parts_uncut : (segment section : List ℕ) → has_nul (mach_name segment section) ≡ false → (has_nul segment ≡ false) × (has_nul section ≡ false)
-parts_uncut segment section none = or_first (has_nul segment) (has_nul section) (sym (list_any-append (nat_eq 0) segment (44 ∷ section)) ∙ none)
+parts_uncut segment section none = or_parts (has_nul segment) (has_nul section) (sym (list_any-append (nat_eq 0) segment (44 ∷ section)) ∙ none)
 
 -- ... needed sections
 

@@ -7,7 +7,6 @@ use Rattle.std.proofs.lemmas.Int.{ints}
 use Rattle.std.proofs.lemmas.Option.{none-some, same_Some}
 use Rattle.oc_base.specs.declared.format.Word.{Word}
 use Rattle.oc_base.specs.declared.format.Word.TheVariants.{W32, W64}
-use Rattle.oc_linking.specs.declared.terms.Base.{Base}
 use Rattle.oc_linking.specs.declared.terms.Base.TheVariants as base
 use Rattle.oc_linking.specs.declared.terms.Binding.{Binding}
 use Rattle.oc_linking.specs.declared.terms.Binding.TheVariants.{Local, Global, Undefined, Common, Weak}
@@ -69,12 +68,7 @@ use Rattle.oc_macho_file.proofs.PinLaws.{IsTakenSection, Another, Own, taken_is,
 use Rattle.oc_macho_file.proofs.AimLaws.{own_aimed, address_aimed}
 use Rattle.oc_macho_file.proofs.TargetLaws.{section_target}
 use Rattle.oc_macho_file.proofs.GivenLaws.{pair_value, own_value, one_of_two, q, IsGivenField, residue_held, number_is, seen_as, seen_at, conclude}
-
-no_symbol : (b : Base) (j : ℕ) (l : Less) → cancels b (target.Symbol j) l ≡ false
-no_symbol base.Address j l = refl
-no_symbol base.Slot j l = refl
-no_symbol base.GotBase j l = refl
-no_symbol base.HomeNumber j l = refl
+use Rattle.oc_shows.proofs.Looking.{cancels-symbol}
 
 less_more : (N : ℤ) → N +ℤ neg_ℤ (pos 0) ≡ N -ℤ pos 0 +ℤ pos 0
 less_more N = omega (arith, ints)
@@ -187,7 +181,7 @@ module _ (w : Word) (n : Object) (is : IsForMach w n) (symbols : (mach_dialect w
         varies_by j apart = by (target_by aim.target.named) refl
           where
             by : (y : Target) → target_by aim.target.named ≡ y → cancels m.row.base y (less.Section j) ≡ false
-            by (target.Symbol i) e = no_symbol m.row.base i (less.Section j)
+            by (target.Symbol i) e = cancels-symbol m.row.base i (less.Section j)
             by (target.Section i) e = ap (λ b. cancels b (target.Section i) (less.Section j)) address ∙ apart i (varied i e)
 
         with_taken : (j : ℕ) → taken_section rel ≡ j → IsTakenSection w n is k at r there

@@ -13,9 +13,9 @@ use Rattle.oc_linking.proofs.Overlay.{length-overlay}
 use Rattle.oc_neutral.specs.declared.section.Section.{Section}
 use Rattle.oc_neutral.specs.Objects.{Object}
 use Rattle.oc_shelf.specs.Writing.Packed.{packed}
-use Rattle.oc_shelf.specs.Writing.Parts.{Stands, Laid, laid_end, aligned}
+use Rattle.oc_shelf.specs.Writing.Parts.{Stands, Laid, laid_end}
 use Rattle.oc_shelf.proofs.WritingLaws.PackedLemmas.{length-packed}
-use Rattle.oc_shelf.proofs.WritingLaws.PartLemmas.{stands_where, stands_laid, length-joined}
+use Rattle.oc_shelf.proofs.WritingLaws.PartLemmas.{stands_where, stands_laid, length-joined, aligned_rises}
 use Rattle.oc_shelf.proofs.WritingLaws.StandingLemmas.{stands_at, length-entries}
 use Rattle.oc_shelf.proofs.WritingLaws.MemberLemmas.{member_first, member_second, member_enumerated, member_map, of_map, of_append, of_enumerated, of_filter, member_filter}
 use Rattle.oc_macho.specs.declared.section_header.SectionHeader.{SectionHeader}
@@ -78,9 +78,6 @@ part_sized w n StringTable = refl
 behind_gap : (at f more : ℕ) → at ≤ f + (at - f + more)
 behind_gap at f more = omega arith
 
-rises_by : (align at : ℕ) → at ≤ aligned align at
-rises_by align at = omega arith
-
 pub rises : (w : Word) (n : Object) (at : ℕ) (x : Part) → at ≤ part_begin w n at x
 rises w n at FileHead = omega arith
 rises w n at SegmentHead = omega arith
@@ -88,7 +85,7 @@ rises w n at SectionHeads = omega arith
 rises w n at SymtabHead = omega arith
 rises w n at DysymtabHead = omega arith
 rises w n at (Raw k s) = behind_gap at (contents_begin w n) ((s.align - (at - contents_begin w n) % s.align) % s.align)
-rises w n at (Relocs k s) = rises_by (entries_align w (length (relocs_of w n k))) at
+rises w n at (Relocs k s) = aligned_rises (entries_align w (length (relocs_of w n k))) at
 rises w n at SymbolTable = omega arith
 rises w n at StringTable = omega arith
 

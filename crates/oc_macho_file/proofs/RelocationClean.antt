@@ -3,7 +3,7 @@ use Rattle.std.proofs.Common.{◌≡◌, ℕ, zero, suc, ◌+◌, ◌^◌, ◌<�
 use Rattle.std.specs.Prelude.{slice_get, nat_lt, nat_eq, is_none, is_some}
 use Rattle.std.specs.List.{range_with_len, AllByRecursion}
 use Rattle.std.specs.Option.{option_map, option_map_or, option_and_then}
-use Rattle.std.proofs.lemmas.Bool.{true≢false, eq-eqb, cases_lt}
+use Rattle.std.proofs.lemmas.Bool.{eq-eqb, cases_lt, and_right, and_left}
 use Rattle.std.proofs.lemmas.Bool.Decides.{nat_tests}
 use Rattle.std.proofs.lemmas.Option.{none-some, same_Some}
 use Rattle.oc_base.specs.declared.format.Word.{Word}
@@ -25,6 +25,7 @@ use Rattle.oc_neutral.specs.Mach.Relocs.{MachRow, length_of}
 use Rattle.oc_neutral.specs.Objects.{Object, reloc_at}
 use Rattle.oc_neutral.specs.Rows.{TakesPlace, TakesSection, same_taken, same_base}
 use Rattle.oc_neutral.proofs.Positions.{there_at}
+use Rattle.oc_neutral.proofs.Adding.{or_left}
 use Rattle.oc_shelf.specs.Reading.Spans.{meets as spans_meet}
 use Rattle.oc_shelf.proofs.ReadingLaws.FirstsLemmas.{any_none}
 use Rattle.oc_shelf.proofs.ReadingLaws.StageLemmas.{Unbroken, IsUnbroken, unbroken_append}
@@ -54,17 +55,6 @@ use Rattle.oc_macho_file.proofs.TargetLaws.{symbol_aimed}
 use Rattle.oc_macho_file.proofs.GivenLaws.{IsGivenField}
 use Rattle.oc_macho_file.proofs.ShowsLaw.{symbols_read, given_field}
 use Rattle.oc_macho_file.proofs.HeaderClean.{within_file}
-
-and_right : (a b : Bool) → b ≡ false → (a && b) ≡ false
-and_right true b e = e
-and_right false b e = refl
-
-and_left : (a b : Bool) → a ≡ false → (a && b) ≡ false
-and_left a b e = ap (λ c. c && b) e
-
-no_left : (a b : Bool) → (a || b) ≡ false → a ≡ false
-no_left true b e = absurd (true≢false e)
-no_left false b e = refl
 
 -- the type of the second of a pair
 abbrev second_of : Word → ℕ
@@ -264,7 +254,7 @@ module _ (w : Word) (n : Object) (is : IsForMach w n) (fits : IsCodable w n) (k 
       where
         by : (u : Target) → r.target ≡ u → cannot_be_target (reads_slot (row_for w own.first)) (referent_in t (target_entry w own).refers) ≡ false
         by (target.Section j) to =
-            no_slot (row_is w n is k at r there (λ y. same_base y.base base.Slot) ∙ ap (λ b. same_base b base.Slot) (meets w n is k at r there).is.base ∙ no_left (same_base r.form.base base.Slot) (same_base r.form.base base.GotBase) ((meets w n is k at r there).slot j to))
+            no_slot (row_is w n is k at r there (λ y. same_base y.base base.Slot) ∙ ap (λ b. same_base b base.Slot) (meets w n is k at r there).is.base ∙ or_left (same_base r.form.base base.Slot) (same_base r.form.base base.GotBase) ((meets w n is k at r there).slot j to))
         by (target.Symbol j) to =
             let y = there_at n.symbols j (subst (IsThere n) to (meets w n is k at r there).normal.target) in
             let outer = (meets w n is k at r there).outer j y.0 to y.1 in

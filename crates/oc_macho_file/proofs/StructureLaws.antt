@@ -172,7 +172,7 @@ plain at pcrel len type refers = record { r_address = at; r_pcrel = pcrel; r_len
 low_test : (a b : ℕ) → b < a → nat_le a b ≡ false
 low_test a b l = grind (arith, nat_tests, l)
 
-high_test : (a b : ℕ) → a ≤ b → nat_le a b ≡ true
+pub high_test : (a b : ℕ) → a ≤ b → nat_le a b ≡ true
 high_test a b l = grind (arith, nat_tests, l)
 
 plain_back : (at number pcrel len extern type : ℕ) → AreBits number pcrel len type → extern < 2 → at < 2 ^ 31

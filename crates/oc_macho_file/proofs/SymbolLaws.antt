@@ -3,7 +3,7 @@ use Rattle.std.proofs.Common.{◌≡◌, ℕ, zero, suc, ◌+◌, ◌-◌, ◌*�
 use Rattle.std.specs.Prelude.{slice_get, nat_lt, nat_eq, bytes_eq, is_none, filter_map}
 use Rattle.std.specs.List.{cons_option, enumerate_from}
 use Rattle.std.specs.Option.{option_map, option_map_or, unwrap_or}
-use Rattle.std.proofs.lemmas.Bool.{true≢false, ne_eqb, eq-eqb}
+use Rattle.std.proofs.lemmas.Bool.{true≢false, ne_eqb, eq-eqb, and_right}
 use Rattle.std.proofs.lemmas.Bool.Decides.{nat_tests}
 use Rattle.oc_base.specs.declared.format.Word.{Word}
 use Rattle.oc_base.specs.declared.format.Word.TheVariants.{W32, W64}
@@ -59,10 +59,6 @@ use Rattle.oc_macho_file.proofs.AimLaws.{own_is}
 pub some_name : (name : List ℕ) → 1 ≤ length name → bytes_eq name [] ≡ false
 some_name [] some = absurd (omega (arith, some))
 some_name (c ∷ name) some = refl
-
-and_false : (a b : Bool) → b ≡ false → (a && b) ≡ false
-and_false true b e = e
-and_false false b e = refl
 
 -- an entry
 abbrev raw : ℕ → ℕ → ℕ → ℕ → ℕ → Nlist
@@ -127,11 +123,11 @@ module _ (w : Word) (n : Object) (is : IsForMach w n) where
     weak_read = ap (λ j. Weak (fallback.Place j (offset_of t y))) one ∙ ap (λ o. Weak (fallback.Place k o)) offset_read
 
     home_read : (is_type N_SECT y && is_none (header_numbered t (k + 1))) ≡ false
-    home_read = and_false (is_type N_SECT y) _ (ap (λ o. is_none o) (header_made w n k there.0 there.1))
+    home_read = and_right (is_type N_SECT y) _ (ap (λ o. is_none o) (header_made w n k there.0 there.1))
 
     within_read : (is_type N_SECT y && option_map_or (is_outside y) (header_numbered t (k + 1)) false) ≡ false
     unfolding section_header
-    within_read = and_false (is_type N_SECT y) _ (ap (λ o. option_map_or (is_outside y) o false) (header_made w n k there.0 there.1) ∙ inside_tests (address_of n k) offset there.0.size there.2)
+    within_read = and_right (is_type N_SECT y) _ (ap (λ o. option_map_or (is_outside y) o false) (header_made w n k there.0 there.1) ∙ inside_tests (address_of n k) offset there.0.size there.2)
 
     -- by its bits
     placed : (vis : Visibility) (b : Binding) → is_stab y ≡ false → is_external y ≡ not (parts.is_local b) → binding_of t y ≡ again_binding b → vis_in y ≡ mach_vis b vis → is_odd y ≡ false → IsRead vis b y

@@ -4,6 +4,7 @@ use Rattle.std.specs.Prelude.{not, ◌&&◌, ◌||◌, nat_eq, find, is_some, sl
 use Rattle.std.specs.Option.{option_map, option_map_or, option_and_then}
 use Rattle.std.proofs.lemmas.Bool.{eqb-true, true≢false}
 use Rattle.std.proofs.lemmas.Option.{none-some, same_Some}
+use Rattle.std.specs.Cmp.{second_so}
 use Rattle.oc_base.specs.Numbers.{number_at}
 use Rattle.oc_base.specs.declared.format.Word.{Word}
 use Rattle.oc_base.specs.declared.format.Word.TheVariants.{W32, W64}
@@ -86,10 +87,6 @@ pub record IsNarrow (w : Word) (e : RelocationInfo) : Type 0 where
   pub row_is : row_for w e ≡ Some narrow
   pub length : e.r_length ≡ 2
 
-last_true : (a b : Bool) → (a && b) ≡ true → b ≡ true
-last_true true b e = e
-last_true false b e = absurd (true≢false (sym e))
-
 pub narrow_is : (w : Word) (e : RelocationInfo) → is_narrow (row_for w e) ≡ true → IsNarrow w e
 unfolding row_for
 narrow_is w e is = by (entry_among (mach_entries w) e.r_type e.r_pcrel e.r_length) refl is
@@ -103,7 +100,7 @@ narrow_is w e is = by (entry_among (mach_entries w) e.r_type e.r_pcrel e.r_lengt
         kept false h g = absurd (true≢false (sym g))
         kept true h g =
             let both = narrow_among e.r_type e.r_pcrel e.r_length m (mach_entries w) (narrow_rows w) f g in
-            let len : nat_eq 2 e.r_length ≡ true = last_true _ _ (sym (ap (is_entry e.r_type e.r_pcrel e.r_length) both.0) ∙ both.1) in
+            let len : nat_eq 2 e.r_length ≡ true = second_so _ _ (sym (ap (is_entry e.r_type e.r_pcrel e.r_length) both.0) ∙ both.1) in
             record {
               row_is = ap (option_and_then (λ m. cond (can_refer m e.refers) (Some m) None)) f ∙ ap (λ (b : Bool). cond b (Some m) None) h ∙ ap (λ (x : MachRow). Some x) both.0;
               length = sym (eqb-true 2 e.r_length len);

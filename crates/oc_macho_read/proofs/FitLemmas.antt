@@ -1,6 +1,6 @@
 -- The differences of a file without faults fit.
 use Rattle.std.proofs.Common.{Bool, List, None, Option, Some, ap, arith, false, not, pos, refl, subst, sym, true, true≢false, ℕ, ℤ, ◌%◌, ◌&&◌, ◌+◌, ◌-ℤ◌, ◌∙◌, ◌≡◌}
-use Rattle.std.proofs.lemmas.Bool.{eqb-true}
+use Rattle.std.proofs.lemmas.Bool.{eqb-true, not-false}
 use Rattle.std.proofs.lemmas.Option.{same_Some}
 use Rattle.std.specs.Option.{option_and_then, option_map_or}
 use Rattle.std.specs.Prelude.{is_some, ◌+ℤ◌}
@@ -37,7 +37,6 @@ use Rattle.oc_neutral.specs.Normal.{Place, cancels}
 use Rattle.oc_neutral.specs.Objects.{Object}
 use Rattle.oc_neutral.specs.Rows.{Taken, TakesGotBase, TakesHome, TakesImageBase, TakesPlace, TakesSection, TakesZero}
 use Rattle.oc_shows.specs.Shows.{IsTrueToFixed}
-use Rattle.oc_shelf.proofs.ReadingLaws.StageLemmas.{not_false}
 use Rattle.oc_linking.specs.declared.terms.Base.TheVariants as base
 use Rattle.oc_linking.specs.declared.terms.Less.TheVariants as less
 use Rattle.oc_neutral.specs.Rows as rows
@@ -102,7 +101,7 @@ module _ (w : Word) (b : List ℕ) (keep : Keep) (n : Object) (shown : shown_sym
   fits_by : (s at : ℕ) (c : SectionTable) (x : FieldParts) (a : aims.Aim) → faults.folds_too_wide t s c at x ≡ false → is_difference (field_of t s at c x) ≡ true → x.taken ≡ Some a
       → fits t.word x.row.row.width x.row.row.check (residue_of t.word (faults.constant_of t s c at x a)) ≡ true
   fits_by s at c x a none is taken =
-      not_false (fits t.word x.row.row.width x.row.row.check (residue_of t.word (faults.constant_of t s c at x a)))
+      not-false (fits t.word x.row.row.width x.row.row.check (residue_of t.word (faults.constant_of t s c at x a)))
       (sym (ap (λ b. b && option_map_or (λ a. not (fits t.word x.row.row.width x.row.row.check (residue_of t.word (faults.constant_of t s c at x a)))) x.taken false) is
       ∙ last (option_map_or (λ a. not (fits t.word x.row.row.width x.row.row.check (residue_of t.word (faults.constant_of t s c at x a)))) x.taken false)
       ∙ ap (λ (o : Option aims.Aim). option_map_or (λ a. not (fits t.word x.row.row.width x.row.row.check (residue_of t.word (faults.constant_of t s c at x a)))) o false) taken) ∙ none)

@@ -1,6 +1,6 @@
 -- The fields of a section without faults.
 use Rattle.std.proofs.Common.{Bool, List, None, Option, Some, [], ap, cond, false, find, length, nat_eq, not, refl, slice_get, subst, sym, true, true≢false, ℕ, ◌&&◌, ◌++◌, ◌+◌, ◌<◌, ◌^◌, ◌||◌, ◌∙◌, ◌∷◌, ◌≡◌}
-use Rattle.std.proofs.lemmas.Bool.{eqb-true}
+use Rattle.std.proofs.lemmas.Bool.{eqb-true, or_parts}
 use Rattle.std.proofs.lemmas.Option.{none-some, same_Some, slice_get_within}
 use Rattle.std.specs.Option.{option_and_then, option_map, option_map_or}
 use Rattle.std.specs.Prelude.{is_none, is_some}
@@ -131,22 +131,17 @@ pub record IsGoodItem (t : Tables) (i : ℕ) (x : SectionTable) (k : ℕ) (item 
   pub met : rules.meets_upto t x k item ≡ false
   pub wide : rules.is_too_wide t i x item ≡ false
 
-neither : (a b : Bool) → (a || b) ≡ false → (a ≡ false) × (b ≡ false)
-neither false false e = (refl, refl)
-neither true b e = absurd (true≢false e)
-neither false true e = absurd (true≢false e)
-
 row_there : (w : Word) (item : Item) → rules.is_unknown w item ≡ false → rules.is_no_pair w item ≡ false → (m : MachRow) × (row_for w item.first ≡ Some m)
 unfolding rules.is_unknown rules.is_no_pair
 row_there w item known paired = by (row_for w item.first) refl
   where
     lone : rules.is_lone_second w item.first ≡ false
-    lone = (neither (rules.is_lone_second w item.first) (is_first w item.first && not (option_map_or (rules.are_pair w item.first) item.second false)) paired).0
+    lone = (or_parts (rules.is_lone_second w item.first) (is_first w item.first && not (option_map_or (rules.are_pair w item.first) item.second false)) paired).0
 
     by : (o : Option MachRow) → row_for w item.first ≡ o → (m : MachRow) × (row_for w item.first ≡ Some m)
     by (Some m) e = (m, e)
     by None e =
-        let first = (neither (is_none (row_for w item.first) && not (rules.is_lone_second w item.first)) (option_map_or (rules.is_odd_second w) item.second false) known).0 in
+        let first = (or_parts (is_none (row_for w item.first) && not (rules.is_lone_second w item.first)) (option_map_or (rules.is_odd_second w) item.second false) known).0 in
         absurd (true≢false (sym (ap (λ (o : Option MachRow). is_none o && not (rules.is_lone_second w item.first)) e ∙ ap (λ b. true && not b) lone) ∙ first))
 
 -- what is not nothing, and to which a field can refer
@@ -171,7 +166,7 @@ takeable_there t r e f = by (aim_in t r) refl e f
 second_there : (w : Word) (item : Item) → rules.is_no_pair w item ≡ false → is_first w item.first ≡ true → is_some item.second ≡ true
 unfolding rules.is_no_pair
 second_there w item paired first =
-    let both = neither (rules.is_lone_second w item.first) (is_first w item.first && not (option_map_or (rules.are_pair w item.first) item.second false)) paired in
+    let both = or_parts (rules.is_lone_second w item.first) (is_first w item.first && not (option_map_or (rules.are_pair w item.first) item.second false)) paired in
     by item.second (ap (λ b. b && not (option_map_or (rules.are_pair w item.first) item.second false)) (sym first) ∙ both.1)
   where
     by : (o : Option RelocationInfo) → (true && not (option_map_or (rules.are_pair w item.first) o false)) ≡ false → is_some o ≡ true
@@ -187,8 +182,8 @@ good_by t i x k item clean =
     let targets = all_hold (rules.target_conditions t i x k item) two.0 in
     let lasts = all_hold (rules.last_conditions t i x k item) two.1 in
     let row = row_there t.word item forms.0 forms.1.0 in
-    let there = neither (referents.is_nothing (referents.referent_in t (target_entry t.word item).refers)) (option_map_or (λ r. referents.is_nothing (referents.referent_in t r)) (taken_reference t.word item) false) targets.0 in
-    let right = neither (referents.cannot_be_target (referents.reads_slot (row_for t.word item.first)) (referents.referent_in t (target_entry t.word item).refers))
+    let there = or_parts (referents.is_nothing (referents.referent_in t (target_entry t.word item).refers)) (option_map_or (λ r. referents.is_nothing (referents.referent_in t r)) (taken_reference t.word item) false) targets.0 in
+    let right = or_parts (referents.cannot_be_target (referents.reads_slot (row_for t.word item.first)) (referents.referent_in t (target_entry t.word item).refers))
     (option_map_or (λ r. referents.cannot_be_taken (referents.referent_in t r)) (taken_reference t.word item) false) targets.1.0 in
     let aim = fit_there (referents.reads_slot (row_for t.word item.first)) (aim_in t (target_entry t.word item).refers) there.0 right.0 in
     record {

@@ -3,6 +3,7 @@ use Rattle.std.proofs.Common.{Bool, List, None, Option, Some, [], ap, arith, con
 use Rattle.std.proofs.lemmas.Bool.Decides.{nat_tests}
 use Rattle.std.proofs.lemmas.Bool.{cases_eq, ne_eqb}
 use Rattle.std.proofs.lemmas.List.{get_or-set_same, length-set}
+use Rattle.std.proofs.Math.Bool.{or-false}
 use Rattle.std.specs.List.{list_any}
 use Rattle.std.specs.Option.{option_map, option_map_or}
 use Rattle.oc_linking.specs.declared.terms.Keep.{Keep}
@@ -14,10 +15,12 @@ use Rattle.oc_macho.specs.Tables.{SectionTable, Tables}
 use Rattle.oc_macho.specs.declared.entries.Item.{Item}
 use Rattle.oc_macho.specs.declared.relocation_info.Reference.{Reference}
 use Rattle.oc_macho.specs.declared.relocation_info.RelocationInfo.{RelocationInfo}
-use Rattle.oc_macho_read.proofs.SectionedLemmas.{take_all, take_one}
+use Rattle.oc_macho_read.proofs.SectionedLemmas.{take_all}
 use Rattle.oc_macho_read.specs.Pins.{AreMarks, ArePins, is_pinned_upto, is_taken_upto, marked}
 use Rattle.oc_shelf.proofs.ReadingLaws.FirstsLemmas.{any_more}
 use Rattle.oc_macho.specs.declared.relocation_info.Reference.TheVariants as reference
+use Rattle.oc_neutral.proofs.FieldLists.{take_here}
+use Rattle.oc_shows.proofs.BegunLaws.{or_true}
 
 -- ... references
 
@@ -29,14 +32,6 @@ refers_section j k e is = ap (λ (r : Reference). refers_to j (record { r_addres
 
 refers_address : (j k : ℕ) (e : RelocationInfo) → e.refers ≡ reference.Address k → refers_to j e ≡ false
 refers_address j k e is = ap (λ (r : Reference). refers_to j (record { r_address = e.r_address; r_pcrel = e.r_pcrel; r_length = e.r_length; r_type = e.r_type; refers = r })) is
-
-or_false : (b : Bool) → (b || false) ≡ b
-or_false true = refl
-or_false false = refl
-
-or_true : (b : Bool) → (b || true) ≡ true
-or_true true = refl
-or_true false = refl
 
 -- ... marks
 
@@ -79,7 +74,7 @@ module _ (t : Tables) where
           | inl same ↦
               ap (λ (i : ℕ). get_or (set marks k true) i false) (sym same) ∙ get_or-set_same marks k true false (low_by k (length marks) e)
               ∙ sym (ap (λ b. test j || b) (eq-eqb k j same) ∙ or_true (test j))
-          | inr other ↦ set_other marks k j other ∙ are.each j low ∙ sym (ap (λ b. test j || b) (ne_eqb k j other) ∙ or_false (test j))
+          | inr other ↦ set_other marks k j other ∙ are.each j low ∙ sym (ap (λ b. test j || b) (ne_eqb k j other) ∙ or-false (test j))
         ];
       }
       by false e = record {
@@ -87,7 +82,7 @@ module _ (t : Tables) where
         each = λ j low.
             let past = past_by k (length marks) e in
             let long = are.long in
-            are.each j low ∙ sym (ap (λ b. test j || b) (ne_eqb k j (λ same. absurd (omega (arith, past, long, low, same)))) ∙ or_false (test j));
+            are.each j low ∙ sym (ap (λ b. test j || b) (ne_eqb k j (λ same. absurd (omega (arith, past, long, low, same)))) ∙ or-false (test j));
       }
 
   -- with what a field takes
@@ -101,12 +96,12 @@ module _ (t : Tables) where
       with_entry e (reference.Symbol k) is =
           marks_same (λ j. test j || nat_eq k j) (λ j. test j || refers_to j e) (cond (nat_lt k (length marks)) (set marks k true) marks) (marked_symbol test marks k are)
           (λ j. ap (λ b. test j || b) (refers_symbol j k e is))
-      with_entry e (reference.Section k) is = marks_same test (λ j. test j || refers_to j e) marks are (λ j. ap (λ b. test j || b) (refers_section j k e is) ∙ or_false (test j))
-      with_entry e (reference.Address k) is = marks_same test (λ j. test j || refers_to j e) marks are (λ j. ap (λ b. test j || b) (refers_address j k e is) ∙ or_false (test j))
+      with_entry e (reference.Section k) is = marks_same test (λ j. test j || refers_to j e) marks are (λ j. ap (λ b. test j || b) (refers_section j k e is) ∙ or-false (test j))
+      with_entry e (reference.Address k) is = marks_same test (λ j. test j || refers_to j e) marks are (λ j. ap (λ b. test j || b) (refers_address j k e is) ∙ or-false (test j))
 
       by : (x : Option RelocationInfo) → taken_entry t.word i ≡ x → AreMarks t (λ j. test j || takes_symbol t.word j i) (marked marks (taken_reference t.word i))
       by None e = subst (λ (x : Option RelocationInfo). AreMarks t (λ j. test j || option_map_or (refers_to j) x false) (marked marks (option_map (λ (e : RelocationInfo). e.refers) x))) (sym e)
-          (marks_same test (λ j. test j || false) marks are (λ j. or_false (test j)))
+          (marks_same test (λ j. test j || false) marks are (λ j. or-false (test j)))
       by (Some x) e = subst (λ (x : Option RelocationInfo). AreMarks t (λ j. test j || option_map_or (refers_to j) x false) (marked marks (option_map (λ (e : RelocationInfo). e.refers) x))) (sym e)
           (with_entry x x.refers refl)
 
@@ -116,7 +111,7 @@ module _ (t : Tables) where
   unfolding item_at
   marked_none test marks relocs k idle are =
       marks_same test (λ j. test j || option_map_or (takes_symbol t.word j) (item_at t.word relocs k) false) marks are
-      (λ j. ap (λ (b : Bool). test j || option_map_or (takes_symbol t.word j) (cond b (option_map (item_with t.word relocs k) (slice_get relocs k)) None) false) idle ∙ or_false (test j))
+      (λ j. ap (λ (b : Bool). test j || option_map_or (takes_symbol t.word j) (cond b (option_map (item_with t.word relocs k) (slice_get relocs k)) None) false) idle ∙ or-false (test j))
 
   -- ... fields of a section
 
@@ -133,10 +128,10 @@ module _ (t : Tables) where
 
 any_filtered : {X : Type 0} (p q : X → Bool) (xs : List X) (i : ℕ) (x : X) → slice_get xs i ≡ Some x → list_any q (filter p (take (i + 1) xs)) ≡ (list_any q (filter p (take i xs)) || p x && q x)
 any_filtered {X} p q xs i x here =
-    ap (λ (ys : List X). list_any q (filter p ys)) (take_one xs i x here) ∙ by (take i xs)
+    ap (λ (ys : List X). list_any q (filter p ys)) (take_here xs i x here) ∙ by (take i xs)
   where
     last : (b : Bool) → list_any q (cond b (x ∷ []) []) ≡ b && q x
-    last true = or_false (q x)
+    last true = or-false (q x)
     last false = refl
 
     more : (y : X) (ys : List X) (b : Bool) → list_any q (filter p (ys ++ x ∷ [])) ≡ (list_any q (filter p ys) || p x && q x)
@@ -165,7 +160,7 @@ module _ (t : Tables) (keep : Keep) where
   pub pinned_left : (i : ℕ) (marks : List Bool) → i < length t.sections → is_kept keep (table_at t i) ≡ false → AreMarks t (is_pinned_upto t keep i) marks → AreMarks t (is_pinned_upto t keep (i + 1)) marks
   pinned_left i marks low left are =
       marks_same t (is_pinned_upto t keep i) (is_pinned_upto t keep (i + 1)) marks are
-      (λ j. pinned_more i j low ∙ ap (λ b. is_pinned_upto t keep i j || b && is_taken_in t.word j (table_at t i)) left ∙ or_false (is_pinned_upto t keep i j))
+      (λ j. pinned_more i j low ∙ ap (λ b. is_pinned_upto t keep i j || b && is_taken_in t.word j (table_at t i)) left ∙ or-false (is_pinned_upto t keep i j))
 
   pub pinned_all : (i : ℕ) (marks : List Bool) → i ≡ length t.sections → AreMarks t (is_pinned_upto t keep i) marks → ArePins t keep marks
   unfolding is_pinned
@@ -179,7 +174,7 @@ pub record IsMarking (t : Tables) (x : SectionTable) (k : ℕ) (begun : Bool) (o
 
 pub marking_none : (t : Tables) (x : SectionTable) (marks : List Bool) → IsMarking t x 0 true marks marks
 marking_none t x marks = record {
-  marks_are = λ test are. marks_same t test (λ j. test j || is_taken_upto t x 0 j) marks are (λ j. or_false (test j));
+  marks_are = λ test are. marks_same t test (λ j. test j || is_taken_upto t x 0 j) marks are (λ j. or-false (test j));
   begins_is = refl;
 }
 

@@ -29,6 +29,7 @@ use Rattle.oc_shelf.proofs.ReadingLaws.StageLemmas.{all_hold, clean_at, clean_bo
 use Rattle.oc_shelf.specs.Reading.Sums.{sum_upto}
 use Rattle.oc_linking.specs.Parts as parts
 use Rattle.oc_macho.specs.SectionFaults as rules
+use Rattle.oc_neutral.proofs.FieldLists.{take_here}
 
 -- ... sections by position
 
@@ -38,15 +39,6 @@ numbered_at n [] (suc i) = refl
 numbered_at n (x ∷ xs) zero = let none : n ≡ 0 + n = omega arith in ap (λ (k : ℕ). Some (k, x)) none
 numbered_at {X} n (x ∷ xs) (suc i) =
     numbered_at (n + 1) xs i ∙ (let one : i + (n + 1) ≡ suc i + n = omega arith in ap (λ (k : ℕ). option_map (λ (x : X). (k, x)) (slice_get xs i)) one)
-
--- one more of a list
-pub take_one : {X : Type 0} (xs : List X) (k : ℕ) (x : X) → slice_get xs k ≡ Some x → take (k + 1) xs ≡ take k xs ++ x ∷ []
-take_one {X} xs k x e = (let one : k + 1 ≡ suc k = omega arith in ap (λ (n : ℕ). take n xs) one) ∙ by xs k e
-  where
-    by : (xs : List X) (k : ℕ) → slice_get xs k ≡ Some x → take (suc k) xs ≡ take k xs ++ x ∷ []
-    by [] k e = absurd (none-some x e)
-    by (y ∷ xs) zero e = ap (λ z. z ∷ []) (same_Some y x e)
-    by (y ∷ xs) (suc k) e = ap (λ (zs : List X). y ∷ zs) (by xs k e)
 
 pub take_all : {X : Type 0} (xs : List X) (n : ℕ) → n ≡ length xs → take n xs ≡ xs
 take_all {X} xs n e = ap (λ (k : ℕ). take k xs) e ∙ by xs
@@ -126,7 +118,7 @@ stored_at t i = stored_section [] (section_of (i + 1, table_at t i))
 
 next_taken : (t : Tables) (i : ℕ) → i < length t.sections → map (stored_section []) (take (i + 1) (sections_in t)) ≡ map (stored_section []) (take i (sections_in t)) ++ stored_at t i ∷ []
 next_taken t i low =
-    ap (map (stored_section [])) (take_one (sections_in t) i (section_of (i + 1, table_at t i)) (section_there t i (table_at t i) (there t i low)))
+    ap (map (stored_section [])) (take_here (sections_in t) i (section_of (i + 1, table_at t i)) (section_there t i (table_at t i) (there t i low)))
     ∙ map-append (stored_section []) (take i (sections_in t)) (section_of (i + 1, table_at t i) ∷ [])
 
 module _ (t : Tables) (f : Section → ℕ) (g : SectionHeader → ℕ) (same : (i : ℕ) → f (stored_at t i) ≡ g (table_at t i).header) where

@@ -11,7 +11,7 @@ use Rattle.oc_base.specs.declared.format.Word.{Word}
 use Rattle.oc_neutral.specs.declared.section.Section.{Section}
 use Rattle.oc_neutral.specs.Objects.{Object}
 use Rattle.oc_neutral.proofs.Positions.{there_at}
-use Rattle.oc_target.proofs.Steps.{drop_step}
+use Rattle.oc_neutral.proofs.FieldLists.{drop_here}
 use Rattle.oc_shelf.specs.Writing.Parts.{Laid, laid, laid_end, aligned}
 use Rattle.oc_macho_file.specs.Addresses.{Numbered, address_of, blank_sections, is_at, is_blank, memory_end, section_begin, size_of, stored_end, stored_sections}
 use Rattle.oc_macho_file.proofs.AddressLaws.{address_low, memory_low, section_rises}
@@ -77,7 +77,7 @@ module _ (blank : Bool) (n : Object) where
   left k = filter (is_of blank) (enumerate_from k (drop k n.sections))
 
   left_step : (k : ℕ) (s : Section) → slice_get n.sections k ≡ Some s → left k ≡ cond (is_of blank (k, s)) ((k, s) ∷ left (k + 1)) (left (k + 1))
-  left_step k s here = ap (λ xs. filter (is_of blank) (enumerate_from k xs)) (drop_step n.sections k s here)
+  left_step k s here = ap (λ xs. filter (is_of blank) (enumerate_from k xs)) (drop_here n.sections k s here)
 
   -- they have other positions than those before
   left_behind : (k j i : ℕ) (x : Numbered) → j < k → slice_get (left k) i ≡ Some x → is_at j x ≡ false

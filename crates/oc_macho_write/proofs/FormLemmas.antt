@@ -9,19 +9,18 @@ use Rattle.oc_base.specs.declared.format.Word.{Word}
 use Rattle.oc_base.specs.declared.format.Word.TheVariants.{W32, W64}
 use Rattle.oc_linking.specs.declared.terms.Hint.{Hint}
 use Rattle.oc_linking.specs.declared.terms.Hint.TheVariants.{Plain}
-use Rattle.oc_linking.specs.declared.terms.Width.{Width}
 use Rattle.oc_linking.specs.declared.terms.Width.TheVariants as width
 use Rattle.oc_linking.specs.Numbers.{or_else}
 use Rattle.oc_algebra.specs.declared.form.Form.{Form}
 use Rattle.oc_algebra.specs.Fields.{to_field_of}
 use Rattle.oc_neutral.specs.declared.reloc.Reloc.{Reloc}
-use Rattle.oc_neutral.specs.Rows.{Row, Taken, TakesZero, TakesPlace, TakesGotBase, TakesImageBase, TakesHome, TakesSection, same_taken, same_width, taken_of, shift_of}
+use Rattle.oc_neutral.specs.Rows.{Row, Taken, TakesZero, TakesPlace, TakesGotBase, TakesImageBase, TakesHome, TakesSection, same_taken, taken_of, shift_of}
 use Rattle.oc_neutral.specs.RelocTables.{rows_of}
 use Rattle.oc_neutral.specs.Shifts.{entry_target_shift, written_shift}
 use Rattle.oc_neutral.specs.Spelling.{is_written, numbers_in, row_taking, spelling_of, written_row}
 use Rattle.oc_neutral.specs.Objects.{Object}
 use Rattle.oc_neutral.proofs.Mapped.{from_mapped}
-use Rattle.oc_target.proofs.MeetsRows.{of_table, found_there}
+use Rattle.oc_target.proofs.MeetsRows.{of_table, found_there, taken_is, width_is}
 use Rattle.oc_target.specs.declared.forms.Spelling.{Spelling}
 use Rattle.oc_target.specs.declared.forms.Spelling.TheVariants as spelling
 use Rattle.oc_target.specs.Lookup.{answer_of}
@@ -72,22 +71,6 @@ pub record IsRow (w : Word) (form : Form) (row : Row) : Type 0 where
   pub behind : behind_by w row ≡ cond (same_taken row.taken TakesPlace) 4 0
   pub spelled : IsSpelled form row
 
-width_same : (a b : Width) → same_width a b ≡ true → a ≡ b
-width_same width.One width.One e = refl
-width_same width.Two width.Two e = refl
-width_same width.Four width.Four e = refl
-width_same width.Eight width.Eight e = refl
-width_same a b e = absurd (true≢false (sym e))
-
-taken_same : (a b : Taken) → same_taken a b ≡ true → a ≡ b
-taken_same TakesZero TakesZero e = refl
-taken_same TakesPlace TakesPlace e = refl
-taken_same TakesGotBase TakesGotBase e = refl
-taken_same TakesImageBase TakesImageBase e = refl
-taken_same TakesHome TakesHome e = refl
-taken_same TakesSection TakesSection e = refl
-taken_same a b e = absurd (true≢false (sym e))
-
 record IsFound (w : Word) (form : Form) (t : Taken) (row : Row) : Type 0 where
   position : ℕ
   there : slice_get (rows_of (mach_format w)) position ≡ Some row
@@ -102,7 +85,7 @@ from_find w form hint t row e =
     let c = and_parts _ _ b.0 in
     let d = and_parts _ _ c.0 in
     let g = and_parts _ _ d.0 in
-    record { position = f.0; there = f.1; width = width_same row.width form.width g.1; taken = taken_same row.taken t b.1 }
+    record { position = f.0; there = f.1; width = width_is row.width form.width g.1; taken = taken_is row.taken t b.1 }
 
 from_taking : (w : Word) (form : Form) (hint : Hint) (t : Taken) (row : Row) → row_taking (mach_format w) form hint t ≡ Some row → IsFound w form t row
 from_taking w form hint t row e = by (find (is_written form hint t) (rows_of (mach_format w))) refl e
@@ -127,7 +110,7 @@ made_row w form t row f takes = record {
     by None e pair low (inr section) = absurd (true≢false (ap (λ x. same_taken x TakesSection) (sym (f.taken ∙ section)) ∙ sym pair ∙ ap is_some e))
     by (Some m) e pair low takes =
         let small : nat_lt m 256 ≡ true = ap (λ o. option_map_or (λ m. nat_lt m 256) o true) (sym e) ∙ low in
-        SpelledPair m e (grind (arith, nat_tests, small)) (taken_same row.taken TakesSection (sym pair ∙ ap is_some e))
+        SpelledPair m e (grind (arith, nat_tests, small)) (taken_is row.taken TakesSection (sym pair ∙ ap is_some e))
 
 -- the row that is written for a form
 pub row_is : (w : Word) (form : Form) (hint : Hint) (row : Row) → written_row (mach_format w) form hint ≡ Some row → IsRow w form row

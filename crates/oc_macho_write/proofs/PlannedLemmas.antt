@@ -10,8 +10,8 @@ use Rattle.oc_shelf.specs.declared.writing.layout.Layout.{Layout}
 use Rattle.oc_shelf.specs.Writing.Parts.{file_of, pieces_by, IsPlaced}
 use Rattle.oc_plans.specs.Numbered.{section_with_numbers}
 use Rattle.oc_shelf.proofs.WritingLaws.LayoutLemmas.{part_low}
+use Rattle.oc_shelf.proofs.WritingLaws.MemberLemmas.{all_members}
 use Rattle.oc_plans.proofs.PlacedLemmas.{file_laid, mapped_in, placed_laid}
-use Rattle.oc_plans.proofs.Turns.{from_each}
 use Rattle.oc_macho_file.specs.Bodies.{raw_of}
 use Rattle.oc_macho_file.specs.Canonical.{mach_file, part_bytes}
 use Rattle.oc_macho_file.specs.Layout.{part_begin, part_size, parts_of}
@@ -68,5 +68,5 @@ module _ (w : Word) (n : Object) (p : MachParts) (made : AreMade w n p) where
           let small = small_file w n is in
           omega (arith, low, ends, small);
       headed = subst (λ z. IsHeaded z p.heads) (sym made.word) (is_headed w n p.heads made.heads is);
-      there = from_each (HasBody p.sections.items p.bodies) p.parts.items (λ k q here. let y = part_listed n p.parts.items k q made.parts here in has_body w n p.bodies made.bodies p.sections.items long_sections q y.0 y.2);
+      there = all_members (HasBody p.sections.items p.bodies) p.parts.items (λ k q here. let y = part_listed n p.parts.items k q made.parts here in has_body w n p.bodies made.bodies p.sections.items long_sections q y.0 y.2);
     }

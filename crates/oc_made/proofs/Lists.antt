@@ -1,10 +1,9 @@
 -- What holds of each part of a list, and stages without faults.
-use Rattle.std.proofs.Common.{◌≡◌, ℕ, zero, suc, ◌+◌, ◌*◌, ◌<◌, ◌≤◌, List, [], ◌∷◌, ◌++◌, length, get_or, map, Option, Some, None, refl, sym, ◌∙◌, ap, inl, inr, ◌⊎◌, arith}
+use Rattle.std.proofs.Common.{◌≡◌, ℕ, zero, suc, ◌+◌, ◌*◌, ◌<◌, ◌≤◌, List, [], ◌∷◌, ◌++◌, length, get_or, map, Option, Some, None, refl, ◌∙◌, ap, inl, inr, ◌⊎◌, arith}
 use Rattle.std.specs.Prelude.{slice_get, sum_by}
 use Rattle.std.specs.List.{AllByRecursion, range_with_len}
 use Rattle.std.specs.Option.{option_map_or}
 use Rattle.std.proofs.lemmas.List.Sums.{sum_by-cons}
-use Rattle.std.proofs.lemmas.Option.{none-some, same_Some}
 use Rattle.oc_linking.specs.FirstFault.{Condition, first_broken}
 use Rattle.oc_linking.specs.Numbers.{or_else, first_upto}
 
@@ -12,11 +11,6 @@ use Rattle.oc_linking.specs.Numbers.{or_else, first_upto}
 pub all_joined : {X : Type 0} (P : X → Type 0) (xs ys : List X) → AllByRecursion P xs → AllByRecursion P ys → AllByRecursion P (xs ++ ys)
 all_joined P [] ys a b = b
 all_joined P (x ∷ xs) ys a b = (a.0, all_joined P xs ys a.1 b)
-
--- of what a function makes of a list
-pub all_mapped : {X Y : Type 0} (P : Y → Type 0) (f : X → Y) (xs : List X) → AllByRecursion (λ x. P (f x)) xs → AllByRecursion P (map f xs)
-all_mapped P f [] a = tt
-all_mapped P f (x ∷ xs) a = (a.0, all_mapped P f xs a.1)
 
 -- of what it makes of numbers
 pub all_range : {X : Type 0} (P : X → Type 0) (f : ℕ → X) (a n : ℕ) → ((i : ℕ) → i < a + n → P (f i)) → AllByRecursion P (map f (range_with_len a n))
@@ -37,16 +31,6 @@ sum_range g f a (suc n) each =
     let rest : sum_by g (map f (range_with_len (a + 1) n)) ≤ 7 * n = sum_range g f (a + 1) n (λ i l. each i (omega (arith, l))) in
     let both : sum_by g (f a ∷ map f (range_with_len (a + 1) n)) ≡ g (f a) + sum_by g (map f (range_with_len (a + 1) n)) = sum_by-cons g (f a) (map f (range_with_len (a + 1) n)) in
     omega (arith, one, rest, both)
-
--- what stands at a position of what is made of numbers
-pub range_get : {X : Type 0} (f : ℕ → X) (a n k : ℕ) (x : X) → slice_get (map f (range_with_len a n)) k ≡ Some x → (k < n) × (x ≡ f (a + k))
-range_get f a zero k x h = absurd (none-some x h)
-range_get f a (suc n) zero x h = let z : a ≡ a + 0 = omega arith in (omega arith, sym (same_Some (f a) x h) ∙ ap f z)
-range_get f a (suc n) (suc k) x h =
-    let r = range_get f (a + 1) n k x h in
-    let e : a + 1 + k ≡ a + suc k = omega arith in
-    let l : k < n = r.0 in
-    (omega (arith, l), r.1 ∙ ap f e)
 
 -- what stands at a position of two lists
 pub joined_get : {X : Type 0} (xs ys : List X) (k : ℕ) (x : X) → slice_get (xs ++ ys) k ≡ Some x → (slice_get xs k ≡ Some x) ⊎ ((j : ℕ) × (k ≡ length xs + j) × (slice_get ys j ≡ Some x))

@@ -36,21 +36,22 @@ use Rattle.oc_neutral.specs.TargetSections.{conditions_at, each_of, section_cond
 use Rattle.oc_neutral.specs.TargetSymbols.{names_length, symbol_conditions, symbol_count, symbol_stages}
 use Rattle.oc_made.specs.Functions.{call, calls_of, elf_format, made_object, symbols_of, text_section}
 use Rattle.oc_made.proofs.CallLemmas.{all_calls}
-use Rattle.oc_made.proofs.Lists.{all_joined, all_mapped, none_broken, none_upto}
+use Rattle.oc_made.proofs.Lists.{all_joined, none_broken, none_upto}
 use Rattle.oc_made.proofs.NameLemmas.{number_uncut}
 use Rattle.oc_made.proofs.SymbolLemmas.{all_symbols, at_symbol, length-symbols_of, names_short}
 use Rattle.oc_made.proofs.WholeObject.{made_is_object}
+use Rattle.oc_neutral.proofs.LeftObject.{all_map}
 
 -- a condition that is not broken
 met : (b : Bool) (f : Fault) → b ≡ false → cond b (Some f) None ≡ None
 met b f e = ap (λ c. cond c (Some f) None) e
 
 -- and two of them
-both_met : (b c : Bool) (f g : Fault) → b ≡ false → c ≡ false → cond b (Some f) (cond c (Some g) None) ≡ None
+pub both_met : (b c : Bool) (f g : Fault) → b ≡ false → c ≡ false → cond b (Some f) (cond c (Some g) None) ≡ None
 both_met b c f g d e = ap (λ x. cond x (Some f) (cond c (Some g) None)) d ∙ met c g e
 
 -- where none of five is there, none is first
-five_none : (a b c d e : Option Fault) → a ≡ None → b ≡ None → c ≡ None → d ≡ None → e ≡ None → or_else a (or_else b (or_else c (or_else d (or_else e None)))) ≡ None
+pub five_none : (a b c d e : Option Fault) → a ≡ None → b ≡ None → c ≡ None → d ≡ None → e ≡ None → or_else a (or_else b (or_else c (or_else d (or_else e None)))) ≡ None
 five_none a b c d e p q r s t =
     ap (λ o. or_else o (or_else b (or_else c (or_else d (or_else e None))))) p
     ∙ ap (λ o. or_else o (or_else c (or_else d (or_else e None)))) q
@@ -140,7 +141,7 @@ module _ (count : ℕ) (few : count ≤ 100000) where
   calls_met : (w : Word) → AllByRecursion (λ (x : PlacedReloc). first_broken (standing_conditions (to w) (n w) x) ≡ None) (placed_relocs (n w))
   calls_met w =
       all_joined (λ (x : PlacedReloc). first_broken (standing_conditions (to w) (n w) x) ≡ None) (placed_relocs_in 0 (calls_of w count)) []
-      (all_mapped (λ (x : PlacedReloc). first_broken (standing_conditions (to w) (n w) x) ≡ None) (λ (x : Field Reloc). record { section = 0; at = x.at; reloc = x.item }) (calls_of w count)
+      (all_map (λ (x : PlacedReloc). first_broken (standing_conditions (to w) (n w) x) ≡ None) (λ (x : Field Reloc). record { section = 0; at = x.at; reloc = x.item }) (calls_of w count)
       (all_calls w count (λ (x : Field Reloc). first_broken (standing_conditions (to w) (n w) (record { section = 0; at = x.at; reloc = x.item })) ≡ None)
       (λ i l. (call_met w ((5 * i + 1) % count) (16 * i + 1), call_met w (count + i % 10) (16 * i + 6)))))
       tt

@@ -13,8 +13,9 @@ use Rattle.oc_neutral.specs.Faces.{number_of}
 use Rattle.oc_neutral.specs.Invariants.{AreDistinct, IsOriginal}
 use Rattle.oc_neutral.specs.Normal.{local_place, place_among}
 use Rattle.oc_made.specs.Functions.{function_symbol, outside_symbol, symbols_of}
-use Rattle.oc_made.proofs.Lists.{all_joined, all_range, joined_get, range_get, sum_range}
+use Rattle.oc_made.proofs.Lists.{all_joined, all_range, joined_get, sum_range}
 use Rattle.oc_made.proofs.NameLemmas.{number_short, numbers_differ}
+use Rattle.oc_elf_file.proofs.RepeatLemmas.{at_range}
 
 -- symbol k outside
 pub record IsOutside (count k : ℕ) (s : Symbol) : Type 0 where
@@ -47,9 +48,9 @@ module _ (count : ℕ) where
   unfolding symbols_of
   stands_at k s here =
       elim (joined_get (map function_symbol (range_with_len 0 count)) (map (outside_symbol count) (range_with_len 0 (min count 10))) k s here) [
-        | inl a ↦ let r = range_get function_symbol 0 count k s a in let z : 0 + k ≡ k = omega arith in inl (r.0, r.1 ∙ ap function_symbol z)
+        | inl a ↦ let r = at_range function_symbol 0 count k s a in let z : 0 + k ≡ k = omega arith in inl (r.0, r.1 ∙ ap function_symbol z)
         | inr b ↦
-            let r = range_get (outside_symbol count) 0 (min count 10) b.0 s b.2 in
+            let r = at_range (outside_symbol count) 0 (min count 10) b.0 s b.2 in
             let z : 0 + b.0 ≡ b.0 = omega arith in
             inr (record { number = b.0; low = r.0; behind = b.1 ∙ ap (λ n. n + b.0) (length-map-range_with_len function_symbol 0 count); is = r.1 ∙ ap (outside_symbol count) z })
       ]

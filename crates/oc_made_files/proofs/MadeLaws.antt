@@ -6,15 +6,13 @@ use Rattle.std.specs.Option.{option_map, unwrap_or}
 use Rattle.std.proofs.lemmas.Bool.{cases_lt, true≢false}
 use Rattle.std.proofs.lemmas.Int.{ints}
 use Rattle.std.proofs.lemmas.List.{length-replicate}
-use Rattle.std.proofs.lemmas.Option.{none-some, same_Some}
+use Rattle.std.proofs.lemmas.Option.{same_Some}
 use Rattle.oc_base.specs.declared.format.Format.{Format}
 use Rattle.oc_base.specs.Formats.{word_for}
 use Rattle.oc_linking.specs.declared.terms.Base.{Base}
 use Rattle.oc_linking.specs.declared.terms.Base.TheVariants as base
 use Rattle.oc_linking.specs.declared.terms.Binding.{Binding}
 use Rattle.oc_linking.specs.declared.terms.Binding.TheVariants.{Local, Global, Undefined, Common, Weak}
-use Rattle.oc_linking.specs.declared.terms.Kind.{Kind}
-use Rattle.oc_linking.specs.declared.terms.Kind.TheVariants.{Code, ReadOnly, Data, Zero, Init, Fini, Debug, Exception, Note}
 use Rattle.oc_linking.specs.declared.terms.Patch.{Patch}
 use Rattle.oc_linking.specs.Fits.{bytes_of}
 use Rattle.oc_linking.specs.Images.{overlay}
@@ -26,6 +24,7 @@ use Rattle.oc_linking.specs.Targets as file
 use Rattle.oc_linking.specs.Targets.{named_by}
 use Rattle.oc_linking.proofs.Overlay.{length-overlay}
 use Rattle.oc_linking.proofs.Storing.{others_stay}
+use Rattle.oc_linking.proofs.Whole.{keeps-all}
 use Rattle.oc_neutral.specs.declared.section.Section.{Section}
 use Rattle.oc_neutral.specs.declared.symbol.Symbol.{Symbol}
 use Rattle.oc_neutral.specs.declared.reloc.Reloc.{Reloc}
@@ -60,28 +59,19 @@ use Rattle.oc_shows.proofs.SeenAlike.{relocs_same, numbers_differ}
 use Rattle.oc_shows.proofs.SeenFamilies.{elf_table, coff_table, mach_table}
 use Rattle.oc_target.proofs.SeenLaws.{seen_is_object_law}
 use Rattle.oc_shows.proofs.SeenLines.{IsShown, IsTable, table_shows}
+use Rattle.oc_shows.proofs.BuiltContents.{zeros_at}
 use Rattle.oc_target.proofs.SeenReady.{omf_ready}
-use Rattle.oc_shelf.proofs.WritingLaws.MemberLemmas.{map-alike, map-map, member_map, of_map}
+use Rattle.oc_shelf.proofs.WritingLaws.MemberLemmas.{map-alike, map-map, member_map, of_map, of_enumerated}
 use Rattle.oc_made_files.specs.MadeFiles.{shown_in, seen_in, IsMadeField, IsMadeFile, MadeFileShows}
-
--- every kind is kept
-all_kept : (k : Kind) → keeps all k ≡ true
-all_kept k = elim k as (λ k. keeps all k ≡ true) [ Code ↦ refl | ReadOnly ↦ refl | Data ↦ refl | Zero ↦ refl | Init ↦ refl | Fini ↦ refl | Debug ↦ refl | Exception ↦ refl | Note ↦ refl ]
 
 flags_kept : (xs : List parts.Section) (k : ℕ) → unwrap_or (slice_get (map (λ (s : parts.Section). keeps all s.kind) xs) k) true ≡ true
 flags_kept [] k = refl
-flags_kept (x ∷ xs) zero = all_kept x.kind
+flags_kept (x ∷ xs) zero = keeps-all x.kind
 flags_kept (x ∷ xs) (suc k) = flags_kept xs k
 
 -- so each field that is read is kept
 pub field_kept : (g : Dialect) (c : List ℕ) (k at : ℕ) → kept_fields g c all k at ≡ g.rules.fields c all k at
 field_kept g c k at = ap (λ b. cond b (g.rules.fields c all k at) None) (flags_kept (g.rules.sections c) k)
-
--- zeros are zero
-zeros_at : (size k : ℕ) → get_or {A = ℕ} (replicate size 0) k 0 ≡ 0
-zeros_at zero k = refl
-zeros_at (suc size) zero = refl
-zeros_at (suc size) (suc k) = zeros_at size k
 
 all_zero : (xs : List ℕ) → AreZeros xs → (i : ℕ) → get_or xs i 0 ≡ 0
 all_zero [] zeros i = refl
@@ -92,12 +82,6 @@ all_zero (x ∷ xs) zeros (suc i) = all_zero xs zeros.1 i
 none_zero : (xs : List ℕ) → length xs ≡ 0 → AreZeros xs
 none_zero [] e = tt
 none_zero (x ∷ xs) e = absurd (omega (arith, e))
-
--- what stands at a position among numbered ones
-pub of_enumerated : {X : Type 0} (i : ℕ) (xs : List X) (k : ℕ) (y : ℕ × X) → slice_get (enumerate_from i xs) k ≡ Some y → (y.0 ≡ i + k) × (slice_get xs k ≡ Some y.1)
-of_enumerated i [] k y here = absurd (none-some y here)
-of_enumerated {X} i (x ∷ xs) zero y here = (ap (λ (z : ℕ × X). z.0) (sym (same_Some (i, x) y here)) ∙ omega arith, ap (λ (z : ℕ × X). Some z.1) (same_Some (i, x) y here))
-of_enumerated i (x ∷ xs) (suc k) y here = let r = of_enumerated (i + 1) xs k y here in (r.0 ∙ omega arith, r.1)
 
 of_numbered : {X Y : Type 0} (f : ℕ × X → Y) (xs : List X) (k : ℕ) (y : Y) → slice_get (map f (enumerate_from 0 xs)) k ≡ Some y → (x : X) × (slice_get xs k ≡ Some x) × (f (k, x) ≡ y)
 of_numbered f xs k y here =

@@ -1,16 +1,16 @@
 -- The symbols that are seen of an object, by the lines of its file.
-use Rattle.std.proofs.Common.{◌≡◌, ℕ, zero, suc, ◌+◌, List, [], ◌∷◌, map, Option, Some, None, refl, sym, ◌∙◌, ap, arith}
+use Rattle.std.proofs.Common.{◌≡◌, ℕ, suc, ◌+◌, List, [], ◌∷◌, map, Option, Some, None, refl, sym, ◌∙◌, ap, arith}
 use Rattle.std.specs.Prelude.{slice_get, nat_eq, filter_map}
 use Rattle.std.specs.List.{cons_option}
 use Rattle.std.specs.Option.{option_map, option_map_or, option_and_then}
 use Rattle.std.proofs.lemmas.Bool.{eq-eqb, ne_eqb}
-use Rattle.std.proofs.lemmas.Option.{none-some, same_Some}
 use Rattle.oc_neutral.specs.declared.symbol.Symbol.{Symbol}
 use Rattle.oc_neutral.specs.Objects.{Object}
 use Rattle.oc_shows.specs.Manners.{Manner}
 use Rattle.oc_shows.specs.Seen.{shown_from, new_position, seen_symbol, seen_symbols}
 use Rattle.oc_shows.specs.SymbolLines.{Line}
 use Rattle.oc_shows.proofs.SeenLines.{IsShown}
+use Rattle.oc_shows.proofs.SeenAlike.{filter_all}
 use Rattle.oc_shelf.specs.Writing.Parts.{Laid, laid, behind}
 use Rattle.oc_shelf.proofs.WritingLaws.GatheredLemmas.{laid_ones}
 use Rattle.oc_shelf.proofs.WritingLaws.MemberLemmas.{position_first, member_filter_map}
@@ -30,15 +30,6 @@ filter_map-twice {X} {Y} {Z} f g (x ∷ xs) = by (g x) (filter_map-twice f g xs)
     by None e = e
     by (Some y) e = ap (cons_option (f y)) e
 
--- a filter that leaves all
-kept_all : {X Y : Type 0} (f : X → Option Y) (xs : List X) → ((i : ℕ) (x : X) → slice_get xs i ≡ Some x → (y : Y) × (f x ≡ Some y))
-    → (i : ℕ) (x : X) (y : Y) → slice_get xs i ≡ Some x → f x ≡ Some y → slice_get (filter_map f xs) i ≡ Some y
-kept_all f [] all i x y here is = absurd (none-some x here)
-kept_all f (z ∷ xs) all zero x y here is = ap (λ o. slice_get (cons_option o (filter_map f xs)) 0) (ap f (same_Some z x here) ∙ is)
-kept_all f (z ∷ xs) all (suc i) x y here is =
-    let m = all 0 z refl in
-    ap (λ o. slice_get (cons_option o (filter_map f xs)) (suc i)) m.1 ∙ kept_all f xs (λ j u h. all (suc j) u h) i x y here is
-
 module _ (m : Manner) (n : Object) where
   abbrev shown : List (ℕ × ℕ)
   shown = shown_in m n
@@ -57,7 +48,7 @@ module _ (m : Manner) (n : Object) where
     seen_at i x s here there =
         let each : (j : ℕ) (y : ℕ × ℕ) → slice_get shown j ≡ Some y → (t : Symbol) × (seen_one y ≡ Some t)
         = λ j y h. let t = are.valid j y h in (seen_symbol m n shown y.1 t.0, ap (option_map (seen_symbol m n shown y.1)) t.1) in
-        kept_all seen_one shown each i x (seen_symbol m n shown x.1 s) here (ap (option_map (seen_symbol m n shown x.1)) there)
+        filter_all seen_one shown each i x (seen_symbol m n shown x.1 s) here (ap (option_map (seen_symbol m n shown x.1)) there)
 
     pub position_is : (i : ℕ) (x : ℕ × ℕ) → slice_get shown i ≡ Some x → new_position shown x.0 ≡ i
     position_is i x here = position_first (λ (y : ℕ × ℕ). nat_eq y.0 x.0) shown i x here (eq-eqb x.0 x.0 refl) (λ j y before there. ne_eqb y.0 x.0 (are.once j i y x before there here))

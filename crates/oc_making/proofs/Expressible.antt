@@ -11,7 +11,7 @@ use Rattle.oc_base.specs.declared.format.Format.TheVariants.{Elf32, Elf64, Coff3
 use Rattle.oc_base.specs.Formats.{word_for}
 use Rattle.oc_base.specs.declared.fault.Fault.{Fault}
 use Rattle.oc_linking.specs.FirstFault.{first_broken}
-use Rattle.oc_linking.specs.Numbers.{or_else, first_upto}
+use Rattle.oc_linking.specs.Numbers.{first_upto}
 use Rattle.oc_algebra.specs.Fields.{to_field_of, field_for}
 use Rattle.oc_algebra.specs.Residues.{reduced_number, residue_of}
 use Rattle.oc_chains.specs.declared.field.Field.{Field}
@@ -31,34 +31,22 @@ use Rattle.oc_neutral.specs.TargetSections.{conditions_at, each_of, section_cond
 use Rattle.oc_neutral.specs.TargetSymbols.{names_length, symbol_conditions, symbol_count, symbol_stages}
 use Rattle.oc_made.specs.Functions.{call, calls_of, elf_format, function_symbol, made_object, outside_symbol, symbols_of, text_section}
 use Rattle.oc_made.proofs.CallLemmas.{all_calls}
-use Rattle.oc_made.proofs.Lists.{all_joined, all_mapped, none_broken, none_upto, sum_range}
+use Rattle.oc_made.proofs.Lists.{all_joined, none_broken, none_upto, sum_range}
 use Rattle.oc_made.proofs.NameLemmas.{number_short, number_uncut}
 use Rattle.oc_made.proofs.SymbolLemmas.{all_symbols, at_symbol, length-symbols_of, names_short}
 use Rattle.oc_neutral.specs.Mach.Family.{mach_symbol_count, mach_writes}
 use Rattle.oc_neutral.specs.Mach.SectionSymbols.{needed_sections, needs_section_symbol}
 use Rattle.oc_neutral.specs.Bindings.{is_external, is_written_by}
-use Rattle.oc_made.proofs.ReadyElf.{made_is_fitted}
+use Rattle.oc_made.proofs.ReadyElf.{made_is_fitted, five_none, both_met}
 use Rattle.oc_making.specs.Making.{MadeIsExpressible}
 use Rattle.std.specs.Prelude.{slice_get, codes, sum_by, count_by}
 use Rattle.std.proofs.lemmas.List.Sums.{count_by-le-length, sum_by-append, sum_by-cons}
 use Rattle.oc_neutral.specs.Omf.Family.{is_too_long}
+use Rattle.oc_neutral.proofs.LeftObject.{all_map}
 
 -- a condition that is not broken
 met : (b : Bool) (f : Fault) → b ≡ false → cond b (Some f) None ≡ None
 met b f e = ap (λ c. cond c (Some f) None) e
-
--- and two of them
-both_met : (b c : Bool) (f g : Fault) → b ≡ false → c ≡ false → cond b (Some f) (cond c (Some g) None) ≡ None
-both_met b c f g d e = ap (λ x. cond x (Some f) (cond c (Some g) None)) d ∙ met c g e
-
--- where none of five is there, none is first
-five_none : (a b c d e : Option Fault) → a ≡ None → b ≡ None → c ≡ None → d ≡ None → e ≡ None → or_else a (or_else b (or_else c (or_else d (or_else e None)))) ≡ None
-five_none a b c d e p q r s t =
-    ap (λ o. or_else o (or_else b (or_else c (or_else d (or_else e None))))) p
-    ∙ ap (λ o. or_else o (or_else c (or_else d (or_else e None)))) q
-    ∙ ap (λ o. or_else o (or_else d (or_else e None))) r
-    ∙ ap (λ o. or_else o (or_else e None)) s
-    ∙ ap (λ o. or_else o None) t
 
 one_filter : (b : Bool) → length {A = ℕ} (cond b (0 ∷ []) []) ≤ 1
 one_filter true = omega arith
@@ -240,7 +228,7 @@ module _ (count : ℕ) (few : count ≤ 100000) where
   calls_met to a =
       let w : Word = word_for to in
       all_joined (λ (x : PlacedReloc). first_broken (standing_conditions to (n w) x) ≡ None) (placed_relocs_in 0 (calls_of w count)) []
-      (all_mapped (λ (x : PlacedReloc). first_broken (standing_conditions to (n w) x) ≡ None) (λ (x : Field Reloc). record { section = 0; at = x.at; reloc = x.item }) (calls_of w count)
+      (all_map (λ (x : PlacedReloc). first_broken (standing_conditions to (n w) x) ≡ None) (λ (x : Field Reloc). record { section = 0; at = x.at; reloc = x.item }) (calls_of w count)
       (all_calls w count (λ (x : Field Reloc). first_broken (standing_conditions to (n w) (record { section = 0; at = x.at; reloc = x.item })) ≡ None)
       (λ i l. (call_met to a ((5 * i + 1) % count) (16 * i + 1), call_met to a (count + i % 10) (16 * i + 6)))))
       tt

@@ -2,7 +2,7 @@
 use Rattle.std.proofs.Common.{◌≡◌, ℕ, zero, suc, ◌<◌, Bool, true, false, ◌||◌, cond, eqb, List, [], ◌∷◌, length, map, get_or, Option, Some, None, inl, inr, refl, sym, ◌∙◌, ap, subst, arith}
 use Rattle.std.specs.Prelude.{slice_get}
 use Rattle.std.specs.Option.{option_map, option_map_or, option_and_then}
-use Rattle.std.proofs.lemmas.Bool.{cases_eq, eq-eqb, ne_eqb}
+use Rattle.std.proofs.lemmas.Bool.{cases_eq, eq-eqb, ne_eqb, or_parts, not-false}
 use Rattle.std.proofs.lemmas.List.{length-map}
 use Rattle.std.proofs.lemmas.Option.{none-some, same_Some, slice_get-map, slice_get_within}
 use Rattle.oc_base.specs.declared.format.Format.{Format}
@@ -49,8 +49,8 @@ use Rattle.oc_drop.proofs.Filed.{AreSingle, numbers_of}
 use Rattle.oc_names.proofs.FiledSymbols.{numbers_settled}
 use Rattle.oc_names.proofs.FixedSymbols.{IsFound, found_front}
 use Rattle.oc_names.proofs.FiledNames.{number-front}
-use Rattle.oc_drop.proofs.DroppedSymbols.{carried_back, not_dropped}
-use Rattle.oc_drop.proofs.DroppedShows.{clear-field, free-clear, reloc-left, or_none}
+use Rattle.oc_drop.proofs.DroppedSymbols.{carried_back}
+use Rattle.oc_drop.proofs.DroppedShows.{clear-field, free-clear, reloc-left}
 use Rattle.oc_names.proofs.NamedShows.{found_normal}
 use Rattle.oc_names.proofs.ReboundFields.{left_at}
 use Rattle.oc_names.proofs.ReboundShows.{reloc-rebound}
@@ -93,7 +93,7 @@ cancels-raised flags base.HomeNumber t l = refl
 
 -- what is taken, where sections moved
 less-back : (stay : List Bool) (l : Less) → ((i : ℕ) → l ≡ less.Section i → i < length stay) → takes_dropped stay l ≡ false → raised_less stay (moved_less stay l) ≡ l
-less-back stay (less.Section i) low clear = ap less.Section (carried_back stay i (low i refl) (not_dropped (get_or stay i true) clear))
+less-back stay (less.Section i) low clear = ap less.Section (carried_back stay i (low i refl) (not-false (get_or stay i true) clear))
 less-back stay less.Zero low clear = refl
 less-back stay less.Place low clear = refl
 less-back stay less.GotBase low clear = refl
@@ -204,7 +204,7 @@ module _ (f : Dialect) (b : List ℕ) (keep : Keep) (edits : List Edit) (to : Fo
       → raised_named stay (named_of ys (section_for (place_among ys (moved_target stay syms t)) (moved_target stay syms t))) ≡ named_after E (named_of n.symbols t)
   named-left (target.Section j) there free clear =
       ap (λ place. raised_named stay (named_of ys (section_for place (target.Section (new_position stay j))))) (section_free ys (new_position stay j))
-      ∙ ap Sectional (carried_back stay j (omega (arith, there, long)) (not_dropped (get_or stay j true) clear))
+      ∙ ap Sectional (carried_back stay j (omega (arith, there, long)) (not-false (get_or stay j true) clear))
   named-left (target.Symbol j) there free clear =
       let x = there_at n.symbols j there in
       let k : ℕ = new_position syms j in
@@ -245,7 +245,7 @@ module _ (f : Dialect) (b : List ℕ) (keep : Keep) (edits : List Edit) (to : Fo
     one-look : (x : Reloc) → reloc_at n j at ≡ Some x → raised_look stay (normal_look ys s (moved_reloc stay syms x)) ≡ look_after E (reloc_look n x)
     one-look x here =
         let c = clear-field keep n is steps.clear zeros v s at x here in
-        let both = or_none (targets_dropped stay x.target) (takes_dropped stay x.form.less) c.1 in
+        let both = or_parts (targets_dropped stay x.target) (takes_dropped stay x.form.less) c.1 in
         let normal = found_normal d d_is s at (moved_reloc stay syms x) (reloc-left keep n is steps.clear zeros v s at ∙ ap (option_map (moved_reloc stay syms)) here) in
         let taken : raised_less stay (less_in s (moved_less stay x.form.less)) ≡ x.form.less =
         ap (λ t. raised_less stay (cond t less.Place (moved_less stay x.form.less))) normal.placed
@@ -259,7 +259,7 @@ module _ (f : Dialect) (b : List ℕ) (keep : Keep) (edits : List Edit) (to : Fo
         let y : Reloc = moved_reloc stay syms x in
         let t : Target = section_for (place_among ys y.target) y.target in
         let c = clear-field keep n is steps.clear zeros v s at x here in
-        let both = or_none (targets_dropped stay x.target) (takes_dropped stay x.form.less) c.1 in
+        let both = or_parts (targets_dropped stay x.target) (takes_dropped stay x.form.less) c.1 in
         sym (cancels-named ys y.form.base t y.form.less)
         ∙ sym (cancels-raised stay y.form.base (named_of ys t) y.form.less)
         ∙ ap (λ l. cancels x.form.base (target_by (raised_named stay (named_of ys t))) l)

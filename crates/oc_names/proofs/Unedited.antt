@@ -44,7 +44,7 @@ use Rattle.oc_linking.specs.declared.terms.Keep.{Keep}
 
 -- ... lists
 
-numbered_stay : {X : Type 0} (f : ℕ × X → X) (i : ℕ) (xs : List X) → ((k : ℕ) (x : X) → slice_get xs k ≡ Some x → f (i + k, x) ≡ x) → map f (enumerate_from i xs) ≡ xs
+pub numbered_stay : {X : Type 0} (f : ℕ × X → X) (i : ℕ) (xs : List X) → ((k : ℕ) (x : X) → slice_get xs k ≡ Some x → f (i + k, x) ≡ x) → map f (enumerate_from i xs) ≡ xs
 numbered_stay f i [] same = refl
 numbered_stay f i (x ∷ xs) same =
     let zero_more : i ≡ i + 0 = omega arith in
@@ -52,7 +52,7 @@ numbered_stay f i (x ∷ xs) same =
     ∙ ap (λ y. y ∷ map f (enumerate_from (i + 1) xs)) (same 0 x refl)
     ∙ ap (λ ys. x ∷ ys) (numbered_stay f (i + 1) xs (λ k y h. let e : i + 1 + k ≡ i + suc k = omega arith in ap (λ (j : ℕ). f (j, y)) e ∙ same (suc k) y h))
 
-filter_map_stays : {X : Type 0} (f : X → Option X) (xs : List X) → ((k : ℕ) (x : X) → slice_get xs k ≡ Some x → f x ≡ Some x) → filter_map f xs ≡ xs
+pub filter_map_stays : {X : Type 0} (f : X → Option X) (xs : List X) → ((k : ℕ) (x : X) → slice_get xs k ≡ Some x → f x ≡ Some x) → filter_map f xs ≡ xs
 filter_map_stays f [] all = refl
 filter_map_stays f (x ∷ xs) all = ap (λ o. cons_option o (filter_map f xs)) (all 0 x refl) ∙ ap (λ ys. x ∷ ys) (filter_map_stays f xs (λ k y h. all (suc k) y h))
 

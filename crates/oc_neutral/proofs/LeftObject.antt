@@ -33,7 +33,7 @@ pub all_both : {X : Type 0} (P Q : X → Type 0) (xs : List X) → AllByRecursio
 all_both P Q [] all also = tt
 all_both P Q (x ∷ xs) all also = ((all.0, also.0), all_both P Q xs all.1 also.1)
 
-sum_map : {X Y : Type 0} (g : Y → ℕ) (f : X → Y) (xs : List X) → sum_by g (map f xs) ≡ sum_by (λ x. g (f x)) xs
+pub sum_map : {X Y : Type 0} (g : Y → ℕ) (f : X → Y) (xs : List X) → sum_by g (map f xs) ≡ sum_by (λ x. g (f x)) xs
 sum_map g f [] = refl
 sum_map g f (x ∷ xs) = sum_by-cons g (f x) (map f xs) ∙ ap (λ k. g (f x) + k) (sum_map g f xs) ∙ sym (sum_by-cons (λ x. g (f x)) x xs)
 

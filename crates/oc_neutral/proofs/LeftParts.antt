@@ -3,7 +3,7 @@ use Rattle.std.proofs.Common.{◌≡◌, ℕ, ◌<◌, Bool, true, false, not, �
 use Rattle.std.specs.Prelude.{slice_get}
 use Rattle.std.specs.List.{AllByRecursion}
 use Rattle.std.specs.Option.{option_map, option_map_or}
-use Rattle.std.proofs.lemmas.Bool.{eq-eqb, ne_eqb, true≢false}
+use Rattle.std.proofs.lemmas.Bool.{eq-eqb, ne_eqb, true≢false, not-false}
 use Rattle.std.proofs.lemmas.List.{length-map}
 use Rattle.std.proofs.lemmas.Option.{none-some, get_or_from_slice_get, slice_get-map, slice_get_within}
 use Rattle.oc_linking.specs.declared.terms.Value.{Value}
@@ -34,15 +34,7 @@ use Rattle.oc_neutral.proofs.NormalLemmas.{place_among-there}
 use Rattle.oc_neutral.proofs.Positions.{each_at, there_at}
 use Rattle.oc_neutral.specs.Without.{is_dropped, value_section, binding_section, lies_in_dropped, symbols_stay, targets_dropped, takes_dropped, refers_to_dropped, IsDetached, new_position, moved_value, moved_fallback, moved_binding, with_binding, moved_target, moved_less, moved_reloc, moved_field, groups_left, regrouped, left_of}
 use Rattle.oc_neutral.proofs.KeptLists.{Stays, kept_there, kept_from, old_order, one_position}
-
--- a test that is not passed
-not_false : (b : Bool) → not b ≡ false → b ≡ true
-not_false true e = refl
-not_false false e = absurd (true≢false e)
-
-not_true : (b : Bool) → not b ≡ true → b ≡ false
-not_true true e = absurd (true≢false (sym e))
-not_true false e = refl
+use Rattle.oc_linking.proofs.LawProofs.{not-true}
 
 -- a section is no Local with a place
 pub section_free : (symbols : List Symbol) (k : ℕ) → place_among symbols (target.Section k) ≡ None
@@ -50,7 +42,7 @@ unfolding place_among
 section_free symbols k = refl
 
 -- what is strong is no Local
-strong_outer : (b : Binding) → is_strong b ≡ true → is_local b ≡ false
+pub strong_outer : (b : Binding) → is_strong b ≡ true → is_local b ≡ false
 strong_outer (Local v) e = absurd (true≢false (sym e))
 strong_outer (Global v) e = refl
 strong_outer Undefined e = refl
@@ -84,7 +76,7 @@ module _ (stay : List Bool) (n : Object) (long : length n.sections ≡ length st
       (slice_get-map (λ (s : Symbol). not (lies_in_dropped stay s)) n.symbols k ∙ ap (option_map (λ (s : Symbol). not (lies_in_dropped stay s))) here)
 
   symbol_lies : (k : ℕ) (s : Symbol) → slice_get n.symbols k ≡ Some s → Stays flags k → lies_in_dropped stay s ≡ false
-  symbol_lies k s here is = not_true (lies_in_dropped stay s) (sym (flag_at k s here) ∙ is)
+  symbol_lies k s here is = not-true (lies_in_dropped stay s) (sym (flag_at k s here) ∙ is)
 
   nonlocal_stays : (k : ℕ) (s : Symbol) → slice_get n.symbols k ≡ Some s → is_local s.binding ≡ false → lies_in_dropped stay s ≡ false
   nonlocal_stays k s here out =
@@ -136,7 +128,7 @@ module _ (stay : List Bool) (n : Object) (long : length n.sections ≡ length st
       (k.0, x.0, k.1, k.2, k.3, x.2)
 
   offset_there : (k offset : ℕ) → HasOffset n.sections k offset → is_dropped stay k ≡ false → HasOffset left_object.sections (new_position stay k) offset
-  offset_there k offset there e = (regrouped left there.0, section_there k there.0 there.1 (not_false (get_or stay k true) e), there.2)
+  offset_there k offset there e = (regrouped left there.0, section_there k there.0 there.1 (not-false (get_or stay k true) e), there.2)
 
   number_there : (k : ℕ) (s : Symbol) → slice_get n.symbols k ≡ Some s → lies_in_dropped stay s ≡ false → number_of left_object.symbols (new_position flags k) ≡ number_of n.symbols k
   number_there k s here e =
@@ -210,7 +202,7 @@ module _ (stay : List Bool) (n : Object) (long : length n.sections ≡ length st
   target_clear : (t : Target) → IsThere n t → place_among n.symbols t ≡ None → targets_dropped stay t ≡ false → IsThere left_object (moved_target stay flags t)
   target_clear (target.Section k) there free e =
       let x = there_at n.sections k there in
-      slice_get_within left_object.sections (new_position stay k) (regrouped left x.0) (section_there k x.0 x.1 (not_false (get_or stay k true) e))
+      slice_get_within left_object.sections (new_position stay k) (regrouped left x.0) (section_there k x.0 x.1 (not-false (get_or stay k true) e))
   target_clear (target.Symbol k) there free e =
       let s = there_at n.symbols k there in
       slice_get_within left_object.symbols (new_position flags k) (moved_symbol s.0)
@@ -248,7 +240,7 @@ module _ (stay : List Bool) (n : Object) (long : length n.sections ≡ length st
   varies_still : (b : Base) (t : Target) (l : Less) → IsThere n t → IsLessThere n l → targets_dropped stay t ≡ false → takes_dropped stay l ≡ false → cancels b t l ≡ false
       → cancels b (moved_target stay flags t) (moved_less stay l) ≡ false
   varies_still base.Address (target.Section j) (less.Section k) there there' clear clear' e =
-      other_position j k there there' (not_false (get_or stay j true) clear) (not_false (get_or stay k true) clear') e
+      other_position j k there there' (not-false (get_or stay j true) clear) (not-false (get_or stay k true) clear') e
   varies_still base.Address (target.Section j) less.Zero there there' clear clear' e = refl
   varies_still base.Address (target.Section j) less.Place there there' clear clear' e = refl
   varies_still base.Address (target.Section j) less.GotBase there there' clear clear' e = refl
@@ -261,7 +253,7 @@ module _ (stay : List Bool) (n : Object) (long : length n.sections ≡ length st
 
   placed_still : (s : ℕ) (l : Less) → s < length n.sections → Stays stay s → IsLessThere n l → takes_dropped stay l ≡ false → takes_section s l ≡ false
       → takes_section (new_position stay s) (moved_less stay l) ≡ false
-  placed_still s (less.Section k) low is there clear e = other_position k s there low (not_false (get_or stay k true) clear) is e
+  placed_still s (less.Section k) low is there clear e = other_position k s there low (not-false (get_or stay k true) clear) is e
   placed_still s less.Zero low is there clear e = refl
   placed_still s less.Place low is there clear e = refl
   placed_still s less.GotBase low is there clear e = refl

@@ -7,8 +7,9 @@ use Rattle.std.proofs.lemmas.Grind.{common_steps}
 use Rattle.oc_omf_records.specs.declared.records.Entry.{Entry as Record}
 use Rattle.oc_omf_records.specs.NextEntry.{end_of_entry, entry_of, is_whole}
 use Rattle.std.proofs.lemmas.Option.{slice_get-get_or, slice_get_within}
+use Rattle.std.proofs.lemmas.Bool.{not-false}
 use Rattle.oc_linking.specs.FirstFault.{fault_of, first_broken, stage_fault}
-use Rattle.oc_shelf.proofs.ReadingLaws.StageLemmas.{all_hold, clean_at, not_false}
+use Rattle.oc_shelf.proofs.ReadingLaws.StageLemmas.{all_hold, clean_at}
 use Rattle.oc_omf.specs.Entries.{next_place, places_upto, places_in}
 use Rattle.oc_omf.specs.HeaderFaults.{header_stage, entry_conditions, is_begun}
 use Rattle.oc_omf.proofs.EntryLemmas.{conditions_at}
@@ -76,7 +77,7 @@ pub whole_at : (file : List ℕ) (i at : ℕ) → stage_fault (header_stage file
 unfolding entry_conditions
 whole_at file i at clean here =
     let none = clean_at (fault_of (header_stage file)) (length (places_in file)) i clean (slice_get_within (places_in file) i at here) in
-    not_false (is_whole file at) (all_hold (entry_conditions file (is_begun file (take i (places_in file))) (i, at)) (sym (fault_here file i at _ here refl) ∙ none)).0
+    not-false (is_whole file at) (all_hold (entry_conditions file (is_begun file (take i (places_in file))) (i, at)) (sym (fault_here file i at _ here refl) ∙ none)).0
 
 -- the place that a list of all has at a position
 pub place_among : (file places : List ℕ) (i at : ℕ) → places ≡ places_in file → i < length (places_in file) → at ≡ get_or places i at → slice_get (places_in file) i ≡ Some at

@@ -1,8 +1,9 @@
 -- An entry that is written is read where it stands.
-use Rattle.std.proofs.Common.{◌≡◌, ℕ, ◌+◌, ◌-◌, ◌%◌, ◌<◌, ◌≤◌, Bool, true, false, ◌||◌, nat_lt, nat_le, nat_eq, List, [], ◌∷◌, ◌++◌, length, slice_range, slice_index, refl, ◌∙◌, ap, subst, arith, length-append}
+use Rattle.std.proofs.Common.{◌≡◌, ℕ, ◌+◌, ◌-◌, ◌%◌, ◌<◌, ◌≤◌, true, ◌||◌, nat_lt, nat_le, nat_eq, List, [], ◌∷◌, ◌++◌, length, slice_range, slice_index, refl, ◌∙◌, ap, subst, arith, length-append}
 use Rattle.std.specs.Prelude.{sum}
 use Rattle.std.proofs.lemmas.Bool.Decides.{nat_tests}
 use Rattle.std.proofs.lemmas.List.Sums.{sum_by-append}
+use Rattle.std.proofs.lemmas.Bool.{or_right}
 use Rattle.oc_base.specs.Numbers.{number_at, bytes_of_number}
 use Rattle.oc_base.proofs.NumberLaws.{length-bytes_of_number}
 use Rattle.oc_omf_records.specs.NextEntry.{length_field, end_of_entry, is_whole, is_summed, entry_of}
@@ -33,7 +34,7 @@ length-entry type contents =
 
 -- ... the checksum
 
-sum-append : (xs ys : List ℕ) → sum (xs ++ ys) ≡ sum xs + sum ys
+pub sum-append : (xs ys : List ℕ) → sum (xs ++ ys) ≡ sum xs + sum ys
 sum-append xs ys = sum_by-append (λ (x : ℕ). x) xs ys
 
 -- a number and what is left to the next multiple of 256
@@ -48,10 +49,6 @@ sum-entry type contents =
     ∙ ap (λ k. k % 256) (sum-append xs (checksum xs ∷ []))
     ∙ ap (λ k. (sum xs + k) % 256) last
     ∙ left_over (sum xs)
-
-or_right : (a b : Bool) → b ≡ true → (a || b) ≡ true
-or_right true b e = refl
-or_right false b e = e
 
 -- what is read of an entry that stands at a place
 pub record IsEntry (file : List ℕ) (at type : ℕ) (contents : List ℕ) : Type 0 where

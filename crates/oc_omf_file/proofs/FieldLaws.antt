@@ -67,7 +67,7 @@ row_hint ByTarget = refl
 row_hint BySelf = refl
 
 -- the form of what is written is the relocation's, and its addend is reduced
-form_kept : (r : Reloc) (o : Option Place) → (at_section W32 r o).form ≡ r.form
+pub form_kept : (r : Reloc) (o : Option Place) → (at_section W32 r o).form ≡ r.form
 form_kept r None = refl
 form_kept r (Some place) = refl
 

@@ -41,7 +41,7 @@ use Rattle.oc_shelf.proofs.WritingLaws.MemberLemmas.{of_filter}
 
 -- ... sizes
 
-length-index : (k : ℕ) → length (index_bytes k) ≤ 2
+pub length-index : (k : ℕ) → length (index_bytes k) ≤ 2
 length-index k = by (nat_lt k 128)
   where
     by : (b : Bool) → length (if b then k ∷ [] else (128 + k / 256) ∷ (k % 256) ∷ []) ≤ 2

@@ -4,10 +4,9 @@ use Rattle.std.specs.Prelude.{◌&&◌, bytes_eq, is_some}
 use Rattle.std.specs.List.{find, list_any}
 use Rattle.std.specs.Map.{update}
 use Rattle.std.specs.Option.{option_map, option_or}
-use Rattle.std.proofs.lemmas.Bool.{true≢false}
+use Rattle.std.proofs.lemmas.Bool.{true≢false, and_parts}
 use Rattle.std.proofs.lemmas.List.Folds.{find-append}
 use Rattle.std.proofs.lemmas.Slice.Eq.{bytes_eq-Decides}
-use Rattle.oc_shelf.proofs.ReadingLaws.StageLemmas.{both_hold}
 use Rattle.oc_omf.specs.Structures.{Public}
 use Rattle.oc_omf.specs.Symbols.{agree, public_mention, same_symbol}
 use Rattle.oc_omf_judge.specs.Held.{Held, value_at}
@@ -46,7 +45,7 @@ local_known publics held p are known name = by (first_local name publics) refl (
     by (Some q) e b f = are name ∙ ap segment_in (e ∙ sym (is_first name publics p ∙ ap (λ o. option_or o (cond (same_symbol (local_mention name) (public_mention p)) (Some p) None)) e))
     by None e false f = are name ∙ ap segment_in (sym (not_first name publics p f))
     by None e true f =
-        let named : name ≡ p.name = (bytes_eq-Decides name p.name).0 (both_hold (agree true p.local) (bytes_eq name p.name) f).1 in
+        let named : name ≡ p.name = (bytes_eq-Decides name p.name).0 (and_parts (agree true p.local) (bytes_eq name p.name) f).1 in
         absurd (true≢false (sym known ∙ ap (λ (n : List ℕ). is_some (value_at held n)) (sym named) ∙ ap is_some (are name ∙ ap segment_in e)))
 
 -- one that is new

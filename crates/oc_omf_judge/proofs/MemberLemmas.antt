@@ -1,21 +1,15 @@
 -- What is wrong with the members of a group, one after another.
 use Rattle.std.proofs.Common.{◌≡◌, ℕ, Bool, true, false, ◌||◌, not, nat_eq, nat_lt, List, ◌∷◌, Ok, refl, ◌∙◌, ap}
+use Rattle.std.proofs.Math.Bool.{or-false}
 use Rattle.oc_omf.specs.declared.constants.TheConstants.{SEGMENT_INDEX}
 use Rattle.oc_omf_judge.specs.declared.groups.Members.{Members}
 use Rattle.oc_omf.specs.Cursor.{Read}
 use Rattle.oc_omf_judge.specs.Members.{members_in}
+use Rattle.oc_target.proofs.Marking.{or_assoc}
 
 -- what is wrong with one or another
 abbrev pub both : Members → Members → Members
 both x y = record { cut = x.cut || y.cut; marked_else = x.marked_else || y.marked_else; missing = x.missing || y.missing }
-
-or_assoc : (a b c : Bool) → ((a || b) || c) ≡ (a || (b || c))
-or_assoc true b c = refl
-or_assoc false b c = refl
-
-or_none : (a : Bool) → (a || false) ≡ a
-or_none true = refl
-or_none false = refl
 
 or_all : (a : Bool) → (a || true) ≡ true
 or_all true = refl
@@ -36,12 +30,12 @@ member_more segments m mark segment at left =
 pub member_cut : (m : Members) → both m (record { cut = true; marked_else = false; missing = false }) ≡ record { cut = true; marked_else = m.marked_else; missing = m.missing }
 member_cut m =
     ap (λ b. record { cut = b; marked_else = m.marked_else || false; missing = m.missing || false }) (or_all m.cut)
-    ∙ ap (λ b. record { cut = true; marked_else = b; missing = m.missing || false }) (or_none m.marked_else)
-    ∙ ap (λ b. record { cut = true; marked_else = m.marked_else; missing = b }) (or_none m.missing)
+    ∙ ap (λ b. record { cut = true; marked_else = b; missing = m.missing || false }) (or-false m.marked_else)
+    ∙ ap (λ b. record { cut = true; marked_else = m.marked_else; missing = b }) (or-false m.missing)
 
 -- there is none
 pub member_none : (m : Members) → both m (record { cut = false; marked_else = false; missing = false }) ≡ m
 member_none m =
-    ap (λ b. record { cut = b; marked_else = m.marked_else || false; missing = m.missing || false }) (or_none m.cut)
-    ∙ ap (λ b. record { cut = m.cut; marked_else = b; missing = m.missing || false }) (or_none m.marked_else)
-    ∙ ap (λ b. record { cut = m.cut; marked_else = m.marked_else; missing = b }) (or_none m.missing)
+    ap (λ b. record { cut = b; marked_else = m.marked_else || false; missing = m.missing || false }) (or-false m.cut)
+    ∙ ap (λ b. record { cut = m.cut; marked_else = b; missing = m.missing || false }) (or-false m.marked_else)
+    ∙ ap (λ b. record { cut = m.cut; marked_else = m.marked_else; missing = b }) (or-false m.missing)

@@ -2,13 +2,12 @@
 use Rattle.std.proofs.Common.{◌≡◌, ℕ, zero, suc, ◌+◌, Bool, true, false, cond, List, [], ◌∷◌, ◌++◌, map, Some, refl, sym, ◌∙◌, ap, subst, arith}
 use Rattle.std.specs.Prelude.{◌&&◌, ◌||◌, eqb, not, bytes_eq, flat_map, fold, nat_eq, slice_get}
 use Rattle.std.specs.List.{enumerate_from, list_any}
-use Rattle.std.proofs.lemmas.Bool.{true≢false}
+use Rattle.std.proofs.lemmas.Bool.{true≢false, and_parts}
 use Rattle.std.proofs.lemmas.Bool.Decides.{nat_tests}
 use Rattle.std.proofs.lemmas.Option.{none-some, same_Some}
 use Rattle.std.proofs.lemmas.Slice.Eq.{bytes_eq-Decides}
 use Rattle.std.proofs.lemmas.List.Folds.{list_any-append}
 use Rattle.oc_linking.specs.Values.{numbered}
-use Rattle.oc_shelf.proofs.ReadingLaws.StageLemmas.{both_hold}
 use Rattle.oc_shelf.proofs.WritingLaws.MemberLemmas.{each_flat_map, member_flat_map, member_map, member_second}
 use Rattle.oc_omf.specs.Structures.{External}
 use Rattle.oc_omf.specs.Entries.{Entry, all_read}
@@ -23,13 +22,13 @@ agree_is true false e = absurd (true≢false (sym e))
 agree_is false true e = absurd (true≢false (sym e))
 agree_is false false e = refl
 
-agree_self : (a : Bool) → agree a a ≡ true
+pub agree_self : (a : Bool) → agree a a ≡ true
 agree_self true = refl
 agree_self false = refl
 
 pub same_is : (x y : Mention) → same_symbol x y ≡ true → x ≡ y
 same_is x y e =
-    let both = both_hold (agree x.local y.local) (bytes_eq x.name y.name) e in
+    let both = and_parts (agree x.local y.local) (bytes_eq x.name y.name) e in
     ap (λ (l : Bool). record { local = l; name = x.name }) (agree_is x.local y.local both.0) ∙ ap (λ (name : List ℕ). record { local = y.local; name = name }) ((bytes_eq-Decides x.name y.name).0 both.1)
 
 pub same_self : (x : Mention) → same_symbol x x ≡ true

@@ -8,6 +8,7 @@ use Rattle.std.proofs.lemmas.Bool.Decides.{nat_tests}
 use Rattle.std.proofs.lemmas.List.{map-append}
 use Rattle.std.proofs.lemmas.List.Folds.{list_any-append}
 use Rattle.std.proofs.lemmas.Slice.Eq.{bytes_eq-Decides}
+use Rattle.std.proofs.Math.Bool.{or-false}
 use Rattle.oc_omf_judge.specs.declared.earlier.External.{External as Mentioned}
 use Rattle.oc_omf_judge.specs.declared.earlier.EarlierSymbols.{EarlierSymbols}
 use Rattle.oc_omf.specs.declared.structures.Communal.{Communal}
@@ -22,10 +23,7 @@ use Rattle.oc_linking.specs.FirstFault.{first_broken}
 use Rattle.oc_shelf.proofs.ReadingLaws.StageLemmas.{first_broken-append}
 use Rattle.oc_omf.specs.Sections.{size_at}
 use Rattle.oc_omf_judge.specs.EarlierSymbols.{AreCommunal, AreNamed, AreEarlierSymbols, external_behind, external_with, mention_of, public_behind}
-
-none_more : (a : Bool) → (a || false) ≡ a
-none_more true = refl
-none_more false = refl
+use Rattle.oc_omf_judge.proofs.MentionLemmas.{agree_self}
 
 -- the same bytes, either way
 pub same_way : (xs ys : List ℕ) → bytes_eq xs ys ≡ bytes_eq ys xs
@@ -42,11 +40,7 @@ one_more : (local : Bool) (publics : List Public) (p : Public) (name : List ℕ)
     ≡ (list_any (λ q. same_symbol (record { local = local; name = name }) (public_mention q)) publics || (agree local p.local && bytes_eq name p.name))
 one_more local publics p name =
     list_any-append (λ q. same_symbol (record { local = local; name = name }) (public_mention q)) publics (p ∷ [])
-    ∙ ap (λ b. list_any (λ q. same_symbol (record { local = local; name = name }) (public_mention q)) publics || b) (none_more (agree local p.local && bytes_eq name p.name))
-
-agree_same : (b : Bool) → agree b b ≡ true
-agree_same true = refl
-agree_same false = refl
+    ∙ ap (λ b. list_any (λ q. same_symbol (record { local = local; name = name }) (public_mention q)) publics || b) (or-false (agree local p.local && bytes_eq name p.name))
 
 agree_other : (b : Bool) → agree b (not b) ≡ false
 agree_other true = refl
@@ -58,7 +52,7 @@ pub named_more : (local : Bool) (publics : List Public) (old new : Held) (p : Pu
 named_more local publics old new p number are same taken name =
     ap is_some (taken name)
     ∙ by (bytes_eq p.name name) (value_at old name) (list_any (λ q. same_symbol (record { local = local; name = name }) (public_mention q)) publics) (are name)
-    ∙ ap (λ b. list_any (λ q. same_symbol (record { local = local; name = name }) (public_mention q)) publics || b) (same_way p.name name ∙ sym (ap (λ b. b && bytes_eq name p.name) (ap (agree local) same ∙ agree_same local)))
+    ∙ ap (λ b. list_any (λ q. same_symbol (record { local = local; name = name }) (public_mention q)) publics || b) (same_way p.name name ∙ sym (ap (λ b. b && bytes_eq name p.name) (ap (agree local) same ∙ agree_self local)))
     ∙ sym (one_more local publics p name)
   where
     by : (c : Bool) (o : Option ℕ) (s : Bool) → is_some o ≡ s → is_some (cond c (Some number) o) ≡ (s || c)
@@ -71,7 +65,7 @@ named_more local publics old new p number are same taken name =
 pub named_other : (local : Bool) (publics : List Public) (held : Held) (p : Public) → AreNamed local publics held → p.local ≡ not local → AreNamed local (publics ++ p ∷ []) held
 named_other local publics held p are other name =
     are name ∙ sym (one_more local publics p name ∙ ap (λ b. list_any (λ q. same_symbol (record { local = local; name = name }) (public_mention q)) publics || (b && bytes_eq name p.name)) (ap (agree local) other ∙ agree_other local)
-    ∙ none_more (list_any (λ q. same_symbol (record { local = local; name = name }) (public_mention q)) publics))
+    ∙ or-false (list_any (λ q. same_symbol (record { local = local; name = name }) (public_mention q)) publics))
 
 -- a definition of this module alone, and one that others see
 pub local_seen : (t : Tables) (old new : EarlierSymbols) (p : Public) (number : ℕ) → AreEarlierSymbols t old → p.local ≡ true
@@ -168,7 +162,7 @@ communal_seen t old new x y d is same one alike taken e s g l o = record {
 }
   where
     held : (o : Option ℕ) (k : Communal) → option_map_or (λ l. not (nat_eq d.length l)) o false ≡ false → (option_map_or (λ l. not (nat_eq k.length l)) o false || (not (nat_eq k.length d.length) || false)) ≡ not (nat_eq k.length d.length)
-    held None k e = none_more (not (nat_eq k.length d.length))
+    held None k e = or-false (not (nat_eq k.length d.length))
     held (Some l) k e =
         let tie : d.length ≡ l = grind (arith, nat_tests) in
         ap (λ (n : ℕ). not (nat_eq k.length n) || (not (nat_eq k.length d.length) || false)) (sym tie) ∙ twice (not (nat_eq k.length d.length))
@@ -187,7 +181,7 @@ communal_seen t old new x y d is same one alike taken e s g l o = record {
         ∙ ap (λ b. option_map_or (λ l. not (nat_eq k.length l)) (cond b (Some d.length) (value_at old.communals name)) false) (sym i)
     behind name k false i =
         ap (λ b. option_map_or (λ l. not (nat_eq k.length l)) (value_at old.communals name) false || ((b && not (nat_eq k.length d.length)) || false)) (same_way name y.name ∙ i)
-        ∙ none_more (option_map_or (λ l. not (nat_eq k.length l)) (value_at old.communals name) false)
+        ∙ or-false (option_map_or (λ l. not (nat_eq k.length l)) (value_at old.communals name) false)
         ∙ ap (λ b. option_map_or (λ l. not (nat_eq k.length l)) (cond b (Some d.length) (value_at old.communals name)) false) (sym i)
 
 -- the first fault of a communal

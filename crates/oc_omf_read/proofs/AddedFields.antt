@@ -59,12 +59,13 @@ use Rattle.oc_omf_read.specs.Given.{against, given_at}
 use Rattle.oc_omf_read.proofs.BuildLemmas.{as_many_sections, section_at}
 use Rattle.oc_omf_read.proofs.FixLemmas.{reloc_as}
 use Rattle.oc_omf_read.proofs.GivenFields.{number_stands}
-use Rattle.oc_omf_read.proofs.ListedFields.{IsListed, IsStanding, among_same, eq_flips, field_given, fix_made, given_standing, listed_at, not_among, standing_among}
+use Rattle.oc_omf_read.proofs.ListedFields.{IsListed, IsStanding, among_same, field_given, fix_made, given_standing, listed_at, not_among, standing_among}
 use Rattle.oc_omf_read.proofs.PlacedFixups.{IsAt, at_inside, good, sound}
 use Rattle.oc_omf_read.proofs.StandingFields.{are_apart, are_of_file, differences_fit, standing_less, standing_target, standing_width}
 use Rattle.oc_omf_read.proofs.StartLemmas.{symbol_number, zero_uncovered}
 use Rattle.oc_omf_read.proofs.WholeSymbols.{symbol_whole}
 use Rattle.oc_shows.proofs.AddedLaws.{AreAddable, IsTaken, taken}
+use Rattle.oc_target.proofs.KeyPlaces.{either_way}
 
 -- a symbol of an external, by what is made of it
 against_of : (m : Meaning) (segment : ℕ) (f : Fixup) (frame o : Option Method) (fix : Fix) → fix_by m segment f frame o ≡ Some fix → (method : Method) × (o ≡ Some method) × (against m method ≡ Some fix.target)
@@ -277,7 +278,7 @@ module _ (file : List ℕ) (bytes : AreBytes file) (keep : Keep) (sections : sta
       field_inside = let l = listed in inside_at here.section here.at l.p l.is.f l.is.is_at
 
       one_place : (s at : ℕ) → is_among (take (j + 1) fields) s at ≡ (is_among (take j fields) s at || nat_eq s here.section && nat_eq here.at at)
-      one_place s at = list_any_more (λ (f : FixupField). nat_eq f.section s && nat_eq f.at at) fields j e below ∙ ap (λ b. is_among (take j fields) s at || b && nat_eq here.at at) (eq_flips here.section s)
+      one_place s at = list_any_more (λ (f : FixupField). nat_eq f.section s && nat_eq f.at at) fields j e below ∙ ap (λ b. is_among (take j fields) s at || b && nat_eq here.at at) (either_way here.section s)
 
       pub field_taken : (d : Draft) → HasAdded base d (given_with es keep (take j fields)) → IsTaken base d here.section here.at (reloc_as m here.section here.at here.fix) (given_with es keep (take (j + 1) fields))
       field_taken d has =

@@ -6,6 +6,7 @@ use Rattle.std.specs.Option.{option_and_then, option_map, option_map_or}
 use Rattle.std.proofs.lemmas.Bool.{eq-eqb, ne_eqb}
 use Rattle.std.proofs.lemmas.List.{length-map, append_assoc, map-append}
 use Rattle.std.proofs.lemmas.Option.{none-some, same_Some, slice_get-map, slice_get_past, slice_get_within}
+use Rattle.std.proofs.lemmas.Map.Keys.{any_passes_from_place}
 use Rattle.oc_linking.specs.declared.terms.Keep.{Keep}
 use Rattle.oc_linking.specs.declared.terms.Kind.{Kind}
 use Rattle.oc_linking.specs.Keeping.{keeps}
@@ -16,7 +17,7 @@ use Rattle.oc_linking.specs.Targets.{named_by, symbol_target}
 use Rattle.oc_linking.specs.Values.{numbered}
 use Rattle.oc_shows.specs.Computed.{position_of}
 use Rattle.oc_neutral.specs.declared.reloc.Target.TheVariants as target
-use Rattle.oc_shelf.proofs.WritingLaws.MemberLemmas.{each_flat_map, member_flat_map, member_map, member_passes, member_second, of_map}
+use Rattle.oc_shelf.proofs.WritingLaws.MemberLemmas.{each_flat_map, member_flat_map, member_map, member_second, of_map}
 use Rattle.oc_omf.specs.declared.structures.Communal.{Communal}
 use Rattle.oc_omf.specs.declared.structures.Method.{Method}
 use Rattle.oc_omf.specs.declared.structures.Segment.{Segment}
@@ -130,7 +131,7 @@ module _ (es : List Entry) where
       (λ i e at_i k z at_k.
       let at = member_second (map of_public (all_read e.publics)) (map of_external (all_read e.externals)) k (of_external z) (member_map of_external (all_read e.externals) k z at_k) in
       let all_at = member_flat_map declarations_by es i (length (map of_public (all_read e.publics)) + k) e (of_external z) at_i at in
-      member_passes (same_symbol (external_mention z)) (map mention_of (declarations_in es)) all_at.0 (external_mention z) (member_map mention_of (declarations_in es) all_at.0 (of_external z) all_at.1) (same_self (external_mention z)))
+      any_passes_from_place (same_symbol (external_mention z)) (map mention_of (declarations_in es)) all_at.0 (external_mention z) (member_map mention_of (declarations_in es) all_at.0 (of_external z) all_at.1) (same_self (external_mention z)))
       j y here
 
   module _ (m : Mentions) (has : HasDeclarations (declarations_in es) m) where

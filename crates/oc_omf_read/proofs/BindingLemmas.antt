@@ -18,6 +18,7 @@ use Rattle.oc_omf_read.specs.Bindings.{binding_seen, place_binding}
 use Rattle.oc_omf_read.specs.Declarations.{Declaration, of_communal, of_external, of_public, declarations_by, declarations_in}
 use Rattle.oc_omf_read.specs.Mentioned.{length_by, length_in, length_said, mention_of, mentioned_symbols, place_by, place_in, place_said, seen_in}
 use Rattle.oc_omf_judge.proofs.MentionLemmas.{same_is}
+use Rattle.oc_shelf.proofs.ReadingLaws.StageLemmas.{or_else-assoc}
 
 -- ... mentions
 
@@ -46,17 +47,13 @@ mentions_are es = ap (λ (ms : List Mention). fold with_new [] ms) (sym (all_men
 
 -- ... definitions
 
-or_else_over : {X : Type 0} (a b c : Option X) → or_else (or_else a b) c ≡ or_else a (or_else b c)
-or_else_over None b c = refl
-or_else_over (Some x) b c = refl
-
 place_append : (x : Mention) (ts us : List Declaration) → place_in x (ts ++ us) ≡ or_else (place_in x ts) (place_in x us)
 place_append x [] us = refl
-place_append x (t ∷ ts) us = ap (or_else (place_by x t)) (place_append x ts us) ∙ sym (or_else_over (place_by x t) (place_in x ts) (place_in x us))
+place_append x (t ∷ ts) us = ap (or_else (place_by x t)) (place_append x ts us) ∙ sym (or_else-assoc (place_by x t) (place_in x ts) (place_in x us))
 
 length_append : (x : Mention) (ts us : List Declaration) → length_in x (ts ++ us) ≡ or_else (length_in x ts) (length_in x us)
 length_append x [] us = refl
-length_append x (t ∷ ts) us = ap (or_else (length_by x t)) (length_append x ts us) ∙ sym (or_else_over (length_by x t) (length_in x ts) (length_in x us))
+length_append x (t ∷ ts) us = ap (or_else (length_by x t)) (length_append x ts us) ∙ sym (or_else-assoc (length_by x t) (length_in x ts) (length_in x us))
 
 find_append : {X : Type 0} (p : X → Bool) (xs ys : List X) → find p (xs ++ ys) ≡ or_else (find p xs) (find p ys)
 find_append p [] ys = refl

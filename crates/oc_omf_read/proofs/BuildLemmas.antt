@@ -21,6 +21,7 @@ use Rattle.oc_neutral.specs.Invariants.{HasItsBytes}
 use Rattle.oc_shows.specs.Started.{plain_draft, stored_section}
 use Rattle.oc_shows.proofs.BuiltSteps.{within}
 use Rattle.oc_neutral.proofs.FieldLists.{take_here}
+use Rattle.oc_neutral.proofs.LeftObject.{sum_map}
 use Rattle.oc_shows.proofs.StartedLaws.{section_more}
 use Rattle.oc_omf.specs.declared.structures.Segment.{Segment}
 use Rattle.oc_omf.specs.Entries.{entries_in}
@@ -36,7 +37,6 @@ use Rattle.oc_omf_judge.specs.Defined.{IsDefined}
 use Rattle.oc_omf_read.specs.Sections.{kind_in}
 use Rattle.oc_omf_read.proofs.ContentLemmas.{good_segment, known_kind, known_name}
 use Rattle.oc_omf_read.proofs.SumLemmas.{bytes_few, sizes_few}
-use Rattle.oc_target.proofs.MeetsCounts.{sum_map}
 
 numbered_at : {X : Type 0} (n : ℕ) (xs : List X) (i : ℕ) → slice_get (enumerate_from n xs) i ≡ option_map (λ x. (i + n, x)) (slice_get xs i)
 numbered_at n [] zero = refl

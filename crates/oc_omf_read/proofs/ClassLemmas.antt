@@ -3,7 +3,7 @@ use Rattle.std.proofs.Common.{◌≡◌, ℕ, ◌⊎◌, inl, inr, Bool, true, f
 use Rattle.std.specs.Prelude.{◌||◌, ◌+◌, nat_eq, Result}
 use Rattle.std.proofs.lemmas.Bool.{eqb-true}
 use Rattle.std.specs.Option.{unwrap_or}
-use Rattle.oc_omf.specs.declared.constants.TheConstants.{EXTDEF, PUBDEF, LNAMES, SEGDEF, GRPDEF, FIXUPP, LEDATA, LIDATA, COMDEF, LEXTDEF, LPUBDEF, MODEND, ENTRY_HEAD}
+use Rattle.oc_omf.specs.declared.constants.TheConstants.{EXTDEF, PUBDEF, LNAMES, SEGDEF, GRPDEF, FIXUPP, LEDATA, LIDATA, COMDEF, LEXTDEF, LPUBDEF, MODEND}
 use Rattle.oc_omf.specs.declared.cut.Cut.{Cut}
 use Rattle.oc_omf.specs.declared.structures.PublicBase.{PublicBase}
 use Rattle.oc_omf.specs.Cursor.{Reading, Read, each_read, name_read}
@@ -107,11 +107,6 @@ module _ (place kind : ℕ) (b : List ℕ) where
 read_one : {X : Type 0} (place at : ℕ) (r : Result X Cut) (xs ys : List (Read X)) → all_read xs ≡ all_read ys → all_read (record { at = place; part = r } ∷ xs) ≡ all_read (record { at = at; part = r } ∷ ys)
 read_one {X} place at (Ok x) xs ys same = ap (λ (zs : List X). x ∷ zs) same
 read_one place at (Err c) xs ys same = same
-
--- places in the file change nothing of what is read
-pub read_in_file : {X : Type 0} (place : ℕ) (xs : List (Read X)) → all_read (in_file place xs) ≡ all_read xs
-read_in_file place [] = refl
-read_in_file place (s ∷ xs) = read_one (place + ENTRY_HEAD + s.at) s.at s.part (in_file place xs) xs (read_in_file place xs)
 
 pub read_whole : {X : Type 0} (place : ℕ) (r : Reading X) → all_read (whole place r) ≡ read_in r
 read_whole place (Ok r) = refl

@@ -7,6 +7,7 @@ use Rattle.std.specs.Option.{option_map_or}
 use Rattle.std.proofs.lemmas.Grind.{flat_map-append}
 use Rattle.std.proofs.lemmas.List.{append_assoc, take-append-drop}
 use Rattle.std.proofs.lemmas.Option.{none-some, same_Some, slice_get_within}
+use Rattle.std.proofs.lemmas.Bool.{not-false}
 use Rattle.oc_linking.specs.declared.terms.Keep.{Keep}
 use Rattle.oc_linking.specs.Numbers.{or_else}
 use Rattle.oc_linking.specs.FirstFault.{fault_of, first_broken, first_fault}
@@ -14,7 +15,7 @@ use Rattle.oc_base.specs.declared.code.Code.TheVariants.{BadTarget}
 use Rattle.oc_neutral.proofs.FieldLists.{take_here}
 use Rattle.oc_neutral.proofs.Mapped.{all_from}
 use Rattle.oc_shelf.proofs.WritingLaws.MemberLemmas.{each_enumerated, each_flat_map, each_map}
-use Rattle.oc_shelf.proofs.ReadingLaws.StageLemmas.{all_hold, clean_at, not_false}
+use Rattle.oc_shelf.proofs.ReadingLaws.StageLemmas.{all_hold, clean_at}
 use Rattle.oc_omf.specs.declared.constants.TheConstants.{OFFSET_32}
 use Rattle.oc_omf.specs.declared.cut.Cut.{Cut}
 use Rattle.oc_omf.specs.declared.structures.Datum.{Datum}
@@ -111,10 +112,10 @@ module _ (m : Meaning) (keep : Keep) where
   good_by before x f known clean =
       let holds = all_hold (fixup_conditions m before x f) clean in
       record {
-        location = not_false (nat_eq f.fixup.location OFFSET_32) holds.0;
-        inside = not_false (is_inside f) holds.1.0;
-        known = known (not_false (is_datum_there x.before f.fixup.target f.target) holds.1.1.0);
-        row = not_false (has_row m f (aim_of m f)) holds.1.1.1.1.0;
+        location = not-false (nat_eq f.fixup.location OFFSET_32) holds.0;
+        inside = not-false (is_inside f) holds.1.0;
+        known = known (not-false (is_datum_there x.before f.fixup.target f.target) holds.1.1.0);
+        row = not-false (has_row m f (aim_of m f)) holds.1.1.1.1.0;
         apart = holds.1.1.1.1.1.0;
       }
 
@@ -143,7 +144,7 @@ module _ (m : Meaning) (keep : Keep) where
           → or_else (thread_by false number r) (thread_after earlier false number) ≡ Some method → is_there m.tables method ≡ true
       by (Ok (subrecord.Thread t)) clean e =
           of t (agree false t.frame && nat_eq t.number number)
-          (not_false (is_there x.before t.method) (all_hold ((not (is_there x.before t.method), relocation_fault (record { index = x.index; at = x.at; part = Ok (subrecord.Thread t); before = x.before }) BadTarget) ∷ []) clean).0) e
+          (not-false (is_there x.before t.method) (all_hold ((not (is_there x.before t.method), relocation_fault (record { index = x.index; at = x.at; part = Ok (subrecord.Thread t); before = x.before }) BadTarget) ∷ []) clean).0) e
       by (Ok (subrecord.Fixup f)) clean e = threaded number method e
       by (Err c) clean e = threaded number method e
 

@@ -16,8 +16,9 @@ use Rattle.oc_omf_read.specs.declared.declarations.DeclarationRef.{DeclarationRe
 use Rattle.oc_omf_read.specs.Classes.{class_of}
 use Rattle.oc_omf_read.specs.Defined.{said}
 use Rattle.oc_omf_read.specs.Declarations.{Declaration, all_declarations, of_external, of_public, publics_behind, public_declarations, declarations_by, declarations_in, declaration_of}
-use Rattle.oc_omf_read.proofs.ClassLemmas.{publics_by, read_in_file}
-use Rattle.oc_omf_read.proofs.DefinedLemmas.{entries_counted, said_by_class}
+use Rattle.oc_omf_read.proofs.ClassLemmas.{publics_by}
+use Rattle.oc_omf_read.proofs.DefinedLemmas.{said_by_class}
+use Rattle.oc_omf_judge.proofs.StageLaws.{entry_count, read_in_file}
 
 -- one mention more, and those that are left
 pub declarations_more : {X : Type 0} (f : X → Declaration) (old new : List DeclarationRef) (h : DeclarationRef) (x : X) (left : List X) → new ≡ old ++ h ∷ [] → declaration_of h ≡ f x → all_declarations new ++ map f left ≡ all_declarations old ++ map f (x ∷ left)
@@ -84,4 +85,4 @@ unfolding declarations_in
 declarations_none file = refl
 
 pub declarations_end : (file : List ℕ) (i : ℕ) → i ≡ length (places_in file) → declarations_upto file i ≡ declarations_in (entries_in file)
-declarations_end file i all_of = ap (λ (n : ℕ). declarations_in (take n (entries_in file))) (all_of ∙ sym (entries_counted file)) ∙ ap declarations_in (take-length (entries_in file))
+declarations_end file i all_of = ap (λ (n : ℕ). declarations_in (take n (entries_in file))) (all_of ∙ sym (entry_count file)) ∙ ap declarations_in (take-length (entries_in file))

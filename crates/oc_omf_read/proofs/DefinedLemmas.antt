@@ -1,7 +1,6 @@
 -- What entries define, entry by entry.
 use Rattle.std.proofs.Common.{◌≡◌, ℕ, List, [], ◌∷◌, length, take, Some, refl, sym, ◌∙◌, ap}
 use Rattle.std.specs.Prelude.{slice_get}
-use Rattle.std.proofs.lemmas.List.{length-map}
 use Rattle.std.proofs.lemmas.Option.{slice_get-map}
 use Rattle.std.specs.Option.{option_map}
 use Rattle.oc_omf_records.specs.declared.records.Entry.{Entry as Record}
@@ -14,6 +13,7 @@ use Rattle.oc_omf_read.specs.declared.class.EntryClass.{EntryClass}
 use Rattle.oc_omf_read.specs.Classes.{class_of}
 use Rattle.oc_omf_read.specs.Defined.{said}
 use Rattle.oc_omf_read.proofs.ClassLemmas.{said_as, said_is}
+use Rattle.oc_omf_judge.proofs.StageLaws.{entry_count}
 
 -- ... entries
 
@@ -22,11 +22,6 @@ pub entry_here : (file : List ℕ) (i at : ℕ) (r : Record) → slice_get (plac
 unfolding entries_in
 entry_here file i at r here is =
     slice_get-map (said_at file) (places_in file) i ∙ ap (option_map (said_at file)) here ∙ ap (λ (x : Record). Some (said x)) (sym is)
-
--- there are as many entries as places
-pub entries_counted : (file : List ℕ) → length (entries_in file) ≡ length (places_in file)
-unfolding entries_in
-entries_counted file = length-map (places_in file) (said_at file)
 
 -- the tables of the first i entries
 abbrev pub tables_upto : List ℕ → ℕ → all.Tables
@@ -37,7 +32,7 @@ take_all [] = refl
 take_all (x ∷ xs) = ap (λ ys. x ∷ ys) (take_all xs)
 
 pub tables_end : (file : List ℕ) (i : ℕ) → i ≡ length (places_in file) → tables_upto file i ≡ tables_of (entries_in file)
-tables_end file i all_of = ap (λ (n : ℕ). tables_of (take n (entries_in file))) (all_of ∙ sym (entries_counted file)) ∙ ap tables_of (take_all (entries_in file))
+tables_end file i all_of = ap (λ (n : ℕ). tables_of (take n (entries_in file))) (all_of ∙ sym (entry_count file)) ∙ ap tables_of (take_all (entries_in file))
 
 -- what an entry says, by its class
 pub said_by_class : (r : Record) (k : EntryClass) → class_of r.kind ≡ k → said r ≡ said_as r.place (is_wide r.kind) (is_kind MODEND r.kind) r.contents k

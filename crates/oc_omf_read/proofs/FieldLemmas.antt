@@ -33,6 +33,8 @@ use Rattle.oc_omf.proofs.EachLemmas.{each_behind, each_cut, each_end, each_from,
 use Rattle.oc_omf_judge.specs.Threads.{method_by}
 use Rattle.oc_omf_judge.proofs.ReachedLemmas.{method_is}
 use Rattle.oc_omf_judge.proofs.StateLaws.{force_stays, force_thread, tables_more}
+use Rattle.oc_omf_judge.proofs.SubrecordLemmas.{subrecord_goes}
+use Rattle.oc_omf_judge.proofs.EntryLemmas.{last_push}
 use Rattle.oc_omf_read.specs.declared.class.EntryClass.{EntryClass}
 use Rattle.oc_omf_read.specs.declared.class.EntryClass.TheVariants as class
 use Rattle.oc_omf_read.specs.declared.fields.Behind.{Behind}
@@ -46,7 +48,6 @@ use Rattle.oc_omf_read.specs.Fields.{AreLow, HasData, HasFields, IsLast, fields_
 use Rattle.oc_omf_read.specs.Pieces.{ArePieces, IsPiece, row_in}
 use Rattle.oc_omf_read.proofs.CleanFixups.{fixed_behind, none_placed, placed_more}
 use Rattle.oc_omf_read.proofs.DefinedLemmas.{said_by_class}
-use Rattle.oc_omf_read.proofs.GoesLemmas.{subrecord_goes}
 use Rattle.oc_omf_read.proofs.SoundPieces.{IsPlacedPiece, pieces_placed}
 use Rattle.oc_omf.specs.declared.constants.TheConstants.{ENTRY_HEAD}
 
@@ -235,11 +236,6 @@ no_subrecords r class.Nothing is e = ap (λ (e : Entry). e.subrecords) (said_by_
 pub not_fixups : (k : EntryClass) → (k ≡ class.Names) ⊎ ((k ≡ class.Segment) ⊎ ((k ≡ class.Group) ⊎ ((k ≡ class.Publics) ⊎ ((k ≡ class.LocalPublics) ⊎ ((k ≡ class.Externals) ⊎ ((k ≡ class.LocalExternals) ⊎ ((k ≡ class.Communals) ⊎ ((k ≡ class.Plain) ⊎ ((k ≡ class.Iterated) ⊎ (k ≡ class.Nothing)))))))))) → has_no_fixups k ≡ true
 not_fixups k h = elim h [ inl e ↦ ap has_no_fixups e | inr h ↦ elim h [ inl e ↦ ap has_no_fixups e | inr h ↦ elim h [ inl e ↦ ap has_no_fixups e | inr h ↦ elim h [ inl e ↦ ap has_no_fixups e | inr h ↦ elim h [ inl e ↦ ap has_no_fixups e | inr h ↦ elim h [ inl e ↦ ap has_no_fixups e | inr h ↦ elim h [ inl e ↦ ap has_no_fixups e | inr h ↦ elim h [ inl e ↦ ap has_no_fixups e | inr h ↦ elim h [ inl e ↦ ap has_no_fixups e | inr h ↦ elim h [ inl e ↦ ap has_no_fixups e | inr e ↦ ap has_no_fixups e ] ] ] ] ] ] ] ] ] ]
 
-last_is : {X : Type 0} (xs : List X) (x : X) → last_of (xs ++ x ∷ []) ≡ Some x
-last_is [] x = refl
-last_is (y ∷ []) x = refl
-last_is (y ∷ z ∷ zs) x = last_is (z ∷ zs) x
-
 module _ (s : FixupContext) (i : ℕ) (r : Record) (clean : stage_fault (section_stage (entries_in s.omf.now)) ≡ None) (here : slice_get (entries_in s.omf.now) i ≡ Some (said r)) where
   more_pieces : (tables_of (take (i + 1) (entries_in s.omf.now))).pieces ≡ (tables_of (take i (entries_in s.omf.now))).pieces ++ all_read (said r).pieces
   more_pieces = ap (λ (t : all.Tables). t.pieces) (tables_more (entries_in s.omf.now) i (said r) here)
@@ -279,7 +275,7 @@ module _ (s : FixupContext) (i : ℕ) (r : Record) (clean : stage_fault (section
       by (Some p) are = (
         (
           are.0,
-          ap last_of (more_pieces ∙ ap (λ (ds : List structures.Piece). (tables_of (take i (entries_in s.omf.now))).pieces ++ ds) are.1) ∙ last_is (tables_of (take i (entries_in s.omf.now))).pieces are.0,
+          ap last_of (more_pieces ∙ ap (λ (ds : List structures.Piece). (tables_of (take i (entries_in s.omf.now))).pieces ++ ds) are.1) ∙ last_push (tables_of (take i (entries_in s.omf.now))).pieces are.0,
           are.2,
         ),
         piece_low p are.0 are.1 are.2,

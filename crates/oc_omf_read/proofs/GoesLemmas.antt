@@ -1,9 +1,9 @@
 -- Each structure that is read has a byte, and ends in the contents.
-use Rattle.std.proofs.Common.{◌≡◌, ℕ, ◌+◌, ◌*◌, ◌<◌, ◌≤◌, Bool, true, false, List, length, Some, None, Ok, Err, refl, sym, ◌∙◌, ap, arith}
+use Rattle.std.proofs.Common.{◌≡◌, ℕ, ◌+◌, ◌*◌, ◌<◌, ◌≤◌, Bool, true, false, List, length, Ok, Err, refl, sym, ◌∙◌, ap, arith}
 use Rattle.std.specs.Prelude.{nat_eq, nat_le, cond}
 use Rattle.std.proofs.lemmas.Bool.{true≢false}
 use Rattle.std.proofs.lemmas.Bool.Decides.{nat_tests}
-use Rattle.oc_omf.specs.Cursor.{Reading, index_read, name_read, next, number_read}
+use Rattle.oc_omf.specs.Cursor.{Reading, index_read, next, number_read}
 use Rattle.oc_neutral.specs.KindRules.{has}
 use Rattle.oc_omf.specs.declared.structures.Datum.{Datum}
 use Rattle.oc_omf.specs.declared.structures.Datum.TheVariants as datum
@@ -11,8 +11,8 @@ use Rattle.oc_omf.specs.declared.structures.Method.{Method}
 use Rattle.oc_omf.specs.declared.structures.Subrecord.{Subrecord}
 use Rattle.oc_omf.specs.declared.structures.Subrecord.TheVariants as subrecord
 use Rattle.oc_omf.specs.declared.structures.Thread.{Thread}
-use Rattle.oc_omf.specs.Structures.{bits, communal_length, communal_read, communal_width, displacement_read, external_read, fixup_read, frame_read, long_size, method_read, public_read, subrecord_read, target_read, thread_read}
-use Rattle.oc_omf.proofs.EachLemmas.{Goes, byte_goes, index_goes, name_goes, next_goes}
+use Rattle.oc_omf.specs.Structures.{bits, communal_length, communal_width, displacement_read, fixup_read, frame_read, long_size, method_read, subrecord_read, target_read, thread_read}
+use Rattle.oc_omf.proofs.EachLemmas.{index_goes, next_goes}
 
 -- what is read at a place has a byte
 abbrev Strict : {X : Type 0} → List ℕ → ℕ → Reading X → Type 0
@@ -48,20 +48,6 @@ weak_number k b at x q e low = grind (arith, nat_tests)
 
 -- ... symbols
 
-pub public_goes : (wide local : Bool) (segment : ℕ) (b : List ℕ) → Goes (public_read wide local segment) b
-unfolding public_read
-public_goes wide local segment b at = strict_next b at (name_read b at)
-    (λ name at. next (number_read (long_size wide) b at) (λ offset at. next (index_read b at) (λ _ at. Ok (record { local = local; name = name; segment = segment; offset = offset }, at))))
-    (name_goes b at) (λ name p. weak_next b p (number_read (long_size wide) b p) (λ offset at. next (index_read b at) (λ _ at. Ok (record { local = local; name = name; segment = segment; offset = offset }, at)))
-    (weak_number (long_size wide) b p) (λ offset p. weak_next b p (index_read b p) (λ _ at. Ok (record { local = local; name = name; segment = segment; offset = offset }, at))
-    (weak_by b p (index_read b p) (index_goes b p)) (λ _ p. weak_last b (record { local = local; name = name; segment = segment; offset = offset }) p)))
-
-pub external_goes : (local : Bool) (b : List ℕ) → Goes (external_read local) b
-unfolding external_read
-external_goes local b at = strict_next b at (name_read b at) (λ name at. next (index_read b at) (λ _ at. Ok (record { local = local; name = name; communal = None }, at)))
-    (name_goes b at) (λ name p. weak_next b p (index_read b p) (λ _ at. Ok (record { local = local; name = name; communal = None }, at))
-    (weak_by b p (index_read b p) (index_goes b p)) (λ _ p. weak_last b (record { local = local; name = name; communal = None }) p))
-
 length_by : (b : List ℕ) (form p : ℕ) (a : Bool) → Weak {X = ℕ × ℕ} b p (cond a (Ok ((form, form), p)) (next (number_read (communal_width form) b p) (λ size at. Ok ((form, size), at))))
 length_by b form p true = weak_last b (form, form) p
 length_by b form p false = weak_next b p (number_read (communal_width form) b p) (λ size at. Ok ((form, size), at)) (weak_number (communal_width form) b p) (λ size p. weak_last b (form, size) p)
@@ -70,17 +56,6 @@ weak_length : (b : List ℕ) (at : ℕ) → Weak b at (communal_length b at)
 unfolding communal_length
 weak_length b at = weak_next b at (number_read 1 b at) (λ form at. cond (nat_eq (communal_width form) 0) (Ok ((form, form), at)) (next (number_read (communal_width form) b at) (λ size at. Ok ((form, size), at))))
     (weak_number 1 b at) (λ form p. length_by b form p (nat_eq (communal_width form) 0))
-
-pub communal_goes : (b : List ℕ) → Goes communal_read b
-unfolding communal_read
-communal_goes b at = strict_next b at (name_read b at)
-    (λ name at. next (index_read b at) (λ _ at. next (number_read 1 b at) (λ kind at. next (communal_length b at) (λ size at. Ok (record { local = false; name = name; communal = Some (record { kind = kind; form = size.0; length = size.1 }) }, at)))))
-    (name_goes b at) (λ name p. weak_next b p (index_read b p)
-    (λ _ at. next (number_read 1 b at) (λ kind at. next (communal_length b at) (λ size at. Ok (record { local = false; name = name; communal = Some (record { kind = kind; form = size.0; length = size.1 }) }, at))))
-    (weak_by b p (index_read b p) (index_goes b p)) (λ _ p. weak_next b p (number_read 1 b p)
-    (λ kind at. next (communal_length b at) (λ size at. Ok (record { local = false; name = name; communal = Some (record { kind = kind; form = size.0; length = size.1 }) }, at)))
-    (weak_number 1 b p) (λ kind p. weak_next b p (communal_length b p) (λ size at. Ok (record { local = false; name = name; communal = Some (record { kind = kind; form = size.0; length = size.1 }) }, at))
-    (weak_length b p) (λ size p. weak_last b (record { local = false; name = name; communal = Some (record { kind = kind; form = size.0; length = size.1 }) }) p))))
 
 -- ... threads and fixups
 
@@ -134,15 +109,6 @@ weak_fixup wide first b at =
     weak_next b p (displacement_read wide fix b p) _ (weak_displacement wide fix b p) (λ displacement p.
     weak_last b
     (subrecord.Fixup (record { segment_relative = has first 0x40; location = bits 2 4 first; offset = bits 0 2 first * 256 + low; frame = frame; target = target; displacement = displacement })) p)))))
-
-pub subrecord_goes : (wide : Bool) (b : List ℕ) → Goes (subrecord_read wide) b
-unfolding subrecord_read
-subrecord_goes wide b at =
-    strict_next b at (number_read 1 b at) (λ first at. cond (has first 0x80) (fixup_read wide first b at) (thread_read first b at)) (byte_goes b at) (λ first p. by first p (has first 0x80))
-  where
-    by : (first p : ℕ) (c : Bool) → Weak b p (cond c (fixup_read wide first b p) (thread_read first b p))
-    by first p true = weak_fixup wide first b p
-    by first p false = weak_thread first b p
 
 -- a thread has one of four numbers
 few_bits : (byte : ℕ) → bits 0 2 byte < 4

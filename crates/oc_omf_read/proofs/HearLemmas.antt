@@ -16,19 +16,16 @@ use Rattle.oc_omf_read.specs.Declarations.{Declaration, all_declarations, declar
 use Rattle.oc_omf_read.specs.Mentioned.{AreNumbered, HasDeclarations, ModuleSymbol, blank, external_number, external_said, held, mention_of, mentioned_symbols, number_among, number_held, seen_in, seen_more, seen_of, symbol_of}
 use Rattle.oc_omf_judge.proofs.MentionLemmas.{same_is, same_self}
 use Rattle.oc_omf_read.proofs.MentionLemmas.{AreApart, Unlike, among_push, any_mentioned, externals_keep, number_low, seen_set, seen_with, symbols_apart, symbols_push}
+use Rattle.oc_shelf.proofs.WritingLaws.MemberLemmas.{map-map}
 
 -- ... what is held
-
-map_map : {X Y Z : Type 0} (f : Y → Z) (g : X → Y) (xs : List X) → map f (map g xs) ≡ map (λ x. f (g x)) xs
-map_map f g [] = refl
-map_map {X} {Y} {Z} f g (x ∷ xs) = ap (λ (zs : List Z). f (g x) ∷ zs) (map_map f g xs)
 
 map_self : (ts : List Declaration) (ms : List Mention) → map (λ (x : Mention). symbol_of (seen_in ts x)) ms ≡ ms
 map_self ts [] = refl
 map_self ts (m ∷ ms) = ap (λ (xs : List Mention). m ∷ xs) (map_self ts ms)
 
 pub held_is : (m : Mentions) (ts : List Declaration) (ms : List Mention) → map seen_of m.symbols.items ≡ map (seen_in ts) ms → held m ≡ ms
-held_is m ts ms is = sym (map_map symbol_of seen_of m.symbols.items) ∙ ap (map symbol_of) is ∙ map_map symbol_of (seen_in ts) ms ∙ map_self ts ms
+held_is m ts ms is = sym (map-map symbol_of seen_of m.symbols.items) ∙ ap (map symbol_of) is ∙ map-map symbol_of (seen_in ts) ms ∙ map_self ts ms
 
 -- a number that is held is one of a symbol that is
 pub among_some : (ms : List Mention) (x : Mention) (k : ℕ) → number_among ms x ≡ Some k → (list_any (same_symbol x) ms ≡ true) × (number_of ms x ≡ k)

@@ -1,21 +1,22 @@
 -- The fields of fixups are what is given, one for each place.
-use Rattle.std.proofs.Common.{◌≡◌, ℕ, zero, suc, ◌+◌, ◌-◌, ◌<◌, ◌≤◌, inl, inr, Bool, true, false, cond, List, [], ◌∷◌, ◌++◌, get_or, length, take, Option, None, Some, refl, sym, ◌∙◌, ap, subst, arith, length-take}
+use Rattle.std.proofs.Common.{◌≡◌, ℕ, zero, suc, ◌+◌, ◌-◌, ◌<◌, ◌≤◌, Bool, true, false, cond, List, [], ◌∷◌, ◌++◌, get_or, length, take, Option, None, Some, refl, sym, ◌∙◌, ap, subst, arith, length-take}
 use Rattle.std.specs.Prelude.{◌&&◌, ◌||◌, nat_eq, find, flat_map, slice_get}
 use Rattle.std.specs.List.{All, AllByRecursion, Any, IsDistinct, list_any}
 use Rattle.std.specs.List.Sorted.{IsPermutation}
 use Rattle.std.specs.Option.{option_and_then, option_map, option_map_or, unwrap_or}
-use Rattle.std.proofs.lemmas.Bool.{cases_eq, eq-eqb, eqb-true, ne_eqb, true≢false}
+use Rattle.std.proofs.lemmas.Bool.{eq-eqb, eqb-true, ne_eqb, true≢false, and_parts}
 use Rattle.std.proofs.lemmas.List.{get_or-take}
 use Rattle.std.proofs.lemmas.List.Folds.{Any-from_list_any}
 use Rattle.std.proofs.lemmas.List.Sorted.{All-permutation, list_any-IsPermutation}
-use Rattle.std.proofs.lemmas.Map.Keys.{IsDistinct-IsPermutation, apart_from_distinct}
+use Rattle.std.proofs.lemmas.Map.Keys.{IsDistinct-IsPermutation, apart_from_distinct, any_passes_from_place}
 use Rattle.std.proofs.lemmas.Option.{none-some, same_Some, get_or_from_slice_get, slice_get-get_or}
 use Rattle.oc_linking.specs.declared.terms.Keep.{Keep}
 use Rattle.oc_linking.specs.FirstFault.{first_fault, stage_fault}
 use Rattle.oc_neutral.specs.declared.reloc.Reloc.{Reloc}
 use Rattle.oc_neutral.proofs.Mapped.{all_from}
 use Rattle.oc_target.proofs.MeetsRows.{found_there}
-use Rattle.oc_shelf.proofs.WritingLaws.MemberLemmas.{member_map, member_passes, of_map}
+use Rattle.oc_target.proofs.KeyPlaces.{either_way}
+use Rattle.oc_shelf.proofs.WritingLaws.MemberLemmas.{member_map, of_map}
 use Rattle.oc_omf_records.specs.Blocks.{copies_of, moved}
 use Rattle.oc_omf.specs.declared.constants.TheConstants.{OFFSET_32}
 use Rattle.oc_omf.specs.Entries.{Entry, entries_in}
@@ -42,19 +43,8 @@ use Rattle.oc_omf_read.proofs.PlacedFixups as placed
 abbrev at_one : FixupField → FixupField → Bool
 at_one x y = nat_eq x.section y.section && nat_eq x.at y.at
 
-pub eq_flips : (a b : ℕ) → nat_eq a b ≡ nat_eq b a
-eq_flips a b = elim (cases_eq a b) [
-  | inl same ↦ eq-eqb a b same ∙ sym (eq-eqb b a (sym same))
-  | inr other ↦ ne_eqb a b other ∙ sym (ne_eqb b a (λ e. other (sym e)))
-]
-
 at_one_flips : (x y : FixupField) → at_one x y ≡ at_one y x
-at_one_flips x y = ap (λ b. b && nat_eq x.at y.at) (eq_flips x.section y.section) ∙ ap (λ b. nat_eq y.section x.section && b) (eq_flips x.at y.at)
-
-both_true : (a b : Bool) → (a && b) ≡ true → (a ≡ true) × (b ≡ true)
-both_true true true e = (refl, refl)
-both_true true false e = absurd (true≢false (sym e))
-both_true false b e = absurd (true≢false (sym e))
+at_one_flips x y = ap (λ b. b && nat_eq x.at y.at) (either_way x.section y.section) ∙ ap (λ b. nat_eq y.section x.section && b) (either_way x.at y.at)
 
 -- two lists of which none of the one is at the place of one of the other
 all_join : {X : Type 0} (P : X → Type 0) (xs ys : List X) → AllByRecursion P xs → AllByRecursion P ys → AllByRecursion P (xs ++ ys)
@@ -96,7 +86,7 @@ among_copies section offset s fix at (c ∷ cs) same e = by (nat_eq at (offset +
     by : (b : Bool) → nat_eq at (offset + c) ≡ b → (b || list_any (nat_eq at) (moved offset cs)) ≡ true → (list_any (nat_eq at) (moved offset cs) ≡ true → is_among (fields_at section offset fix cs) s at ≡ true)
         → ((nat_eq section s && nat_eq (offset + c) at) || is_among (fields_at section offset fix cs) s at) ≡ true
     by true h e rest =
-        ap (λ b. (b && nat_eq (offset + c) at) || is_among (fields_at section offset fix cs) s at) (eq-eqb section s same) ∙ ap (λ b. b || is_among (fields_at section offset fix cs) s at) (eq_flips (offset + c) at ∙ h)
+        ap (λ b. (b && nat_eq (offset + c) at) || is_among (fields_at section offset fix cs) s at) (eq-eqb section s same) ∙ ap (λ b. b || is_among (fields_at section offset fix cs) s at) (either_way (offset + c) at ∙ h)
     by false h e rest = ap (λ b. (nat_eq section s && nat_eq (offset + c) at) || b) (rest e) ∙ or_true (nat_eq section s && nat_eq (offset + c) at)
 
 any_flat : {X Y : Type 0} (P : Y → Bool) (f : X → List Y) (xs : List X) (k : ℕ) (x : X) → slice_get xs k ≡ Some x → list_any P (f x) ≡ true → list_any P (flat_map f xs) ≡ true
@@ -185,7 +175,7 @@ module _ (file : List ℕ) (keep : Keep) (sections : stage_fault (section_stage 
               behind = behind;
               segment = omega (arith, first);
               among = ap (list_any (nat_eq (d.offset + one.0))) offsets
-                  ∙ member_passes (nat_eq (d.offset + one.0)) (moved d.offset copies) k (d.offset + one.0) (member_map (λ place. d.offset + place) copies k one.0 one.1) (eq-eqb (d.offset + one.0) (d.offset + one.0) refl);
+                  ∙ any_passes_from_place (nat_eq (d.offset + one.0)) (moved d.offset copies) k (d.offset + one.0) (member_map (λ place. d.offset + place) copies k one.0 one.1) (eq-eqb (d.offset + one.0) (d.offset + one.0) refl);
               location = made.0;
               kept = sym (kept_here d data_ok) ∙ made.1;
             };
@@ -248,7 +238,7 @@ module _ (file : List ℕ) (keep : Keep) (sections : stage_fault (section_stage 
       by : (c : Bool) → at_one x y ≡ c → c ≡ false
       by false e = refl
       by true e =
-          let both = both_true (nat_eq x.section y.section) (nat_eq x.at y.at) e in
+          let both = and_parts (nat_eq x.section y.section) (nat_eq x.at y.at) e in
           let moved_there : At x.section x.at q b.f
           = subst (λ (s : ℕ). At s x.at q b.f) (sym (eqb-true x.section y.section both.0)) (subst (λ (at : ℕ). At y.section at q b.f) (sym (eqb-true x.at y.at both.1)) b.is_at) in
           let same = same_at file keep sections relocs x.section x.at p q a.f b.f a.is_at moved_there in

@@ -2,36 +2,27 @@
 use Rattle.std.proofs.Common.{◌≡◌, ℕ, suc, ◌+◌, ◌<◌, Bool, true, false, cond, List, [], ◌∷◌, ◌++◌, length, map, set, Option, None, Some, refl, sym, ◌∙◌, ap, arith}
 use Rattle.std.specs.Prelude.{◌||◌, not, filter_map, fold}
 use Rattle.std.specs.List.{cons_option, list_any}
-use Rattle.std.proofs.lemmas.Bool.{true≢false}
+use Rattle.std.proofs.lemmas.Bool.{true≢false, or_parts}
 use Rattle.std.proofs.lemmas.List.{map-append}
 use Rattle.std.proofs.lemmas.List.Folds.{list_any-append}
 use Rattle.std.proofs.lemmas.Grind.{fold-append}
+use Rattle.std.proofs.Math.Bool.{or-false}
 use Rattle.oc_linking.specs.Numbers.{or_else}
 use Rattle.oc_omf.specs.Symbols.{Mention, number_of, same_symbol, with_new}
 use Rattle.oc_omf_read.specs.Declarations.{Declaration}
 use Rattle.oc_omf_judge.proofs.MentionLemmas.{same_is, same_self}
 use Rattle.oc_omf_read.specs.Mentioned.{ModuleSymbol, blank, external_number, external_said, length_by, length_in, length_said, mention_of, mentioned_symbols, number_among, place_by, place_in, place_said, seen_in, seen_more}
+use Rattle.oc_shows.proofs.BegunLaws.{or_true}
+use Rattle.oc_shelf.proofs.ReadingLaws.StageLemmas.{or_else-none, or_else-assoc}
 
 -- ... some symbols
 
 abbrev pub Unlike : Mention → List Mention → Type 0
 Unlike x ms = list_any (same_symbol x) ms ≡ false
 
-unlike_or : (a b : Bool) → (a || b) ≡ false → (a ≡ false) × (b ≡ false)
-unlike_or true b e = absurd (true≢false e)
-unlike_or false b e = (refl, e)
-
-or_false : (a : Bool) → (a || false) ≡ a
-or_false true = refl
-or_false false = refl
-
-or_true : (a : Bool) → (a || true) ≡ true
-or_true true = refl
-or_true false = refl
-
 -- one more
 pub any_push : (x y : Mention) (ms : List Mention) → list_any (same_symbol x) (ms ++ y ∷ []) ≡ (list_any (same_symbol x) ms || same_symbol x y)
-any_push x y ms = list_any-append (same_symbol x) ms (y ∷ []) ∙ ap (λ b. list_any (same_symbol x) ms || b) (or_false (same_symbol x y))
+any_push x y ms = list_any-append (same_symbol x) ms (y ∷ []) ∙ ap (λ b. list_any (same_symbol x) ms || b) (or-false (same_symbol x y))
 
 pub any_new : (x y : Mention) (ms : List Mention) → list_any (same_symbol x) (with_new ms y) ≡ (list_any (same_symbol x) ms || same_symbol x y)
 any_new x y ms = by (list_any (same_symbol y) ms) refl
@@ -41,7 +32,7 @@ any_new x y ms = by (list_any (same_symbol y) ms) refl
     by true e = among (same_symbol x y) refl
       where
         among : (s : Bool) → same_symbol x y ≡ s → list_any (same_symbol x) ms ≡ (list_any (same_symbol x) ms || s)
-        among false f = sym (or_false (list_any (same_symbol x) ms))
+        among false f = sym (or-false (list_any (same_symbol x) ms))
         among true f = (ap (λ (z : Mention). list_any (same_symbol z) ms) (same_is x y f) ∙ e) ∙ sym (or_true (list_any (same_symbol x) ms))
 
 -- the symbols are those that are mentioned
@@ -49,7 +40,7 @@ pub any_mentioned : (x : Mention) (ts : List Declaration) → list_any (same_sym
 any_mentioned x ts = by [] (map mention_of ts)
   where
     by : (init ms : List Mention) → list_any (same_symbol x) (fold with_new init ms) ≡ (list_any (same_symbol x) init || list_any (same_symbol x) ms)
-    by init [] = sym (or_false (list_any (same_symbol x) init))
+    by init [] = sym (or-false (list_any (same_symbol x) init))
     by init (m ∷ ms) = by (with_new init m) ms ∙ ap (λ b. b || list_any (same_symbol x) ms) (any_new x m init) ∙ over (list_any (same_symbol x) init) (same_symbol x m) (list_any (same_symbol x) ms)
       where
         over : (a b c : Bool) → ((a || b) || c) ≡ (a || (b || c))
@@ -68,7 +59,7 @@ AreApart (m ∷ ms) = Unlike m ms × AreApart ms
 apart_push : (ms : List Mention) (y : Mention) → AreApart ms → Unlike y ms → AreApart (ms ++ y ∷ [])
 apart_push [] y apart new = (refl, tt)
 apart_push (m ∷ ms) y apart new =
-    let both = unlike_or (same_symbol y m) (list_any (same_symbol y) ms) new in
+    let both = or_parts (same_symbol y m) (list_any (same_symbol y) ms) new in
     (any_push m y ms ∙ ap (λ b. b || same_symbol m y) apart.0 ∙ other (same_symbol m y) refl both.0, apart_push ms y apart.1 both.1)
   where
     other : (b : Bool) → same_symbol m y ≡ b → same_symbol y m ≡ false → b ≡ false
@@ -103,7 +94,7 @@ number_front x y (m ∷ ms) there = by (same_symbol x m) there (number_front x y
 number_last : (x : Mention) (ms : List Mention) → Unlike x ms → number_of (ms ++ x ∷ []) x ≡ length ms
 number_last x [] new = ap (λ b. cond (not b) (1 + 0) 0) (same_self x)
 number_last x (m ∷ ms) new =
-    let both = unlike_or (same_symbol x m) (list_any (same_symbol x) ms) new in
+    let both = or_parts (same_symbol x m) (list_any (same_symbol x) ms) new in
     ap (λ b. cond (not b) (1 + number_of (ms ++ x ∷ []) x) 0) both.0 ∙ (let rest = number_last x ms both.1 in let one : 1 + number_of (ms ++ x ∷ []) x ≡ suc (length ms) = omega (arith, rest) in one)
 
 pub number_low : (x : Mention) (ms : List Mention) → list_any (same_symbol x) ms ≡ true → number_of ms x < length ms
@@ -132,38 +123,30 @@ among_push ms y x new = by (same_symbol y x) refl
         ∙ ap (λ b. cond b (Some (number_of (ms ++ y ∷ []) y)) None) (any_push y y ms ∙ ap (λ b. list_any (same_symbol y) ms || b) (same_self y) ∙ or_true (list_any (same_symbol y) ms))
         ∙ ap (λ (n : ℕ). Some n) (number_last y ms new)
     by false e =
-        ap (λ b. cond b (Some (number_of (ms ++ y ∷ []) x)) None) (any_push x y ms ∙ ap (λ b. list_any (same_symbol x) ms || b) (apart (same_symbol x y) refl e) ∙ or_false (list_any (same_symbol x) ms))
+        ap (λ b. cond b (Some (number_of (ms ++ y ∷ []) x)) None) (any_push x y ms ∙ ap (λ b. list_any (same_symbol x) ms || b) (apart (same_symbol x y) refl e) ∙ or-false (list_any (same_symbol x) ms))
         ∙ old (list_any (same_symbol x) ms) refl
 
 -- ... what is said
 
-or_else_over : {X : Type 0} (a b c : Option X) → or_else (or_else a b) c ≡ or_else a (or_else b c)
-or_else_over None b c = refl
-or_else_over (Some x) b c = refl
-
-or_else_none : {X : Type 0} (a : Option X) → or_else a None ≡ a
-or_else_none None = refl
-or_else_none (Some x) = refl
-
 pub place_push : (x : Mention) (ts : List Declaration) (t : Declaration) → place_in x (ts ++ t ∷ []) ≡ or_else (place_in x ts) (place_by x t)
-place_push x [] t = or_else_none (place_by x t)
-place_push x (s ∷ ts) t = ap (or_else (place_by x s)) (place_push x ts t) ∙ sym (or_else_over (place_by x s) (place_in x ts) (place_by x t))
+place_push x [] t = or_else-none (place_by x t)
+place_push x (s ∷ ts) t = ap (or_else (place_by x s)) (place_push x ts t) ∙ sym (or_else-assoc (place_by x s) (place_in x ts) (place_by x t))
 
 pub length_push : (x : Mention) (ts : List Declaration) (t : Declaration) → length_in x (ts ++ t ∷ []) ≡ or_else (length_in x ts) (length_by x t)
-length_push x [] t = or_else_none (length_by x t)
-length_push x (s ∷ ts) t = ap (or_else (length_by x s)) (length_push x ts t) ∙ sym (or_else_over (length_by x s) (length_in x ts) (length_by x t))
+length_push x [] t = or_else-none (length_by x t)
+length_push x (s ∷ ts) t = ap (or_else (length_by x s)) (length_push x ts t) ∙ sym (or_else-assoc (length_by x s) (length_in x ts) (length_by x t))
 
 -- nothing is said of a symbol that is not mentioned
 place_none : (x : Mention) (ts : List Declaration) → Unlike x (map mention_of ts) → place_in x ts ≡ None
 place_none x [] new = refl
 place_none x (t ∷ ts) new =
-    let both = unlike_or (same_symbol x (mention_of t)) (list_any (same_symbol x) (map mention_of ts)) new in
+    let both = or_parts (same_symbol x (mention_of t)) (list_any (same_symbol x) (map mention_of ts)) new in
     ap (λ b. or_else (cond b (place_said t.says) None) (place_in x ts)) both.0 ∙ place_none x ts both.1
 
 length_none : (x : Mention) (ts : List Declaration) → Unlike x (map mention_of ts) → length_in x ts ≡ None
 length_none x [] new = refl
 length_none x (t ∷ ts) new =
-    let both = unlike_or (same_symbol x (mention_of t)) (list_any (same_symbol x) (map mention_of ts)) new in
+    let both = or_parts (same_symbol x (mention_of t)) (list_any (same_symbol x) (map mention_of ts)) new in
     ap (λ b. or_else (cond b (length_said t.says) None) (length_in x ts)) both.0 ∙ length_none x ts both.1
 
 seen_none : (ts : List Declaration) (x : Mention) → Unlike x (mentioned_symbols ts) → seen_in ts x ≡ blank x
@@ -186,9 +169,9 @@ seen_with ts y seen is = is ∙ by (list_any (same_symbol y) (mentioned_symbols 
 seen_other : (ts : List Declaration) (t : Declaration) (y : Mention) → same_symbol y (mention_of t) ≡ false → seen_in (ts ++ t ∷ []) y ≡ seen_in ts y
 seen_other ts t y other =
     ap (λ (o : Option (ℕ × ℕ)). record { local = y.local; name = y.name; place = o; length = length_in y (ts ++ t ∷ []) })
-    (place_push y ts t ∙ ap (λ b. or_else (place_in y ts) (cond b (place_said t.says) None)) other ∙ or_else_none (place_in y ts))
+    (place_push y ts t ∙ ap (λ b. or_else (place_in y ts) (cond b (place_said t.says) None)) other ∙ or_else-none (place_in y ts))
     ∙ ap (λ (o : Option ℕ). record { local = y.local; name = y.name; place = place_in y ts; length = o })
-    (length_push y ts t ∙ ap (λ b. or_else (length_in y ts) (cond b (length_said t.says) None)) other ∙ or_else_none (length_in y ts))
+    (length_push y ts t ∙ ap (λ b. or_else (length_in y ts) (cond b (length_said t.says) None)) other ∙ or_else-none (length_in y ts))
 
 seen_same : (ts : List Declaration) (t : Declaration) → seen_in (ts ++ t ∷ []) (mention_of t) ≡ seen_more t.says (seen_in ts (mention_of t))
 seen_same ts t =
@@ -201,7 +184,7 @@ seen_same ts t =
 seen_others : (ts : List Declaration) (t : Declaration) (ms : List Mention) → Unlike (mention_of t) ms → map (seen_in (ts ++ t ∷ [])) ms ≡ map (seen_in ts) ms
 seen_others ts t [] new = refl
 seen_others ts t (m ∷ ms) new =
-    let both = unlike_or (same_symbol (mention_of t) m) (list_any (same_symbol (mention_of t)) ms) new in
+    let both = or_parts (same_symbol (mention_of t) m) (list_any (same_symbol (mention_of t)) ms) new in
     ap (λ (s : ModuleSymbol). s ∷ map (seen_in (ts ++ t ∷ [])) ms) (seen_other ts t m (apart (same_symbol m (mention_of t)) refl both.0)) ∙ ap (λ (ss : List ModuleSymbol). seen_in ts m ∷ ss) (seen_others ts t ms both.1)
   where
     apart : (b : Bool) → same_symbol m (mention_of t) ≡ b → same_symbol (mention_of t) m ≡ false → b ≡ false

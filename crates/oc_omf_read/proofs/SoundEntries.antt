@@ -1,12 +1,13 @@
 -- What entries without a fault of the stage of sections define.
 use Rattle.std.proofs.Common.{◌≡◌, ℕ, ◌+◌, ◌≤◌, true, false, List, [], ◌∷◌, ◌++◌, length, None, Some, Ok, Err, sym, ◌∙◌, arith}
-use Rattle.std.specs.Prelude.{flat_map, nat_eq, nat_lt, slice_get, Result}
+use Rattle.std.specs.Prelude.{flat_map, nat_eq, slice_get, Result}
 use Rattle.std.specs.List.{AllByRecursion, sum_by}
 use Rattle.std.proofs.lemmas.Bool.Decides.{nat_tests}
 use Rattle.std.proofs.lemmas.Option.{none-some, slice_get_within}
+use Rattle.std.proofs.lemmas.Bool.{not-false}
 use Rattle.oc_base.specs.declared.fault.Fault.{Fault}
 use Rattle.oc_linking.specs.FirstFault.{Condition, fault_of, first_broken, stage_fault}
-use Rattle.oc_shelf.proofs.ReadingLaws.StageLemmas.{all_hold, clean_at, clean_both, not_false}
+use Rattle.oc_shelf.proofs.ReadingLaws.StageLemmas.{all_hold, clean_at, clean_both}
 use Rattle.oc_omf.specs.declared.cut.Cut.{Cut}
 use Rattle.oc_omf.specs.declared.structures.Segment.{Segment}
 use Rattle.oc_omf.specs.Cursor.{Read}
@@ -15,10 +16,11 @@ use Rattle.oc_omf.specs.Entries.{Entry, all_read, entries_in}
 use Rattle.oc_omf.specs.Sections.{align_code, piece_size, segment_size, size_at}
 use Rattle.oc_omf.specs.SectionFaults.{conditions_on, end_conditions, form_conditions, group_conditions, name_conditions, own_fault, piece_conditions, section_conditions, section_stage, segment_conditions, size_conditions, whole_conditions}
 use Rattle.oc_omf.specs.Tables as all
-use Rattle.oc_omf.specs.Tables.{is_indexed, tables_of}
+use Rattle.oc_omf.specs.Tables.{is_indexed}
 use Rattle.oc_omf.proofs.EntryLemmas.{conditions_at}
 use Rattle.oc_omf_read.proofs.DefinedLemmas.{tables_upto}
 use Rattle.oc_base.specs.declared.code.Code.TheVariants.{BadTable}
+use Rattle.oc_target.proofs.MeetsConditions.{not_below}
 
 -- structures without a fault are read, and each meets its conditions
 read_clean : {X : Type 0} (cut : Fault) (conditions : X → List Condition) (ss : List (Read X)) → first_broken (flat_map (whole_conditions cut conditions) ss) ≡ None
@@ -63,9 +65,6 @@ pub record IsSoundSegment (s : Segment) (sizes : ℕ) : Type 0 where
   pub small : segment_size s ≤ 2147483647
   pub few : sizes + segment_size s ≤ 2147483648
 
-at_most : (a b : ℕ) → nat_lt a b ≡ false → b ≤ a
-at_most a b e = grind (arith, nat_tests)
-
 some_of : (a : ℕ) → nat_eq a 0 ≡ false → 1 ≤ a
 some_of a e = grind (arith, nat_tests)
 
@@ -76,9 +75,9 @@ segment_sound before x s clean =
     let form = all_hold (form_conditions (length before.names) x s) a.0 in
     let size = all_hold (size_conditions (sum_by segment_size before.segments) x s) a.1 in
     record {
-      aligned = (some_of (align_code s) form.1.1.0, at_most 5 (align_code s) form.1.1.1.0);
-      small = at_most 2147483647 (segment_size s) size.0;
-      few = at_most 2147483648 (sum_by segment_size before.segments + segment_size s) size.1.0;
+      aligned = (some_of (align_code s) form.1.1.0, not_below 5 (align_code s) form.1.1.1.0);
+      small = not_below 2147483647 (segment_size s) size.0;
+      few = not_below 2147483648 (sum_by segment_size before.segments + segment_size s) size.1.0;
     }
 
 -- data that have no fault lie in a segment that is there
@@ -91,8 +90,8 @@ unfolding piece_conditions
 piece_sound before x d clean =
     let holds = all_hold (piece_conditions before x d) clean in
     record {
-      there = not_false (is_indexed before.segments d.segment) holds.1.0;
-      inside = at_most (size_at before d.segment) (d.offset + piece_size d) holds.1.1.1.0;
+      there = not-false (is_indexed before.segments d.segment) holds.1.0;
+      inside = not_below (size_at before d.segment) (d.offset + piece_size d) holds.1.1.1.0;
     }
 
 -- ... a file

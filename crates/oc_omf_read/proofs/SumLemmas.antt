@@ -24,12 +24,13 @@ use Rattle.oc_omf.specs.Tables as all
 use Rattle.oc_omf.specs.Tables.{tables_of}
 use Rattle.oc_omf.proofs.PlaceLemmas.{few_entries, next_inside, whole_at}
 use Rattle.oc_omf_judge.proofs.StateLaws.{with_entry, tables_more}
+use Rattle.oc_omf_judge.proofs.StageLaws.{entry_count}
 use Rattle.oc_omf_read.specs.declared.class.EntryClass.{EntryClass}
 use Rattle.oc_omf_read.specs.declared.class.EntryClass.TheVariants as class
 use Rattle.oc_omf_read.specs.Classes.{class_of}
 use Rattle.oc_omf_read.specs.Defined.{read_in, said}
 use Rattle.oc_omf_read.proofs.ClassLemmas.{read_whole}
-use Rattle.oc_omf_read.proofs.DefinedLemmas.{entries_counted, entry_here, said_by_class, tables_upto}
+use Rattle.oc_omf_read.proofs.DefinedLemmas.{entry_here, said_by_class, tables_upto}
 use Rattle.oc_omf_read.proofs.SoundEntries.{entry_sound, segment_sound}
 
 -- ... an entry has one segment at most
@@ -183,7 +184,7 @@ module _ (file : List ℕ) (head : IsModule file) (clean : stage_fault (section_
           = (all_hold (end_conditions (tables_upto file m.j) (m.j, m.at) true)
           (sym (ap (λ (b : Bool). first_broken (end_conditions (tables_upto file m.j) (m.j, m.at) b)) (ap (λ (e : Entry). e.ends) is ∙ ends))
           ∙ subst (λ (p : ℕ). first_broken (end_conditions (tables_upto file m.j) (m.j, p) (said r).ends) ≡ None) (ap (λ (e : Entry). e.place) is) broken)).0 in
-          let all_of : length (entries_in file) ≡ m.j + 1 = entries_counted file ∙ m.last in
+          let all_of : length (entries_in file) ≡ m.j + 1 = entry_count file ∙ m.last in
           let same : tables_of (entries_in file) ≡ tables_upto file m.j
           = sym (ap tables_of (take-length (entries_in file))) ∙ ap (λ (n : ℕ). tables_upto file n) all_of ∙ tables_more (entries_in file) m.j (said r) here
           ∙ ap (with_entry (tables_upto file m.j)) is ∙ nothing_more (tables_upto file m.j) m.at (is_kind MODEND r.kind) in

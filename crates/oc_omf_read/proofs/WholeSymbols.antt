@@ -45,7 +45,7 @@ use Rattle.oc_omf_read.specs.Defined.{said}
 use Rattle.oc_omf_read.specs.Declarations.{Declaration, of_external, of_public, declarations_by, declarations_in}
 use Rattle.oc_omf_read.specs.Mentioned.{length_in, length_said, mention_of, mentioned_symbols, place_in, place_said, seen_in}
 use Rattle.oc_omf_read.proofs.BuildLemmas.{section_at, segment_there}
-use Rattle.oc_omf_read.proofs.ClassLemmas.{publics_by, read_in_file}
+use Rattle.oc_omf_read.proofs.ClassLemmas.{publics_by}
 use Rattle.oc_omf_read.proofs.ContentLemmas.{all_append, all_flat, segments_front, size_before}
 use Rattle.oc_omf_read.proofs.DefinedLemmas.{said_by_class, tables_upto}
 use Rattle.oc_omf_read.proofs.LocalLemmas.{all_lists, any_at, any_there, behind, stage_clean}
@@ -53,6 +53,7 @@ use Rattle.oc_omf_read.proofs.SumLemmas.{said_here}
 use Rattle.oc_omf_read.proofs.SymbolLemmas.{symbol_here, symbol_is, as_many}
 use Rattle.oc_omf_read.proofs.WholeNames.{IsOfBytes, all_has, declarations_bytes}
 use Rattle.oc_omf_read.proofs.MentionLemmas.{any_mentioned}
+use Rattle.oc_omf_judge.proofs.StageLaws.{read_in_file}
 
 -- ... alignments
 

@@ -6,11 +6,11 @@ use Rattle.std.proofs.lemmas.List.{drop_all}
 use Rattle.std.proofs.lemmas.Option.{slice_get-get_or, get_or_from_slice_get}
 use Rattle.oc_shelf.proofs.WritingLaws.MemberLemmas.{member_map}
 use Rattle.oc_target.proofs.Giving.{more_given, all_given}
-use Rattle.oc_target.proofs.Steps.{drop_step}
 use Rattle.oc_neutral.specs.declared.section.Section.{Section}
 use Rattle.oc_omf_write.specs.declared.entries.Entry.{Entry}
 use Rattle.oc_omf_write.specs.declared.fixups.Fixup.{Fixup}
 use Rattle.oc_omf_write.specs.Pieces.{section_entries, fixups_at}
+use Rattle.oc_neutral.proofs.FieldLists.{drop_here}
 
 -- the fixups of the section at a position
 pub fixups_indexed : (fixups : List (Vec Fixup Global)) (k : ℕ) (d : Vec Fixup Global) → k < length fixups → fixups_at (map (λ (v : Vec Fixup Global). v.items) fixups) k ≡ (get_or fixups k d).items
@@ -31,7 +31,7 @@ pub data_more : (fixups : List (List Fixup)) (sections : List Section) (k : ℕ)
     → now ≡ done ++ section_entries k (fixups_at fixups k) (length s.bytes) → done ++ data_left fixups sections k ≡ all → now ++ data_left fixups sections (k + 1) ≡ all
 data_more fixups sections k s done now all here added so_far =
     more_given done now (data_left fixups sections k) (data_left fixups sections (k + 1)) (section_entries k (fixups_at fixups k) (length s.bytes)) all added
-    (ap (λ xs. flat_map (entries_of fixups) (enumerate_from k xs)) (drop_step sections k s here)) so_far
+    (ap (λ xs. flat_map (entries_of fixups) (enumerate_from k xs)) (drop_here sections k s here)) so_far
 
 -- behind the last section all are added
 pub data_done : (fixups : List (List Fixup)) (sections : List Section) (k : ℕ) (now all : List Entry) → length sections ≤ k → now ++ data_left fixups sections k ≡ all → now ≡ all

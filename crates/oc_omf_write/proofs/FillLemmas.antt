@@ -6,8 +6,8 @@ use Rattle.std.proofs.lemmas.Bool.Decides.{nat_tests}
 use Rattle.std.proofs.lemmas.List.{drop_all}
 use Rattle.std.proofs.lemmas.List.Sums.{sum_by-append}
 use Rattle.std.proofs.lemmas.Option.{none-some, same_Some, slice_get_within}
-use Rattle.oc_target.proofs.Steps.{drop_step}
 use Rattle.oc_neutral.proofs.Positions.{each_at}
+use Rattle.oc_neutral.proofs.FieldLists.{drop_here}
 use Rattle.oc_omf_file.specs.Names.{names_size, filled_from}
 use Rattle.oc_omf_file.proofs.ListLemmas.{all_both}
 use Rattle.oc_omf_write.specs.declared.entries.Entry.{Entry}
@@ -59,7 +59,7 @@ module _ (texts : List (List ℕ)) (short : AreShort texts) (old now : List Entr
   small = each_at (λ (text : List ℕ). length text ≤ 255) texts k x short here
 
   step : map (texts_in texts) is.ranges ++ cond (nat_lt 1024 (names_size held + 1 + length x)) (held ∷ filled_from (x ∷ []) (drop (k + 1) texts)) (filled_from (held ++ x ∷ []) (drop (k + 1) texts)) ≡ filled_from [] texts
-  step = ap (λ rest. map (texts_in texts) is.ranges ++ filled_from held rest) (sym (drop_step texts k x here)) ∙ is.filled
+  step = ap (λ rest. map (texts_in texts) is.ranges ++ filled_from held rest) (sym (drop_here texts k x here)) ∙ is.filled
 
   -- the name has room in the entry
   pub filling_fits : size + (1 + length x) ≤ 1024 → IsFilling texts old now from (k + 1) (size + (1 + length x))

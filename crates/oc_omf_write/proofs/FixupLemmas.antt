@@ -1,38 +1,34 @@
 -- The fixups of the sections, one after another.
-use Rattle.std.proofs.Common.{◌≡◌, ℕ, ◌+◌, List, [], ◌∷◌, ◌++◌, map, drop, inl, inr, Option, Some, None, refl, sym, ◌∙◌, ap, subst, arith}
-use Rattle.std.specs.Prelude.{slice_get, is_err}
+use Rattle.std.proofs.Common.{◌≡◌, ℕ, ◌+◌, List, [], ◌∷◌, ◌++◌, map, inl, inr, Some, sym, ◌∙◌, ap, subst, arith}
+use Rattle.std.specs.Prelude.{is_err}
 use Rattle.oc_base.specs.declared.format.Word.TheVariants.{W32}
 use Rattle.oc_linking.specs.declared.terms.Width.TheVariants.{Four}
 use Rattle.oc_algebra.specs.Fields.{to_field_of}
 use Rattle.oc_neutral.specs.declared.symbol.Symbol.{Symbol}
-use Rattle.oc_neutral.specs.Normal.{Place, at_section}
 use Rattle.oc_neutral.specs.Rows.{shift_of}
 use Rattle.oc_neutral.proofs.ShiftLemmas.{four_bytes_hold}
 use Rattle.oc_shows.specs.Manners.{omf_manner}
 use Rattle.oc_shows.specs.Seen.{section_place}
 use Rattle.oc_plans.specs.Numbered.{AreAll}
 use Rattle.oc_target.proofs.MeetsRelocs.{no_error}
-use Rattle.std.specs.List.{AllByRecursion, enumerate_from}
+use Rattle.std.specs.List.{AllByRecursion}
 use Rattle.std.proofs.lemmas.Option.{slice_get_within}
 use Rattle.oc_chains.specs.declared.field.Field.{Field}
 use Rattle.oc_chains.specs.Lists.{list_of}
 use Rattle.oc_target.proofs.Giving.{all_given}
-use Rattle.oc_target.proofs.Steps.{drop_step, more_done}
+use Rattle.oc_target.proofs.Steps.{more_done}
 use Rattle.oc_neutral.specs.declared.reloc.Reloc.{Reloc}
 use Rattle.oc_neutral.specs.Objects.{Object, reloc_at}
 use Rattle.oc_omf_file.specs.Fixups.{written_reloc}
 use Rattle.oc_omf_file.proofs.AimLaws.{aimed}
 use Rattle.oc_omf_file.proofs.CodedLaws.{IsForOmf, field_is, meets, omf_reloc}
 use Rattle.oc_omf_file.proofs.LineLaws.{number_low}
+use Rattle.oc_omf_file.proofs.FieldLaws.{form_kept}
 use Rattle.oc_omf_write.specs.declared.fixups.Fixup.{Fixup}
 use Rattle.oc_omf_write.specs.Numbers.{AreNumbers}
 use Rattle.oc_omf_write.specs.Raws.{CanWrite}
 use Rattle.oc_omf_write.specs.Written.{HasIndex, HasRow, fixup_with, fixups_of}
 use Rattle.oc_shelf.proofs.WritingLaws.MemberLemmas.{all_members}
-
--- what is made of an item and of those behind it
-pub enumerate_step : {X Y : Type 0} (f : ℕ × X → Y) (xs : List X) (k : ℕ) (x : X) → slice_get xs k ≡ Some x → map f (enumerate_from k (drop k xs)) ≡ f (k, x) ∷ map f (enumerate_from (k + 1) (drop (k + 1) xs))
-enumerate_step f xs k x here = ap (λ ys. map f (enumerate_from k ys)) (drop_step xs k x here)
 
 -- the index of a target fits
 pub has_index : (n : Object) → IsForOmf n → (numbers : List ℕ) → AreNumbers n numbers → (k at : ℕ) (r : Reloc) → reloc_at n k at ≡ Some r → HasIndex numbers (written_reloc n r).target
@@ -50,10 +46,6 @@ has_index n is numbers are k at r there = elim (aimed n is k at r there) [
 ]
 
 -- ... the numbers
-
-form_kept : (r : Reloc) (o : Option Place) → (at_section W32 r o).form ≡ r.form
-form_kept r None = refl
-form_kept r (Some place) = refl
 
 module _ (n : Object) (is : IsForOmf n) where
   -- a relocation has its row

@@ -6,7 +6,6 @@ use Rattle.std.specs.Map.{update}
 use Rattle.std.proofs.lemmas.List.{drop_all, length-map}
 use Rattle.std.proofs.lemmas.Option.{none-some}
 use Rattle.std.proofs.lemmas.Slice.Eq.{bytes_eq-Decides}
-use Rattle.oc_target.proofs.Steps.{drop_step}
 use Rattle.oc_neutral.specs.declared.section.Section.{Section}
 use Rattle.oc_omf_file.specs.Names.{class_of, with_name}
 use Rattle.oc_omf_file.proofs.ListLemmas.{all_both}
@@ -14,6 +13,7 @@ use Rattle.oc_omf_write.specs.declared.names.Name.{Name}
 use Rattle.oc_omf_write.specs.declared.names.Names.{Names}
 use Rattle.oc_omf_write.specs.Names.{text_by, IsNameOf, given_for, names_for, place_among, value_at, AreNames, AreUpto}
 use Rattle.oc_plans.proofs.Turns.{map_append}
+use Rattle.oc_neutral.proofs.FieldLists.{drop_here}
 
 -- ... texts
 
@@ -114,7 +114,7 @@ module _ (sections : List Section) where
   upto_more k s old new u here are = record {
     done = with_name (with_name u.done s.name) (class_of s);
     are = are;
-    all = ap (λ (xs : List Section). fold with_name u.done (given_for xs)) (sym (drop_step sections k s here)) ∙ u.all;
+    all = ap (λ (xs : List Section). fold with_name u.done (given_for xs)) (sym (drop_here sections k s here)) ∙ u.all;
   }
 
   pub upto_begun : (names : Names) → AreNames sections (with_name (with_name [] []) (codes "FLAT")) names → AreUpto sections 0 names

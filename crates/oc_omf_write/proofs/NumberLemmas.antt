@@ -2,13 +2,13 @@
 use Rattle.std.proofs.Common.{◌≡◌, ℕ, ◌+◌, ◌<◌, Bool, true, false, cond, not, List, [], ◌∷◌, length, drop, map, refl, sym, ◌∙◌, ap, Some, arith}
 use Rattle.std.specs.Prelude.{slice_get, slice_index_or}
 use Rattle.std.specs.List.{position_or_len}
-use Rattle.oc_target.proofs.Steps.{drop_step}
 use Rattle.oc_neutral.specs.Objects.{Object}
 use Rattle.oc_omf_file.specs.Outputs.{Output, symbol_outputs}
 use Rattle.oc_omf_file.specs.Outputs as output
 use Rattle.oc_omf_write.specs.declared.entries.Entry.{Entry}
 use Rattle.oc_omf_write.specs.Entries.{entry_for}
 use Rattle.oc_omf_write.specs.Numbers.{is_of_symbol, AreNumbers}
+use Rattle.oc_neutral.proofs.FieldLists.{drop_here}
 
 -- the first place in a list that begins with x
 position_first : {X : Type 0} (test : X → Bool) (x : X) (xs : List X) → position_or_len test (x ∷ xs) ≡ cond (test x) 0 (1 + position_or_len test xs)
@@ -22,7 +22,7 @@ position_first test x xs = by (test x)
 pub number_more : {X : Type 0} (test : X → Bool) (xs : List X) (k : ℕ) (x : X) (old now : ℕ) → slice_get xs k ≡ Some x → old ≡ (k + 1) + position_or_len test (drop (k + 1) xs)
     → now ≡ cond (test x) k old → now ≡ k + position_or_len test (drop k xs)
 number_more test xs k x old now here so_far is =
-    is ∙ by (test x) ∙ ap (λ m. k + m) (sym (ap (position_or_len test) (drop_step xs k x here) ∙ position_first test x (drop (k + 1) xs)))
+    is ∙ by (test x) ∙ ap (λ m. k + m) (sym (ap (position_or_len test) (drop_here xs k x here) ∙ position_first test x (drop (k + 1) xs)))
   where
     by : (b : Bool) → cond b k old ≡ k + cond b 0 (1 + position_or_len test (drop (k + 1) xs))
     by true = omega arith

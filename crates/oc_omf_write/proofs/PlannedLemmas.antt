@@ -14,7 +14,7 @@ use Rattle.oc_neutral.specs.declared.reloc.Target.TheVariants as target
 use Rattle.oc_neutral.specs.Constants.{with_contents}
 use Rattle.oc_neutral.specs.Objects.{Object}
 use Rattle.oc_neutral.specs.Rows.{Row}
-use Rattle.oc_shelf.proofs.WritingLaws.MemberLemmas.{member_enumerated, member_map}
+use Rattle.oc_shelf.proofs.WritingLaws.MemberLemmas.{member_enumerated, member_map, map-map}
 use Rattle.oc_omf_file.specs.Fixups.{raw_of, field_fixup, row_by, target_method, written_reloc}
 use Rattle.oc_omf_file.specs.Names.{class_of, with_name, names_of}
 use Rattle.oc_omf_file.specs.Outputs.{piece_outputs, data_outputs}
@@ -65,13 +65,9 @@ filter-map test f (x ∷ xs) = by (test (f x)) (filter-map test f xs)
 pub between_fields : (n : Object) (numbers : List ℕ) (k from to : ℕ) → between from to (written.fixups_of numbers n k) ≡ map (fixup_with numbers n) (fields_between n k from to)
 between_fields n numbers k from to = filter-map (λ (f : Fixup). nat_le from f.at && nat_lt f.at to) (fixup_with numbers n) (list_of n.relocs k)
 
-map-twice : {X Y Z : Type 0} (f : Y → Z) (g : X → Y) (xs : List X) → map f (map g xs) ≡ map (λ x. f (g x)) xs
-map-twice f g [] = refl
-map-twice f g (x ∷ xs) = ap (λ ys. f (g x) ∷ ys) (map-twice f g xs)
-
 -- they stand where the fields do
 pub places_are : (n : Object) (numbers : List ℕ) (k : ℕ) → places_of (written.fixups_of numbers n k) ≡ offsets_of n k
-places_are n numbers k = map-twice (λ (f : Fixup). f.at) (fixup_with numbers n) (list_of n.relocs k)
+places_are n numbers k = map-map (λ (f : Fixup). f.at) (fixup_with numbers n) (list_of n.relocs k)
 
 -- the method of a target by the numbers of symbols
 pub method_is : (n : Object) (numbers : List ℕ) → AreNumbers n numbers → (t : Target) → HasIndex numbers t → method_by numbers t ≡ target_method n t

@@ -3,7 +3,7 @@ use Rattle.std.proofs.Common.{◌≡◌, ℕ, zero, suc, ◌+◌, ◌*◌, ◌^�
 use Rattle.std.specs.Prelude.{slice_get, flat_map, filter_map}
 use Rattle.std.specs.List.{AllByRecursion, enumerate_from, range_with_len, cons_option}
 use Rattle.std.proofs.lemmas.List.{length-map}
-use Rattle.std.proofs.lemmas.List.FromFn.{length-enumerate_from}
+use Rattle.std.proofs.lemmas.List.FromFn.{length-enumerate_from, length-range_with_len}
 use Rattle.std.proofs.lemmas.Option.{same_Some, slice_get_within}
 use Rattle.oc_neutral.specs.declared.section.Section.{Section}
 use Rattle.oc_neutral.specs.declared.symbol.Symbol.{Symbol}
@@ -138,10 +138,6 @@ filled_few held (name ∷ names) = by (nat_lt 1024 (names_size held + 1 + length
     by true new more = omega (arith, new)
     by false new more = omega (arith, more)
 
-range_long : (k m : ℕ) → length (range_with_len k m) ≡ m
-range_long k zero = refl
-range_long k (suc m) = ap suc (range_long (k + 1) m)
-
 -- ... what is made
 
 -- there are as many sections with numbers
@@ -205,7 +201,7 @@ module _ (n : Object) (is : IsForOmf n) (t : Tables) (numbers : List ℕ) (made 
       let behind = length-append symbols (data_entries (fixups_of t) t.sections.items ++ entry.End ∷ []) in
       let segments = length-append (map entry.Segment (range_with_len 0 (length t.sections.items))) (entry.Group ∷ symbols ++ (data_entries (fixups_of t) t.sections.items ++ entry.End ∷ [])) in
       let segments_long = length-map (range_with_len 0 (length t.sections.items)) entry.Segment in
-      let range = range_long 0 (length t.sections.items) in
+      let range = length-range_with_len 0 (length t.sections.items) in
       let front = length-append (map names_entry are.ranges) (map entry.Segment (range_with_len 0 (length t.sections.items)) ++ (entry.Group ∷ symbols ++ (data_entries (fixups_of t) t.sections.items ++ entry.End ∷ []))) in
       let front_long = length-map are.ranges names_entry in
       let all = ap length are.are in

@@ -5,13 +5,13 @@ use Rattle.std.specs.List.{enumerate_from, cons_option}
 use Rattle.std.specs.Option.{option_map, option_map_or}
 use Rattle.std.proofs.lemmas.List.{drop_all}
 use Rattle.oc_target.proofs.Giving.{more_given, all_given}
-use Rattle.oc_target.proofs.Steps.{drop_step}
 use Rattle.oc_neutral.specs.declared.symbol.Symbol.{Symbol}
 use Rattle.oc_neutral.specs.Objects.{Object}
 use Rattle.oc_omf_file.specs.Outputs.{Output, external_output, communal_output, public_output, symbol_outputs}
 use Rattle.oc_omf_write.specs.declared.entries.Entry.{Entry}
 use Rattle.oc_omf_write.specs.Entries.{entry_for}
 use Rattle.oc_plans.proofs.Turns.{map_append}
+use Rattle.oc_neutral.proofs.FieldLists.{drop_here}
 
 -- the entries of the symbols from position k on
 abbrev pub entries_left : (ℕ × Symbol → Option Output) → List Symbol → ℕ → List Entry
@@ -20,7 +20,7 @@ entries_left output xs k = map entry_for (filter_map output (enumerate_from k (d
 -- that of one symbol, if it has one, and those behind it
 left_step : (output : ℕ × Symbol → Option Output) (xs : List Symbol) (k : ℕ) (x : Symbol) → slice_get xs k ≡ Some x
     → entries_left output xs k ≡ option_map_or (λ (e : Entry). e ∷ []) (option_map entry_for (output (k, x))) [] ++ entries_left output xs (k + 1)
-left_step output xs k x here = ap (λ ys. map entry_for (filter_map output (enumerate_from k ys))) (drop_step xs k x here) ∙ by (output (k, x))
+left_step output xs k x here = ap (λ ys. map entry_for (filter_map output (enumerate_from k ys))) (drop_here xs k x here) ∙ by (output (k, x))
   where
     rest : List Output
     rest = filter_map output (enumerate_from (k + 1) (drop (k + 1) xs))

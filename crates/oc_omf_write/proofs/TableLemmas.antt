@@ -1,5 +1,5 @@
 -- How long the contents of entries are.
-use Rattle.std.proofs.Common.{◌≡◌, ℕ, zero, suc, ◌+◌, ◌-◌, ◌*◌, ◌/◌, ◌%◌, ◌≤◌, Bool, true, false, nat_lt, nat_le, cond, List, [], ◌∷◌, length, take, drop, map, Some, refl, sym, ◌∙◌, ap, subst, arith, length-append}
+use Rattle.std.proofs.Common.{◌≡◌, ℕ, zero, suc, ◌+◌, ◌-◌, ◌*◌, ◌/◌, ◌%◌, ◌≤◌, Bool, true, false, nat_le, cond, List, [], ◌∷◌, length, take, drop, map, Some, refl, sym, ◌∙◌, ap, subst, arith, length-append}
 use Rattle.std.specs.Prelude.{flat_map, slice_get, slice_range}
 use Rattle.std.specs.List.{AllByRecursion}
 use Rattle.std.proofs.lemmas.Option.{none-some, same_Some}
@@ -12,23 +12,17 @@ use Rattle.oc_omf_write.specs.declared.fixups.Fixup.{Fixup}
 use Rattle.oc_omf_write.specs.declared.names.Name.{Name}
 use Rattle.oc_omf_write.specs.Names.{text_by, AreShort}
 use Rattle.oc_omf_write.specs.Written.{fixup_bytes_of}
-
-index_long : (k : ℕ) → length (index_bytes k) ≤ 2
-index_long k = by (nat_lt k 128)
-  where
-    by : (b : Bool) → length (cond b (k ∷ []) ((128 + k / 256) ∷ (k % 256) ∷ [])) ≤ 2
-    by true = omega arith
-    by false = omega arith
+use Rattle.oc_omf_file.proofs.SmallLaws.{length-index}
 
 frame_long : (m : Method) → length (frame_bytes m) ≤ 2
 frame_long m = by (nat_le m.number 2)
   where
     by : (b : Bool) → length (cond b (index_bytes m.index) []) ≤ 2
-    by true = index_long m.index
+    by true = length-index m.index
     by false = omega arith
 
 fixup_long : (from : ℕ) (f : Fixup) → length (fixup_bytes_of from f) ≤ 7
-fixup_long from f = omega (arith, length-append (frame_bytes f.frame) (index_bytes f.target.index), frame_long f.frame, index_long f.target.index)
+fixup_long from f = omega (arith, length-append (frame_bytes f.frame) (index_bytes f.target.index), frame_long f.frame, length-index f.target.index)
 
 -- fixups take at most seven bytes each
 pub fixups_long : (from i : ℕ) (xs : List Fixup) → length (flat_map (fixup_bytes_of from) (take i xs)) ≤ 7 * i

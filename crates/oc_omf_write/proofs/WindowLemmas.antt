@@ -1,13 +1,9 @@
 -- An entry in three parts: its head, its contents and its checksum.
 use Rattle.std.proofs.Common.{◌≡◌, ℕ, ◌+◌, List, [], ◌∷◌, ◌++◌, length, sum, sym, ◌∙◌, ap}
-use Rattle.std.proofs.lemmas.List.Sums.{sum_by-append}
 use Rattle.oc_base.specs.Numbers.{bytes_of_number}
 use Rattle.oc_base.proofs.NumberLaws.{length-bytes_of_number}
 use Rattle.oc_omf.specs.Bytes.{checksum, entry_bytes}
 use Rattle.oc_omf_file.proofs.EntryLaws.{entry_is}
-
-pub sum-append : (xs ys : List ℕ) → sum (xs ++ ys) ≡ sum xs + sum ys
-sum-append xs ys = sum_by-append (λ (x : ℕ). x) xs ys
 
 -- a head has three bytes
 pub head_long : (type : ℕ) (contents head : List ℕ) → head ≡ type ∷ bytes_of_number 2 (length contents + 1) → length head ≡ 3

@@ -1,7 +1,7 @@
 -- Laws of the maps that slots give by their names.
 use Rattle.std.proofs.Common.{◌≡◌, ℕ, suc, zero, ◌<◌, Bool, true, false, cond, not, List, [], ◌∷◌, ◌++◌, length, get_or, Option, None, Some, unwrap_or, max, Result, Ok, Err, OnOk, OnErr, refl, sym, ap, ◌∙◌, arith}
 use Rattle.std.proofs.Math.ListN.{set}
-use Rattle.std.proofs.lemmas.Bool.{false≢true, ltb-false, not-true}
+use Rattle.std.proofs.lemmas.Bool.{false≢true, ltb-false, not-true, false_from_ne_true}
 use Rattle.std.proofs.lemmas.Option.{none-some}
 use Rattle.std.proofs.lemmas.List.Sums.{prefix_len_passes}
 use Rattle.std.proofs.lemmas.Slice.Eq.{bytes_eq-Decides}
@@ -21,12 +21,8 @@ named x y e = (bytes_eq-Decides x y).0 e
 apart : (x y : List ℕ) → bytes_eq x y ≡ false → x ≡ y → ⊥
 apart x y e same = false≢true (sym e ∙ (bytes_eq-Decides x y).1 same)
 
-not-from_apart : (b : Bool) → (b ≡ true → ⊥) → b ≡ false
-not-from_apart true h = absurd (h refl)
-not-from_apart false h = refl
-
 other_name : (x y : List ℕ) → (y ≡ x → ⊥) → same_name x y ≡ false
-other_name x y ne = not-from_apart (same_name x y) (λ e. ne (sym (same_name-true x y e)))
+other_name x y ne = false_from_ne_true (same_name x y) (λ e. ne (sym (same_name-true x y e)))
 
 test-None : {A : Type 0} → (b : Bool) (x : A) → cond b (Some x) None ≡ None → b ≡ false
 test-None true x e = absurd (none-some x (sym e))

@@ -11,37 +11,28 @@ use Rattle.std.specs.Cmp.Lexicographic.{slice_cmp}
 use Rattle.std.proofs.lemmas.Bool.{cases_eq, cases_lt, true≢false}
 use Rattle.std.proofs.lemmas.Cmp.{nat_list_cmp_total, nat_list_eq_equiv}
 use Rattle.std.proofs.lemmas.List.{append-nil, length-map, map-append, take_all, take_more}
-use Rattle.std.proofs.lemmas.List.Elements.{All-nil, All-push}
+use Rattle.std.proofs.lemmas.List.Elements.{All-push}
 use Rattle.std.proofs.lemmas.List.Folds.{list_any-append, list_any_none}
 use Rattle.std.proofs.lemmas.List.Sorted.{All-permutation, IsPermutation-map, list_any-IsPermutation, searchable_from_sorted}
 use Rattle.std.proofs.lemmas.Map.Text.{is_eq-slice_cmp}
 use Rattle.std.proofs.lemmas.Option.{get_or_from_slice_get, none-some, same_Some, slice_get-map, slice_get_within}
 use Rattle.std.proofs.lemmas.Slice.Eq.{bytes_eq-Decides}
-use Rattle.oc_linking.specs.declared.terms.Binding.{Binding}
-use Rattle.oc_linking.specs.declared.terms.Binding.TheVariants.{Local, Global, Undefined, Common, Weak}
 use Rattle.oc_linking.specs.Parts.{is_local}
 use Rattle.oc_linking.specs.Parts as parts
 use Rattle.oc_linking.proofs.FirstFaultLaws.{first_upto_none}
 use Rattle.oc_linking.proofs.Upto.{first_upto_from}
 use Rattle.oc_neutral.specs.declared.symbol.Symbol.{Symbol}
 use Rattle.oc_neutral.specs.Objects.{Object}
-use Rattle.oc_neutral.specs.Faces.{shown_binding, shown_symbol, shown_symbols}
+use Rattle.oc_neutral.specs.Faces.{shown_symbol, shown_symbols}
 use Rattle.oc_neutral.specs.Invariants.{AreDistinct}
 use Rattle.oc_strings.specs.Repeats.{NameList, name_at, nonlocal_name, place_of}
 use Rattle.oc_strings.proofs.RepeatLemmas.{named_within}
 use Rattle.oc_place.specs.declared.index.Named.{Named}
 use Rattle.oc_place.specs.Indexes.{AddsName, AreListed, IsIndex, IsNamed, compared, is_of, present, texts}
 use Rattle.oc_place.specs.Written.{names_of, symbol_named}
+use Rattle.oc_shows.proofs.Reordered.{shown_local}
 
 -- ... names by position
-
--- a binding is shown as Local where it is
-pub local-shown : (symbols : List Symbol) (b : Binding) → is_local (shown_binding symbols b) ≡ is_local b
-local-shown symbols (Local v) = refl
-local-shown symbols (Global v) = refl
-local-shown symbols Undefined = refl
-local-shown symbols (Common size align) = refl
-local-shown symbols (Weak f) = refl
 
 module _ (n : Object) where
   -- the names of the symbols that are not Local
@@ -57,7 +48,7 @@ module _ (n : Object) where
   place_here k s here =
       slice_get-map (λ (y : parts.Symbol). nonlocal_name y.binding y.name) (shown_symbols n) k
       ∙ ap (option_map (λ (y : parts.Symbol). nonlocal_name y.binding y.name)) (slice_get-map (shown_symbol n.symbols) n.symbols k ∙ ap (option_map (shown_symbol n.symbols)) here)
-      ∙ ap (λ b. Some (cond b None (Some s.name))) (local-shown n.symbols s.binding)
+      ∙ ap (λ b. Some (cond b None (Some s.name))) (shown_local n.symbols s.binding)
 
   pub name_here : (k : ℕ) (s : Symbol) → slice_get n.symbols k ≡ Some s → name_at names k ≡ nonlocal_name s.binding s.name
   name_here k s here = ap option_flatten (place_here k s here)

@@ -33,8 +33,9 @@ use Rattle.oc_place.specs.Written.{Notes, Bad, symbol_named}
 use Rattle.oc_place.specs.Placings.{Placing, as_site, at_position, first_bad, given_code, is_dropped, nothing_given, origin, outside_at, outside_of, placement_of, placing_of, plot_code, section_bad, spot_code, spot_for, symbol_bad, symbol_code}
 use Rattle.oc_place.specs.Laws.{CanLink, IsUnused, ObjectCanLink}
 use Rattle.oc_place.proofs.CheckLemmas.{given_is, group_is, member, section_is, spot_is}
-use Rattle.oc_place.proofs.IndexLemmas.{local-shown, name_from, names, one_name, place_none, place_only}
+use Rattle.oc_place.proofs.IndexLemmas.{name_from, names, one_name, place_none, place_only}
 use Rattle.oc_place.proofs.WordLemmas.{AreSmall, IsBaseSmall, IsOutsideSmall, IsSpotSmall, each_get_or, placed_noted, zero_small}
+use Rattle.oc_shows.proofs.Reordered.{shown_local}
 
 -- ... what the checks say
 
@@ -295,7 +296,7 @@ module _ (n : Object) (fine : IsObject n) (notes : Notes) (small : AreSmall (wor
       (place_none (names n) (length (shown_symbols n)) name (λ k here.
       let m = name_from n k name here in
       none k (shown_symbol n.symbols m.symbol) (slice_get-map (shown_symbol n.symbols) n.symbols k ∙ ap (option_map (shown_symbol n.symbols)) m.here)
-      (local-shown n.symbols m.symbol.binding ∙ m.nonlocal) m.same))
+      (shown_local n.symbols m.symbol.binding ∙ m.nonlocal) m.same))
 
   can_link : CanLink w (shown_sections n) (shown_symbols n) p e
   can_link = record {

@@ -1,11 +1,10 @@
 -- Turns of loops that add to a list what is made of a list of things, by their positions.
-use Rattle.std.proofs.Common.{◌≡◌, ℕ, zero, suc, ◌+◌, Bool, true, false, cond, List, [], ◌∷◌, ◌++◌, length, map, take, drop, Option, Some, refl, sym, ◌∙◌, ap, arith}
+use Rattle.std.proofs.Common.{◌≡◌, ℕ, suc, ◌+◌, Bool, true, false, cond, List, [], ◌∷◌, ◌++◌, length, map, drop, Option, Some, refl, sym, ◌∙◌, ap}
 use Rattle.std.specs.Prelude.{slice_get}
-use Rattle.std.specs.List.{AllByRecursion, enumerate_from, filter}
-use Rattle.std.proofs.lemmas.Option.{none-some, same_Some}
+use Rattle.std.specs.List.{enumerate_from, filter}
 use Rattle.oc_shelf.specs.Writing.Parts.{laid}
 use Rattle.oc_target.proofs.Giving.{more_given, all_given}
-use Rattle.oc_target.proofs.Steps.{drop_step}
+use Rattle.oc_neutral.proofs.FieldLists.{drop_here}
 
 pub map_append : {X Y : Type 0} (f : X → Y) (xs ys : List X) → map f (xs ++ ys) ≡ map f xs ++ map f ys
 map_append f [] ys = refl
@@ -15,11 +14,11 @@ map_append f (x ∷ xs) ys = ap (λ zs. f x ∷ zs) (map_append f xs ys)
 
 pub map_step : {X Y : Type 0} (f : ℕ × X → Y) (xs : List X) (k : ℕ) (x : X) → slice_get xs k ≡ Some x
     → map f (enumerate_from k (drop k xs)) ≡ f (k, x) ∷ map f (enumerate_from (k + 1) (drop (k + 1) xs))
-map_step f xs k x here = ap (λ ys. map f (enumerate_from k ys)) (drop_step xs k x here)
+map_step f xs k x here = ap (λ ys. map f (enumerate_from k ys)) (drop_here xs k x here)
 
 pub filter_step : {X Y : Type 0} (f : ℕ × X → Y) (test : ℕ × X → Bool) (xs : List X) (k : ℕ) (x : X) → slice_get xs k ≡ Some x
     → map f (filter test (enumerate_from k (drop k xs))) ≡ cond (test (k, x)) (f (k, x) ∷ []) [] ++ map f (filter test (enumerate_from (k + 1) (drop (k + 1) xs)))
-filter_step {X} f test xs k x here = ap (λ ys. map f (filter test (enumerate_from k ys))) (drop_step xs k x here) ∙ by (test (k, x))
+filter_step {X} f test xs k x here = ap (λ ys. map f (filter test (enumerate_from k ys))) (drop_here xs k x here) ∙ by (test (k, x))
   where
     rest : List (ℕ × X)
     rest = filter test (enumerate_from (k + 1) (drop (k + 1) xs))
@@ -52,17 +51,6 @@ turn_if {A} {Y} into done now a y wanted test rest left all is same told step so
 -- nothing is left
 pub whole : {A Y : Type 0} (into : A → Option Y) (now : List A) (left : List Y) (all : List (Option Y)) → left ≡ [] → map into now ++ map Some left ≡ all → map into now ≡ all
 whole into now left all none so_far = all_given (map into now) (map Some left) all (ap (map Some) none) so_far
-
--- the first things, with the next
-pub take_next : {X : Type 0} (xs : List X) (k : ℕ) (x : X) → slice_get xs k ≡ Some x → take (k + 1) xs ≡ take k xs ++ x ∷ []
-take_next [] k x here = absurd (none-some x here)
-take_next (y ∷ xs) zero x here = ap (λ z. z ∷ []) (same_Some y x here)
-take_next (y ∷ xs) (suc k) x here = let e : suc k + 1 ≡ suc (k + 1) = omega arith in ap (λ m. take m (y ∷ xs)) e ∙ ap (λ zs. y ∷ zs) (take_next xs k x here)
-
--- what holds of each thing by its position holds of all
-pub from_each : {X : Type 0} (P : X → Type 0) (xs : List X) → ((k : ℕ) (x : X) → slice_get xs k ≡ Some x → P x) → AllByRecursion P xs
-from_each P [] each = tt
-from_each P (x ∷ xs) each = (each 0 x refl, from_each P xs (λ k y h. each (suc k) y h))
 
 -- as many things are laid as there are
 pub length-laid : {X : Type 0} (begin : ℕ → X → ℕ) (size : X → ℕ) (at : ℕ) (xs : List X) → length (laid begin size at xs) ≡ length xs

@@ -36,7 +36,7 @@ given_more (k ∷ keys) key other = ap (λ b. bytes_eq other k || b) (given_more
     assoc true b c = refl
     assoc false b c = refl
 
-or_true : (b : Bool) → (b || true) ≡ true
+pub or_true : (b : Bool) → (b || true) ≡ true
 or_true true = refl
 or_true false = refl
 

@@ -2,11 +2,9 @@
 use Rattle.std.proofs.Common.{◌≡◌, ℕ, zero, suc, ◌+◌, ◌-◌, ◌/◌, ◌%◌, ◌^◌, ◌<◌, ◌⊎◌, Bool, true, false, cond, List, [], ◌∷◌, length, map, get_or, replicate, Option, Some, None, refl, sym, ◌∙◌, ap, arith}
 use Rattle.std.specs.Prelude.{slice_get}
 use Rattle.std.specs.Option.{option_map, option_map_or, unwrap_or}
-use Rattle.std.proofs.lemmas.Bool.{lt-ltb}
 use Rattle.std.proofs.lemmas.Grind.{same_number_lists}
 use Rattle.std.proofs.lemmas.List.{length-map, length-replicate}
 use Rattle.std.proofs.lemmas.Option.{none-some, same_Some}
-use Rattle.oc_linking.specs.declared.terms.Check.TheVariants.{Wrap}
 use Rattle.oc_linking.specs.declared.terms.Keep.{Keep}
 use Rattle.oc_linking.specs.declared.terms.Width.{Width}
 use Rattle.oc_linking.specs.Fits.{bytes_of}
@@ -21,7 +19,7 @@ use Rattle.oc_linking.proofs.Overlay.{length-overlay}
 use Rattle.oc_linking.proofs.Storing.{byte_of_image, byte_of_field, few}
 use Rattle.oc_linking.proofs.Upto.{first_upto_from}
 use Rattle.oc_algebra.specs.Folds.{low_of}
-use Rattle.oc_algebra.proofs.FoldLaws.{stored_law}
+use Rattle.oc_algebra.proofs.FoldLaws.{low_of-byte}
 use Rattle.oc_neutral.specs.declared.section.Section.{Section}
 use Rattle.oc_neutral.specs.declared.reloc.Reloc.{Reloc}
 use Rattle.oc_neutral.specs.Objects.{Object}
@@ -38,12 +36,6 @@ use Rattle.oc_shows.proofs.Showing.{IsBase, IsShowing, stored_at}
 use Rattle.oc_neutral.proofs.Positions.{each_at, images_same, lengths_same, lists_same}
 use Rattle.oc_neutral.proofs.WrittenBytes.{byte_at}
 
--- a byte of the low part of a number is one of the number
-low-byte : (k : Width) (r back : ℕ) → back < bytes_of k → low_of k r / 256 ^ back % 256 ≡ r / 256 ^ back % 256
-low-byte k r back low =
-    same_Some (low_of k r / 256 ^ back % 256) (r / 256 ^ back % 256)
-    (sym (stored_law k Wrap r back low) ∙ ap (λ c. cond c (Some (r / 256 ^ back % 256)) None) (lt-ltb back (bytes_of k) low))
-
 -- a section of contents that are filled
 overlays_at : (patches : Patches) (j : ℕ) (yss : List (List ℕ)) (k : ℕ) → slice_get (overlays patches j yss) k ≡ option_map (overlay (patches (j + k)) 0) (slice_get yss k)
 overlays_at patches j [] k = refl
@@ -52,7 +44,7 @@ overlays_at patches j (ys ∷ yss) (suc k) =
     let e : j + 1 + k ≡ j + suc k = omega arith in
     overlays_at patches (j + 1) yss k ∙ ap (λ (i : ℕ). option_map (overlay (patches i) 0) (slice_get yss k)) e
 
-length-overlays : (patches : Patches) (j : ℕ) (yss : List (List ℕ)) → length (overlays patches j yss) ≡ length yss
+pub length-overlays : (patches : Patches) (j : ℕ) (yss : List (List ℕ)) → length (overlays patches j yss) ≡ length yss
 length-overlays patches j [] = refl
 length-overlays patches j (ys ∷ yss) = ap (λ (n : ℕ). suc n) (length-overlays patches (j + 1) yss)
 
@@ -143,7 +135,7 @@ module _ (f : Dialect) (b : List ℕ) (keep : Keep) (base n : Object) (given : R
         ∙ same_Some (from.1.residue / 256 ^ first.0 % 256) m (sym byte ∙ first.2)
       where
         low : (c : Bool) (k : Width) (r back : ℕ) → back < bytes_of k → cond c (low_of k r) r / 256 ^ back % 256 ≡ r / 256 ^ back % 256
-        low true k r back inside = low-byte k r back inside
+        low true k r back inside = low_of-byte k r back inside
         low false k r back inside = refl
 
     -- and one that is not

@@ -1,5 +1,5 @@
 -- An object to which a file's relocations were added is whole and readable, where it was before.
-use Rattle.std.proofs.Common.{◌≡◌, ℕ, suc, ◌<◌, ◌≤◌, true, List, [], ◌∷◌, length, get_or, Option, Some, None, Ok, refl, sym, ◌∙◌, ap, subst, arith}
+use Rattle.std.proofs.Common.{◌≡◌, ℕ, ◌<◌, ◌≤◌, true, List, [], ◌∷◌, length, get_or, Option, Some, None, Ok, refl, sym, ◌∙◌, ap, subst, arith}
 use Rattle.std.specs.Prelude.{slice_get}
 use Rattle.std.specs.List.{AllByRecursion}
 use Rattle.std.specs.Option.{option_map_or}
@@ -41,11 +41,7 @@ use Rattle.oc_shows.proofs.Showing.{normal_in}
 use Rattle.oc_neutral.proofs.MoreRelocs.{all_placed, by_list}
 use Rattle.oc_neutral.proofs.NormalLemmas.{kept_hinted, kept_left, section_for}
 use Rattle.oc_neutral.proofs.Positions.{each_at, images_same, lengths_same, there_at}
-
--- what holds of each element holds of all
-all_from : {X : Type 0} (P : X → Type 0) (xs : List X) → ((k : ℕ) (x : X) → slice_get xs k ≡ Some x → P x) → AllByRecursion P xs
-all_from P [] each = tt
-all_from P (x ∷ xs) each = (each 0 x refl, all_from P xs (λ k. each (suc k)))
+use Rattle.oc_shelf.proofs.WritingLaws.MemberLemmas.{all_members}
 
 -- what holds of the normal form of each entry holds of each relocation
 fields_hold : (P : ℕ → Reloc → Type 0) (base d : Draft) (entries : List AddedReloc) → IsDraft base → ((s : ℕ) → list_of base.object.relocs s ≡ []) → ((s : ℕ) → list_of base.folded s ≡ [])
@@ -125,13 +121,13 @@ module _ (base d : Draft) (given : RelocMap) (has : IsHolding base d given) wher
       (subst (λ (symbols : List Symbol). AllByRecursion (IsSymbol (shaped base.object.format symbols)) symbols) (sym has.showing.symbols) (symbols-like base.object.symbols all))
 
   aligns-whole : AllByRecursion (λ (z : Section). IsAlign z.align) base.object.sections → AllByRecursion (λ (z : Section). IsAlign z.align) d.object.sections
-  aligns-whole all = all_from (λ (z : Section). IsAlign z.align) d.object.sections (λ k x here.
+  aligns-whole all = all_members (λ (z : Section). IsAlign z.align) d.object.sections (λ k x here.
       let was = before k x here in
       subst IsAlign (sym (ap (λ (y : parts.Section). y.align) (framed k x was.0 here was.1))) (each_at (λ (z : Section). IsAlign z.align) base.object.sections k was.0 all was.1))
 
   tags-whole : AllByRecursion (λ (z : Section). can_have base.object.format z.kind z.name z.tag ≡ true) base.object.sections
       → AllByRecursion (λ (z : Section). can_have d.object.format z.kind z.name z.tag ≡ true) d.object.sections
-  tags-whole all = all_from (λ (z : Section). can_have d.object.format z.kind z.name z.tag ≡ true) d.object.sections (λ k x here.
+  tags-whole all = all_members (λ (z : Section). can_have d.object.format z.kind z.name z.tag ≡ true) d.object.sections (λ k x here.
       let was = before k x here in
       ap (λ (format : Format). can_have format x.kind x.name x.tag) has.showing.format
       ∙ ap (λ (y : parts.Section). can_have base.object.format y.kind y.name y.tag) (framed k x was.0 here was.1)

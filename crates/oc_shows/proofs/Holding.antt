@@ -2,7 +2,7 @@
 use Rattle.std.proofs.Common.{◌≡◌, ℕ, ◌+◌, ◌-◌, ◌/◌, ◌%◌, ◌^◌, ◌<◌, ◌≤◌, ◌⊎◌, inl, inr, Bool, true, false, ◌&&◌, ◌||◌, cond, eqb, List, [], ◌∷◌, map, Option, Some, None, Ok, refl, sym, ◌∙◌, ap, subst, arith}
 use Rattle.std.specs.Prelude.{nat_eq, nat_le, nat_lt, slice_get}
 use Rattle.std.specs.Option.{option_map, option_and_then, option_map_or}
-use Rattle.std.proofs.lemmas.Bool.{eqb-true, eq-eqb, leb-true, ltb-true, true≢false}
+use Rattle.std.proofs.lemmas.Bool.{eqb-true, eq-eqb, leb-true, ltb-true, true≢false, and_parts, or_cases}
 use Rattle.std.proofs.lemmas.Bool.Decides.{nat_tests}
 use Rattle.std.proofs.lemmas.Option.{none-some, same_Some, slice_get-map}
 use Rattle.oc_base.specs.declared.format.Format.{Format}
@@ -90,16 +90,6 @@ holds_same base d given other same is = record {
   taken = λ t x y k r here common. is.taken t x y k r (same t x ∙ here) common;
   met = λ t y k met. let m : IsMetBy given t y k = is.met t y k met in record { from = m.from; reloc = m.reloc; here = sym (same t m.from) ∙ m.here; common = m.common };
 }
-
-both : (a b : Bool) → (a && b) ≡ true → (a ≡ true) × (b ≡ true)
-both true true e = (refl, refl)
-both true false e = absurd (true≢false (sym e))
-both false b e = absurd (true≢false (sym e))
-
--- one of the two tests passes
-either : (a b : Bool) → (a || b) ≡ true → (a ≡ true) ⊎ (b ≡ true)
-either true b e = inl refl
-either false b e = inr e
 
 -- the normal form is the one among the symbols of the base
 pub normal-base : (base d : Draft) (given : RelocMap) → IsHolding base d given → (s at : ℕ) (r : Reloc) → normal_of (word_for d.object.format) d.object.symbols s at r ≡ normal_in base.object s at r
@@ -249,8 +239,8 @@ module _ (base d : Draft) (given : RelocMap) (has : IsHolding base d given) (s a
       or_true false = refl
 
   met : (t y n : ℕ) → is_met e t y n ≡ true → IsMetBy more t y n
-  met t y n is_true = elim (either (nat_eq t s && have_common at k y n) (is_met d t y n) (sym (is.met t y n) ∙ is_true)) [
-    | inl new ↦ let two = both (eqb t s) (have_common at k y n) new in record { from = at; reloc = r; here = found_at t at two.0 (eq-eqb at at refl); common = two.1 }
+  met t y n is_true = elim (or_cases (nat_eq t s && have_common at k y n) (is_met d t y n) (sym (is.met t y n) ∙ is_true)) [
+    | inl new ↦ let two = and_parts (eqb t s) (have_common at k y n) new in record { from = at; reloc = r; here = found_at t at two.0 (eq-eqb at at refl); common = two.1 }
     | inr old ↦ let m : IsMetBy given t y n = has.met t y n old in record { from = m.from; reloc = m.reloc; here = still-more t m.from m.reloc m.here; common = m.common }
   ]
 

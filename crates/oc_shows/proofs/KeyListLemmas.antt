@@ -3,7 +3,7 @@ use Rattle.std.proofs.Common.{◌≡◌, ◌≢◌, ℕ, zero, suc, ◌+◌, ◌
 use Rattle.std.specs.Prelude.{not, ◌||◌, bytes_eq, slice_get}
 use Rattle.std.specs.List.{AllByRecursion, list_any, position_or_len}
 use Rattle.std.specs.Option.{option_map}
-use Rattle.std.proofs.lemmas.Bool.{eq-eqb, ne_eqb, true≢false}
+use Rattle.std.proofs.lemmas.Bool.{eq-eqb, ne_eqb, true≢false, or_parts}
 use Rattle.std.proofs.lemmas.List.{length-append}
 use Rattle.std.proofs.lemmas.List.Folds.{list_any-append}
 use Rattle.std.proofs.lemmas.Option.{none-some, same_Some}
@@ -12,6 +12,7 @@ use Rattle.oc_base.specs.Strings.{is_given}
 use Rattle.oc_shows.specs.Computed.{keys_after}
 use Rattle.oc_neutral.specs.Invariants.{AreBegun, IsNext, begun_with}
 use Rattle.oc_shows.proofs.KeysMore.{position_stays}
+use Rattle.oc_neutral.proofs.Positions.{each_at}
 
 -- what holds of each key that a section has holds of all that are gathered
 pub keys_all : (P : List ℕ → Type 0) (before : List (List ℕ)) (xs : List (Option (List ℕ))) → ((k : ℕ) (key : List ℕ) → slice_get xs k ≡ Some (Some key) → P key) → AllByRecursion P (keys_after before xs)
@@ -24,10 +25,6 @@ keys_all P before (Some first ∷ xs) each = by (is_given before first) (keys_al
     by true old new = old
     by false old new = (each 0 first refl, new)
 
-neither : (a b : Bool) → (a || b) ≡ false → (a ≡ false) × (b ≡ false)
-neither true b e = absurd (true≢false e)
-neither false b e = (refl, e)
-
 -- none that is gathered stands before
 new_keys : (before : List (List ℕ)) (xs : List (Option (List ℕ))) → AllByRecursion (λ key. is_given before key ≡ false) (keys_after before xs)
 new_keys before [] = tt
@@ -36,18 +33,12 @@ new_keys before (Some first ∷ xs) = by (is_given before first) refl (new_keys 
   where
     fewer : (keys : List (List ℕ)) → AllByRecursion (λ key. is_given (before ++ first ∷ []) key ≡ false) keys → AllByRecursion (λ key. is_given before key ≡ false) keys
     fewer [] all = tt
-    fewer (key ∷ keys) all = ((neither (is_given before key) (list_any (bytes_eq key) (first ∷ [])) (sym (list_any-append (bytes_eq key) before (first ∷ [])) ∙ all.0)).0, fewer keys all.1)
+    fewer (key ∷ keys) all = ((or_parts (is_given before key) (list_any (bytes_eq key) (first ∷ [])) (sym (list_any-append (bytes_eq key) before (first ∷ [])) ∙ all.0)).0, fewer keys all.1)
 
     by : (c : Bool) → is_given before first ≡ c → AllByRecursion (λ key. is_given before key ≡ false) (keys_after before xs) → AllByRecursion (λ key. is_given before key ≡ false) (keys_after (before ++ first ∷ []) xs)
         → AllByRecursion (λ key. is_given before key ≡ false) (cond c (keys_after before xs) (first ∷ keys_after (before ++ first ∷ []) xs))
     by true e old new = old
     by false e old new = (e, new)
-
--- what holds of all holds at each position
-pub all_at : {X : Type 0} (P : X → Type 0) (xs : List X) (k : ℕ) (x : X) → AllByRecursion P xs → slice_get xs k ≡ Some x → P x
-all_at P [] k x all here = absurd (none-some x here)
-all_at P (y ∷ ys) zero x all here = subst P (same_Some y x here) all.0
-all_at P (y ∷ ys) (suc k) x all here = all_at P ys k x all.1 here
 
 -- those that are gathered differ
 pub keys_apart : (before : List (List ℕ)) (xs : List (Option (List ℕ))) (i j : ℕ) (k l : List ℕ) → i < j → slice_get (keys_after before xs) i ≡ Some k → slice_get (keys_after before xs) j ≡ Some l → k ≢ l
@@ -58,9 +49,9 @@ keys_apart before (Some first ∷ xs) i j k l low at_i at_j same = by (is_given 
   where
     apart : (n : ℕ) → slice_get (keys_after (before ++ first ∷ []) xs) n ≡ Some l → first ≡ l → ⊥
     apart n there e =
-        let new : is_given (before ++ first ∷ []) l ≡ false = all_at (λ key. is_given (before ++ first ∷ []) key ≡ false) (keys_after (before ++ first ∷ []) xs) n l (new_keys (before ++ first ∷ []) xs) there in
-        let last = (neither (is_given before l) (list_any (bytes_eq l) (first ∷ [])) (sym (list_any-append (bytes_eq l) before (first ∷ [])) ∙ new)).1 in
-        true≢false (sym ((bytes_eq-Decides l first).1 (sym e)) ∙ (neither (bytes_eq l first) false last).0)
+        let new : is_given (before ++ first ∷ []) l ≡ false = each_at (λ key. is_given (before ++ first ∷ []) key ≡ false) (keys_after (before ++ first ∷ []) xs) n l (new_keys (before ++ first ∷ []) xs) there in
+        let last = (or_parts (is_given before l) (list_any (bytes_eq l) (first ∷ [])) (sym (list_any-append (bytes_eq l) before (first ∷ [])) ∙ new)).1 in
+        true≢false (sym ((bytes_eq-Decides l first).1 (sym e)) ∙ (or_parts (bytes_eq l first) false last).0)
 
     by : (c : Bool) (m n : ℕ) → m < n → slice_get (cond c (keys_after before xs) (first ∷ keys_after (before ++ first ∷ []) xs)) m ≡ Some k
         → slice_get (cond c (keys_after before xs) (first ∷ keys_after (before ++ first ∷ []) xs)) n ≡ Some l

@@ -39,7 +39,7 @@ abbrev pub folds : List Symbol → Reloc → Bool
 folds symbols r = cancels r.form.base (section_for (place_among symbols r.target) r.target) r.form.less
 
 -- so says the name of the target too
-cancels-symbol : (b : Base) (k : ℕ) (l : Less) → cancels b (target.Symbol k) l ≡ false
+pub cancels-symbol : (b : Base) (k : ℕ) (l : Less) → cancels b (target.Symbol k) l ≡ false
 cancels-symbol base.Address k l = refl
 cancels-symbol base.Slot k l = refl
 cancels-symbol base.GotBase k l = refl
@@ -72,7 +72,7 @@ local_same symbols Undefined = refl
 local_same symbols (Common size align) = refl
 local_same symbols (Weak f) = refl
 
-site_same : (w : Word) (p : Placement) (symbols : List Symbol) (b : Binding) → fixed_site w p (shown_binding symbols b) ≡ fixed_site w p b
+pub site_same : (w : Word) (p : Placement) (symbols : List Symbol) (b : Binding) → fixed_site w p (shown_binding symbols b) ≡ fixed_site w p b
 site_same w p symbols (Local x) = refl
 site_same w p symbols (Global x) = refl
 site_same w p symbols Undefined = refl

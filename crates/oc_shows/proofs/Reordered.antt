@@ -45,7 +45,7 @@ of_map f [] k y here = absurd (none-some y here)
 of_map f (x ∷ xs) zero y here = (x, refl, same_Some (f x) y here)
 of_map f (x ∷ xs) (suc k) y here = of_map f xs k y here
 
-shown_local : (symbols : List Symbol) (b : Binding) → is_local (shown_binding symbols b) ≡ is_local b
+pub shown_local : (symbols : List Symbol) (b : Binding) → is_local (shown_binding symbols b) ≡ is_local b
 shown_local symbols (Local v) = refl
 shown_local symbols (Global v) = refl
 shown_local symbols Undefined = refl

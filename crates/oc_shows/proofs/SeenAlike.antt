@@ -1,7 +1,7 @@
 -- The sections and the symbols that are seen of an object that was written are those of the object, in another order and with other numbers.
-use Rattle.std.proofs.Common.{◌≡◌, ℕ, zero, suc, ◌+◌, ◌<◌, Bool, true, false, cond, List, [], ◌∷◌, map, replicate, Option, Some, None, refl, sym, ◌∙◌, ap, arith}
+use Rattle.std.proofs.Common.{◌≡◌, ℕ, zero, suc, ◌+◌, ◌<◌, Bool, true, false, cond, List, [], ◌∷◌, map, replicate, Option, Some, None, refl, sym, ◌∙◌, ap}
 use Rattle.std.specs.Prelude.{slice_get, nat_eq, filter_map}
-use Rattle.std.specs.List.{enumerate_from, position_or_len, cons_option}
+use Rattle.std.specs.List.{enumerate_from, cons_option}
 use Rattle.std.specs.Option.{option_map, option_map_or, option_and_then, unwrap_or}
 use Rattle.std.proofs.lemmas.Bool.{eq-eqb, ne_eqb, true≢false}
 use Rattle.std.proofs.lemmas.Option.{none-some, same_Some}
@@ -36,9 +36,10 @@ use Rattle.oc_shows.specs.Seen.{place_at, seen_with, seen_symbol, seen_symbols, 
 use Rattle.oc_shows.specs.Reordered.{AreAlike}
 use Rattle.oc_shows.proofs.SeenLines.{IsShown}
 use Rattle.oc_shows.proofs.Reordered.{member_map, of_map, original_found}
+use Rattle.oc_shelf.proofs.WritingLaws.MemberLemmas.{position_first}
 
 -- a filter that leaves all
-filter_all : {X Y : Type 0} (f : X → Option Y) (xs : List X) → ((i : ℕ) (x : X) → slice_get xs i ≡ Some x → (y : Y) × (f x ≡ Some y))
+pub filter_all : {X Y : Type 0} (f : X → Option Y) (xs : List X) → ((i : ℕ) (x : X) → slice_get xs i ≡ Some x → (y : Y) × (f x ≡ Some y))
     → (i : ℕ) (x : X) (y : Y) → slice_get xs i ≡ Some x → f x ≡ Some y → slice_get (filter_map f xs) i ≡ Some y
 filter_all f [] all i x y here is = absurd (none-some x here)
 filter_all f (z ∷ xs) all zero x y here is = ap (λ o. slice_get (cons_option o (filter_map f xs)) 0) (ap f (same_Some z x here) ∙ is)
@@ -55,16 +56,6 @@ filter_back f (z ∷ xs) all zero y here =
 filter_back f (z ∷ xs) all (suc i) y here =
     let m = all 0 z refl in
     filter_back f xs (λ j u h. all (suc j) u h) i y (sym (ap (λ o. slice_get (cons_option o (filter_map f xs)) (suc i)) m.1) ∙ here)
-
--- the first place that passes a test
-position_first : {X : Type 0} (test : X → Bool) (xs : List X) (k : ℕ) (x : X) → slice_get xs k ≡ Some x → test x ≡ true
-    → ((j : ℕ) (y : X) → j < k → slice_get xs j ≡ Some y → test y ≡ false) → position_or_len test xs ≡ k
-position_first test [] k x here passes first = absurd (none-some x here)
-position_first test (y ∷ xs) zero x here passes first = let own : test y ≡ true = ap test (same_Some y x here) ∙ passes in rw own refl
-position_first test (y ∷ xs) (suc k) x here passes first =
-    let later : position_or_len test xs ≡ k = position_first test xs k x here passes (λ j z l h. first (suc j) z (omega (arith, l)) h) in
-    let e : 1 + k ≡ suc k = omega arith in
-    rw (first 0 y (omega arith) refl, later) e
 
 module _ (m : Manner) (n : Object) (shown : List (ℕ × ℕ)) (is : IsShown n shown) where
   abbrev again : Object

@@ -46,7 +46,7 @@ frame-groups [] = refl
 frame-groups (x ∷ xs) = ap (λ gs. x.group ∷ gs) (frame-groups xs)
 
 -- what is live was there
-live_there : (folded : Bool) (o : Option Patch) (q : Patch) → live_of folded o ≡ Some q → o ≡ Some q
+pub live_there : (folded : Bool) (o : Option Patch) (q : Patch) → live_of folded o ≡ Some q → o ≡ Some q
 live_there true o q here = absurd (none-some q here)
 live_there false o q here = here
 

@@ -43,7 +43,7 @@ front_nil (suc n) = omega (arith, front_nil n)
 less : (m n : ℕ) → m < n → nat_cmp m n ≡ Less
 less m n l = sym (nat_cmp_is m n Less l)
 
-equal : (m n : ℕ) → m ≡ n → nat_cmp m n ≡ Equal
+pub equal : (m n : ℕ) → m ≡ n → nat_cmp m n ≡ Equal
 equal m n e = sym (nat_cmp_is m n Equal e)
 
 greater : (m n : ℕ) → n < m → nat_cmp m n ≡ Greater

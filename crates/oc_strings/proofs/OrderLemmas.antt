@@ -11,6 +11,7 @@ use Rattle.std.specs.declared.cmp.Ordering.TheVariants.{Less, Equal, Greater}
 use Rattle.oc_base.specs.Strings.{ends}
 use Rattle.oc_strings.specs.Order.{SharesEnd, is_before, Ascends, StrictlyAscends, name_at}
 use Rattle.oc_strings.proofs.EndLemmas.{ends_split, ends_from}
+use Rattle.oc_strings.proofs.KeyLemmas.{equal}
 
 -- the order of lists of bytes
 abbrev pub order : List ℕ → List ℕ → Ordering
@@ -35,14 +36,11 @@ record Begins (x y : List ℕ) : Type 0 where
   rest : List ℕ
   is : y ≡ x ++ rest
 
-tied : (m n : ℕ) → m ≡ n → nat_cmp m n ≡ Equal
-tied m n e = grind (arith, nat_tests)
-
 -- heads of which neither is above the other
 heads_equal : (a b : ℕ) (o p : Ordering) → is_le (ordering_then (nat_cmp a b) o) ≡ true → is_le (ordering_then (nat_cmp b a) p) ≡ true → (a ≡ b) × (is_le o ≡ true) × (is_le p ≡ true)
 heads_equal a b o p low high =
     ⊎_elim
-    (λ same. (same, subst (λ (t : Ordering). is_le (ordering_then t o) ≡ true) (tied a b same) low, subst (λ (t : Ordering). is_le (ordering_then t p) ≡ true) (tied b a (sym same)) high))
+    (λ same. (same, subst (λ (t : Ordering). is_le (ordering_then t o) ≡ true) (equal a b same) low, subst (λ (t : Ordering). is_le (ordering_then t p) ≡ true) (equal b a (sym same)) high))
     (λ apart. absurd (⊎_elim
     (λ below. both_ways false refl (subst (λ (t : Ordering). is_le (ordering_then t p) ≡ true) (above b a below) high))
     (λ over. both_ways false refl (subst (λ (t : Ordering). is_le (ordering_then t o) ≡ true) (above a b over) low))
@@ -109,7 +107,7 @@ tied_same (a ∷ x) (b ∷ y) e =
     ap (λ c. c ∷ x) h.0 ∙ ap (λ t. b ∷ t) tail
   where
     inner : (a b : ℕ) (o : Ordering) → a ≡ b → ordering_then (nat_cmp a b) o ≡ Equal → o ≡ Equal
-    inner a b o same e = subst (λ (t : Ordering). ordering_then t o ≡ Equal) (tied a b same) e
+    inner a b o same e = subst (λ (t : Ordering). ordering_then t o ≡ Equal) (equal a b same) e
 
 -- of two names that are not the same, one stands before the other
 pub same_or_before : (a b : List ℕ) → is_before b a ≡ false → (a ≡ b → ⊥) → is_before a b ≡ true
@@ -148,7 +146,7 @@ behind Less e = absurd (both_ways false refl (sym e))
 behind Equal e = refl
 behind Greater e = refl
 
--- what comes at or before another one, and that at or before it, is tied to it
+-- what comes at or before another one, and that at or before it, is equal to it
 both_before : (o : Ordering) → is_le o ≡ true → is_le (ordering_reverse o) ≡ true → o ≡ Equal
 both_before Less e f = absurd (both_ways false refl f)
 both_before Equal e f = refl

@@ -4,7 +4,7 @@ use mathlib.Core.Path.{fun_ext}
 use Rattle.std.specs.Prelude.{not, ◌&&◌}
 use Rattle.std.proofs.lemmas.Bool.Decides.{nat_tests}
 use Rattle.std.specs.Option.{option_map, option_map_or}
-use Rattle.std.proofs.lemmas.Bool.{true≢false}
+use Rattle.std.proofs.lemmas.Bool.{true≢false, and_parts}
 use Rattle.oc_base.specs.declared.format.Format.{Format}
 use Rattle.oc_base.specs.declared.format.Format.TheVariants.{Mac64}
 use Rattle.oc_base.specs.declared.format.Word.{Word}
@@ -38,11 +38,6 @@ use Rattle.oc_target.specs.Fitted.{IsFit, is_stored_at}
 use Rattle.oc_target.proofs.Refit.{refit, symbols-fitted, values-refit, exports-refit}
 use Rattle.oc_neutral.proofs.Standing.{ends_by, wide}
 use Rattle.oc_neutral.proofs.Mapped.{from_mapped}
-
--- both of two tests hold
-pub both : (a b : Bool) → (a && b) ≡ true → (a ≡ true) × (b ≡ true)
-both true b h = (refl, h)
-both false b h = absurd (true≢false (sym h))
 
 -- a residue of 64 bits fits eight bytes by every check
 eight_bytes_fit : (check : Check) (r : ℕ) → r < 2 ^ 64 → fits W64 Eight check r ≡ true
@@ -81,9 +76,9 @@ fit_of w width check x is eight small =
 stored_fit : (n : Object) (target : Format) → word_for target ≡ word_for n.format → (p : Placement) (v : Valuation) (s at : ℕ) (r : Reloc)
     → is_stored target s r ≡ true → overflows (word_for n.format) (patch_of p v (field_of n s at r)) ≡ false
 stored_fit n target word p v s at r stored =
-    let m = both (family_of target).stores_own_start (is_self_reference s r) stored in
-    let long = both (is_long_distance r.form) (is_section s r.target) m.1 in
-    let eight : r.form.width ≡ Eight = width_of_eight r.form.width (both (is_address r.form.base && is_place r.form.less) (is_eight r.form.width) long.0).1 in
+    let m = and_parts (family_of target).stores_own_start (is_self_reference s r) stored in
+    let long = and_parts (is_long_distance r.form) (is_section s r.target) m.1 in
+    let eight : r.form.width ≡ Eight = width_of_eight r.form.width (and_parts (is_address r.form.base && is_place r.form.less) (is_eight r.form.width) long.0).1 in
     let w : word_for n.format ≡ W64 = sym word ∙ word_of_mac64 target m.0 in
     fit_of (word_for n.format) r.form.width r.form.check (residue_at (word_for n.format) n.symbols p v s at r) w eight (below (word_for n.format) n p v s at r)
 

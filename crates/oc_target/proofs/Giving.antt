@@ -11,7 +11,7 @@ use Rattle.oc_neutral.specs.Bindings.{is_written_by}
 use Rattle.oc_neutral.specs.Coff.Strings.{is_long, defaults_of, is_tabled, names_where, key_strings, coff_strings}
 use Rattle.oc_neutral.specs.KeySymbols.{is_key}
 use Rattle.oc_neutral.specs.Objects.{Object}
-use Rattle.oc_target.proofs.Steps.{drop_step}
+use Rattle.oc_neutral.proofs.FieldLists.{drop_here}
 
 -- more is given, and less is left
 pub more_given : {Y : Type 0} (before now rest left some all : List Y) → now ≡ before ++ some → rest ≡ some ++ left → before ++ rest ≡ all → now ++ left ≡ all
@@ -30,7 +30,7 @@ long_names test xs = filter is_long (map (λ (s : Symbol). s.name) (filter test 
 pub long_step : (test : Symbol → Bool) (xs : List Symbol) (k : ℕ) (x : Symbol) (name : List ℕ) (b : Bool) → slice_get xs k ≡ Some x → name ≡ x.name → b ≡ test x
     → long_names test (drop k xs) ≡ cond b (filter is_long (name ∷ [])) [] ++ long_names test (drop (k + 1) xs)
 long_step test xs k x name b here named tested =
-    ap (long_names test) (drop_step xs k x here) ∙ by (test x)
+    ap (long_names test) (drop_here xs k x here) ∙ by (test x)
     ∙ ap (λ m. cond (test x) (filter is_long (m ∷ [])) [] ++ long_names test (drop (k + 1) xs)) (sym named)
     ∙ ap (λ c. cond c (filter is_long (name ∷ [])) [] ++ long_names test (drop (k + 1) xs)) (sym tested)
   where
@@ -49,13 +49,13 @@ long_step test xs k x name b here named tested =
 
 -- what is made of an item and of those behind it
 pub flat_step : {X Y : Type 0} (f : X → List Y) (xs : List X) (k : ℕ) (x : X) → slice_get xs k ≡ Some x → flat_map f (drop k xs) ≡ f x ++ flat_map f (drop (k + 1) xs)
-flat_step f xs k x here = ap (flat_map f) (drop_step xs k x here)
+flat_step f xs k x here = ap (flat_map f) (drop_here xs k x here)
 
 -- the names of a symbol that is not Local and of those behind it
 pub nonlocal_step : (xs : List Symbol) (k : ℕ) (x : Symbol) → slice_get xs k ≡ Some x
     → map (λ (s : Symbol). s.name) (filter (λ (s : Symbol). not (is_local s.binding)) (drop k xs))
     ≡ cond (is_local x.binding) [] (x.name ∷ []) ++ map (λ (s : Symbol). s.name) (filter (λ (s : Symbol). not (is_local s.binding)) (drop (k + 1) xs))
-nonlocal_step xs k x here = ap (λ ys. map (λ (s : Symbol). s.name) (filter (λ (s : Symbol). not (is_local s.binding)) ys)) (drop_step xs k x here) ∙ by (is_local x.binding)
+nonlocal_step xs k x here = ap (λ ys. map (λ (s : Symbol). s.name) (filter (λ (s : Symbol). not (is_local s.binding)) ys)) (drop_here xs k x here) ∙ by (is_local x.binding)
   where
     rest : List Symbol
     rest = filter (λ (s : Symbol). not (is_local s.binding)) (drop (k + 1) xs)
@@ -66,7 +66,7 @@ nonlocal_step xs k x here = ap (λ ys. map (λ (s : Symbol). s.name) (filter (λ
 
 -- the names of sections that stand in the table, from position k on
 pub tabled_step : (names : List (List ℕ)) (k : ℕ) (name : List ℕ) → slice_get names k ≡ Some name → filter is_tabled (drop k names) ≡ filter is_tabled (name ∷ []) ++ filter is_tabled (drop (k + 1) names)
-tabled_step names k name here = ap (filter is_tabled) (drop_step names k name here) ∙ filter-append is_tabled (name ∷ []) (drop (k + 1) names)
+tabled_step names k name here = ap (filter is_tabled) (drop_here names k name here) ∙ filter-append is_tabled (name ∷ []) (drop (k + 1) names)
 
 -- what is given for the key symbols in the sections from position k on
 abbrev pub keys_from : Object → ℕ → List (List ℕ)

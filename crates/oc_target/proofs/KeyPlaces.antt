@@ -3,7 +3,7 @@ use Rattle.std.proofs.Common.{◌≡◌, refl, ℕ, suc, ◌&&◌, ◌||◌, Boo
 use Rattle.std.specs.Prelude.{nat_eq, slice_get, filter, bytes_eq}
 use Rattle.std.specs.List.{list_any}
 use Rattle.std.specs.Option.{option_map_or, option_and_then}
-use Rattle.std.proofs.lemmas.Bool.{and_parts, eqb-true, eq-eqb}
+use Rattle.std.proofs.lemmas.Bool.{and_parts, eqb-true, eq-eqb, false_from_ne_true}
 use Rattle.std.proofs.lemmas.Option.{none-some, same_Some}
 use Rattle.std.proofs.lemmas.Slice.Eq.{bytes_eq-Decides}
 use Rattle.oc_linking.specs.declared.terms.Binding.{Binding}
@@ -73,11 +73,6 @@ key_found n k s is =
       key = ap (option_and_then (key_of n.groups)) group.1 ∙ key.1 ∙ ap Some (sym named);
     }
 
--- what does not hold is false
-is_not : (b : Bool) → (b ≡ true → ⊥) → b ≡ false
-is_not true fails = absurd (fails refl)
-is_not false fails = refl
-
 -- nothing passes
 none_pass : (p : Symbol → Bool) (xs : List Symbol) → ((j : ℕ) (y : Symbol) → slice_get xs j ≡ Some y → p y ≡ false) → filter p xs ≡ []
 none_pass p [] fails = refl
@@ -104,6 +99,6 @@ key_names n k (x ∷ xs) distinct = by (is_key_at n k x) refl (key_names n k xs 
     by : (b : Bool) → p x ≡ b → map (λ (s : Symbol). s.name) (filter p xs) ≡ cond (list_any p xs) (keys_at n k) []
         → map (λ (s : Symbol). s.name) (cond b (x ∷ filter p xs) (filter p xs)) ≡ cond (b || list_any p xs) (keys_at n k) []
     by true e rest =
-        ap (λ ys. x.name ∷ map (λ (s : Symbol). s.name) ys) (none_pass p xs (λ j y h. is_not (p y) (no_more e j y h)))
+        ap (λ ys. x.name ∷ map (λ (s : Symbol). s.name) ys) (none_pass p xs (λ j y h. false_from_ne_true (p y) (no_more e j y h)))
         ∙ sym (ap (λ o. option_map_or (λ key. key ∷ []) o []) (key_found n k x e).key)
     by false e rest = rest

@@ -8,17 +8,12 @@ use Rattle.oc_chains.specs.declared.field.Field.{Field}
 use Rattle.oc_neutral.specs.declared.reloc.Reloc.{Reloc}
 use Rattle.oc_neutral.specs.Objects.{Object}
 use Rattle.oc_neutral.specs.Mach.SectionSymbols.{any_names, needs_section_symbol, needed_sections}
-use Rattle.oc_target.proofs.Steps.{drop_step}
+use Rattle.oc_neutral.proofs.FieldLists.{drop_here}
 
 -- one of three
 pub or_assoc : (a b c : Bool) → ((a || b) || c) ≡ (a || (b || c))
 or_assoc true b c = refl
 or_assoc false b c = refl
-
--- or nothing
-pub or_false : (a : Bool) → (a || false) ≡ a
-or_false true = refl
-or_false false = refl
 
 -- three marks
 pub marked_thrice : (old one two three a b c : Bool) → one ≡ (old || a) → two ≡ (one || b) → three ≡ (two || c) → three ≡ (old || ((a || b) || c))
@@ -34,7 +29,7 @@ abbrev pub names_from : Object → ℕ → ℕ → Bool
 names_from n k s = list_any (λ (row : ℕ × List (Field Reloc)). any_names k row.0 row.1) (enumerate_from s (drop s n.relocs))
 
 pub names_step : (n : Object) (k s : ℕ) (fields : List (Field Reloc)) → slice_get n.relocs s ≡ Some fields → names_from n k s ≡ (any_names k s fields || names_from n k (s + 1))
-names_step n k s fields here = ap (λ lists. list_any (λ (row : ℕ × List (Field Reloc)). any_names k row.0 row.1) (enumerate_from s lists)) (drop_step n.relocs s fields here)
+names_step n k s fields here = ap (λ lists. list_any (λ (row : ℕ × List (Field Reloc)). any_names k row.0 row.1) (enumerate_from s lists)) (drop_here n.relocs s fields here)
 
 pub names_none : (n : Object) (k s : ℕ) → length n.relocs ≤ s → names_from n k s ≡ false
 names_none n k s past = ap (λ lists. list_any (λ (row : ℕ × List (Field Reloc)). any_names k row.0 row.1) (enumerate_from s lists)) (drop_all s n.relocs past)

@@ -2,7 +2,7 @@
 use Rattle.std.proofs.Common.{◌≡◌, ℕ, ◌+◌, ◌^◌, ◌<◌, ◌≤◌, true, false, cond, ◌&&◌, ◌||◌, List, length, Some, None, refl, sym, ◌∙◌, ap, subst, arith}
 use Rattle.std.specs.Prelude.{map, slice_get, nat_eq, nat_lt, not}
 use Rattle.std.specs.Option.{option_map, option_map_or}
-use Rattle.std.proofs.lemmas.Bool.{and_parts, ltb-true}
+use Rattle.std.proofs.lemmas.Bool.{and_parts, ltb-true, or_parts, not-false}
 use Rattle.oc_base.specs.declared.format.Format.{Format}
 use Rattle.oc_base.specs.declared.format.Format.TheVariants.{Coff32, Coff64, Mac64, BigCoff32, BigCoff64}
 use Rattle.oc_base.specs.Formats.{word_for}
@@ -37,11 +37,11 @@ use Rattle.oc_neutral.specs.Spelling.{written_row}
 use Rattle.oc_neutral.specs.TargetSections.{section_conditions}
 use Rattle.oc_neutral.specs.TargetSymbols.{is_absolute_form, is_common_form, symbol_conditions}
 use Rattle.oc_neutral.proofs.Formats.{of_coff, most_sections}
-use Rattle.oc_target.proofs.MeetsConditions.{neither, not_below, section_count_met, section_met, symbol_met}
+use Rattle.oc_target.proofs.MeetsConditions.{not_below, section_count_met, section_met, symbol_met}
 use Rattle.oc_target.proofs.MeetsCounts.{bounded_object}
 use Rattle.oc_target.proofs.MeetsGroups.{group_member}
 use Rattle.oc_target.proofs.MeetsKinds.{IsCoffTag, coff_named}
-use Rattle.oc_target.proofs.MeetsParts.{not_false, positive, power, uncut, led, taken_alike, plain_shift}
+use Rattle.oc_target.proofs.MeetsParts.{positive, power, uncut, led, taken_alike, plain_shift}
 use Rattle.oc_target.proofs.MeetsRelocs.{reloc_meets}
 use Rattle.oc_target.proofs.MeetsRows.{of_table}
 use Rattle.oc_target.proofs.MeetsStrings.{section_given, symbol_given, default_given}
@@ -84,7 +84,7 @@ coff_row = of_coff (λ format. (k : ℕ) (row : Row) → slice_get (rows_of form
     (λ k row here. coff_row_of Coff32 k row here refl refl refl refl) (λ k row here. coff_row_of Coff64 k row here refl refl refl refl)
     (λ k row here. coff_row_of BigCoff32 k row here refl refl refl refl) (λ k row here. coff_row_of BigCoff64 k row here refl refl refl refl)
 
--- neither format has types for calls
+-- or_parts format has types for calls
 no_calls : (format : Format) → container_of format ≡ IsCoff → has_calls format ≡ false
 no_calls = of_coff (λ format. has_calls format ≡ false) refl refl refl refl
 
@@ -97,8 +97,8 @@ coff_shift = of_coff (λ format. (at : ℕ) (r : Reloc) → field_shift format a
 -- an absolute value that COFF can write
 short_absolute : (format : Format) → container_of format ≡ IsCoff → (x : ℕ) → x < modulus (word_for format) → is_absolute_form format (Global (Absolute x)) ≡ false → x < 2 ^ 32
 short_absolute = of_coff (λ format. (x : ℕ) → x < modulus (word_for format) → is_absolute_form format (Global (Absolute x)) ≡ false → x < 2 ^ 32)
-    (λ x low form. low) (λ x low form. ltb-true x (2 ^ 32) (not_false (nat_lt x (2 ^ 32)) form))
-    (λ x low form. low) (λ x low form. ltb-true x (2 ^ 32) (not_false (nat_lt x (2 ^ 32)) form))
+    (λ x low form. low) (λ x low form. ltb-true x (2 ^ 32) (not-false (nat_lt x (2 ^ 32)) form))
+    (λ x low form. low) (λ x low form. ltb-true x (2 ^ 32) (not-false (nat_lt x (2 ^ 32)) form))
 
 -- commons that are equal have equal alignments
 pub align_same : (size a b : ℕ) → Common size a ≡ Common size b → a ≡ b
@@ -107,8 +107,8 @@ align_same size a b e = cc
 -- a common that is natural
 pub natural : (size align : ℕ) → is_unnatural size align ≡ false → natural_align size ≡ align → IsNaturalCommon size align
 natural size align e own =
-    let parts = neither (nat_eq size 0 || nat_lt 0xFFFFFFFF size) (nat_lt (natural_align size) align) e in
-    let both = neither (nat_eq size 0) (nat_lt 0xFFFFFFFF size) parts.0 in
+    let parts = or_parts (nat_eq size 0 || nat_lt 0xFFFFFFFF size) (nat_lt (natural_align size) align) e in
+    let both = or_parts (nat_eq size 0) (nat_lt 0xFFFFFFFF size) parts.0 in
     let small = not_below 0xFFFFFFFF size both.1 in
     record { some = positive size both.0; small = omega (arith, small); natural = sym own }
 
@@ -141,7 +141,7 @@ module _ (format : Format) (n : Object) (family : container_of format ≡ IsCoff
       let low : nat_lt (coff_family (family_of format).word).most_align s.align ≡ false = subst (λ (f : Family). nat_lt f.most_align s.align ≡ false) whole met.1.1.1.0 in
       let lacks : (coff_family (family_of format).word).lacks_name (output_names format n) n s.name s ≡ false
       = subst (λ (f : Family). f.lacks_name (output_names format n) n s.name s ≡ false) whole met.1.1.1.1.0 in
-      let name = neither (is_cut n s.name s) (is_tabled s.name && is_far (offset_of format n s.name))
+      let name = or_parts (is_cut n s.name s) (is_tabled s.name && is_far (offset_of format n s.name))
       (subst (λ (f : Family). (is_cut n s.name s || (is_tabled s.name && is_far (string_offset f.writes_local (output_names format n) n s.name))) ≡ false) (sym whole) lacks) in
       record {
         uncut = uncut n s name.0;
@@ -150,7 +150,7 @@ module _ (format : Format) (n : Object) (family : container_of format ≡ IsCoff
         led = λ g e.
             let member : not (has_key_symbol n g) ≡ false
             = subst (λ (f : Family). f.lacks_member n g ≡ false) whole (ap (λ o. option_map_or ((family_of format).lacks_member n) o false) (sym e) ∙ met.1.1.1.1.1.0) in
-            led n g (not_false (has_key_symbol n g) member);
+            led n g (not-false (has_key_symbol n g) member);
         align = power 13 s.align (omega arith) (each_at (λ (x : Section). IsAlign x.align) n.sections k s fits.object.complete.aligns here) (not_below (2 ^ 13) s.align low);
         small = tag.small;
         tag = tag.own;

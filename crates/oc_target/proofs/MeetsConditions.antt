@@ -3,9 +3,9 @@ use Rattle.std.proofs.Common.{◌≡◌, ℕ, zero, suc, ◌+◌, ◌<◌, ◌�
 use Rattle.std.specs.Prelude.{slice_get, nat_lt}
 use Rattle.std.specs.List.{AllByRecursion}
 use Rattle.std.specs.Option.{option_map, option_map_or}
-use Rattle.std.proofs.lemmas.Bool.{true≢false, eqb-true, eq-eqb}
+use Rattle.std.proofs.lemmas.Bool.{eqb-true, eq-eqb}
 use Rattle.std.proofs.lemmas.Bool.Decides.{nat_tests}
-use Rattle.std.proofs.lemmas.Option.{none-some, same_Some, slice_get-map}
+use Rattle.std.proofs.lemmas.Option.{none-some, same_Some, slice_get-map, get_or_from_slice_get}
 use Rattle.oc_base.specs.declared.format.Format.{Format}
 use Rattle.oc_base.specs.declared.format.Word.{Word}
 use Rattle.oc_base.specs.declared.format.Word.TheVariants.{W32, W64}
@@ -50,24 +50,13 @@ below_length [] k x h = absurd (none-some x h)
 below_length (y ∷ xs) zero x h = omega arith
 below_length (y ∷ xs) (suc k) x h = let l = below_length xs k x h in omega (arith, l)
 
--- of two tests none of which holds, each does not
-pub neither : (x y : Bool) → (x || y) ≡ false → (x ≡ false) × (y ≡ false)
-neither true y e = absurd (true≢false e)
-neither false y e = (refl, e)
-
 -- what is not below
 pub not_below : (a b : ℕ) → nat_lt a b ≡ false → b ≤ a
 not_below a b e = grind (arith, nat_tests)
 
 -- the thing at a position meets its conditions
-each_met : {X : Type 0} (conditions : X → List Condition) (xs : List X) (k : ℕ) (x : X) → slice_get xs k ≡ Some x → AreMet (each_of conditions xs k) → AreMet (conditions x)
+pub each_met : {X : Type 0} (conditions : X → List Condition) (xs : List X) (k : ℕ) (x : X) → slice_get xs k ≡ Some x → AreMet (each_of conditions xs k) → AreMet (conditions x)
 each_met conditions xs k x here met = subst (λ o. AreMet (option_map_or conditions o [])) here met
-
--- what stands at a position, by another look-up
-pub get_there : {X : Type 0} (xs : List X) (k : ℕ) (x d : X) → slice_get xs k ≡ Some x → get_or xs k d ≡ x
-get_there [] k x d h = absurd (none-some x h)
-get_there (y ∷ xs) zero x d h = same_Some y x h
-get_there (y ∷ xs) (suc k) x d h = get_there xs k x d h
 
 -- a field of a section is one of those of the object
 stands_among : (s : ℕ) (lists : Lists Reloc) (k i : ℕ) (x : Field Reloc) → slice_get (list_of lists k) i ≡ Some x
@@ -149,7 +138,7 @@ module _ (target : Format) (n : Object) (fits : IsFitted target n) where
   unfolding section_stages symbol_stages
   section_met k s here =
       let name : get_or (output_names target n) k [] ≡ s.name
-      = get_there (output_names target n) k s.name []
+      = get_or_from_slice_get (output_names target n) k s.name []
       (ap (λ names. slice_get names k) (own_names target n fits.format) ∙ slice_get-map (λ (x : Section). x.name) n.sections k ∙ ap (option_map (λ (x : Section). x.name)) here) in
       subst (λ name. AreMet (section_conditions target n name s)) name
       (each_met (section_conditions target n (get_or (output_names target n) k [])) n.sections k s here

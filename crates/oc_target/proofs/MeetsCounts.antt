@@ -1,5 +1,5 @@
 -- The counts and sums of an object that is ready to be written are bounded.
-use Rattle.std.proofs.Common.{◌≡◌, ℕ, suc, ◌+◌, ◌^◌, ◌≤◌, Bool, true, false, cond, List, [], ◌∷◌, ◌++◌, length, map, Option, Some, None, refl, sym, ◌∙◌, ap, arith}
+use Rattle.std.proofs.Common.{◌≡◌, ℕ, suc, ◌+◌, ◌^◌, ◌≤◌, Bool, true, false, cond, List, [], ◌∷◌, ◌++◌, length, Option, Some, None, refl, ◌∙◌, ap, arith}
 use Rattle.std.specs.Prelude.{slice_get, sum_by, nat_eq}
 use Rattle.std.specs.List.{AllByRecursion}
 use Rattle.std.specs.Option.{option_map_or}
@@ -21,13 +21,9 @@ use Rattle.oc_neutral.specs.Objects.{Object}
 use Rattle.oc_neutral.specs.TargetSymbols.{bounded, names_length, limited}
 use Rattle.oc_target.proofs.MeetsConditions.{AreMet, not_below, own_names, symbol_count_met}
 use Rattle.oc_neutral.proofs.Positions.{each_at}
+use Rattle.oc_neutral.proofs.LeftObject.{sum_map}
 
 -- ... sums
-
--- a sum over what a list is made into
-pub sum_map : {X Y : Type 0} (f : Y → ℕ) (g : X → Y) (xs : List X) → sum_by f (map g xs) ≡ sum_by (λ x. f (g x)) xs
-sum_map f g [] = refl
-sum_map f g (x ∷ xs) = sum_by-cons f (g x) (map g xs) ∙ ap (λ m. f (g x) + m) (sum_map f g xs) ∙ sym (sum_by-cons (λ x. f (g x)) x xs)
 
 -- ... fields
 

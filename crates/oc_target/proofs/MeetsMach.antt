@@ -2,7 +2,7 @@
 use Rattle.std.proofs.Common.{◌≡◌, ℕ, zero, suc, ◌+◌, ◌^◌, ◌<◌, ◌≤◌, Bool, true, false, cond, ◌||◌, ◌&&◌, List, [], ◌∷◌, length, map, Option, Some, None, refl, sym, ◌∙◌, ap, subst, arith}
 use Rattle.std.specs.Prelude.{slice_get, nat_eq, nat_lt, nat_le, is_none, is_err}
 use Rattle.std.specs.Option.{option_map, option_map_or}
-use Rattle.std.proofs.lemmas.Bool.{true≢false, ltb-true}
+use Rattle.std.proofs.lemmas.Bool.{true≢false, ltb-true, or_parts}
 use Rattle.std.proofs.lemmas.Bool.Decides.{nat_tests}
 use Rattle.std.proofs.lemmas.Option.{none-some, same_Some}
 use Rattle.oc_base.specs.Formats.{word_for}
@@ -42,7 +42,7 @@ use Rattle.oc_neutral.specs.TargetRelocations.{taken_end, fixed_end, is_symbol, 
 use Rattle.oc_neutral.specs.TargetSections.{section_conditions}
 use Rattle.oc_neutral.specs.TargetSymbols.{bounded, is_common_form, is_weak_form, symbol_conditions}
 use Rattle.oc_neutral.proofs.Formats.{of_mach}
-use Rattle.oc_target.proofs.MeetsConditions.{AreMet, neither, not_below, below_length, section_count_met, section_met, symbol_met, reloc_met}
+use Rattle.oc_target.proofs.MeetsConditions.{AreMet, not_below, below_length, section_count_met, section_met, symbol_met, reloc_met}
 use Rattle.oc_target.proofs.MeetsCounts.{symbols_bounded, bounded_object}
 use Rattle.oc_target.proofs.MeetsGroups.{no_groups}
 use Rattle.oc_target.proofs.MeetsMachKinds.{IsMachTag, mach_zero, mach_named}
@@ -176,7 +176,7 @@ module _ (format : Format) (n : Object) (family : container_of format ≡ IsMach
         name = subst (λ (f : Family). f.lacks_symbol s ≡ false) whole met.0;
         common = λ size align e.
             let form : (family_of format).lacks_common size align ≡ false = ap (is_common_form format) (sym e) ∙ met.1.1.0 in
-            let parts = neither (nat_eq size 0) (nat_lt (2 ^ 15) align) (subst (λ (f : Family). f.lacks_common size align ≡ false) whole form) in
+            let parts = or_parts (nat_eq size 0) (nat_lt (2 ^ 15) align) (subst (λ (f : Family). f.lacks_common size align ≡ false) whole form) in
             (positive size parts.0, power 15 align (omega arith) (subst (IsBinding n) e (each_at (IsSymbol n) n.symbols k s fits.object.complete.symbols here).binding).1 (not_below (2 ^ 15) align parts.1));
         steady = λ j e.
             let weak : (family_of format).lacks_weak n (fallback.Name j) ≡ false = ap (is_weak_form format n) (sym e) ∙ met.1.1.1.0 in
@@ -189,9 +189,9 @@ module _ (format : Format) (n : Object) (family : container_of format ≡ IsMach
   difference s at r here k is e =
       let met : AreMet (reloc_conditions Mac32 n at r (spot_of n s at)) = subst (λ f. AreMet (reloc_conditions f n at r (spot_of n s at))) is (reloc_met format n fits s at r here) in
       let of_end : (f : ℕ → Bool) → option_map_or f (taken_end Mac32 r.form.less) false ≡ f k = λ f. ap (λ l. option_map_or f (taken_end Mac32 l) false) e in
-      let has = neither (is_none (fixed_end n r.target)) _ (sym (of_end (lacks_difference r.target (fixed_end n r.target))) ∙ (neither _ _ met.1.0).1) in
+      let has = or_parts (is_none (fixed_end n r.target)) _ (sym (of_end (lacks_difference r.target (fixed_end n r.target))) ∙ (or_parts _ _ met.1.0).1) in
       let end = is_something (fixed_end n r.target) has.0 in
-      let ends = neither (is_empty n k) (option_map_or (is_empty n) (fixed_end n r.target) false) (sym (of_end (has_empty_end n r.target)) ∙ met.1.1.1.0) in
+      let ends = or_parts (is_empty n k) (option_map_or (is_empty n) (fixed_end n r.target) false) (sym (of_end (has_empty_end n r.target)) ∙ met.1.1.1.0) in
       record {
         near = below (2 ^ 24) at (sym (of_end (λ j. nat_le (2 ^ 24) at)) ∙ met.1.1.0);
         end = end.0;

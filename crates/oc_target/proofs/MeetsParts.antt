@@ -1,9 +1,9 @@
 -- Parts of what families meet: names, symbols that are placed, and rows that take no section.
-use Rattle.std.proofs.Common.{◌≡◌, ℕ, zero, suc, ◌+◌, ◌^◌, ◌<◌, ◌≤◌, Bool, true, false, cond, not, ◌&&◌, ◌||◌, List, [], ◌∷◌, length, Option, Some, None, inl, inr, refl, sym, ◌∙◌, ap, arith, bytes_eq}
+use Rattle.std.proofs.Common.{◌≡◌, ℕ, zero, suc, ◌+◌, ◌^◌, ◌<◌, ◌≤◌, Bool, true, false, cond, ◌&&◌, ◌||◌, List, [], ◌∷◌, length, Option, Some, None, inl, inr, refl, sym, ◌∙◌, ap, arith, bytes_eq}
 use Rattle.std.specs.Prelude.{slice_get, nat_eq, pos, is_none}
 use Rattle.std.specs.List.{list_any}
 use Rattle.std.specs.Option.{option_map_or, option_and_then}
-use Rattle.std.proofs.lemmas.Bool.{true≢false, and_parts, eqb-true, cases_lt}
+use Rattle.std.proofs.lemmas.Bool.{true≢false, and_parts, eqb-true, cases_lt, or_parts, not-false}
 use Rattle.std.proofs.Math.Pow.{pow_mono}
 use Rattle.std.proofs.lemmas.Slice.Eq.{bytes_eq-Decides}
 use Rattle.oc_base.specs.declared.format.Format.{Format}
@@ -29,12 +29,6 @@ use Rattle.oc_neutral.specs.Objects.{Object}
 use Rattle.oc_neutral.specs.Rows.{Row, Taken, TakesPlace, TakesSection, taken_of, same_taken, same_base, shift_of}
 use Rattle.oc_neutral.specs.Shifts.{written_shift}
 use Rattle.oc_neutral.specs.TargetRelocations.{needs_slot}
-use Rattle.oc_target.proofs.MeetsConditions.{neither}
-
--- what is not false
-pub not_false : (b : Bool) → not b ≡ false → b ≡ true
-not_false true e = refl
-not_false false e = absurd (true≢false e)
 
 -- a number that is not 0
 pub positive : (n : ℕ) → nat_eq n 0 ≡ false → 0 < n
@@ -69,7 +63,7 @@ any_passes {X} test (x ∷ xs) e = by (test x) refl (any_passes test xs) e
 -- a section that is not cut
 pub uncut : (n : Object) (s : Section) → is_cut n s.name s ≡ false → IsUncut n s
 uncut n s e =
-    let parts = neither (has_nul s.name) (option_map_or has_nul (option_and_then (key_of n.groups) s.group) false) e in
+    let parts = or_parts (has_nul s.name) (option_map_or has_nul (option_and_then (key_of n.groups) s.group) false) e in
     record {
       name = parts.0;
       key = λ g key here there.
@@ -97,7 +91,7 @@ led n g e =
 -- a fallback Name that is steady
 pub steady : (n : Object) (k : ℕ) → is_unsteady_name n (fallback.Name k) ≡ false → IsSteadyAt n k
 steady n k e =
-    let found = some_passes (is_steady n) (slice_get n.symbols k) (not_false _ e) in
+    let found = some_passes (is_steady n) (slice_get n.symbols k) (not-false _ e) in
     let place = some_passes (λ (p : Place). is_none (group_at n p.0)) (global_place found.0.binding) found.2 in
     record { symbol = found.0; there = found.1; place = place.0; placed = place.1; alone = is_nothing (group_at n place.0.0) place.2 }
 
@@ -109,7 +103,7 @@ power most align rises is low = elim (cases_lt most is.0) [
 ]
 
 -- a section whose kind is Zero
-zero_kind : (kind : Kind) → is_zero kind ≡ true → kind ≡ Zero
+pub zero_kind : (kind : Kind) → is_zero kind ≡ true → kind ≡ Zero
 zero_kind Zero e = refl
 zero_kind Code e = absurd (true≢false (sym e))
 zero_kind ReadOnly e = absurd (true≢false (sym e))
@@ -138,7 +132,7 @@ plain_shift at l row e = ap (λ b. cond (b && same_taken (taken_of l) TakesPlace
 
 -- a base that is no slot and no home number
 pub only_address : (form : Form) → needs_slot form ≡ false → same_base form.base HomeNumber ≡ false → form.base ≡ Address
-only_address form slot home = by form.base (neither _ _ slot).0 (neither _ _ slot).1 home
+only_address form slot home = by form.base (or_parts _ _ slot).0 (or_parts _ _ slot).1 home
   where
     by : (b : Base) → same_base b Slot ≡ false → same_base b GotBase ≡ false → same_base b HomeNumber ≡ false → b ≡ Address
     by Address x y z = refl

@@ -3,7 +3,7 @@ use Rattle.std.proofs.Common.{◌≡◌, ℕ, zero, suc, ◌<◌, Bool, true, fa
 use Rattle.std.specs.Prelude.{slice_get, is_none, is_err}
 use Rattle.std.specs.List.{AllByRecursion}
 use Rattle.std.specs.Option.{option_map, option_map_or, option_and_then}
-use Rattle.std.proofs.lemmas.Bool.{true≢false}
+use Rattle.std.proofs.lemmas.Bool.{true≢false, or_parts}
 use Rattle.std.proofs.lemmas.Option.{none-some}
 use Rattle.oc_base.specs.declared.format.Format.{Format}
 use Rattle.oc_base.specs.Formats.{word_for}
@@ -28,7 +28,7 @@ use Rattle.oc_neutral.specs.Objects.{Object, reloc_among, reloc_at}
 use Rattle.oc_neutral.specs.Rows.{Row}
 use Rattle.oc_neutral.specs.Spelling.{numbers_in, written_row}
 use Rattle.oc_neutral.specs.TargetRelocations.{is_local_number, is_nonlocal, is_homeless, is_target, needs_slot, needs_home, is_wrong_target, has_no_form, is_too_wide, spot_of, reloc_conditions}
-use Rattle.oc_target.proofs.MeetsConditions.{AreMet, field_found, neither, reloc_met}
+use Rattle.oc_target.proofs.MeetsConditions.{AreMet, field_found, reloc_met}
 use Rattle.oc_target.proofs.MeetsRows.{IsCallForm, row_means}
 use Rattle.oc_neutral.proofs.Positions.{each_at, there_at}
 use Rattle.oc_neutral.proofs.SortedFields.{found_held}
@@ -129,7 +129,7 @@ module _ (format : Format) (n : Object) (fits : IsFitted format n) (s at : ℕ) 
   outer : (k : ℕ) (x : Symbol) → r.target ≡ target.Symbol k → slice_get n.symbols k ≡ Some x → is_local x.binding ≡ false
   unfolding place_among
   outer k x e there =
-      let parts = neither _ _ (neither _ _ right).0 in
+      let parts = or_parts _ _ (or_parts _ _ right).0 in
       let normal = normal_of n fits.object s at r here in
       let place : local_place x.binding ≡ None
       = sym (ap (option_and_then (λ (y : Symbol). local_place y.binding)) there) ∙ ap (place_among n.symbols) (sym e) ∙ normal.against in
@@ -137,19 +137,19 @@ module _ (format : Format) (n : Object) (fits : IsFitted format n) (s at : ℕ) 
 
   slot : (k : ℕ) → r.target ≡ target.Section k → needs_slot r.form ≡ false
   slot k e =
-      let parts = neither _ _ (neither _ _ right).0 in
+      let parts = or_parts _ _ (or_parts _ _ right).0 in
       first_of (needs_slot r.form) (not (is_target n is_nonlocal r.target)) (ap (λ t. not (is_target n is_nonlocal t)) e) parts.1
 
   home : (k : ℕ) (x : Symbol) → needs_home r.form ≡ true → r.target ≡ target.Symbol k → slice_get n.symbols k ≡ Some x → is_homeless x.binding ≡ false
   home k x needs e there =
-      sym (target_test n is_homeless r.target k x e there) ∙ last_of (needs_home r.form) (is_target n is_homeless r.target) needs (neither _ _ right).1
+      sym (target_test n is_homeless r.target k x e there) ∙ last_of (needs_home r.form) (is_target n is_homeless r.target) needs (or_parts _ _ right).1
 
   call : IsCallForm r.form r.hint
   call = hints (list_of n.relocs s) at r (fits.object.complete.hints s) here
 
   pub reloc_meets : MeetsReloc format n s at r
   reloc_meets =
-      let row = some_row (λ (q : Row). numbers_in q.number q.second) (written_row format r.form r.hint) (neither _ _ formed).0 in
+      let row = some_row (λ (q : Row). numbers_in q.number q.second) (written_row format r.form r.hint) (or_parts _ _ formed).0 in
       let f = field_of n fits.object s at r here in
       let inside = f.held.inside in
       let place = f.place in

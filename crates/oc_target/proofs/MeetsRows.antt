@@ -25,7 +25,7 @@ use Rattle.oc_neutral.proofs.Positions.{images_same}
 
 -- ... tests that decide
 
-width_is : (a b : Width) → same_width a b ≡ true → a ≡ b
+pub width_is : (a b : Width) → same_width a b ≡ true → a ≡ b
 width_is One One e = refl
 width_is Two Two e = refl
 width_is Four Four e = refl
@@ -46,7 +46,7 @@ base_is GotBase GotBase e = refl
 base_is HomeNumber HomeNumber e = refl
 base_is a b e = absurd (true≢false (sym e))
 
-taken_is : (a b : Taken) → same_taken a b ≡ true → a ≡ b
+pub taken_is : (a b : Taken) → same_taken a b ≡ true → a ≡ b
 taken_is TakesZero TakesZero e = refl
 taken_is TakesPlace TakesPlace e = refl
 taken_is TakesGotBase TakesGotBase e = refl

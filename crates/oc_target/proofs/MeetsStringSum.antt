@@ -21,8 +21,8 @@ use Rattle.oc_neutral.specs.Normal.{Place}
 use Rattle.oc_neutral.specs.Objects.{Object}
 use Rattle.oc_neutral.specs.WrittenSymbols.{is_written}
 use Rattle.oc_target.proofs.MeetsConditions.{own_names}
-use Rattle.oc_target.proofs.MeetsCounts.{sum_map}
 use Rattle.oc_target.proofs.MeetsParts.{some_passes}
+use Rattle.oc_neutral.proofs.LeftObject.{sum_map}
 
 -- the bytes of a name with its NUL
 abbrev bytes_of : List ℕ → ℕ

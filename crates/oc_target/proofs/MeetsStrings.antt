@@ -4,7 +4,7 @@ use Rattle.std.specs.Prelude.{slice_get, nat_eq, codes, filter, flat_map}
 use Rattle.std.specs.List.{enumerate_from, range_with_len}
 use Rattle.std.specs.Cmp.Lexicographic.{pointwise}
 use Rattle.std.specs.Option.{option_map, option_and_then}
-use Rattle.std.proofs.lemmas.Bool.{and_parts, eq-eqb, lt-ltb}
+use Rattle.std.proofs.lemmas.Bool.{and_parts, lt-ltb}
 use Rattle.std.proofs.lemmas.Map.Keys.{any_passes_from_place}
 use Rattle.std.proofs.lemmas.Option.{none-some, same_Some, slice_get-map, slice_get_within}
 use Rattle.oc_base.specs.Strings.{is_given}
@@ -24,6 +24,7 @@ use Rattle.oc_neutral.specs.Objects.{Object}
 use Rattle.oc_neutral.specs.WrittenSymbols.{is_written}
 use Rattle.oc_target.proofs.MeetsConditions.{own_names}
 use Rattle.oc_target.proofs.MeetsParts.{some_passes}
+use Rattle.oc_strings.proofs.GivenLemmas.{name_itself}
 
 -- ... members of lists
 
@@ -73,13 +74,8 @@ stands_range i (suc count) (suc k) low =
     let e : i + 1 + k ≡ i + suc k = omega arith in
     rest ∙ ap Some e
 
--- a name is itself
-same_name : (name : List ℕ) → pointwise nat_eq name name ≡ true
-same_name [] = refl
-same_name (c ∷ name) = rw (eq-eqb c c refl) (same_name name)
-
 given : (names : List (List ℕ)) (name : List ℕ) → Stands names name → is_given names name ≡ true
-given names name h = any_passes_from_place (pointwise nat_eq name) names h.0 name h.1 (same_name name)
+given names name h = any_passes_from_place (pointwise nat_eq name) names h.0 name h.1 (name_itself name)
 
 -- ... the names of an output
 

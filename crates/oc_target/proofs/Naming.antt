@@ -9,7 +9,7 @@ use Rattle.oc_neutral.specs.declared.section.Section.{Section}
 use Rattle.oc_neutral.specs.Objects.{Object}
 use Rattle.oc_neutral.specs.Relocated.{is_relocated}
 use Rattle.oc_neutral.specs.HomeNames.{wanted_name}
-use Rattle.oc_target.proofs.Steps.{drop_step}
+use Rattle.oc_neutral.proofs.FieldLists.{drop_here}
 
 -- what sections from position k on are to be called, where these are those sections
 abbrev pub wanted_in : Format → Object → ℕ → List Section → List (List ℕ)
@@ -22,7 +22,7 @@ wanted_from target n k = wanted_in target n k (drop k n.sections)
 -- the next
 pub wanted_step : (target : Format) (n : Object) (k : ℕ) (s : Section) → slice_get n.sections k ≡ Some s
     → wanted_from target n k ≡ wanted_name target (is_relocated target n k) s ∷ wanted_from target n (k + 1)
-wanted_step target n k s here = ap (wanted_in target n k) (drop_step n.sections k s here)
+wanted_step target n k s here = ap (wanted_in target n k) (drop_here n.sections k s here)
 
 -- a section below their number is there
 pub has_section : (n : Object) (k : ℕ) → k < length n.sections → (s : Section) × (slice_get n.sections k ≡ Some s)

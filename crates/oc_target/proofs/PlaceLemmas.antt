@@ -12,6 +12,7 @@ use Rattle.oc_neutral.specs.Coff.Strings.{is_tabled, coff_strings, string_offset
 use Rattle.oc_neutral.specs.Objects.{Object}
 use Rattle.oc_target.specs.Far.{lies_far_in}
 use Rattle.oc_target.specs.Places.{HasPlace, HavePlaces}
+use Rattle.oc_neutral.proofs.FieldLists.{take_here}
 
 -- a place stays where more is given
 get_front : {X : Type 0} (xs ys : List X) (k : ℕ) (x : X) → slice_get xs k ≡ Some x → slice_get (xs ++ ys) k ≡ Some x
@@ -37,17 +38,11 @@ places_next given [] (q ∷ places) name place have has = absurd have
 places_next given (m ∷ names) [] name place have has = absurd have
 places_next given (m ∷ names) (q ∷ places) name place have has = (have.0, places_next given names places name place have.1 has)
 
--- the first names, and one more
-pub take_next : {X : Type 0} (xs : List X) (k : ℕ) (x : X) → slice_get xs k ≡ Some x → take (k + 1) xs ≡ take k xs ++ x ∷ []
-take_next [] k x here = absurd (none-some x here)
-take_next (y ∷ xs) zero x here = ap (λ z. z ∷ []) (same_Some y x here)
-take_next (y ∷ xs) (suc k) x here = let e : suc k + 1 ≡ suc (k + 1) = omega arith in rw e (ap (λ ys. y ∷ ys) (take_next xs k x here))
-
 -- the names so far have places, and one more
 pub places_step : (before now more names : List (List ℕ)) (places : List (Option ℕ)) (k : ℕ) (name : List ℕ) (place : Option ℕ) → slice_get names k ≡ Some name → now ≡ before ++ more
     → HavePlaces before (take k names) places → HasPlace now name place → HavePlaces now (take (k + 1) names) (places ++ place ∷ [])
 places_step before now more names places k name place here e have has =
-    rw (take_next names k name here) (places_next now (take k names) places name place (rw e (places_more before more (take k names) places have)) has)
+    rw (take_here names k name here) (places_next now (take k names) places name place (rw e (places_more before more (take k names) places have)) has)
 
 -- the places stay where more is given thrice
 pub places_whole : (first second third fourth a b c names : List (List ℕ)) (places : List (Option ℕ)) → second ≡ first ++ a → third ≡ second ++ b → fourth ≡ third ++ c

@@ -40,6 +40,7 @@ use Rattle.oc_neutral.proofs.Positions.{each_at, each_weaker, there_at}
 use Rattle.oc_shows.proofs.Reordered.{member_map, of_map}
 use Rattle.oc_shows.proofs.SeenLines.{IsShown}
 use Rattle.oc_shows.proofs.SeenAlike.{stands, numbers_differ, seen_local, global_is}
+use Rattle.oc_shows.proofs.Looking.{cancels-symbol}
 use Rattle.oc_target.proofs.SeenMoved.{section_target}
 use Rattle.oc_neutral.proofs.Mapped.{all_from, list_map}
 
@@ -67,13 +68,6 @@ cancels_not base.Address k (less.Section j) e = ne_eqb k j (λ same. true≢fals
 cancels_not base.Slot k l e = refl
 cancels_not base.GotBase k l e = refl
 cancels_not base.HomeNumber k l e = refl
-
--- the address of a symbol is not that of a section
-cancels_symbol : (b : Base) (k : ℕ) (l : Less) → cancels b (target.Symbol k) l ≡ false
-cancels_symbol base.Address k l = refl
-cancels_symbol base.Slot k l = refl
-cancels_symbol base.GotBase k l = refl
-cancels_symbol base.HomeNumber k l = refl
 
 -- a symbol that is no Local has no place of one
 outer_place : (b : Binding) → is_local b ≡ false → local_place b ≡ None
@@ -132,7 +126,7 @@ module _ (m : Manner) (n : Object) (shown : List (ℕ × ℕ)) (fine : IsObject 
       record {
         target = slice_get_within again.symbols (new_position shown k) x t.1;
         against = ap (option_and_then (λ (z : Symbol). local_place z.binding)) t.1 ∙ outer_place x.binding (seen_local m n shown is y.binding ∙ out);
-        varies = cancels_symbol b (new_position shown k) l;
+        varies = cancels-symbol b (new_position shown k) l;
         named = original (new_position shown k) x t.1;
       }
 

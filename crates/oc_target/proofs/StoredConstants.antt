@@ -3,7 +3,7 @@ use Rattle.std.proofs.Common.{◌≡◌, ℕ, ◌+◌, ◌≤◌, Bool, true, fa
 use mathlib.Core.Path.{fun_ext}
 use Rattle.std.specs.Prelude.{ℤ, ◌&&◌, not, slice_get}
 use Rattle.std.specs.Option.{option_map, option_map_or, option_and_then}
-use Rattle.std.proofs.lemmas.Bool.{eqb-true, true≢false}
+use Rattle.std.proofs.lemmas.Bool.{eqb-true, true≢false, and_parts}
 use Rattle.std.proofs.lemmas.Option.{none-some, same_Some}
 use Rattle.oc_base.specs.declared.format.Format.{Format}
 use Rattle.oc_base.specs.declared.format.Word.{Word}
@@ -41,9 +41,9 @@ use Rattle.oc_target.specs.Fitted.{is_stored_at}
 use Rattle.oc_target.specs.Fitting.{constants}
 use Rattle.oc_neutral.specs.Constants.{constant_patch}
 use Rattle.oc_shows.proofs.Blank.{section_blank}
-use Rattle.oc_target.proofs.FitLinks.{both, object_apart}
+use Rattle.oc_target.proofs.FitLinks.{object_apart}
 
--- a number that is added to both sides of a difference counts for nothing
+-- a number that is added to and_parts sides of a difference counts for nothing
 both_moved : (w : Word) (s x at : ℕ) → minus w (s + x) (s + at) ≡ minus w x at
 both_moved W32 s x at = omega arith
 both_moved W64 s x at = omega arith
@@ -65,10 +65,10 @@ stored_residue : (target : Format) (n : Object) (p : Placement) (v : Valuation) 
     → residue_at (word_for n.format) n.symbols p v s at r ≡ residue_of (word_for n.format) (stored_constant at r.addend)
 unfolding residue_at
 stored_residue target n p v s at r stored =
-    let m = both (family_of target).stores_own_start (is_self_reference s r) stored in
-    let long = both (is_long_distance r.form) (is_section s r.target) m.1 in
-    let form = both (is_address r.form.base && is_place r.form.less) (is_eight r.form.width) long.0 in
-    let parts = both (is_address r.form.base) (is_place r.form.less) form.0 in
+    let m = and_parts (family_of target).stores_own_start (is_self_reference s r) stored in
+    let long = and_parts (is_long_distance r.form) (is_section s r.target) m.1 in
+    let form = and_parts (is_address r.form.base && is_place r.form.less) (is_eight r.form.width) long.0 in
+    let parts = and_parts (is_address r.form.base) (is_place r.form.less) form.0 in
     distance (word_for n.format) p s at (target_worth n.symbols p v r.target) r.addend r.form.base r.form.less parts.0 parts.1 (section_site n.symbols p v s r.target long.1)
 
 -- what stands under all fields, under those that are not stored, and in those that are
@@ -115,7 +115,7 @@ module _ (target : Format) (n : Object) (is : IsObject n) (p : Placement) (v : V
             | false ↦ λ stays. refl
           ] refl
 
-  -- filling in both is filling in the constants
+  -- filling in and_parts is filling in the constants
   pub constants_fill : (x : Section) → slice_get n.sections s ≡ Some x → overlay under 0 (contents_of x) ≡ overlay (constants target n s) 0 (contents_of x)
   constants_fill x here =
       sym (overlay_folded under (λ at. not (is_stored_at target n s at)) under_apart 0 (contents_of x))

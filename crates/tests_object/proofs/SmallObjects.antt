@@ -34,6 +34,7 @@ use Rattle.oc_neutral.proofs.MoreRelocs.{all_placed, by_list}
 use Rattle.oc_neutral.proofs.MoreSections.{sectioned}
 use Rattle.oc_neutral.proofs.MoreSymbols.{symboled}
 use Rattle.oc_neutral.proofs.NormalLemmas.{kept_hinted}
+use Rattle.oc_neutral.proofs.Positions.{each_weaker}
 use Rattle.tests_object.specs.Small.{FallsBack, IsAlone, IsBare, IsCalling, IsNear, IsPlain, IsSmall, IsStrongFirst, Speaks}
 
 -- ... what is added
@@ -139,11 +140,6 @@ fits : (w : Word) (x : ℕ) → x < 2 ^ 32 → x < modulus w
 fits W32 x low = omega (arith, low)
 fits W64 x low = omega (arith, low)
 
--- what each has by one condition, it has by a weaker one
-weaker : {X : Type 0} (P Q : X → Type 0) → ((x : X) → P x → Q x) → (xs : List X) → AllByRecursion P xs → AllByRecursion Q xs
-weaker P Q says [] all = tt
-weaker P Q says (x ∷ xs) all = (says x all.0, weaker P Q says xs all.1)
-
 module _ (strong : Bool) (n : Object) (small : IsSmall strong n) where
   here : slice_get n.sections 0 ≡ Some small.section
   here = ap (λ ss. slice_get ss 0) small.only
@@ -185,7 +181,7 @@ module _ (strong : Bool) (n : Object) (small : IsSmall strong n) where
     begun = subst (λ gs. AreBegun (length gs) 0 (groups_of n.sections)) (sym small.groups)
         (subst (λ ss. AreBegun 0 0 (groups_of ss)) (sym small.only) (subst (λ g. AreBegun 0 0 (g ∷ [])) (sym small.alone.group) (tt, refl)));
     aligns = subst (λ ss. AllByRecursion (λ (s : Section). IsAlign s.align) ss) (sym small.only) (small.alone.align, tt);
-    symbols = weaker (IsPlain strong) (IsSymbol n) symbol n.symbols small.symbols;
+    symbols = each_weaker (IsPlain strong) (IsSymbol n) symbol n.symbols small.symbols;
     hints = hints;
     originals = originals;
   }
@@ -270,7 +266,7 @@ module _ (n : Object) (calling : IsCalling n) (fine : IsBuilt n) where
   original (target.Symbol k) there = λ j low same. omega (arith, low, there, calling.few)
 
   originals : (s : ℕ) → AllByRecursion (λ (x : Field Reloc). NamesOriginal n.symbols x.item.target) (list_of n.relocs s)
-  originals zero = weaker (IsHeld n 0 calling.small.section.bytes) (λ (x : Field Reloc). NamesOriginal n.symbols x.item.target) (λ x is. original x.item.target is.normal.target) (list_of n.relocs 0) (fine.fields.each 0 calling.small.section section_here)
+  originals zero = each_weaker (IsHeld n 0 calling.small.section.bytes) (λ (x : Field Reloc). NamesOriginal n.symbols x.item.target) (λ x is. original x.item.target is.normal.target) (list_of n.relocs 0) (fine.fields.each 0 calling.small.section section_here)
   originals (suc s) = subst (λ xs. AllByRecursion (λ (x : Field Reloc). NamesOriginal n.symbols x.item.target) xs)
       (sym (get_or_past n.relocs (suc s) [] (let counted = fine.fields.counted in omega (arith, counted, ap length calling.small.only)))) tt
 

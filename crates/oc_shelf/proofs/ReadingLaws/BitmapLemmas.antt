@@ -10,6 +10,7 @@ use Rattle.std.proofs.lemmas.Nat.Bits.{bit_at_set_other, bit_at_set_same}
 use Rattle.std.proofs.lemmas.Bool.{cases_eq, cases_lt, eq-eqb, ne_eqb, true≢false}
 use Rattle.std.proofs.lemmas.Bool.Decides.{nat_tests}
 use Rattle.std.proofs.lemmas.Option.{none-some, same_Some}
+use Rattle.std.proofs.Math.Bool.{or-false}
 use Rattle.oc_shelf.specs.Reading.Bitmaps.{has, is_between, room, IsMetIn, AreBytesOf}
 use Rattle.oc_shelf.specs.Reading.Firsts.{any_upto}
 use Rattle.oc_shelf.specs.Reading.Spans.{meets}
@@ -72,10 +73,6 @@ between_all begin end at q still past upto = elim (cases_lt begin end) [
 abbrev covers : (ℕ → Option (ℕ × ℕ)) → ℕ → ℕ → Bool
 covers span q j = option_map_or (λ x. is_between x.0 x.1 q) (span j) false
 
-or_false : (b : Bool) → (b || false) ≡ b
-or_false true = refl
-or_false false = refl
-
 or_swap : (a b : Bool) → (a || b) ≡ (b || a)
 or_swap true true = refl
 or_swap true false = refl
@@ -91,7 +88,7 @@ pub bytes_same : (span : ℕ → Option (ℕ × ℕ)) (n : ℕ) (words : List �
 bytes_same span n words are none = record {
   taken = λ q.
       are.taken q
-      ∙ sym (or_false (any_upto (covers span q) n))
+      ∙ sym (or-false (any_upto (covers span q) n))
       ∙ ap (λ o. any_upto (covers span q) n || option_map_or (λ x. is_between x.0 x.1 q) o false) (sym none)
       ∙ sym (any_more (covers span q) n);
   some = λ j begin end low is. elim (cases_eq j n) [

@@ -36,15 +36,6 @@ implied true true e h = refl
 implied true false e h = absurd (true≢false e)
 implied false b e h = absurd (true≢false (sym h))
 
-pub both_hold : (a b : Bool) → (a && b) ≡ true → (a ≡ true) × (b ≡ true)
-both_hold true true e = (refl, refl)
-both_hold true false e = absurd (true≢false (sym e))
-both_hold false b e = absurd (true≢false (sym e))
-
-pub not_false : (a : Bool) → not a ≡ false → a ≡ true
-not_false true e = refl
-not_false false e = absurd (true≢false e)
-
 -- where neither of two lists has a broken condition, and where the list of both has none
 pub clean_both : (cs ds : List Condition) → first_broken (cs ++ ds) ≡ None → (first_broken cs ≡ None) × (first_broken ds ≡ None)
 clean_both cs ds clean = by (first_broken cs) (first_broken ds) (sym (first_broken-append cs ds) ∙ clean)
@@ -82,11 +73,11 @@ clean_first stage stages none = rw none refl
 pub stops_later : (stage : Stage) (stages : List Stage) (s : Stop) → stage_fault stage ≡ None → IsStop (first_fault stages) s → IsStop (first_fault (stage ∷ stages)) s
 stops_later stage stages s none is = subst (λ o. IsStop o s) (sym (clean_first stage stages none)) is
 
-or_else-assoc : {X : Type 0} (a b c : Option X) → or_else (or_else a b) c ≡ or_else a (or_else b c)
+pub or_else-assoc : {X : Type 0} (a b c : Option X) → or_else (or_else a b) c ≡ or_else a (or_else b c)
 or_else-assoc None b c = refl
 or_else-assoc (Some x) b c = refl
 
-or_else-none : {X : Type 0} (a : Option X) → or_else a None ≡ a
+pub or_else-none : {X : Type 0} (a : Option X) → or_else a None ≡ a
 or_else-none None = refl
 or_else-none (Some x) = refl
 

@@ -2,7 +2,7 @@
 use Rattle.std.proofs.Common.{◌≡◌, ℕ, zero, suc, ◌+◌, ◌<◌, ◌≤◌, Bool, true, false, List, [], ◌∷◌, ◌++◌, length, map, Option, Some, None, refl, sym, ◌∙◌, ap, subst, inl, inr, arith, cond}
 use Rattle.std.specs.Prelude.{◌⊎◌, slice_get, flat_map, filter_map, find}
 use Rattle.std.specs.List.{enumerate_from, cons_option, list_any, position_or_len, filter, AllByRecursion}
-use Rattle.std.proofs.lemmas.Bool.{or_right, cases_lt}
+use Rattle.std.proofs.lemmas.Bool.{cases_lt}
 use Rattle.std.specs.Option.{option_map}
 use Rattle.std.proofs.lemmas.Option.{none-some, same_Some}
 
@@ -108,12 +108,6 @@ find_first test (y ∷ xs) (suc k) x here passes first =
 pub none_passes : {X : Type 0} (test : X → Bool) (xs : List X) → ((k : ℕ) (x : X) → slice_get xs k ≡ Some x → test x ≡ false) → list_any test xs ≡ false
 none_passes test [] none = refl
 none_passes test (x ∷ xs) none = rw (none 0 x refl) (none_passes test xs (λ k y h. none (suc k) y h))
-
--- a member that passes
-pub member_passes : {X : Type 0} (test : X → Bool) (xs : List X) (k : ℕ) (x : X) → slice_get xs k ≡ Some x → test x ≡ true → list_any test xs ≡ true
-member_passes test [] k x here passes = absurd (none-some x here)
-member_passes test (y ∷ xs) zero x here passes = let own : test y ≡ true = ap test (same_Some y x here) ∙ passes in rw own refl
-member_passes test (y ∷ xs) (suc k) x here passes = or_right (test y) (list_any test xs) (member_passes test xs k x here passes)
 
 -- a member of a mapped list
 pub member_map : {X Y : Type 0} (f : X → Y) (xs : List X) (k : ℕ) (x : X) → slice_get xs k ≡ Some x → slice_get (map f xs) k ≡ Some (f x)

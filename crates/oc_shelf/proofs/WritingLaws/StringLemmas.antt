@@ -4,7 +4,7 @@ use Rattle.std.specs.Prelude.{slice_get, nat_eq, not, ◌||◌}
 use Rattle.std.specs.List.{list_any, filter}
 use Rattle.std.specs.Cmp.Lexicographic.{pointwise}
 use Rattle.std.specs.Option.{is_some, option_map, unwrap_or}
-use Rattle.std.proofs.lemmas.Bool.{true≢false, or_left, or_right, ne_eqb, eqb-false}
+use Rattle.std.proofs.lemmas.Bool.{true≢false, or_left, or_right, ne_eqb, eqb-false, or_parts}
 use Rattle.std.proofs.lemmas.Option.{none-some, same_Some}
 use Rattle.oc_base.specs.Strings.{is_given, tops_of, place_from, table_text, table_place}
 use Rattle.oc_strings.proofs.GivenLemmas.{name_itself}
@@ -17,15 +17,11 @@ use Rattle.oc_shelf.proofs.WritingLaws.StandingLemmas.{stands_drop, stands_secon
 abbrev pub has_nul : List ℕ → Bool
 has_nul bytes = list_any (nat_eq 0) bytes
 
-either : (x y : Bool) → (x || y) ≡ false → (x ≡ false) × (y ≡ false)
-either true y e = absurd (true≢false e)
-either false y e = (refl, e)
-
 -- a name with a NUL behind it is what stands up to the first NUL
 pub text_within-ended : (name rest : List ℕ) → has_nul name ≡ false → text_within (name ++ 0 ∷ rest) ≡ Some name
 text_within-ended [] rest none = refl
 text_within-ended (c ∷ name) rest none =
-    let parts = either (eqb 0 c) (has_nul name) none in
+    let parts = or_parts (eqb 0 c) (has_nul name) none in
     let here : eqb c 0 ≡ false = ne_eqb c 0 (λ e. eqb-false 0 c parts.0 (sym e)) in
     ap (λ b. cond b (Some []) (option_map (λ (text : List ℕ). c ∷ text) (text_within (name ++ 0 ∷ rest)))) here
     ∙ ap (option_map (λ (text : List ℕ). c ∷ text)) (text_within-ended name rest parts.1)

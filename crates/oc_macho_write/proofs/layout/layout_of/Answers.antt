@@ -14,8 +14,8 @@ use Rattle.oc_macho_write.specs.LaidParts.{AreLaid}
 use Rattle.oc_macho_write.proofs.BodyLemmas.{has_body, part_listed, size_is}
 use Rattle.oc_macho_write.proofs.LaidLemmas.{end_by, part_room}
 use Rattle.oc_macho_write.proofs.PartLemmas.{as_many_parts}
-use Rattle.oc_plans.proofs.Turns.{take_next}
 use Rattle.oc_macho_write.proofs.layout.layout_of.Goals as goal
+use Rattle.oc_neutral.proofs.FieldLists.{take_here}
 
 pub part_begin-begin-requires-clause-there : goal.part_begin-begin-requires-clause-there
 part_begin-begin-requires-clause-there c =
@@ -73,7 +73,7 @@ loop-part-preserved c =
     let p = get_or c.args.parts.now k part.FileHead in
     let x = part_listed n c.args.parts.now k _ c.requires.parts (slice_get-get_or c.args.parts.now k part.FileHead c.loop-part-test.true) in
     let size = c.part_size.ensures ∙ ap (λ (ss : List Section). size_by w ss c.args.bodies.now p) c.sections.ensures ∙ size_is w n c.args.bodies.now c.requires.bodies p x.0 x.2 in
-    subst (λ (ps : List layout.Part). AreLaid w n c.lay.new.layout ps) (sym (take_next (parts_of n) k x.0 x.1))
+    subst (λ (ps : List layout.Part). AreLaid w n c.lay.new.layout ps) (sym (take_here (parts_of n) k x.0 x.1))
     (c.in_ok-lay.ensures w n (take k (parts_of n)) x.0 c.loop-part.invariant (sym (c.part_begin-begin.ensures x.0 x.2)) (sym size))
 
 pub returns : goal.returns

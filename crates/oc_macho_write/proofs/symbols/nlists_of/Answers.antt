@@ -6,7 +6,6 @@ use Rattle.std.proofs.lemmas.List.{drop_all}
 use Rattle.std.proofs.lemmas.Option.{same_Some, slice_get-get_or}
 use Rattle.oc_strings.specs.Tables.{StringTable}
 use Rattle.oc_target.proofs.Giving.{more_given, all_given}
-use Rattle.oc_target.proofs.Steps.{drop_step}
 use Rattle.oc_macho.specs.declared.nlist.Nlist.{Nlist}
 use Rattle.oc_macho_file.specs.Lines.{Line, line_name, lines_of}
 use Rattle.oc_macho_file.specs.Symbols.{line_entry}
@@ -15,6 +14,7 @@ use Rattle.oc_macho_write.proofs.LineLemmas.{line_listed, as_many_lines}
 use Rattle.oc_macho_write.proofs.NumberLemmas.{own_named}
 use Rattle.oc_macho_write.proofs.StringLemmas.{named_among}
 use Rattle.oc_macho_write.proofs.symbols.nlists_of.Goals as goal
+use Rattle.oc_neutral.proofs.FieldLists.{drop_here}
 
 pub loop-k-init : goal.loop-k-init
 loop-k-init c = λ w named are. ap (λ gs. gs ++ map (line_entry w c.args.neutral.now) (lines_of w c.args.neutral.now)) c.in_ok-nlists.ensures.items
@@ -48,7 +48,7 @@ loop-k-preserved c = λ w named are.
     let x = line_listed w n c.args.lines.now k _ are (slice_get-get_or c.args.lines.now k (line.Own 0) c.loop-k-test.true) in
     more_given c.loop-k.nlists.items _ _ _ (line_entry w n x.0 ∷ []) _
     (◌∙◌ {A = List Nlist} c.in_ok-push.ensures.items (ap (λ (s : Nlist). c.loop-k.nlists.items ++ s ∷ []) (c.in_ok-line_nlist.ensures w x.0 named x.2)))
-    (ap (map (line_entry w n)) (drop_step (lines_of w n) k x.0 x.1)) (c.loop-k.invariant w named are)
+    (ap (map (line_entry w n)) (drop_here (lines_of w n) k x.0 x.1)) (c.loop-k.invariant w named are)
 
 pub returns : goal.returns
 returns c = λ w named are.

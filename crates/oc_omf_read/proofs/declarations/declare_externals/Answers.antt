@@ -4,9 +4,9 @@ use Rattle.oc_omf.specs.Entries.{all_read}
 use Rattle.oc_omf.specs.Structures.{external_read}
 use Rattle.oc_omf.proofs.EachLemmas.{each_begin, each_end, each_from, each_more}
 use Rattle.oc_omf_read.specs.Declarations.{all_declarations, of_external}
-use Rattle.oc_omf_read.proofs.GoesLemmas.{external_goes}
 use Rattle.oc_omf_read.proofs.DeclarationLemmas.{declarations_more}
 use Rattle.oc_omf_read.proofs.declarations.declare_externals.Goals as goal
+use Rattle.oc_omf_judge.proofs.GoesLemmas.{external_goes}
 
 pub loop-at-smaller-in-Ok : goal.loop-at-smaller-in-Ok
 loop-at-smaller-in-Ok c =

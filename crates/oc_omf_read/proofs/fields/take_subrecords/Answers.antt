@@ -2,8 +2,9 @@
 use Rattle.std.proofs.Common.{◌<◌, ◌≤◌, Ok, length, refl, sym, ◌∙◌, ap, subst, arith}
 use Rattle.oc_omf_read.specs.Fields.{AreLow}
 use Rattle.oc_omf_read.proofs.FieldLemmas.{walk_begins, walk_cut, walk_ends, walk_fixup, walk_thread}
-use Rattle.oc_omf_read.proofs.GoesLemmas.{subrecord_goes, thread_low}
+use Rattle.oc_omf_read.proofs.GoesLemmas.{thread_low}
 use Rattle.oc_omf_read.proofs.fields.take_subrecords.Goals as goal
+use Rattle.oc_omf_judge.proofs.SubrecordLemmas.{subrecord_goes}
 
 pub loop-at-init : goal.loop-at-init
 loop-at-init c = record {

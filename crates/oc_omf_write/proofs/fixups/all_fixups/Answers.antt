@@ -7,8 +7,7 @@ use Rattle.oc_neutral.proofs.Positions.{there_at}
 use Rattle.oc_target.proofs.Steps.{more_done}
 use Rattle.oc_omf_write.specs.declared.fixups.Fixup.{Fixup}
 use Rattle.oc_omf_write.specs.Written.{fixups_in, fixups_of}
-use Rattle.oc_omf_write.proofs.FixupLemmas.{enumerate_step}
-use Rattle.oc_plans.proofs.Turns.{map_append}
+use Rattle.oc_plans.proofs.Turns.{map_append, map_step}
 use Rattle.oc_omf_write.proofs.fixups.all_fixups.Goals as goal
 
 pub loop-k-preserved : goal.loop-k-preserved
@@ -24,4 +23,4 @@ loop-k-preserved c =
     ap (map items) c.in_ok-push.ensures.items
     ∙ map_append items c.loop-k.fixups.items (c.in_ok-fixups_of.field-0 ∷ [])
     ∙ ap (λ (r : List Fixup). done ++ r ∷ []) c.in_ok-fixups_of.ensures)
-    ∙ more_done done (map f (enumerate_from k (drop k n.sections))) (fixups_in c.args.numbers.now n) left (f (k, s.0)) c.loop-k.invariant (enumerate_step f n.sections k s.0 s.1)
+    ∙ more_done done (map f (enumerate_from k (drop k n.sections))) (fixups_in c.args.numbers.now n) left (f (k, s.0)) c.loop-k.invariant (map_step f n.sections k s.0 s.1)

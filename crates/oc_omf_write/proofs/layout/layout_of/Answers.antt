@@ -3,9 +3,9 @@ use Rattle.std.proofs.Common.{◌+◌, length, take, get_or, sym, ◌∙◌, ap,
 use Rattle.std.proofs.lemmas.List.{take_all}
 use Rattle.std.proofs.lemmas.Option.{slice_get-get_or}
 use Rattle.oc_neutral.proofs.Positions.{each_at}
+use Rattle.oc_neutral.proofs.FieldLists.{take_here}
 use Rattle.oc_shelf.specs.Writing.Parts.{aligned, behind}
 use Rattle.oc_plans.proofs.PlacedLemmas.{aligned_one, laid_more, none_laid}
-use Rattle.oc_plans.proofs.Turns.{take_next}
 use Rattle.oc_omf.specs.Bytes.{entry_bytes}
 use Rattle.oc_omf_write.specs.declared.entries.Entry.{Entry}
 use Rattle.oc_omf_write.specs.declared.entries.Entry.TheVariants as entry
@@ -45,7 +45,7 @@ loop-entry-preserved c =
     let few = c.entry_size-size.ensures.few in
     let at = c.loop-entry.layout.end in
     let size = c.entry_size-size.ensures.long (type_of e) ∙ ap (λ b. length (entry_bytes (type_of e) b)) c.contents.ensures in (
-      subst (AreLaid t c.lay.new.self) (sym (take_next xs i e here))
+      subst (AreLaid t c.lay.new.self) (sym (take_here xs i e here))
           (laid_more behind (λ x. length (bytes_by t x)) (take i xs) e c.loop-entry.layout c.lay.new.self (aligned 1 at) c.loop-entry.invariant.0 (aligned_one at) c.in_ok-lay.ensures.places
           (end ∙ ap (λ m. aligned 1 at + m) size)),
       let one = aligned_one at in omega (arith, low, end, few, one),

@@ -1,7 +1,7 @@
 -- The checksum makes the sum of the head and the contents 0 modulo 256.
 use Rattle.std.proofs.Common.{arith}
-use Rattle.oc_omf_write.proofs.WindowLemmas.{sum-append}
 use Rattle.oc_omf_write.proofs.windows.checksum_of.Goals as goal
+use Rattle.oc_omf_file.proofs.EntryLaws.{sum-append}
 
 pub returns : goal.returns
 returns c =

@@ -1,9 +1,10 @@
 use Rattle.std.proofs.Common.{◌+◌, ◌<◌, ◌≤◌, ◌||◌, Bool, false, [], length, ◌∙◌, ap, sym, subst, arith}
 use Rattle.std.specs.Prelude.{slice_index_or}
 use Rattle.std.proofs.lemmas.Option.{slice_get-get_or}
+use Rattle.std.proofs.Math.Bool.{or-false}
 use Rattle.oc_chains.specs.Lists.{list_of}
 use Rattle.oc_neutral.specs.Mach.SectionSymbols.{any_names}
-use Rattle.oc_target.proofs.Marking.{marked_next, or_false, names_from, names_step, names_none, names_all}
+use Rattle.oc_target.proofs.Marking.{marked_next, names_from, names_step, names_none, names_all}
 use Rattle.oc_target.proofs.section_symbols.needed_sections.Goals as goal
 
 pub loop-section-preserved : goal.loop-section-preserved
@@ -31,4 +32,4 @@ returns-clause-each c = λ k l.
     let old : Bool = slice_index_or c.loop-section.needed.items k false in
     let counted = c.is_object.ensures.built.fields.counted in
     let past : length n.relocs ≤ s = omega (arith, c.loop-section-test.false, c.section_count-section-end.ensures, counted) in
-    sym (or_false old) ∙ ap (λ b. old || b) (sym (names_none n k s past)) ∙ c.loop-section.invariant.1 k l ∙ names_all n k
+    sym (or-false old) ∙ ap (λ b. old || b) (sym (names_none n k s past)) ∙ c.loop-section.invariant.1 k l ∙ names_all n k

@@ -3,15 +3,16 @@ use Rattle.std.proofs.Common.{ℕ, ◌+◌, take, inl, inr, sym, ◌∙◌, ap, 
 use Rattle.std.specs.Prelude.{nat_eq}
 use Rattle.std.specs.List.{list_any}
 use Rattle.std.proofs.lemmas.List.{take_all}
+use Rattle.std.proofs.lemmas.Bool.{or_cases}
 use Rattle.oc_omf_judge.specs.Starts.{IsNear}
-use Rattle.oc_omf_judge.proofs.StartLemmas.{any_more, either, equal_places, place_there}
+use Rattle.oc_omf_judge.proofs.StartLemmas.{any_more, equal_places, place_there}
 use Rattle.oc_omf_judge.proofs.starts.Starts.are_met.Goals as goal
 
 pub loop-place-preserved : goal.loop-place-preserved
 loop-place-preserved c = λ p there near.
     let xs = c.args.places.now in
     let more = any_more (nat_eq p) xs c.loop-place.place-index c.from.result c.loop-place-test.true c.from.ensures in
-    elim (either (list_any (nat_eq p) (take c.loop-place.place-index xs)) (nat_eq p c.from.result) (sym more ∙ there)) [
+    elim (or_cases (list_any (nat_eq p) (take c.loop-place.place-index xs)) (nat_eq p c.from.result) (sym more ∙ there)) [
       | inl before ↦ c.loop-place.invariant p before near
       | inr here ↦ c.is_near.ensures.free c.if-is_near.false (subst (λ (q : ℕ). IsNear c.args.self.now (c.args.base + q)) (equal_places p c.from.result here) near)
     ]

@@ -4,12 +4,14 @@ use Rattle.std.specs.Prelude.{◌||◌, is_some, nat_eq}
 use Rattle.std.specs.BTreeMap.{get}
 use Rattle.std.specs.Ordering.{nat_cmp}
 use Rattle.std.proofs.lemmas.List.{take_all}
+use Rattle.std.proofs.Math.Bool.{or-false}
 use Rattle.oc_omf_judge.specs.Starts.{is_among, is_start}
-use Rattle.oc_omf_judge.proofs.StartLemmas.{any_more, or_assoc, or_nothing, start_taken}
+use Rattle.oc_omf_judge.proofs.StartLemmas.{any_more, start_taken}
 use Rattle.oc_omf_judge.proofs.starts.Starts.take_up.Goals as goal
+use Rattle.oc_target.proofs.Marking.{or_assoc}
 
 pub loop-place-init : goal.loop-place-init
-loop-place-init c = λ k. sym (or_nothing (is_start c.args.self.now k))
+loop-place-init c = λ k. sym (or-false (is_start c.args.self.now k))
 
 pub loop-place-preserved : goal.loop-place-preserved
 loop-place-preserved c = λ k.
