@@ -175,7 +175,8 @@ fn compare_entries(a: &Entry, b: &Entry) -> Ordering
     }
 }
 
-/// An entry for each name, in ascending order.
+/// An entry for each name, in ascending order. The sort is one that finds runs: where all names are the same,
+/// they stand in the opposite order, and it takes one comparison for each.
 fn sorted<'a>(alloc: Global, names: &[&'a [u8]]) -> Result<Vec<Entry<'a>>, NoMemory>
     ensures keyed { IfOk result (λ entries. All keys.IsKeyed entries.items) }
     ensures ascends { IfOk result (λ entries. Ascends (names_of entries.items)) }
@@ -187,7 +188,7 @@ fn sorted<'a>(alloc: Global, names: &[&'a [u8]]) -> Result<Vec<Entry<'a>>, NoMem
     for (number, name) in names.iter().enumerate() {
         entries.push(entry_of(name, number))?;
     }
-    entries.sort_unstable_by(compare_entries);
+    entries.sort_by(compare_entries)?;
     Ok(entries)
 }
 
