@@ -148,9 +148,10 @@ module _ (names : List (List ℕ)) (entries : List Entry) (tails : List (Option 
       let h = slice_get_within names (get_or entries k none).number (get_or entries k none).name.now (o.numbered.named k none l) in
       omega (arith, number_is entries k none l)
 
-  pub one_rank : (i k : ℕ) → i < length entries → k < length entries → number_at entries i ≡ number_at entries k → i ≡ k
+  pub one_rank : (i k : ℕ) → i < length (names_of entries) → k < length (names_of entries) → number_at entries i ≡ number_at entries k → i ≡ k
   one_rank i k li lk e =
-      ⊎_elim (λ same. same) (λ other. absurd (⊎_elim (λ low. o.apart i k low lk e) (λ high. o.apart k i high li (sym e)) other)) (cases_order i k)
+      let count = count_of_names entries in
+      ⊎_elim (λ same. same) (λ other. absurd (⊎_elim (λ low. o.apart i k low (omega (arith, lk, count)) e) (λ high. o.apart k i high (omega (arith, li, count)) (sym e)) other)) (cases_order i k)
 
   -- the rank of a name
   pub rank_of : (i : ℕ) → i < length names → (k : ℕ) × (k < length entries) × (number_at entries k ≡ i)

@@ -52,7 +52,7 @@ module _ (names : List (List ℕ)) (spots : List Spot) (at number : ℕ) (old : 
         stands = ap Some (sym r.2);
         placing =
             placing_none (names_of known.entries) known.order.ascends (number_at known.entries)
-            (λ i k li lk e. one_rank names known.entries known.tails known.order i k (omega (arith, li, count_of_names known.entries)) (omega (arith, lk, count_of_names known.entries)) e)
+            (one_rank names known.entries known.tails known.order)
             at r.0 (omega (arith, r.1, count_of_names known.entries)) old
             (apart (ends_next (names_of known.entries) r.0) (ap (λ (s : Spot). s.is_top) (sym (ap (λ n. get_or spots n unknown) (sym r.2) ∙ known.are r.0 unknown r.1)) ∙ top unknown));
       }
@@ -65,87 +65,86 @@ module _ (names : List (List ℕ)) (spots : List Spot) (at number : ℕ) (old : 
       apart true e = absurd (both_ways false refl e)
 
   module _ (new : List (Option ℕ)) where
-    -- where it stands
-    pub record IsAt (i : ℕ) : Type 0 where
-      pub known : AreSpots names spots
-      pub rank : ℕ
-      pub within : rank < length known.entries
-      pub here : number_at known.entries rank ≡ number
-      pub c : ℕ
-      pub is : i ≡ number_at known.entries c
-      pub placing : IsPlacing (names_of known.entries) (number_at known.entries) at rank old new (Some c)
-
-    pub is_at : (i : ℕ) → IsWalk names spots at number old new (Some i) → IsAt i
-    is_at i w = by w.place w.stands w.placing
+    -- the rank at which it stands
+    stands_at : (i : ℕ) (w : IsWalk names spots at number old new (Some i))
+        → (c : ℕ) × (i ≡ number_at w.known.entries c) × IsPlacing (names_of w.known.entries) (number_at w.known.entries) at w.rank old new (Some c)
+    stands_at i w = by w.place w.stands w.placing
       where
-        by : (p : Option ℕ) → Some i ≡ option_map (number_at w.known.entries) p → IsPlacing (names_of w.known.entries) (number_at w.known.entries) at w.rank old new p → IsAt i
+        by : (p : Option ℕ) → Some i ≡ option_map (number_at w.known.entries) p → IsPlacing (names_of w.known.entries) (number_at w.known.entries) at w.rank old new p
+            → (c : ℕ) × (i ≡ number_at w.known.entries c) × IsPlacing (names_of w.known.entries) (number_at w.known.entries) at w.rank old new (Some c)
         by None e p = absurd (none-some i (sym e))
-        by (Some c) e p = record { known = w.known; rank = w.rank; within = w.within; here = w.here; c = c; is = same_Some _ _ e; placing = p }
+        by (Some c) e p = (c, same_Some _ _ e, p)
 
     module _ (i : ℕ) (w : IsWalk names spots at number old new (Some i)) where
-      abbrev a : IsAt i
-      a = is_at i w
-
       abbrev entries : List Entry
-      entries = a.known.entries
+      entries = w.known.entries
 
-      c_in : a.c < length entries
-      c_in = omega (arith, a.placing.on.0, a.within)
+      abbrev c : ℕ
+      c = (stands_at i w).0
 
-      name_here : name_at names i ≡ name_at (names_of entries) a.c
-      name_here = ap (name_at names) a.is ∙ named_at names entries a.known.tails a.known.order a.c c_in
+      at_c : i ≡ number_at entries c
+      at_c = (stands_at i w).1
 
-      text_here : name_at names number ≡ name_at (names_of entries) a.rank
-      text_here = ap (name_at names) (sym a.here) ∙ named_at names entries a.known.tails a.known.order a.rank a.within
+      abbrev placing : IsPlacing (names_of entries) (number_at entries) at w.rank old new (Some c)
+      placing = (stands_at i w).2
+
+      c_in : c < length entries
+      c_in = omega (arith, placing.on.0, w.within)
+
+      name_here : name_at names i ≡ name_at (names_of entries) c
+      name_here = ap (name_at names) at_c ∙ named_at names entries w.known.tails w.known.order c c_in
+
+      text_here : name_at names number ≡ name_at (names_of entries) w.rank
+      text_here = ap (name_at names) (sym w.here) ∙ named_at names entries w.known.tails w.known.order w.rank w.within
 
       pub walk_within : i < length names
-      walk_within = omega (arith, a.is, number_within names entries a.known.tails a.known.order a.c c_in)
+      walk_within = omega (arith, at_c, number_within names entries w.known.tails w.known.order c c_in)
 
       pub walk_shorter : length (name_at names i) ≤ length (name_at names number)
       walk_shorter =
-          let s = ends_split (name_at (names_of entries) a.c) (name_at (names_of entries) a.rank) a.placing.on.1 in
-          omega (arith, ap length name_here, ap length text_here, ap length s.is, length-append s.front (name_at (names_of entries) a.c))
+          let s = ends_split (name_at (names_of entries) c) (name_at (names_of entries) w.rank) placing.on.1 in
+          omega (arith, ap length name_here, ap length text_here, ap length s.is, length-append s.front (name_at (names_of entries) c))
 
       -- its step
       pub walk_more : (offset : ℕ) (d : Spot) → i < length new → is_none (get_or new i None) ≡ true
           → offset ≡ capped (at + (length (name_at names number) - length (name_at names i))) → IsWalk names spots at number old (set new i (Some offset)) (get_or spots i d).tail
       walk_more offset d room none is =
-          let next : Option ℕ = get_or a.known.tails a.c None in
+          let next : Option ℕ = get_or w.known.tails c None in
           record {
-            known = a.known;
-            rank = a.rank;
-            within = a.within;
-            here = a.here;
+            known = w.known;
+            rank = w.rank;
+            within = w.within;
+            here = w.here;
             place = next;
-            stands = ap (λ (s : Spot). s.tail) (ap (λ n. get_or spots n d) a.is ∙ a.known.are a.c d c_in);
+            stands = ap (λ (s : Spot). s.tail) (ap (λ n. get_or spots n d) at_c ∙ w.known.are c d c_in);
             placing =
-                subst (λ n. IsPlacing (names_of entries) (number_at entries) at a.rank old (set new n (Some offset)) next) (sym a.is)
-                (placing_more (names_of entries) a.known.order.ascends (number_at entries)
-                (λ i k li lk e. one_rank names entries a.known.tails a.known.order i k (omega (arith, li, count_of_names entries)) (omega (arith, lk, count_of_names entries)) e)
-                at a.rank (omega (arith, a.within, count_of_names entries)) old new a.c a.placing next offset (omega (arith, room, a.is)) (ap (λ n. is_none (get_or new n None)) (sym a.is) ∙ none)
-                (a.known.order.tails_are.1 a.c None (omega (arith, c_in, a.known.order.tails_are.0, count_of_names entries)))
-                (is ∙ ap (λ n. capped (at + (length n - length (name_at names i)))) text_here ∙ ap (λ n. capped (at + (length (name_at (names_of entries) a.rank) - length n))) name_here));
+                subst (λ n. IsPlacing (names_of entries) (number_at entries) at w.rank old (set new n (Some offset)) next) (sym at_c)
+                (placing_more (names_of entries) w.known.order.ascends (number_at entries)
+                (one_rank names entries w.known.tails w.known.order)
+                at w.rank (omega (arith, w.within, count_of_names entries)) old new c placing next offset (omega (arith, room, at_c)) (ap (λ n. is_none (get_or new n None)) (sym at_c) ∙ none)
+                (w.known.order.tails_are.1 c None (omega (arith, c_in, w.known.order.tails_are.0, count_of_names entries)))
+                (is ∙ ap (λ n. capped (at + (length n - length (name_at names i)))) text_here ∙ ap (λ n. capped (at + (length (name_at (names_of entries) w.rank) - length n))) name_here));
           }
 
       -- its end, at a name that has an offset: then all that end it have
       pub walk_stop : is_some (get_or new i None) ≡ true → AreClosed names old → IsWalk names spots at number old new None
       walk_stop some closed = record {
-        known = a.known;
-        rank = a.rank;
-        within = a.within;
-        here = a.here;
+        known = w.known;
+        rank = w.rank;
+        within = w.within;
+        here = w.here;
         place = None;
         stands = refl;
         placing =
-            placing_stop (names_of entries) a.known.order.ascends (number_at entries)
-            (λ i k li lk e. one_rank names entries a.known.tails a.known.order i k (omega (arith, li, count_of_names entries)) (omega (arith, lk, count_of_names entries)) e)
-            at a.rank (omega (arith, a.within, count_of_names entries)) old new a.c a.placing
+            placing_stop (names_of entries) w.known.order.ascends (number_at entries)
+            (one_rank names entries w.known.tails w.known.order)
+            at w.rank (omega (arith, w.within, count_of_names entries)) old new c placing
             (λ j lj e.
             let in' : j < length entries = omega (arith, lj, count_of_names entries) in
-            let is = named_at names entries a.known.tails a.known.order j in' in
-            closed (number_at entries j) i (number_within names entries a.known.tails a.known.order j in') walk_within
-            (subst (λ n. ends n (name_at names i) ≡ true) (sym is) (subst (λ n. ends (name_at (names_of entries) j) n ≡ true) (sym name_here) e))
-            (ap is_some (ap (λ n. get_or old n None) a.is ∙ sym (a.placing.left a.c (omega (arith, c_in, count_of_names entries)) (omega arith)) ∙ ap (λ n. get_or new n None) (sym a.is)) ∙ some));
+            let name = named_at names entries w.known.tails w.known.order j in' in
+            closed (number_at entries j) i (number_within names entries w.known.tails w.known.order j in') walk_within
+            (subst (λ n. ends n (name_at names i) ≡ true) (sym name) (subst (λ n. ends (name_at (names_of entries) j) n ≡ true) (sym name_here) e))
+            (ap is_some (ap (λ n. get_or old n None) at_c ∙ sym (placing.left c (omega (arith, c_in, count_of_names entries)) (omega arith)) ∙ ap (λ n. get_or new n None) (sym at_c)) ∙ some));
       }
 
     -- at its end each name has its old offset or its place

@@ -20,7 +20,7 @@ pub(crate) fn slices(alloc: Global, names: &[Bytes]) -> Result<Vec<&[u8]>, NoMem
 }
 
 /// How many bytes the texts take, a NUL after each, or the largest number where it passes that.
-fn size_of(tops: &[&[u8]]) -> usize
+fn text_size(tops: &[&[u8]]) -> usize
     ensures { result ≡ capped (sum_by (λ top. length top.now + 1) tops.now) }
 {
     let mut total: usize = 0;
@@ -34,7 +34,7 @@ fn size_of(tops: &[&[u8]]) -> usize
 pub(crate) fn bytes_of(alloc: Global, tops: &[&[u8]]) -> Result<Vec<u8>, NoMemory>
     ensures { IfOk result (λ bytes. bytes.items ≡ text_of (texts tops.now)) }
 {
-    let mut bytes = Vec::with_capacity(alloc, size_of(tops))?;
+    let mut bytes = Vec::with_capacity(alloc, text_size(tops))?;
     for top in tops {
         bytes.extend_from_slice(top)?;
         bytes.push(0)?;

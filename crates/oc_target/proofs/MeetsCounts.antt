@@ -23,8 +23,6 @@ use Rattle.oc_target.proofs.MeetsConditions.{AreMet, not_below, own_names, symbo
 use Rattle.oc_neutral.proofs.Positions.{each_at}
 use Rattle.oc_neutral.proofs.LeftObject.{sum_map}
 
--- ... sums
-
 -- ... fields
 
 -- fields that follow one another from an offset on have a byte each before the end
